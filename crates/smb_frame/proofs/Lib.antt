@@ -1,0 +1,3 @@
+pub mod Frames
+pub mod Rests
+pub mod Streams

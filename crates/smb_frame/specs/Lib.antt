@@ -1,0 +1,3 @@
+pub mod Framed
+pub mod Reading
+pub mod Unread

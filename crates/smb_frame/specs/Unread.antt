@@ -1,0 +1,21 @@
+-- What a buffer holds of a stream, and how it changes.
+use Rattle.std.specs.Prelude.{ℕ, ◌^◌, ◌<◌, ◌≤◌, List, ◌++◌, length, is_none, if◌then◌else◌}
+use Rattle.smb_frame.specs.declared.fault.FrameFault.{FrameFault}
+use Rattle.smb_frame.specs.declared.fault.FrameFault.TheVariants.{FirstByte, TooLong, PayloadTooLong, NoMemory}
+use Rattle.smb_frame.specs.Reading.{fault_of}
+
+-- the longest payload that is let through, and the bytes that have come and are not done
+pub record Unread : Type 0 where
+  pub limit : ℕ
+  pub bytes : List ℕ
+
+-- after a piece has come: behind a fault nothing is taken
+abbrev pub with_piece : Unread → List ℕ → Unread
+with_piece held piece = if is_none (fault_of held.limit held.bytes) then record held { bytes = held.bytes ++ piece } else held
+
+-- when a payload gets no frame: it is 2 ^ 24 bytes long or longer, or the vector could not grow
+abbrev pub FrameRefused : List ℕ → FrameFault → Type 0
+FrameRefused payload FirstByte = ⊥
+FrameRefused payload TooLong = ⊥
+FrameRefused payload PayloadTooLong = 2 ^ 24 ≤ length payload
+FrameRefused payload NoMemory = length payload < 2 ^ 24

@@ -1,0 +1,23 @@
+//! What every layer of the protocol reads and writes: numbers, and tables of fields.
+//!
+//! A number is unsigned and stands with its lowest byte first ([MS-SMB2] 2.2). [`u16_at`] and its kin
+//! take any bytes and any place; [`u16_in`] and its kin are for a place that was looked at before; both
+//! allocate nothing. The `put_` calls add to the end of a vector. What bytes spell which number is
+//! `specs/Number.antt`; that each number has one spelling, and that what is put is read, is the
+//! contract of [`laws_of_numbers`].
+//!
+//! A header, a body or an information class is a table of fields, one row a field, as the standard
+//! prints it: `specs/Fields.antt`. That what is written so is read so is the contract of
+//! [`laws_of_fields`].
+#![tactic(auto)]
+
+mod fault;
+mod fields;
+mod number;
+
+pub use fault::WireFault;
+pub use fields::{laws_of_fields, put_bytes, put_u8, u8_in, u16_in, u32_in, u64_in};
+pub use number::{laws_of_numbers, put_u16, put_u32, put_u64, u16_at, u32_at, u64_at};
+
+#[cfg(test)]
+mod tests;

@@ -1,0 +1,20 @@
+#!/usr/bin/env bash
+# Every test of the repository: what must hold of its files, and then `rt ci`, which proves every crate
+# and its tests from nothing, tries the must-fail edits, and runs the tests and the programs.
+set -u
+cd "$(dirname "$0")/.." || exit 1
+
+fail() {
+    echo "$1"
+    echo '0 passed, 1 failed'
+    exit 1
+}
+
+[ "$(cat HANDLES)" = 'Handles allowed: Net.' ] || fail 'HANDLES is not what it was made.'
+[ "$(wc -l < HANDLES)" -eq 1 ] || fail 'HANDLES is not one line.'
+for folder in crates/*/; do
+    name=$(basename "$folder")
+    grep -qE "^$name( |:)" crates.txt || fail "crates.txt does not list $name."
+done
+
+exec rt ci
