@@ -1,3 +1,4 @@
 pub mod Frames
 pub mod Rests
 pub mod Streams
+pub mod Bounds

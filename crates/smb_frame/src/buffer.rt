@@ -1,6 +1,6 @@
 //! The unread bytes of one stream.
 
-ghost use Rattle.std.specs.Prelude.{◌≡◌, ◌+◌, ◌≤◌, ℕ, List, [], length, OnOk, OnErr, IfErr, IsSome, IfSome};
+ghost use Rattle.std.specs.Prelude.{◌≡◌, ◌↔◌, ◌+◌, ◌≤◌, ℕ, IsTrue, List, [], length, OnOk, OnErr, IfErr, IsSome, IfSome};
 ghost use Rattle.std.specs.Option.{option_map};
 ghost use Rattle.smb_frame.specs.Reading.{size, first, fault_of, after, EachStreamHasOneReading, RestIsEnough, FaultIsForGood, OpenRestIsShort};
 ghost use Rattle.smb_frame.specs.Unread.{Unread, with_piece};
@@ -121,6 +121,20 @@ impl FrameBuffer {
             self.bytes.truncate(length - self.start);
             self.start = 0;
         }
+    }
+
+    /// How many bytes are unread.
+    pub fn len(&self) -> usize
+        ensures { result ≡ length self.now.bytes }
+    {
+        self.bytes.len() - self.start
+    }
+
+    /// Whether no byte is unread.
+    pub fn is_empty(&self) -> bool
+        ensures { IsTrue result ↔ (length self.now.bytes ≡ 0) }
+    {
+        self.len() == 0
     }
 
     /// The payload of the first frame, where it is whole.

@@ -1,36 +1,95 @@
-//! Prints the payloads of a byte stream, one a line, as hex. Each line of standard input is the next
-//! piece of the stream, as hex. (A first use of the frames; the file share comes in its place.)
+//! The command `smbshare`: a proved SMB2 file share.
 #![tactic(auto)]
 
-use anyhow::Result;
-use smb_frame::FrameBuffer;
+mod config;
+mod replay;
+mod script;
 
-/// The longest payload that the share takes, in bytes.
-const LONGEST_PAYLOAD: u32 = 131_072;
+use clap::{Arg, Command};
+use config::BUILT_IN;
+use replay::{ReplayFault, replay_text};
+use std::alloc::{AllocError, Global};
+use std::fs;
+use std::io::{BufWriter, ErrorKind};
+use std::process::ExitCode;
+use std::rt::Files;
 
-/// Prints each whole payload, and gives its bytes up.
-fn print_payloads(rt: &(impl Print + AllocGlobal), buffer: &mut FrameBuffer) -> Result<()> {
-    for _ in 0..u64::MAX {
-        let Some(payload) = buffer.next() else {
-            break;
-        };
-        let text = hex::encode(rt.alloc(), payload)?;
-        println!(rt; "{}", text.as_str())?;
-        buffer.done();
-    }
-    Ok(())
+/// The command line.
+fn command<'a>(alloc: Global) -> Result<Command<'a>, AllocError> {
+    let config = Arg::new(alloc, "config")
+        .long("config")
+        .value_name("FILE")
+        .help("The configuration, a TOML file [default: a share `data` of 64 MiB]");
+    let replay = Command::new(alloc, "replay")
+        .about("Replays the events of standard input on a new share, and prints what it answers")
+        .arg(config)?;
+    Command::new(alloc, "smbshare")
+        .version("0.1.0")
+        .about("A proved SMB2 file share. Without a command it replays standard input.")
+        .subcommand(replay)
 }
 
-fn main(rt: HostRuntime) -> Result<()> {
-    let mut buffer = FrameBuffer::new(rt.alloc(), LONGEST_PAYLOAD);
-    for line in rt.lines(rt.alloc()) {
-        let line = line?;
-        let piece = hex::decode(rt.alloc(), line.as_str())?;
-        buffer.push(&piece)?;
-        print_payloads(&rt, &mut buffer)?;
-    }
-    if let Some(fault) = buffer.fault() {
-        println!(rt; "{fault}")?;
-    }
-    Ok(())
+/// Prints a fault on standard error, and gives its exit status.
+fn report(rt: &impl Eprint, fault: ReplayFault) -> ExitCode {
+    let _ = eprintln!(rt; "{fault}");
+    ExitCode::from(fault.status())
 }
+
+/// The text of a configuration file.
+fn read_config<R: Files + AllocGlobal>(rt: &R, path: &str) -> Result<String, ReplayFault> {
+    let bytes = match fs::read(rt, path) {
+        Ok(bytes) => bytes,
+        Err(error) if error.kind() == ErrorKind::OutOfMemory => return Err(ReplayFault::NoMemory),
+        Err(_) => return Err(ReplayFault::ConfigUnread),
+    };
+    match std::str::from_utf8(&bytes) {
+        Ok(text) => Ok(String::from_str(rt.alloc(), text)?),
+        Err(_) => Err(ReplayFault::ConfigRefused),
+    }
+}
+
+/// Replays standard input, and gives the exit status.
+fn replay_input(rt: &HostRuntime, config: &str) -> ExitCode {
+    let Ok(mut output) = BufWriter::new(rt.alloc(), rt.stdout()) else {
+        return report(rt, ReplayFault::NoMemory);
+    };
+    let mut errors = rt.stderr();
+    ExitCode::from(replay_text(rt.alloc(), config, rt.stdin(), &mut output, &mut errors))
+}
+
+/// Runs the command of these words.
+fn run(rt: &HostRuntime) -> Result<ExitCode, ReplayFault> {
+    let alloc = rt.alloc();
+    let words: Vec<String> = match std::env::args(rt) {
+        Ok(words) => words.collect(alloc)?,
+        Err(_) => return Err(ReplayFault::NoMemory),
+    };
+    let matches = match command(alloc)?.try_get_matches_from(words.as_slice()) {
+        Ok(matches) => matches,
+        Err(error) => {
+            let _ = error.print(rt);
+            return Ok(ExitCode::from(error.exit_code() as u8));
+        }
+    };
+    let file = match matches.subcommand() {
+        Some((_, replay)) => replay.get_str("config"),
+        None => None,
+    };
+    match file {
+        Some(path) => {
+            let config = read_config(rt, path)?;
+            Ok(replay_input(rt, config.as_str()))
+        }
+        None => Ok(replay_input(rt, BUILT_IN)),
+    }
+}
+
+fn main(rt: HostRuntime) -> ExitCode {
+    match run(&rt) {
+        Ok(status) => status,
+        Err(fault) => report(&rt, fault),
+    }
+}
+
+#[cfg(test)]
+mod tests;

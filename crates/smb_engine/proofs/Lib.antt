@@ -1,0 +1,9 @@
+pub mod Windows
+pub mod Heard
+pub mod Lists
+pub mod Turns
+pub mod Steps
+pub mod Pieces
+pub mod Links
+pub mod Kept
+pub mod Runs

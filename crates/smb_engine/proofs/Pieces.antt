@@ -1,0 +1,115 @@
+-- A piece on a connection: what the code holds is the rest of the stream.
+use Rattle.std.proofs.Common.{◌≡◌, ℕ, ◌≤◌, ◌&&◌, Bool, true, false, List, [], ◌∷◌, ◌++◌, length, drop, Option, None, Some, IsTrue, is_none, refl, sym, ap, ◌∙◌, append_assoc}
+use Rattle.std.specs.List.{flat_map}
+use Rattle.std.proofs.lemmas.List.{drop_at}
+use Rattle.std.proofs.lemmas.Bool.{and_parts, false≢true}
+use Rattle.std.proofs.lemmas.Grind.{flat_map-append}
+use Rattle.smb_frame.specs.Reading.{first, fault_of, payloads, rest}
+use Rattle.smb_frame.specs.Unread.{Unread, with_piece}
+use Rattle.smb_frame.proofs.Streams.{payloads-more, rest-none}
+use Rattle.smb_engine.specs.declared.connection.Connection.{Connection}
+use Rattle.smb_engine.specs.State.{SharedState, LinkState}
+use Rattle.smb_engine.specs.Output.{Output, end_of}
+use Rattle.smb_engine.specs.Sink.{Heard}
+use Rattle.smb_engine.specs.Stream.{longest_payload, PayloadSteps, payload_steps, shared_after_some, count_in_all, added_payloads, piece_step, shared_after_piece, count_in_piece}
+use Rattle.smb_engine.specs.Held.{steps_heard, Waits, IsPieceHeld}
+
+-- what a piece adds to a stream are the payloads of its rest with the piece
+pub added_is : (stream piece : List ℕ) → added_payloads stream piece ≡ payloads longest_payload (rest longest_payload stream ++ piece)
+added_is stream piece =
+    ap (drop (length (payloads longest_payload stream))) (payloads-more longest_payload piece stream)
+    ∙ drop_at (payloads longest_payload stream) (payloads longest_payload (rest longest_payload stream ++ piece)) (length (payloads longest_payload stream)) refl
+
+added-waits : (link : LinkState) (piece : List ℕ) → Waits link → added_payloads link.stream piece ≡ payloads longest_payload (link.stream ++ piece)
+added-waits link piece w = added_is link.stream piece ∙ ap (λ b. payloads longest_payload (b ++ piece)) (rest-none longest_payload link.stream w.partial)
+
+-- what a buffer holds after a piece
+pub held_with : (link : LinkState) (before after : Unread) (piece : List ℕ) → before.limit ≡ longest_payload → before.bytes ≡ link.stream → Waits link →
+    after ≡ with_piece before piece → (after.limit ≡ longest_payload) × (after.bytes ≡ link.stream ++ piece)
+held_with link before after piece e b w h =
+    let sound : fault_of before.limit before.bytes ≡ None = rw (e, b) w.sound in
+    let test : is_none (fault_of before.limit before.bytes) ≡ true = rw sound refl in
+    let all : after ≡ record before { bytes = before.bytes ++ piece } = h ∙ rw test refl in
+    (ap (λ u. u.limit) all ∙ e, ap (λ u. u.bytes) all ∙ ap (λ t. t ++ piece) b)
+
+none_is : {X : Type 0} (o : Option X) → is_none o ≡ true → o ≡ None
+none_is None h = refl
+none_is (Some x) h = absurd (false≢true h)
+
+over_at : (open_still : Bool) {a b : List ℕ} → (IsTrue open_still → a ≡ b) → false ≡ (open_still && is_none (fault_of longest_payload a)) → (open_still && is_none (fault_of longest_payload b)) ≡ false
+over_at false r x = refl
+over_at true {a = a} {b = b} r x = rw (← r refl) (sym x)
+
+module _ (number moment : ℕ) where
+  pub stopped-held : (shared : SharedState) (link : LinkState) (piece held : List ℕ) (k : ℕ) → Waits link → held ≡ link.stream ++ piece →
+      shared_after_some number moment shared link.connection (payloads longest_payload held) k ≡ shared_after_piece number moment shared link piece k
+  unfolding shared_after_piece
+  stopped-held shared link piece held k w h = rw (added-waits link piece w, h) refl
+
+  pub count-held : (shared : SharedState) (link : LinkState) (piece held : List ℕ) → Waits link → held ≡ link.stream ++ piece →
+      count_in_all number moment shared link.connection (payloads longest_payload held) ≡ count_in_piece number moment shared link piece
+  unfolding count_in_piece
+  count-held shared link piece held w h = rw (added-waits link piece w, h) refl
+
+  -- what the added payloads come to
+  steps_by : SharedState → LinkState → List ℕ → PayloadSteps
+  steps_by shared link piece = payload_steps number moment shared link.connection (added_payloads link.stream piece)
+
+  steps-held : (shared : SharedState) (link : LinkState) (piece held : List ℕ) → Waits link → held ≡ link.stream ++ piece →
+      payload_steps number moment shared link.connection (payloads longest_payload held) ≡ steps_by shared link piece
+  unfolding steps_by
+  steps-held shared link piece held w h = rw (added-waits link piece w, h) refl
+
+  step-open : (shared : SharedState) (link : LinkState) (piece : List ℕ) → ((steps_by shared link piece).stays_open && is_none (fault_of longest_payload (rest longest_payload (link.stream ++ piece)))) ≡ true →
+      piece_step number moment shared link piece ≡ record {
+        shared = (steps_by shared link piece).shared;
+        link = record { stream = link.stream ++ piece; connection = (steps_by shared link piece).connection };
+        outputs = (steps_by shared link piece).outputs;
+        stays_open = true;
+      }
+  unfolding piece_step steps_by
+  step-open shared link piece t = rw t refl
+
+  step-over : (shared : SharedState) (link : LinkState) (piece : List ℕ) → ((steps_by shared link piece).stays_open && is_none (fault_of longest_payload (rest longest_payload (link.stream ++ piece)))) ≡ false →
+      piece_step number moment shared link piece ≡ record { shared = (steps_by shared link piece).shared; link = link; outputs = (steps_by shared link piece).outputs ++ end_of number ∷ []; stays_open = false }
+  unfolding piece_step steps_by
+  step-over shared link piece t = rw t refl
+
+  -- the connection stays open
+  pub stays_as : (hears : Output → List Heard) (shared : SharedState) (link : LinkState) (piece held held' : List ℕ) (shared' : SharedState) (connection' : Connection) (heard heard' : List Heard) (open_still : Bool) →
+      Waits link → held ≡ link.stream ++ piece →
+      record { shared = shared'; connection = connection'; heard = heard'; stays_open = open_still } ≡ steps_heard hears heard (payload_steps number moment shared link.connection (payloads longest_payload held)) →
+      (IsTrue open_still → (held' ≡ rest longest_payload held) × (first longest_payload held' ≡ None)) → true ≡ (open_still && is_none (fault_of longest_payload held')) →
+      length connection'.window.usable ≤ 256 →
+      IsPieceHeld (piece_step number moment shared link piece) shared' (record { stream = held'; connection = connection' }) true × (heard' ≡ heard ++ flat_map hears (piece_step number moment shared link piece).outputs)
+  stays_as hears shared link piece held held' shared' connection' heard heard' open_still w h e r x few =
+      let parts = and_parts open_still (is_none (fault_of longest_payload held')) (sym x) in
+      let left = r parts.0 in
+      let all = e ∙ ap (steps_heard hears heard) (steps-held shared link piece held w h) in
+      let same_rest : held' ≡ rest longest_payload (link.stream ++ piece) = left.0 ∙ ap (rest longest_payload) h in
+      let test : ((steps_by shared link piece).stays_open && is_none (fault_of longest_payload (rest longest_payload (link.stream ++ piece)))) ≡ true =
+      rw (← ap (λ s. s.stays_open) all, ← same_rest) (sym x) in
+      rw (step-open shared link piece test) (
+        record {
+          same = ap (λ s. s.shared) all;
+          fate = refl;
+          rests = λ t. rw (same_rest, ap (λ s. s.connection) all) refl;
+          waits = λ t. record { partial = left.1; sound = none_is _ parts.1; few = few };
+        },
+        ap (λ s. s.heard) all,
+      )
+
+  pub ends_as : (hears : Output → List Heard) (shared : SharedState) (link link' : LinkState) (piece held held' : List ℕ) (shared' : SharedState) (connection' : Connection) (heard heard' : List Heard) (open_still : Bool) →
+      Waits link → held ≡ link.stream ++ piece →
+      record { shared = shared'; connection = connection'; heard = heard'; stays_open = open_still } ≡ steps_heard hears heard (payload_steps number moment shared link.connection (payloads longest_payload held)) →
+      (IsTrue open_still → (held' ≡ rest longest_payload held) × (first longest_payload held' ≡ None)) → false ≡ (open_still && is_none (fault_of longest_payload held')) →
+      IsPieceHeld (piece_step number moment shared link piece) shared' link' false × (heard' ++ flat_map hears (end_of number ∷ []) ≡ heard ++ flat_map hears (piece_step number moment shared link piece).outputs)
+  ends_as hears shared link link' piece held held' shared' connection' heard heard' open_still w h e r x =
+      let all = e ∙ ap (steps_heard hears heard) (steps-held shared link piece held w h) in
+      let test : ((steps_by shared link piece).stays_open && is_none (fault_of longest_payload (rest longest_payload (link.stream ++ piece)))) ≡ false =
+      rw (← ap (λ s. s.stays_open) all) (over_at open_still (λ t. (r t).0 ∙ ap (rest longest_payload) h) x) in
+      rw (step-over shared link piece test) (
+        record { same = ap (λ s. s.shared) all; fate = refl; rests = λ t. absurd (false≢true t); waits = λ t. absurd (false≢true t) },
+        ap (λ t. t ++ flat_map hears (end_of number ∷ [])) (ap (λ s. s.heard) all) ∙ append_assoc heard (flat_map hears (steps_by shared link piece).outputs) (flat_map hears (end_of number ∷ []))
+            ∙ ap (λ t. heard ++ t) (sym (flat_map-append hears (steps_by shared link piece).outputs (end_of number ∷ []))),
+      )

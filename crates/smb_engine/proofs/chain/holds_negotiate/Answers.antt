@@ -1,0 +1,14 @@
+use Rattle.std.proofs.Common.{sym, ap, ◌∙◌, eqb}
+use Rattle.std.proofs.lemmas.Bool.{eq-eqb, ne_eqb}
+use Rattle.smb_engine.proofs.Turns.{negotiate_found, negotiate_passed}
+use Rattle.smb_engine.proofs.chain.holds_negotiate.Goals as goal
+
+pub returns-then-header-eq-NEGOTIATE : goal.returns-then-header-eq-NEGOTIATE
+returns-then-header-eq-NEGOTIATE c =
+    negotiate_found _ _ _ c.request_at.ensures.request c.loop-i.invariant
+    (ap (λ h. eqb h.command.0 0) (sym c.request_at.ensures.header) ∙ eq-eqb _ _ c.if-header-eq-NEGOTIATE.true)
+
+pub loop-i-preserved : goal.loop-i-preserved
+loop-i-preserved c =
+    negotiate_passed _ _ _ c.request_at.ensures.request c.loop-i.invariant
+    (ap (λ h. eqb h.command.0 0) (sym c.request_at.ensures.header) ∙ ne_eqb _ _ c.if-header-eq-NEGOTIATE.false)

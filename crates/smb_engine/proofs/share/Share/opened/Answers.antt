@@ -1,0 +1,9 @@
+use Rattle.std.proofs.Common.{◌<◌, length, arith}
+use Rattle.smb_engine.proofs.Kept.{kept_insert, new_waits}
+use Rattle.smb_engine.proofs.share.Share.opened.Goals as goal
+
+pub invariant_of-self-2 : goal.invariant_of-self-2
+invariant_of-self-2 c =
+    let room : length c.self.inside.links.entries < 64 = omega (arith, c.len.ensures.len, c.if-len-ge-CONNECTION_LIMIT.false) in
+    rw (c.in-Ok.ensures.ok, c.fresh_link-link.ensures)
+    (kept_insert c.self.inside.links.entries _ c.self.inside.next new_waits room c.self.invariant)

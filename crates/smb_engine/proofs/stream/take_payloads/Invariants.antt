@@ -1,0 +1,16 @@
+use Rattle.std.proofs.Common.{◌≡◌, length, take}
+use Rattle.smb_engine.specs.Stream.{longest_payload}
+use Rattle.smb_engine.proofs.Steps.{StepsSoFar}
+use Rattle.smb_engine.proofs.stream.take_payloads.Given as goal
+
+abbrev pub invariant-loop-payload : goal.invariant-loop-payload
+invariant-loop-payload g l = record {
+  so_far : StepsSoFar g.K.Sink.hears l.number l.moment
+      l.fn.shared l.fn.connection (g.K.Sink.content l.fn.out) l.fn.buffer.bytes
+      l.shared l.connection (g.K.Sink.content l.out) l.buffer.bytes l.done;
+  kept : take (length (g.K.Sink.content l.fn.out)) (g.K.Sink.content l.out) ≡ g.K.Sink.content l.fn.out;
+  limit : l.buffer.limit ≡ longest_payload;
+}
+
+abbrev pub decreases-loop-payload : goal.decreases-loop-payload
+decreases-loop-payload g l = length l.buffer.bytes

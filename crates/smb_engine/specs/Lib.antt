@@ -1,0 +1,14 @@
+pub mod Window
+pub mod Status
+pub mod Settings
+pub mod Negotiate
+pub mod Echo
+pub mod State
+pub mod Request
+pub mod Chain
+pub mod Output
+pub mod Sink
+pub mod Stream
+pub mod Share
+pub mod Run
+pub mod Held

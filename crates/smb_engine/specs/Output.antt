@@ -1,0 +1,28 @@
+-- What the share puts out.
+use Rattle.std.specs.Prelude.{ℕ, List, [], ◌∷◌, map}
+use Rattle.smb_frame.specs.Framed.{frame}
+use Rattle.smb_engine.specs.declared.output.Answer.{Answer}
+use Rattle.smb_engine.specs.declared.output.Answer.TheVariants.{Frame, End}
+
+-- a frame to a connection's client, or the end of a connection by the share
+pub data Output : Type 0 where
+  frame_to : ℕ → List ℕ → Output
+  end_of : ℕ → Output
+
+-- an answer, without where its bytes lie
+abbrev pub output_of : Answer → Output
+output_of (Frame connection bytes) = frame_to connection bytes.items
+output_of (End connection) = end_of connection
+
+abbrev pub outputs_of : List Answer → List Output
+outputs_of answers = map output_of answers
+
+-- the replies to a payload as one frame; where there is none, nothing is sent
+abbrev pub reply_frame : ℕ → List ℕ → List Output
+reply_frame connection [] = []
+reply_frame connection (byte ∷ replies) = frame_to connection (frame (byte ∷ replies)) ∷ []
+
+-- the bytes of an output: an end has none
+abbrev pub bytes_of : Output → List ℕ
+bytes_of (frame_to connection bytes) = bytes
+bytes_of (end_of connection) = []

@@ -1,0 +1,35 @@
+//! A connection, and what is unread of its stream ([MS-SMB2] 3.3.1.7).
+
+use super::dialect::Dialect;
+use super::window::Window;
+use smb_frame::FrameBuffer;
+use std::marker::Model;
+
+/// What a connection has agreed on, and which MessageIds its client may use.
+#[derive(Drop)]
+pub struct Connection {
+    pub(crate) payload_came: bool,
+    pub(crate) dialect: Option<Dialect>,
+    pub(crate) window: Window,
+}
+
+/// The longest payload of a frame, in bytes.
+pub(crate) const LONGEST_PAYLOAD: u32 = 131_072;
+
+/// A connection with the unread bytes of its stream.
+#[derive(Drop)]
+pub struct Link {
+    pub(crate) buffer: FrameBuffer,
+    pub(crate) connection: Connection,
+}
+
+impl Model for Link {
+    ghost use Rattle.std.specs.Prelude.{◌≡◌};
+    ghost use Rattle.smb_engine.specs.State.{LinkState};
+
+    ghost Value = { LinkState };
+
+    ghost view = { λ l. record { stream = l.buffer.bytes; connection = l.connection } };
+
+    ghost invariant = { λ l. l.buffer.limit ≡ 131072 };
+}

@@ -1,0 +1,29 @@
+//! Why a call of the share is refused.
+
+use thiserror::Error;
+
+/// A refusal of the share.
+#[derive(Clone, Copy, Debug, PartialEq, Eq, Error)]
+pub enum ServeFault {
+    /// S1: 64 connections are open, or the numbers of connections are spent.
+    #[error("too many connections")]
+    TooManyConnections,
+    /// S2: memory could not be had. The first `done` requests of the call, or of the event, were performed,
+    /// and then its connection has ended; an opening changed nothing.
+    #[error("no memory, after {done} requests")]
+    NoMemory { done: usize },
+    /// S3: an opening out of turn, or an event on a number that was never opened.
+    #[error("a bad event")]
+    BadEvent,
+    /// S4: the configuration breaks its rules.
+    #[error("the configuration breaks its rules")]
+    BadConfig,
+}
+
+/// Where a run stopped, and why.
+#[derive(Clone, Copy, Debug, PartialEq, Eq)]
+pub struct RunFault {
+    /// The event's place in the list, from 0. The events before it stand.
+    pub place: usize,
+    pub fault: ServeFault,
+}

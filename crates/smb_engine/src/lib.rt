@@ -1,0 +1,36 @@
+//! The share: connections, their streams of requests, and what answers them ([MS-SMB2] 3.3).
+//!
+//! A [`Share`] is made of a [`Config`]. Connections are [`opened`](Share::opened), bring pieces of their
+//! streams, which are [`feed`](Share::feed), and [end](Share::ended); [`run`](Share::run) takes a list of such
+//! [`Event`]s and gives the [`Answer`]s. What it gives is a definition, to be read in this order:
+//! `specs/Run.antt` (a list of events), `Share.antt` (one event), `Stream.antt` (a piece, payload by payload),
+//! `Chain.antt` (a payload, request by request), `Request.antt` (the commands). The definition reads each
+//! stream from its first byte; the share holds what is unread alone, which is why it does not matter how the
+//! bytes were cut.
+//!
+//! Refusals are [`ServeFault`]s, S1 to S4. A piece takes time in proportion to its bytes and to those of its
+//! replies; a connection is found in logarithmic time.
+#![tactic(auto)]
+
+mod chain;
+mod config;
+mod connection;
+mod context;
+mod dialect;
+mod echo;
+mod event;
+mod fault;
+mod negotiate;
+mod output;
+mod request;
+mod share;
+mod shared;
+mod status;
+mod stream;
+mod window;
+
+pub use config::Config;
+pub use event::{Event, Fate};
+pub use fault::{RunFault, ServeFault};
+pub use output::Answer;
+pub use share::Share;

@@ -1,0 +1,304 @@
+//! The share over its connections.
+
+ghost use Rattle.std.specs.Prelude.{◌≡◌, ◌≤◌, ◌+◌, ◌++◌, true, false, Some, None, OnOk, OnErr, IfOk, IfErr, IsSome, is_some, length, if◌then◌else◌};
+ghost use Rattle.std.specs.List.{flat_map};
+ghost use Rattle.std.specs.BTreeMap.{insert_entry};
+ghost use Rattle.std.specs.Ordering.{nat_cmp};
+ghost use Rattle.smb_engine.specs.Settings.{settings_of, is_lawful};
+ghost use Rattle.smb_engine.specs.Output.{bytes_of, outputs_of};
+ghost use Rattle.smb_engine.specs.Share.{new_share, link_of, new_link, opened, ended, opening_refusal, bytes_step, is_open_after, stopped, count_on, unread, OpeningRefused, PieceStopped, GoodState};
+ghost use Rattle.smb_engine.specs.Run.{unknown_refusal, refusal, event_step, run, run_behind, EventStopped, RunStopped};
+
+use super::config::Config;
+use super::connection::{Connection, LONGEST_PAYLOAD, Link};
+use super::event::{Event, Fate};
+use super::fault::{RunFault, ServeFault};
+use super::output::{Answer, Sink};
+use super::shared::Shared;
+use super::stream::take_piece;
+use super::window::Window;
+use smb_frame::FrameBuffer;
+use std::alloc::{AllocError, Global};
+use std::collections::BTreeMap;
+use std::marker::Model;
+
+/// How many connections may be open.
+const CONNECTION_LIMIT: usize = 64;
+
+/// A share and its open connections.
+#[derive(Drop)]
+pub struct Share {
+    shared: Shared,
+    links: BTreeMap<u64, Link>,
+    next: u64,
+}
+
+impl Model for Share {
+    ghost use Rattle.smb_engine.specs.State.{ShareState};
+    ghost use Rattle.smb_engine.specs.Held.{AreKept};
+
+    ghost Value = { ShareState };
+
+    ghost view = { λ s. record { shared = s.shared; links = s.links.entries; next = s.next } };
+
+    ghost invariant = { λ s. AreKept s.links.entries s.next };
+}
+
+/// A new connection: nothing came, no dialect stands, and its window is {0}.
+fn fresh_link(alloc: Global) -> Link
+    ensures { result ≡ new_link }
+{
+    Link {
+        buffer: FrameBuffer::new(alloc, LONGEST_PAYLOAD),
+        connection: Connection {
+            payload_came: false,
+            dialect: None,
+            window: Window::new(0),
+        },
+    }
+}
+
+/// Adds a connection.
+fn put_link(links: &mut BTreeMap<u64, Link>, number: u64, link: Link) -> Result<(), AllocError>
+    ensures ok { OnOk result (links.new.entries ≡ insert_entry nat_cmp links.old.entries number link) }
+    ensures err { OnErr result (links.new.entries ≡ links.old.entries) }
+{
+    links.insert(number, link)?;
+    Ok(())
+}
+
+impl Share {
+    /// A share of this configuration, without a connection. `hello` is the token that the authenticator
+    /// offers in each NEGOTIATE response, of at most 4,096 bytes.
+    ///
+    /// A configuration that breaks its rules is [`ServeFault::BadConfig`].
+    pub fn new(alloc: Global, config: Config, hello: Vec<u8>) -> Result<Self, ServeFault>
+        requires { length hello.items ≤ 4096 }
+        ensures lawful { OnOk result (is_lawful (settings_of config) ≡ true) }
+        ensures state { IfOk result (λ share. share ≡ new_share (settings_of config) hello.items) }
+        ensures err { IfErr result (λ fault. (fault ≡ ServeFault.BadConfig) × (is_lawful (settings_of config) ≡ false)) }
+    {
+        if !config.is_lawful() {
+            return Err(ServeFault::BadConfig);
+        }
+        Ok(Share {
+            shared: Shared::new(alloc, config, hello),
+            links: BTreeMap::new(alloc),
+            next: 1,
+        })
+    }
+
+    /// Opens a connection, and gives its number: 1, 2, 3 and so on, none twice.
+    ///
+    /// [`ServeFault::TooManyConnections`] where 64 are open or the numbers are spent; after it, and after
+    /// [`ServeFault::NoMemory`], nothing has changed.
+    pub fn opened(&mut self) -> Result<u64, ServeFault>
+        ensures number { IfOk result (λ number. number ≡ self.old.next) }
+        ensures state { OnOk result (self.new ≡ opened self.old) }
+        ensures room { OnOk result (opening_refusal self.old ≡ None) }
+        ensures err { IfErr result (OpeningRefused self.old) }
+        ensures kept { OnErr result (self.new ≡ self.old) }
+    {
+        let number = self.next;
+        if self.links.len() >= CONNECTION_LIMIT || number == u64::MAX {
+            return Err(ServeFault::TooManyConnections);
+        }
+        let link = fresh_link(self.shared.allocator());
+        match put_link(&mut self.links, number, link) {
+            Ok(()) => {}
+            Err(_) => return Err(ServeFault::NoMemory { done: 0 }),
+        }
+        self.next = number + 1;
+        Ok(number)
+    }
+
+    /// Whether a connection is open.
+    pub fn is_open(&self, connection: u64) -> bool
+        ensures { result ≡ is_some (link_of connection self.now.links) }
+    {
+        self.links.contains_key(&connection)
+    }
+
+    /// Takes a piece of a connection's stream, and puts out what answers it. On a connection that is not
+    /// open it is passed over. An error tells how many requests were performed; the connection has ended
+    /// after them.
+    #[tactic(auto, unfolding(crate::specs::Share::bytes_step, crate::specs::Share::stopped))]
+    fn take<K: Sink>(
+        &mut self,
+        connection: u64,
+        moment: u64,
+        piece: &[u8],
+        out: &mut K,
+    ) -> Result<Fate, usize>
+        ensures state { OnOk result (self.new ≡ unread (bytes_step self.old connection moment piece.now).state) }
+        ensures outputs { OnOk result (K.content out.new ≡ K.content out.old ++ flat_map K.hears (bytes_step self.old connection moment piece.now).outputs) }
+        ensures fate { IfOk result (λ fate. fate ≡ (if is_open_after self.old connection moment piece.now then Fate.Open else Fate.Ended)) }
+        ensures err { IfErr result (λ k. self.new ≡ unread (stopped self.old connection moment piece.now k)) }
+        ensures within { IfErr result (λ k. k ≤ count_on self.old connection moment piece.now) }
+        ensures kept { OnErr result (K.content out.new ≡ K.content out.old) }
+    {
+        let link = match self.links.get_mut(&connection) {
+            Some(link) => link,
+            None => return Ok(Fate::Ended),
+        };
+        match take_piece(&mut self.shared, link, connection, moment, piece, out) {
+            Ok(true) => Ok(Fate::Open),
+            Ok(false) => {
+                self.links.remove(&connection);
+                Ok(Fate::Ended)
+            }
+            Err(done) => {
+                self.links.remove(&connection);
+                Err(done)
+            }
+        }
+    }
+
+    /// Ends a connection; on one that is not open it does nothing. It takes no memory.
+    pub fn ended(&mut self, connection: u64)
+        ensures state { self.new ≡ unread (ended self.old connection) }
+        ensures good { GoodState self.new }
+    {
+        let _ = self.links.remove(&connection);
+        self.good();
+    }
+
+    /// Takes a piece of an open connection's stream, and adds the bytes of the frames that answer it.
+    ///
+    /// `moment` is in units of 100 ns since 1601. After [`ServeFault::NoMemory`], the only refusal, `out` is
+    /// as it was; the first `done` requests of the piece were performed, and then the connection has ended.
+    pub fn feed(
+        &mut self,
+        connection: u64,
+        moment: u64,
+        piece: &[u8],
+        out: &mut Vec<u8>,
+    ) -> Result<Fate, ServeFault>
+        requires { IsSome (link_of connection self.old.links) }
+        ensures state { OnOk result (self.new ≡ unread (bytes_step self.old connection moment piece.now).state) }
+        ensures outputs { OnOk result (out.new.items ≡ out.old.items ++ flat_map bytes_of (bytes_step self.old connection moment piece.now).outputs) }
+        ensures fate { IfOk result (λ fate. fate ≡ (if is_open_after self.old connection moment piece.now then Fate.Open else Fate.Ended)) }
+        ensures err { IfErr result (λ fault. PieceStopped self.old connection moment piece.now fault self.new) }
+        ensures kept { OnErr result (out.new.items ≡ out.old.items) }
+        ensures good { GoodState self.new }
+    {
+        let taken = self.take(connection, moment, piece, out);
+        self.good();
+        match taken {
+            Ok(fate) => Ok(fate),
+            Err(done) => Err(ServeFault::NoMemory { done }),
+        }
+    }
+
+    /// Takes a piece as [`Share::take`] does, for answers with their connections.
+    fn answer(
+        &mut self,
+        connection: u64,
+        moment: u64,
+        piece: &[u8],
+        answers: &mut Vec<Answer>,
+    ) -> Result<(), usize>
+        ensures state { OnOk result (self.new ≡ unread (bytes_step self.old connection moment piece.now).state) }
+        ensures outputs { OnOk result (outputs_of answers.new.items ≡ outputs_of answers.old.items ++ (bytes_step self.old connection moment piece.now).outputs) }
+        ensures err { IfErr result (λ k. self.new ≡ unread (stopped self.old connection moment piece.now k)) }
+        ensures within { IfErr result (λ k. k ≤ count_on self.old connection moment piece.now) }
+        ensures kept { OnErr result (outputs_of answers.new.items ≡ outputs_of answers.old.items) }
+    {
+        match self.take(connection, moment, piece, answers) {
+            Ok(_) => Ok(()),
+            Err(done) => Err(done),
+        }
+    }
+
+    /// Whether a number was given to a connection, which may have ended since.
+    fn was_opened(&self, connection: u64) -> bool
+        ensures { unknown_refusal self.now connection ≡ (if result then None else Some ServeFault.BadEvent) }
+    {
+        0 < connection && connection < self.next
+    }
+
+    /// Takes one event.
+    fn event(&mut self, event: &Event, answers: &mut Vec<Answer>) -> Result<(), ServeFault>
+        ensures unrefused { OnOk result (refusal self.old event.now ≡ None) }
+        ensures state { OnOk result (self.new ≡ unread (event_step self.old event.now).state) }
+        ensures outputs { OnOk result (outputs_of answers.new.items ≡ outputs_of answers.old.items ++ (event_step self.old event.now).outputs) }
+        ensures err { IfErr result (λ fault. EventStopped self.old event.now fault self.new) }
+        ensures kept { OnErr result (outputs_of answers.new.items ≡ outputs_of answers.old.items) }
+    {
+        let _ = &self.shared;
+        match event {
+            Event::Opened(number) => {
+                if *number != self.next {
+                    return Err(ServeFault::BadEvent);
+                }
+                match self.opened() {
+                    Ok(_) => Ok(()),
+                    Err(fault) => Err(fault),
+                }
+            }
+            Event::Bytes {
+                connection,
+                moment,
+                piece,
+            } => {
+                if !self.was_opened(*connection) {
+                    return Err(ServeFault::BadEvent);
+                }
+                match self.answer(*connection, *moment, piece, answers) {
+                    Ok(()) => Ok(()),
+                    Err(done) => Err(ServeFault::NoMemory { done }),
+                }
+            }
+            Event::Ended(connection) => {
+                if !self.was_opened(*connection) {
+                    return Err(ServeFault::BadEvent);
+                }
+                self.ended(*connection);
+                Ok(())
+            }
+        }
+    }
+
+    /// Takes events in order, up to one that is refused.
+    fn run_events(&mut self, events: &[Event], answers: &mut Vec<Answer>) -> Result<(), RunFault>
+        ensures ok { OnOk result (record { state = self.new; outputs = outputs_of answers.new.items; stop = None }
+            ≡ run_behind (outputs_of answers.old.items) (run self.old events.now)) }
+        ensures err { IfErr result (λ e. RunStopped self.old events.now e.place e.fault self.new (outputs_of answers.old.items) (outputs_of answers.new.items)) }
+    {
+        let _ = &self.shared;
+        let mut place = 0;
+        for event in events {
+            match self.event(event, answers) {
+                Ok(()) => {}
+                Err(fault) => return Err(RunFault { place, fault }),
+            }
+            place += 1;
+        }
+        Ok(())
+    }
+
+    /// Takes events in order, up to one that is refused, and adds the answers.
+    ///
+    /// A fault tells the place of the event that it stopped at; the events before it stand, with their
+    /// answers. A refused event ([`ServeFault::BadEvent`], [`ServeFault::TooManyConnections`]) changes
+    /// nothing. After [`ServeFault::NoMemory`] the first `done` requests of the event were performed,
+    /// unanswered, and then its connection has ended; an opening changed nothing.
+    pub fn run(&mut self, events: &[Event], answers: &mut Vec<Answer>) -> Result<(), RunFault>
+        ensures ok { OnOk result (record { state = self.new; outputs = outputs_of answers.new.items; stop = None }
+            ≡ run_behind (outputs_of answers.old.items) (run self.old events.now)) }
+        ensures err { IfErr result (λ e. RunStopped self.old events.now e.place e.fault self.new (outputs_of answers.old.items) (outputs_of answers.new.items)) }
+        ensures good { GoodState self.new }
+    {
+        let result = self.run_events(events, answers);
+        self.good();
+        result
+    }
+
+    /// What holds of every share between calls. (The body does nothing.)
+    pub fn good(&self)
+        ensures { GoodState self.now }
+    {
+        self.shared.good();
+        let _ = &self.links;
+    }
+}

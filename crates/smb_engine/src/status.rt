@@ -1,0 +1,25 @@
+//! The status that a reply tells ([MS-ERREF] 2.3.1).
+
+ghost use Rattle.std.specs.Prelude.{◌≡◌};
+ghost use Rattle.smb_engine.specs.Status.{status_code};
+
+/// An NTSTATUS that the share answers.
+#[derive(Clone, Copy, Debug, PartialEq, Eq)]
+pub enum Status {
+    Success,
+    InvalidParameter,
+    NotSupported,
+}
+
+impl Status {
+    /// The status as it stands in a header.
+    pub fn code(self) -> u32
+        ensures { result ≡ status_code self }
+    {
+        match self {
+            Status::Success => 0,
+            Status::InvalidParameter => 0xC000_000D,
+            Status::NotSupported => 0xC000_00BB,
+        }
+    }
+}

@@ -1,0 +1,113 @@
+//! A piece of a connection's stream, payload by payload.
+
+ghost use Rattle.std.specs.Prelude.{◌≡◌, ◌≤◌, ◌++◌, ◌&&◌, None, OnOk, OnErr, IfOk, IfErr, IsTrue, is_none, length, take};
+ghost use Rattle.std.specs.List.{flat_map};
+ghost use Rattle.smb_frame.specs.Reading.{first, fault_of, payloads, rest};
+ghost use Rattle.smb_engine.specs.Stream.{longest_payload, payload_steps, shared_after_some, count_in_all, piece_step, shared_after_piece, count_in_piece};
+ghost use Rattle.smb_engine.specs.Held.{steps_heard, Waits, IsPieceHeld};
+
+use super::connection::{Connection, Link};
+use super::output::Sink;
+use super::shared::Shared;
+use smb_frame::FrameBuffer;
+
+/// Performs the payloads of the whole frames that are held, in order, and puts out their replies. Ok tells
+/// whether the connection stays open and how many requests were performed; an error, the latter.
+fn take_payloads<K: Sink>(
+    shared: &mut Shared,
+    buffer: &mut FrameBuffer,
+    connection: &mut Connection,
+    number: u64,
+    moment: u64,
+    out: &mut K,
+) -> Result<(bool, usize), usize>
+    requires { buffer.old.limit ≡ longest_payload }
+    ensures ok { IfOk result (λ r. record { shared = shared.new; connection = connection.new; heard = K.content out.new; stays_open = r.0 }
+        ≡ steps_heard K.hears (K.content out.old) (payload_steps number moment shared.old connection.old (payloads longest_payload buffer.old.bytes))) }
+    ensures rest { IfOk result (λ r. IsTrue r.0 → (buffer.new.bytes ≡ rest longest_payload buffer.old.bytes) × (first longest_payload buffer.new.bytes ≡ None)) }
+    ensures done { IfOk result (λ r. shared.new ≡ shared_after_some number moment shared.old connection.old (payloads longest_payload buffer.old.bytes) r.1) }
+    ensures count { IfOk result (λ r. r.1 ≤ count_in_all number moment shared.old connection.old (payloads longest_payload buffer.old.bytes)) }
+    ensures err { IfErr result (λ k. shared.new ≡ shared_after_some number moment shared.old connection.old (payloads longest_payload buffer.old.bytes) k) }
+    ensures within { IfErr result (λ k. k ≤ count_in_all number moment shared.old connection.old (payloads longest_payload buffer.old.bytes)) }
+    ensures kept { take (length (K.content out.old)) (K.content out.new) ≡ K.content out.old }
+    ensures limit { buffer.new.limit ≡ longest_payload }
+{
+    let _length = buffer.len();
+    let alloc = shared.allocator();
+    let mut done = 0;
+    while let Some(payload) = buffer.next() {
+        match shared.payload(moment, connection, payload) {
+            Err(k) => return Err(done + k),
+            Ok(None) => return Ok((false, done)),
+            Ok(Some(replies)) => {
+                done += replies.count;
+                buffer.done();
+                match out.put_replies(alloc, number, &replies.bytes) {
+                    Ok(()) => {}
+                    Err(_) => return Err(done),
+                }
+            }
+        }
+    }
+    Ok((true, done))
+}
+
+/// Whether a connection stays open: no payload ended it, and nothing is wrong with what is unread.
+fn stays_open(open_still: bool, buffer: &FrameBuffer) -> bool
+    requires { buffer.now.limit ≡ longest_payload }
+    ensures { result ≡ (open_still && is_none (fault_of longest_payload buffer.now.bytes)) }
+{
+    open_still && buffer.fault().is_none()
+}
+
+/// Takes a piece of a connection's stream, and puts out what answers it. Ok tells whether the connection
+/// stays open; an error, how many requests were performed.
+///
+/// After an error nothing was put out. The connection is to be given up then, and where it doesn't stay open.
+pub(crate) fn take_piece<K: Sink>(
+    shared: &mut Shared,
+    link: &mut Link,
+    number: u64,
+    moment: u64,
+    piece: &[u8],
+    out: &mut K,
+) -> Result<bool, usize>
+    requires { Waits link.old }
+    ensures ok { IfOk result (λ stays_open. IsPieceHeld (piece_step number moment shared.old link.old piece.now) shared.new link.new stays_open) }
+    ensures outputs { OnOk result (K.content out.new ≡ K.content out.old ++ flat_map K.hears (piece_step number moment shared.old link.old piece.now).outputs) }
+    ensures err { IfErr result (λ k. shared.new ≡ shared_after_piece number moment shared.old link.old piece.now k) }
+    ensures within { IfErr result (λ k. k ≤ count_in_piece number moment shared.old link.old piece.now) }
+    ensures kept { OnErr result (K.content out.new ≡ K.content out.old) }
+{
+    let before = out.mark();
+    match link.buffer.push(piece) {
+        Ok(()) => {}
+        Err(_) => return Err(0),
+    }
+    let (open_still, done) = match take_payloads(
+        shared,
+        &mut link.buffer,
+        &mut link.connection,
+        number,
+        moment,
+        out,
+    ) {
+        Ok(taken) => taken,
+        Err(done) => {
+            out.cut_back(before);
+            return Err(done);
+        }
+    };
+    if stays_open(open_still, &link.buffer) {
+        link.connection.window.good();
+        return Ok(true);
+    }
+    match out.put_end(number) {
+        Ok(()) => {}
+        Err(_) => {
+            out.cut_back(before);
+            return Err(done);
+        }
+    }
+    Ok(false)
+}

@@ -1,0 +1,7 @@
+pub mod Codes
+pub mod Readings
+pub mod Walks
+pub mod Faultless
+pub mod Chaining
+pub mod Joining
+pub mod Faults

@@ -1,0 +1,5 @@
+pub mod Commands
+pub mod Faults
+pub mod Headers
+pub mod Chains
+pub mod Replies

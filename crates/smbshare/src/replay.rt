@@ -1,0 +1,176 @@
+//! A replay: the events of a text, and what the share answers.
+
+use super::config::{ConfigFault, Configuration};
+use super::script::Script;
+use smb_engine::{Answer, RunFault, ServeFault, Share};
+use std::alloc::{AllocError, Global};
+use std::io::{ErrorKind, Read, Write};
+use std::{fmt, io};
+
+/// How many bytes of input are read at most.
+pub(crate) const INPUT_LIMIT: u64 = 67_108_864;
+
+/// What ends a replay. Its text is what is printed.
+#[derive(Clone, Copy, Debug, PartialEq, Eq)]
+pub(crate) enum ReplayFault {
+    ConfigUnread,
+    ConfigRefused,
+    InputFailed,
+    InputTooLong,
+    OutputFailed,
+    Unreadable(u64),
+    BadEvent(u64),
+    TooManyConnections(u64),
+    NoMemory,
+}
+
+impl fmt::Display for ReplayFault {
+    fn fmt<W: fmt::Write>(&self, f: &mut fmt::Formatter<W>) -> fmt::Result {
+        match self {
+            ReplayFault::ConfigUnread => write!(f, "config: cannot be read"),
+            ReplayFault::ConfigRefused => write!(f, "config: refused"),
+            ReplayFault::InputFailed => write!(f, "input: failed"),
+            ReplayFault::InputTooLong => write!(f, "input too long"),
+            ReplayFault::OutputFailed => write!(f, "output: failed"),
+            ReplayFault::Unreadable(line) => write!(f, "line {line}: unreadable"),
+            ReplayFault::BadEvent(line) => write!(f, "line {line}: bad event"),
+            ReplayFault::TooManyConnections(line) => write!(f, "line {line}: too many connections"),
+            ReplayFault::NoMemory => write!(f, "no memory"),
+        }
+    }
+}
+
+impl ReplayFault {
+    /// The exit status: 3 for want of memory, else 1.
+    pub(crate) fn status(self) -> u8 {
+        match self {
+            ReplayFault::NoMemory => 3,
+            _ => 1,
+        }
+    }
+}
+
+impl From<AllocError> for ReplayFault {
+    fn from(_error: AllocError) -> ReplayFault {
+        ReplayFault::NoMemory
+    }
+}
+
+impl From<ConfigFault> for ReplayFault {
+    fn from(fault: ConfigFault) -> ReplayFault {
+        match fault {
+            ConfigFault::Refused => ReplayFault::ConfigRefused,
+            ConfigFault::NoMemory => ReplayFault::NoMemory,
+        }
+    }
+}
+
+/// The whole input, of at most [`INPUT_LIMIT`] bytes.
+fn read_input<R: Read + Drop>(alloc: Global, input: R) -> Result<Vec<u8>, ReplayFault> {
+    let mut text = Vec::new(alloc);
+    match input.take(INPUT_LIMIT + 1).read_to_end(&mut text) {
+        Ok(_) => {}
+        Err(error) if error.kind() == ErrorKind::OutOfMemory => return Err(ReplayFault::NoMemory),
+        Err(_) => return Err(ReplayFault::InputFailed),
+    }
+    if text.len() as u64 > INPUT_LIMIT {
+        return Err(ReplayFault::InputTooLong);
+    }
+    Ok(text)
+}
+
+/// How many bytes are written as hex at a time.
+const HEX_PART: usize = 512;
+
+/// Writes bytes as hex.
+fn write_hex<W: Write>(bytes: &[u8], output: &mut W) -> io::Result<()> {
+    let mut digits = [0u8; 1_024];
+    for part in bytes.chunks(HEX_PART) {
+        let length = 2 * part.len().min(HEX_PART);
+        if hex::encode_to_slice(part, &mut digits[..length]).is_ok() {
+            output.write_all(&digits[..length])?;
+        }
+    }
+    Ok(())
+}
+
+/// Writes an answer as a line.
+fn write_answer<W: Write>(answer: &Answer, output: &mut W) -> io::Result<()> {
+    match answer {
+        Answer::Frame(connection, frame) => {
+            write!(output, "< {connection} ")?;
+            write_hex(frame, output)?;
+            writeln!(output)
+        }
+        Answer::End(connection) => writeln!(output, "x {connection}"),
+    }
+}
+
+/// Writes answers in order.
+fn write_answers<W: Write>(answers: &[Answer], output: &mut W) -> Result<(), ReplayFault> {
+    for answer in answers {
+        write_answer(answer, output).map_err(|_| ReplayFault::OutputFailed)?;
+    }
+    output.flush().map_err(|_| ReplayFault::OutputFailed)
+}
+
+/// What a fault of the share is in the text's lines.
+fn fault_at(places: &[u64], fault: RunFault) -> ReplayFault {
+    let line = places.get(fault.place).copied().unwrap_or(0);
+    match fault.fault {
+        ServeFault::TooManyConnections => ReplayFault::TooManyConnections(line),
+        ServeFault::BadEvent => ReplayFault::BadEvent(line),
+        ServeFault::NoMemory { done: _ } => ReplayFault::NoMemory,
+        ServeFault::BadConfig => ReplayFault::ConfigRefused,
+    }
+}
+
+/// Replays a text on a new share, and writes what the share answers.
+fn replay<R: Read + Drop, W: Write>(
+    alloc: Global,
+    config: &str,
+    input: R,
+    output: &mut W,
+) -> Result<(), ReplayFault> {
+    let configuration = Configuration::read(alloc, config)?;
+    let text = read_input(alloc, input)?;
+    let script = Script::read(alloc, &text)?;
+    let mut share = match Share::new(alloc, configuration.config, configuration.hello) {
+        Ok(share) => share,
+        Err(_) => return Err(ReplayFault::ConfigRefused),
+    };
+    let mut answers = Vec::new(alloc);
+    let ran = share.run(&script.events, &mut answers);
+    write_answers(&answers, output)?;
+    if let Err(fault) = ran {
+        return Err(fault_at(&script.places, fault));
+    }
+    match script.unreadable_at {
+        Some(line) => Err(ReplayFault::Unreadable(line)),
+        None => Ok(()),
+    }
+}
+
+/// Replays the events of a text on a new share of this configuration, and gives the exit status.
+///
+/// The input is one event a line: `+ N` opens a connection, `> N MOMENT HEX` brings a piece of its stream,
+/// `- N` ends it; a line that is empty or that `#` begins is skipped. It is read whole before anything is
+/// written. `output` gets a line `< N HEX` for each reply frame and `x N` where the share ends a connection;
+/// `errors` gets the first fault, after the answers to the lines before it. The status is 0, 1 for a fault,
+/// and 3 for want of memory.
+pub(crate) fn replay_text<R: Read + Drop, W: Write, E: Write>(
+    alloc: Global,
+    config: &str,
+    input: R,
+    output: &mut W,
+    errors: &mut E,
+) -> u8 {
+    match replay(alloc, config, input, output) {
+        Ok(()) => 0,
+        Err(fault) => {
+            let _ = writeln!(errors, "{fault}");
+            let _ = errors.flush();
+            fault.status()
+        }
+    }
+}
