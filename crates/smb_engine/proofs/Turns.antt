@@ -29,19 +29,6 @@ ids_other request rest h = rw h refl
 neg_test : (request : List ℕ) (n : ℕ) → n ≡ (header_of request).command.0 → eqb n 0 ≡ is_negotiate_request request
 neg_test request n h = ap (λ m. eqb m 0) h
 
--- the request at a place is a NEGOTIATE
-pub negotiate_found : (requests : List (List ℕ)) (i : ℕ) (request : List ℕ) → slice_get requests i ≡ Some request →
-    list_any is_negotiate_request (drop i requests) ≡ list_any is_negotiate_request requests → is_negotiate_request request ≡ true →
-    true ≡ list_any is_negotiate_request requests
-negotiate_found requests i request at h e = sym (sym h ∙ rw (drop_found requests i request at, e) refl)
-
-pub negotiate_passed : (requests : List (List ℕ)) (i : ℕ) (request : List ℕ) → slice_get requests i ≡ Some request →
-    list_any is_negotiate_request (drop i requests) ≡ list_any is_negotiate_request requests → is_negotiate_request request ≡ false →
-    list_any is_negotiate_request (drop (i + 1) requests) ≡ list_any is_negotiate_request requests
-negotiate_passed requests i request at h e =
-    let step : list_any is_negotiate_request (drop i requests) ≡ list_any is_negotiate_request (drop (i + 1) requests) = rw (drop_found requests i request at, e) refl in
-    sym step ∙ h
-
 or_false : (b : Bool) → (b || false) ≡ b
 or_false true = refl
 or_false false = refl

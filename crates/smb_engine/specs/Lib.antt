@@ -2,7 +2,6 @@ pub mod Window
 pub mod Status
 pub mod Settings
 pub mod Negotiate
-pub mod Echo
 pub mod State
 pub mod Request
 pub mod Chain

@@ -17,7 +17,6 @@ mod config;
 mod connection;
 mod context;
 mod dialect;
-mod echo;
 mod event;
 mod fault;
 mod negotiate;

@@ -1,46 +1,32 @@
-//! NEGOTIATE ([MS-SMB2] 2.2.3, 2.2.4, 3.3.5.4).
+//! NEGOTIATE: the dialect ([MS-SMB2] 3.3.5.4).
 
-ghost use Rattle.std.specs.Prelude.{◌≡◌, ◌==◌, ◌*◌, ◌+◌, ◌≤◌, is_some, IfOk, IfSome, OnOk, length};
+ghost use Rattle.std.specs.Prelude.{◌≡◌, ◌==◌, ◌≤◌, length};
 ghost use Rattle.std.specs.List.{list_any};
-ghost use Rattle.smb_wire.specs.Fields.{appended};
-ghost use Rattle.smb_engine.specs.Negotiate.{is_negotiate, dialects_of, pairs_in, best_of, revision_of, response_fields, negotiate_response};
+ghost use Rattle.smb_body.specs.Dialects.{dialects_of};
+ghost use Rattle.smb_body.specs.Replies.{reply_value};
+ghost use Rattle.smb_engine.specs.Negotiate.{best_of, revision_of, negotiate_answer};
 
 use super::dialect::Dialect;
-use smb_wire::{WireFault, put_bytes, put_u16, put_u32, put_u64, u16_in};
-use std::alloc::Global;
+use smb_body::{Capabilities, Dialects, Guid, NegotiateResponse, Reply, SecurityMode};
 
-/// The dialects that a request lists, two bytes each, or None where its body cannot be read.
-pub(crate) fn read_dialects(request: &[u8]) -> Option<&[u8]>
-    ensures readable { is_some result ≡ is_negotiate request.now }
-    ensures dialects { IfSome result (λ list. pairs_in list.now ≡ dialects_of request.now) }
+/// Whether a list has a dialect.
+fn lists(dialects: Dialects<'_>, dialect: Dialect) -> bool
+    ensures { result ≡ list_any (λ d. d == revision_of dialect) (dialects_of dialects.entry) }
 {
-    if request.len() < 100 || u16_in(request, 64) != 36 {
-        return None;
-    }
-    let count = usize::from(u16_in(request, 66));
-    if count == 0 || request.len() < 100 + 2 * count {
-        return None;
-    }
-    Some(&request[100..100 + 2 * count])
-}
-
-/// Whether a list of two bytes each has a dialect.
-fn lists(dialects: &[u8], dialect: Dialect) -> bool
-    ensures { result ≡ list_any (λ d. d == revision_of dialect) (pairs_in dialects.now) }
-{
-    let mut rest = dialects;
-    while let [low, high, others @ ..] = rest {
-        if u16::from_le_bytes([*low, *high]) == dialect.revision() {
+    for i in 0..dialects.len() {
+        let Some(listed) = dialects.get(i) else {
+            break;
+        };
+        if listed.0 == dialect.revision() {
             return true;
         }
-        rest = others;
     }
     false
 }
 
 /// The greatest dialect of the share that a list has.
-pub(crate) fn best_dialect(dialects: &[u8]) -> Option<Dialect>
-    ensures { result ≡ best_of (pairs_in dialects.now) }
+pub(crate) fn best_dialect(dialects: Dialects<'_>) -> Option<Dialect>
+    ensures { result ≡ best_of (dialects_of dialects.entry) }
 {
     if lists(dialects, Dialect::Smb210) {
         Some(Dialect::Smb210)
@@ -51,48 +37,25 @@ pub(crate) fn best_dialect(dialects: &[u8]) -> Option<Dialect>
     }
 }
 
-/// Adds the fixed part of a response. After a refusal some of it stands there.
-fn put_fixed(
-    out: &mut Vec<u8>,
-    guid: &[u8; 16],
-    hello_length: u16,
+/// The response, with the authenticator's hello.
+pub(crate) fn response<'a>(
+    guid: [u8; 16],
+    hello: &'a [u8],
     moment: u64,
     dialect: Dialect,
-) -> Result<(), WireFault>
-    ensures ok { OnOk result (out.new.items ≡ appended out.old.items (response_fields guid.now hello_length moment dialect)) }
-    ensures len { OnOk result (length out.new.items ≡ length out.old.items + 64) }
+) -> Reply<'a>
+    ensures { reply_value result ≡ negotiate_answer guid hello.now moment dialect }
 {
-    put_u16(out, 65)?;
-    put_u16(out, 1)?;
-    put_u16(out, dialect.revision())?;
-    put_u16(out, 0)?;
-    put_bytes(out, guid)?;
-    put_u32(out, 0)?;
-    put_u32(out, 65_536)?;
-    put_u32(out, 65_536)?;
-    put_u32(out, 65_536)?;
-    put_u64(out, moment)?;
-    put_u64(out, 0)?;
-    put_u16(out, 128)?;
-    put_u16(out, hello_length)?;
-    put_u32(out, 0)?;
-    Ok(())
-}
-
-/// A response's body, with the authenticator's hello.
-pub(crate) fn response(
-    alloc: Global,
-    guid: &[u8; 16],
-    hello: &[u8],
-    moment: u64,
-    dialect: Dialect,
-) -> Result<Vec<u8>, WireFault>
-    requires { length hello.now ≤ 4096 }
-    ensures body { IfOk result (λ body. body.items ≡ negotiate_response guid.now hello.now moment dialect) }
-    ensures len { IfOk result (λ body. length body.items ≤ 4160) }
-{
-    let mut out = Vec::with_capacity(alloc, 64 + hello.len())?;
-    put_fixed(&mut out, guid, hello.len() as u16, moment, dialect)?;
-    put_bytes(&mut out, hello)?;
-    Ok(out)
+    Reply::Negotiate(NegotiateResponse {
+        security_mode: SecurityMode(1),
+        dialect_revision: smb_body::Dialect(dialect.revision()),
+        server_guid: Guid(guid),
+        capabilities: Capabilities(0),
+        max_transact_size: 65_536,
+        max_read_size: 65_536,
+        max_write_size: 65_536,
+        system_time: moment,
+        server_start_time: 0,
+        security_buffer: hello,
+    })
 }

@@ -1,18 +1,22 @@
 //! One request: the order of checks, and each command ([MS-SMB2] 3.3.5.2).
 
-ghost use Rattle.std.specs.Prelude.{ℕ, List, ◌≡◌, ◌≤◌, Some, None, OnErr, IfOk, IfSome, length, if◌then◌else◌};
+ghost use Rattle.std.specs.Prelude.{ℕ, List, Option, ◌≡◌, ◌≤◌, Some, None, OnErr, IfOk, IfSome, length, if◌then◌else◌};
 ghost use Rattle.std.specs.Option.{option_map};
 ghost use Rattle.smb_head.specs.Headers.{header_of};
-ghost use Rattle.smb_engine.specs.Echo.{is_echo, echo_response};
-ghost use Rattle.smb_engine.specs.Request.{acts_under, success, failure, negotiated, echoed, performed};
+ghost use Rattle.smb_head.specs.Commands.{code_of};
+ghost use Rattle.smb_body.specs.Requests.{request_of};
+ghost use Rattle.smb_body.specs.Replies.{reply_value, reply_length, reply_spelling};
+ghost use Rattle.smb_engine.specs.State.{SharedState};
+ghost use Rattle.smb_engine.specs.Request.{acts_under, answered, failure, negotiated, echoed, performed};
 ghost use Rattle.smb_engine.specs.Held.{response_of};
 
 use super::context::Context;
 use super::dialect::Dialect;
+use super::negotiate;
 use super::shared::Shared;
 use super::status::Status;
-use super::{echo, negotiate};
 use bitflags::Flags;
+use smb_body::{Reply, Request, read_body, write_reply};
 use smb_head::{Command, Header, HeaderFlags};
 use std::alloc::{AllocError, Global};
 
@@ -38,34 +42,48 @@ fn acts_under(context: Context, header: &Header) -> Context
     }
 }
 
+/// A response of this status with this reply's body.
+fn respond(
+    alloc: Global,
+    status: Status,
+    under: Context,
+    reply: &Reply<'_>,
+) -> Result<Response, AllocError>
+    requires { reply_length (reply_value reply.now) ≤ 65552 }
+    ensures ok { IfOk result (λ response. response_of response
+        ≡ record { status = status; under = under; body = reply_spelling (reply_value reply.now) }) }
+    ensures len { IfOk result (λ response. length response.body.items ≤ 65552) }
+{
+    let mut body = Vec::new(alloc);
+    match write_reply(reply, &mut body) {
+        Ok(()) => Ok(Response {
+            status,
+            under,
+            body,
+        }),
+        Err(_) => Err(AllocError),
+    }
+}
+
 /// A failure.
 fn failure(alloc: Global, under: Context, status: Status) -> Result<Response, AllocError>
     ensures ok { IfOk result (λ response. response_of response ≡ failure under status) }
     ensures len { IfOk result (λ response. length response.body.items ≤ 65552) }
 {
-    let body = echo::error_response(alloc)?;
-    Ok(Response {
-        status,
-        under,
-        body,
-    })
+    respond(alloc, status, under, &Reply::Error)
 }
 
 /// ECHO ([MS-SMB2] 3.3.5.17).
+#[tactic(auto, unfolding(crate::specs::Request::echoed))]
 fn echoed(alloc: Global, under: Context, request: &[u8]) -> Result<Response, AllocError>
-    ensures ok { IfOk result (λ response. response_of response
-        ≡ (if is_echo request.now then success under echo_response else failure under Status.InvalidParameter)) }
+    ensures ok { (shared : SharedState) → (before : Option Dialect) → IfOk result (λ response. answered shared before under (response_of response)
+        ≡ echoed shared before under (request_of (code_of Command.Echo) request.now)) }
     ensures len { IfOk result (λ response. length response.body.items ≤ 65552) }
 {
-    if !echo::is_readable(request) {
-        return failure(alloc, under, Status::InvalidParameter);
+    match read_body(Command::Echo.code().0, request) {
+        Ok(Request::Echo(_)) => respond(alloc, Status::Success, under, &Reply::Echo),
+        _ => failure(alloc, under, Status::InvalidParameter),
     }
-    let body = echo::response(alloc)?;
-    Ok(Response {
-        status: Status::Success,
-        under,
-        body,
-    })
 }
 
 impl Shared {
@@ -79,24 +97,22 @@ impl Shared {
         request: &[u8],
     ) -> Result<Response, AllocError>
         ensures ok { IfOk result (λ response. record { shared = self.new; dialect = dialect.new; context = under; response = Some (response_of response) }
-            ≡ negotiated self.old dialect.old under moment request.now) }
+            ≡ negotiated self.old dialect.old under moment (request_of (code_of Command.Negotiate) request.now)) }
         ensures len { IfOk result (λ response. length response.body.items ≤ 65552) }
         ensures err { OnErr result (self.new ≡ self.old) }
     {
         let alloc = self.allocator();
-        let Some(dialects) = negotiate::read_dialects(request) else {
-            return failure(alloc, under, Status::InvalidParameter);
+        let asked = match read_body(Command::Negotiate.code().0, request) {
+            Ok(Request::Negotiate(asked)) => asked,
+            _ => return failure(alloc, under, Status::InvalidParameter),
         };
-        let Some(best) = negotiate::best_dialect(dialects) else {
+        let Some(best) = negotiate::best_dialect(asked.dialects) else {
             return failure(alloc, under, Status::NotSupported);
         };
-        let body = self.negotiate_body(moment, best)?;
+        let reply = self.negotiate_response(moment, best);
+        let response = respond(alloc, Status::Success, under, &reply)?;
         *dialect = Some(best);
-        Ok(Response {
-            status: Status::Success,
-            under,
-            body,
-        })
+        Ok(response)
     }
 
     /// Performs one request of this header, and gives what answers it. CANCEL has no answer.

@@ -1,13 +1,15 @@
 //! What all connections share ([MS-SMB2] 3.3.1.5).
 
-ghost use Rattle.std.specs.Prelude.{◌≡◌, ◌≤◌, true, IfOk, length};
+ghost use Rattle.std.specs.Prelude.{◌≡◌, ◌≤◌, true, length};
 ghost use Rattle.smb_engine.specs.Settings.{settings_of, is_lawful};
-ghost use Rattle.smb_engine.specs.Negotiate.{negotiate_response};
+ghost use Rattle.smb_body.specs.Replies.{reply_value};
+ghost use Rattle.smb_engine.specs.Negotiate.{negotiate_answer};
 
 use super::config::Config;
 use super::dialect::Dialect;
 use super::negotiate;
-use std::alloc::{AllocError, Global};
+use smb_body::Reply;
+use std::alloc::Global;
 use std::marker::Model;
 
 /// The configuration, and the token of the authenticator's hello.
@@ -49,18 +51,12 @@ impl Shared {
         self.alloc
     }
 
-    /// The body of a NEGOTIATE response.
-    pub(crate) fn negotiate_body(
-        &self,
-        moment: u64,
-        dialect: Dialect,
-    ) -> Result<Vec<u8>, AllocError>
-        ensures body { IfOk result (λ body. body.items ≡ negotiate_response self.now.settings.guid self.now.hello moment dialect) }
-        ensures len { IfOk result (λ body. length body.items ≤ 4160) }
+    /// The NEGOTIATE response.
+    pub(crate) fn negotiate_response(&self, moment: u64, dialect: Dialect) -> Reply<'_>
+        ensures response { reply_value result ≡ negotiate_answer self.now.settings.guid self.now.hello moment dialect }
+        ensures short { length self.now.hello ≤ 4096 }
     {
-        negotiate::response(self.alloc, &self.config.guid, &self.hello, moment, dialect).map_err(
-            |_| AllocError,
-        )
+        negotiate::response(self.config.guid, &self.hello, moment, dialect)
     }
 
     /// The configuration keeps its rules. (The body does nothing.)

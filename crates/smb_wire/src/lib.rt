@@ -9,15 +9,19 @@
 //! A header, a body or an information class is a table of fields, one row a field, as the standard
 //! prints it: `specs/Fields.antt`. That what is written so is read so is the contract of
 //! [`laws_of_fields`].
+//!
+//! Text is [`Units`]: UTF-16 units over borrowed bytes, as `specs/Pairs.antt` says.
 #![tactic(auto)]
 
 mod fault;
 mod fields;
 mod number;
+mod units;
 
 pub use fault::WireFault;
 pub use fields::{laws_of_fields, put_bytes, put_u8, u8_in, u16_in, u32_in, u64_in};
 pub use number::{laws_of_numbers, put_u16, put_u32, put_u64, u16_at, u32_at, u64_at};
+pub use units::{Units, laws_of_units};
 
 #[cfg(test)]
 mod tests;

@@ -1,14 +1,15 @@
 use Rattle.std.proofs.Common.{sym, ap, ◌∙◌, eqb}
 use Rattle.std.proofs.lemmas.Bool.{eq-eqb, ne_eqb}
-use Rattle.smb_engine.proofs.Turns.{negotiate_found, negotiate_passed}
+use Rattle.smb_engine.specs.Chain.{is_negotiate_request}
+use Rattle.smb_engine.proofs.Lists.{any_found, any_passed}
 use Rattle.smb_engine.proofs.chain.holds_negotiate.Goals as goal
 
 pub returns-then-header-eq-NEGOTIATE : goal.returns-then-header-eq-NEGOTIATE
 returns-then-header-eq-NEGOTIATE c =
-    negotiate_found _ _ _ c.request_at.ensures.request c.loop-i.invariant
+    any_found is_negotiate_request _ _ _ c.request_at.ensures.request c.loop-i.invariant
     (ap (λ h. eqb h.command.0 0) (sym c.request_at.ensures.header) ∙ eq-eqb _ _ c.if-header-eq-NEGOTIATE.true)
 
 pub loop-i-preserved : goal.loop-i-preserved
 loop-i-preserved c =
-    negotiate_passed _ _ _ c.request_at.ensures.request c.loop-i.invariant
+    any_passed is_negotiate_request _ _ _ c.request_at.ensures.request c.loop-i.invariant
     (ap (λ h. eqb h.command.0 0) (sym c.request_at.ensures.header) ∙ ne_eqb _ _ c.if-header-eq-NEGOTIATE.false)

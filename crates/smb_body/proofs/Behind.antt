@@ -1,0 +1,32 @@
+-- Parts that were written one behind the other.
+use Rattle.std.proofs.Common.{◌≡◌, ℕ, ◌≤◌, List, ◌++◌, length, take, drop, refl, sym, ap, ◌∙◌, append_assoc, arith}
+use Rattle.std.proofs.lemmas.List.{drop_at, take_at, length-take, take-take}
+use Rattle.smb_wire.specs.Fields.{Field, joined, appended}
+use Rattle.smb_wire.proofs.FieldTables.{appended-joined}
+
+-- a table that was put, and bytes behind it
+pub joined_behind : (old first out : List ℕ) (fields : List Field) (bytes text : List ℕ) → first ≡ appended old fields → out ≡ first ++ bytes → bytes ≡ text → out ≡ old ++ (joined fields ++ text)
+joined_behind old first out fields bytes text e f g =
+    f ∙ ap (λ (xs : List ℕ). first ++ xs) g ∙ ap (λ (xs : List ℕ). xs ++ text) (e ∙ appended-joined old fields) ∙ append_assoc old (joined fields) text
+
+-- what was put behind a header is its request's body
+pub body_behind : (header bytes : List ℕ) → length header ≡ 64 → drop 64 (header ++ bytes) ≡ bytes
+body_behind header bytes e = drop_at header bytes 64 e
+
+-- what kept what kept the old bytes keeps them
+pub kept_longer : (old first out : List ℕ) → take (length old) first ≡ old → take (length first) out ≡ first → take (length old) out ≡ old
+kept_longer old first out e f =
+    let m : length old ≤ length first = omega (arith, ap length e, length-take (length old) first) in
+    let n : take (length old) (take (length first) out) ≡ take (length old) out = take-take (length old) (length first) out m in
+    sym n ∙ ap (λ (xs : List ℕ). take (length old) xs) f ∙ e
+
+-- a table that was put, bytes behind it, and more behind those
+pub joined_twice_behind : (old first second out : List ℕ) (fields : List Field) (bytes text rest : List ℕ) → first ≡ appended old fields → second ≡ first ++ bytes → bytes ≡ text → out ≡ second ++ rest → out ≡ old ++ (joined fields ++ (text ++ rest))
+joined_twice_behind old first second out fields bytes text rest e f g h =
+    h ∙ ap (λ (xs : List ℕ). xs ++ rest) (joined_behind old first second fields bytes text e f g)
+    ∙ append_assoc old (joined fields ++ text) rest ∙ ap (λ (xs : List ℕ). old ++ xs) (append_assoc (joined fields) text rest)
+
+-- more bytes behind keep the old ones
+pub kept_append : (old first out bytes : List ℕ) → take (length old) first ≡ old → out ≡ first ++ bytes → take (length old) out ≡ old
+kept_append old first out bytes e f =
+    kept_longer old first out e (ap (λ (xs : List ℕ). take (length first) xs) f ∙ take_at first bytes (length first) refl)

@@ -1,0 +1,116 @@
+-- Elements of a LOCK, and the bytes that they spell.
+use Rattle.std.proofs.Common.{◌≡◌, ℕ, zero, suc, ◌+◌, ◌*◌, ◌/◌, ◌^◌, ◌<◌, ◌≤◌, List, [], ◌∷◌, ◌++◌, length, get_or, take, drop, map, refl, ap, subst, arith, rules, ◌∙◌, length-append, length-drop, take-append-drop, append-nil}
+use Rattle.std.proofs.lemmas.List.{length-take-le, get_or-drop, take_at, drop_at, take_all, length-map, drop-drop}
+use Rattle.std.specs.Simd.{first_chunks}
+use Rattle.std.specs.List.{flat_map}
+use Rattle.smb_wire.specs.Number.{IsBytes, spelling}
+use Rattle.smb_wire.specs.Fields.{number_in, AllStand, AllFit, joined}
+use Rattle.smb_wire.proofs.Numbers.{spelling_of_number, number_below}
+use Rattle.smb_wire.proofs.FieldTables.{length-joined, stand_behind}
+use Rattle.smb_body.specs.Locks.{IsElement, AllElements, lock_at, lock_fields, locks_in, lock_bytes, AllLocksFit}
+use Rattle.smb_body.specs.declared.lock_element.LockElement.{LockElement}
+
+tail_elements : (p : List ℕ) (ps : List (List ℕ)) → AllElements (p ∷ ps) → AllElements ps
+tail_elements p ps h = record { each = λ i k. h.each (suc i) (omega arith) }
+
+head_element : (p : List ℕ) (ps : List (List ℕ)) → AllElements (p ∷ ps) → IsElement p
+head_element p ps h = h.each 0 (omega arith)
+
+cons_elements : (p : List ℕ) (ps : List (List ℕ)) → IsElement p → AllElements ps → AllElements (p ∷ ps)
+cons_elements p ps h t = record { each = cases }
+  where
+    cases : (i : ℕ) → i < length (p ∷ ps) → IsElement (get_or (p ∷ ps) i [])
+    cases zero k = h
+    cases (suc i) k = t.each i (omega arith)
+
+take_fits : (n : ℕ) (xs : List ℕ) → IsBytes xs → IsBytes (take n xs)
+take_fits zero xs h i = omega arith
+take_fits (suc n) [] h i = omega arith
+take_fits (suc n) (x ∷ xs) h zero = h 0
+take_fits (suc n) (x ∷ xs) h (suc i) = take_fits n xs (λ j. h (suc j)) i
+
+drop_fits : (n : ℕ) (xs : List ℕ) → IsBytes xs → IsBytes (drop n xs)
+drop_fits n xs h i = rw get_or-drop (h (n + i))
+
+-- the elements that bytes are cut into are elements
+pub chunks_elements : (k : ℕ) (bytes : List ℕ) → 24 * k ≤ length bytes → IsBytes bytes → AllElements (first_chunks 24 k bytes)
+chunks_elements zero bytes e h = record { each = λ i k. absurd (omega arith) }
+chunks_elements (suc k) bytes e h =
+    cons_elements (take 24 bytes) (first_chunks 24 k (drop 24 bytes))
+    (record { size = length-take-le 24 bytes (omega arith); fits = take_fits 24 bytes h })
+    (chunks_elements k (drop 24 bytes) (omega (arith, length-drop 24 bytes)) (drop_fits 24 bytes h))
+
+-- a field spells the bytes at its place
+field_bytes : (w place : ℕ) (bytes : List ℕ) → place + w ≤ length bytes → IsBytes bytes → spelling w (number_in w place bytes) ≡ take w (drop place bytes)
+field_bytes w place bytes e h =
+    let size : length (take w (drop place bytes)) ≡ w = length-take-le w (drop place bytes) (omega (arith, length-drop place bytes)) in
+    let s = spelling_of_number (take w (drop place bytes)) (take_fits w (drop place bytes) (drop_fits place bytes h)) in
+    rw size at s
+
+-- a number read from w bytes fits them
+field_below : (w place : ℕ) (bytes : List ℕ) → place + w ≤ length bytes → IsBytes bytes → number_in w place bytes < 256 ^ w
+field_below w place bytes e h =
+    let size : length (take w (drop place bytes)) ≡ w = length-take-le w (drop place bytes) (omega (arith, length-drop place bytes)) in
+    let s = number_below (take w (drop place bytes)) (take_fits w (drop place bytes) (drop_fits place bytes h)) in
+    rw size at s
+
+-- what stands from a place on is some bytes and what stands behind them
+cut_on : (place w : ℕ) (bytes : List ℕ) → take w (drop place bytes) ++ drop (place + w) bytes ≡ drop place bytes
+cut_on place w bytes = let whole = take-append-drop w (drop place bytes) in rw (drop-drop w place bytes) at whole
+
+-- 24 bytes are their four fields
+four_parts : (bytes : List ℕ) → length bytes ≡ 24 → take 8 bytes ++ (take 8 (drop 8 bytes) ++ (take 4 (drop 16 bytes) ++ (take 4 (drop 20 bytes) ++ []))) ≡ bytes
+four_parts bytes e =
+    rw (append-nil (take 4 (drop 20 bytes)), take_all 4 (drop 20 bytes) (omega (arith, length-drop 20 bytes, e)), cut_on 16 4 bytes, cut_on 8 8 bytes) (take-append-drop 8 bytes)
+
+element_bytes : (bytes : List ℕ) → IsElement bytes → joined (lock_fields (lock_at bytes)) ≡ bytes
+element_bytes bytes e =
+    let a = field_bytes 8 0 bytes (omega (arith, e.size)) e.fits in
+    let b = field_bytes 8 8 bytes (omega (arith, e.size)) e.fits in
+    let c = field_bytes 4 16 bytes (omega (arith, e.size)) e.fits in
+    let d = field_bytes 4 20 bytes (omega (arith, e.size)) e.fits in
+    rw (a, b, c, d) (four_parts bytes e.size)
+
+element_fits : (bytes : List ℕ) → IsElement bytes → AllLocksFit (lock_at bytes ∷ [])
+element_fits bytes e =
+    ((field_below 8 0 bytes (omega (arith, e.size)) e.fits, (field_below 8 8 bytes (omega (arith, e.size)) e.fits, (field_below 4 16 bytes (omega (arith, e.size)) e.fits, (field_below 4 20 bytes (omega (arith, e.size)) e.fits, tt)))), tt)
+
+-- the bytes of the elements that chunks spell are the chunks, one after the other
+pub elements_bytes : (chunks : List (List ℕ)) → AllElements chunks → lock_bytes (map lock_at chunks) ≡ flat_map (λ x. x) chunks
+elements_bytes [] h = refl
+elements_bytes (p ∷ ps) h = rw (element_bytes p (head_element p ps h), elements_bytes ps (tail_elements p ps h)) refl
+
+pub elements_fit : (chunks : List (List ℕ)) → AllElements chunks → AllLocksFit (map lock_at chunks)
+elements_fit [] h = tt
+elements_fit (p ∷ ps) h = ((element_fits p (head_element p ps h)).0, elements_fit ps (tail_elements p ps h))
+
+pub length-locks_in : (bytes : List ℕ) → length (locks_in bytes) ≡ length bytes / 24
+length-locks_in bytes = length-map (first_chunks 24 (length bytes / 24) bytes) lock_at ∙ length-first_chunks (length bytes / 24) bytes
+  where
+    length-first_chunks : (k : ℕ) (xs : List ℕ) → length (first_chunks 24 k xs) ≡ k
+    length-first_chunks zero xs = refl
+    length-first_chunks (suc k) xs = ap suc (length-first_chunks k (drop 24 xs))
+
+pub length-lock_bytes : (locks : List LockElement) → AllLocksFit locks → length (lock_bytes locks) ≡ 24 * length locks
+length-lock_bytes [] h = refl
+length-lock_bytes (e ∷ es) h = omega (arith, length-append (joined (lock_fields e)) (lock_bytes es), length-joined (lock_fields e) h.0, length-lock_bytes es h.1)
+
+-- an element's bytes say the element
+element_read : (e : LockElement) → AllFit (lock_fields e) → lock_at (joined (lock_fields e)) ≡ e
+element_read e h =
+    let stand = stand_behind [] (lock_fields e) [] 0 refl (search rules) h in
+    let s : AllStand (joined (lock_fields e)) (lock_fields e) = subst (λ (bytes : List ℕ). AllStand bytes (lock_fields e)) (append-nil (joined (lock_fields e))) stand in
+    λ i. record { offset = s.0.1 i; length = s.1.0.1 i; flags = record { 0 = s.1.1.0.1 i }; reserved = s.1.1.1.0.1 i }
+
+-- the bytes of elements are cut into the elements
+chunks_read : (locks : List LockElement) → AllLocksFit locks → map lock_at (first_chunks 24 (length locks) (lock_bytes locks)) ≡ locks
+chunks_read [] h = refl
+chunks_read (e ∷ es) h =
+    let size = length-joined (lock_fields e) h.0 in
+    rw (take_at (joined (lock_fields e)) (lock_bytes es) 24 size, drop_at (joined (lock_fields e)) (lock_bytes es) 24 size, element_read e h.0, chunks_read es h.1) refl
+
+-- the bytes of elements are read as these elements
+pub locks_read : (locks : List LockElement) → AllLocksFit locks → locks_in (lock_bytes locks) ≡ locks
+locks_read locks h =
+    let count : length (lock_bytes locks) / 24 ≡ length locks = omega (arith, length-lock_bytes locks h) in
+    rw count (chunks_read locks h)

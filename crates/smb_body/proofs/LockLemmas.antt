@@ -1,0 +1,53 @@
+-- LOCK's request: what tells it, and that what was written is read.
+use Rattle.std.proofs.Common.{◌≡◌, ℕ, ◌+◌, ◌*◌, ◌<◌, ◌≤◌, List, ◌++◌, true, length, take, drop, refl, ap, arith, rules, nat_le, nat_lt}
+use Rattle.std.proofs.lemmas.Bool.Decides.{nat_tests}
+use Rattle.std.proofs.lemmas.Bool.{le-leb}
+use Rattle.std.proofs.lemmas.List.{length-take, length-drop, drop_at, take_all}
+use Rattle.smb_wire.specs.Fields.{number_in, joined}
+use Rattle.smb_wire.proofs.FieldTables.{length-joined}
+use Rattle.smb_body.specs.Buffers.{body}
+use Rattle.smb_body.specs.Locks.{locks_in, lock_bytes}
+use Rattle.smb_body.specs.Lock.{LockAsked, lock_request_fields, SaysLock, is_lock, lock_of, lock_spelling, FitsLock}
+use Rattle.smb_body.proofs.Behind.{body_behind}
+use Rattle.smb_body.proofs.Buffering.{length-cut}
+use Rattle.smb_body.proofs.LockBytes.{length-locks_in, length-lock_bytes, locks_read}
+use Rattle.smb_body.proofs.Telling.{IsTold, fixed_part, stand_in_body}
+
+lock_readable : (request : List ℕ) (a : LockAsked) → SaysLock request a → is_lock request ≡ true
+lock_readable request a s =
+    let cut = take (24 * length a.locks) (drop 24 (body request)) in
+    let count : length (locks_in cut) ≡ length a.locks = ap length s.locks in
+    let fixed = fixed_part 24 48 request (omega arith) s.fields.0.1 in
+    let some : nat_lt 0 (length a.locks) ≡ true = le-leb _ _ s.some in
+    let room : nat_le (24 + 24 * length a.locks) (length (body request)) ≡ true =
+    le-leb _ _ (omega (arith, count, length-locks_in cut, length-take (24 * length a.locks) (drop 24 (body request)), length-drop 24 (body request))) in
+    rw (fixed, s.fields.1.0.1, some, room) refl
+
+lock_only : (request : List ℕ) (a : LockAsked) → SaysLock request a → a ≡ lock_of request
+lock_only request a s = search rules
+
+lock_said : (request : List ℕ) → is_lock request ≡ true → SaysLock request (lock_of request)
+lock_said request h =
+    let long : 24 ≤ length (body request) = grind (arith, nat_tests) in
+    let size : number_in 2 0 (body request) ≡ 48 = grind (arith, nat_tests) in
+    let some : 0 < number_in 2 2 (body request) = grind (arith, nat_tests) in
+    let room : 24 + 24 * number_in 2 2 (body request) ≤ length (body request) = grind (arith, nat_tests) in
+    let cut = length-cut (24 * number_in 2 2 (body request)) 24 (body request) room in
+    let count : length (locks_in (take (24 * number_in 2 2 (body request)) (drop 24 (body request)))) ≡ number_in 2 2 (body request) =
+    omega (arith, length-locks_in (take (24 * number_in 2 2 (body request)) (drop 24 (body request))), cut) in
+    record { fields = rw count (search rules); some = rw count some; locks = rw count refl }
+
+pub lock_told : IsTold SaysLock is_lock lock_of
+lock_told = record { readable = lock_readable; only = lock_only; said = lock_said }
+
+pub lock_written : (header : List ℕ) (a : LockAsked) → length header ≡ 64 → FitsLock a → 0 < length a.locks → SaysLock (header ++ lock_spelling a) a
+unfolding lock_spelling
+lock_written header a e f some =
+    let front = length-joined (lock_request_fields a) f.fields in
+    let list : take (24 * length a.locks) (drop 24 (joined (lock_request_fields a) ++ lock_bytes a.locks)) ≡ lock_bytes a.locks =
+    rw (drop_at (joined (lock_request_fields a)) (lock_bytes a.locks) 24 front) (take_all (24 * length a.locks) (lock_bytes a.locks) (omega (arith, length-lock_bytes a.locks f.locks))) in
+    record {
+      fields = stand_in_body header (lock_request_fields a) (lock_bytes a.locks) e (search rules) f.fields;
+      some = some;
+      locks = rw (body_behind header (joined (lock_request_fields a) ++ lock_bytes a.locks) e, list) (locks_read a.locks f.locks);
+    }

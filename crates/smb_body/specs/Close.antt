@@ -1,0 +1,39 @@
+-- CLOSE ([MS-SMB2] 2.2.15, 2.2.16).
+use Rattle.std.specs.Prelude.{ℕ, List, [], ◌∷◌, Bool}
+use Rattle.smb_wire.specs.Fields.{Field, num, number_in, AllStand, AllFit}
+use Rattle.smb_body.specs.Buffers.{body, has_fixed_part, file_id_at}
+use Rattle.smb_body.specs.declared.close.CloseRequest.{CloseRequest}
+use Rattle.smb_body.specs.declared.close.CloseResponse.{CloseResponse}
+
+-- the fixed part of a request ([MS-SMB2] 2.2.15)
+abbrev pub close_fields : CloseRequest → List Field
+close_fields r =
+    num 0 2 24 ∷ num 2 2 r.flags.0 ∷ num 4 4 r.reserved ∷ num 8 8 r.file_id.persistent
+    ∷ num 16 8 r.file_id.volatile ∷ []
+
+-- a request says this: its fields stand at their places
+pub record SaysClose (request : List ℕ) (r : CloseRequest) : Type 0 where
+  pub fields : AllStand (body request) (close_fields r)
+
+-- whether a request says anything
+abbrev pub is_close : List ℕ → Bool
+is_close = has_fixed_part 24 24
+
+-- what a request says, if it says anything
+abbrev pub close_of : List ℕ → CloseRequest
+close_of request = record {
+  flags = record { 0 = number_in 2 2 (body request) };
+  reserved = number_in 4 4 (body request);
+  file_id = file_id_at 8 (body request);
+}
+
+-- each number fits its field
+pub record FitsClose (r : CloseRequest) : Type 0 where
+  pub fields : AllFit (close_fields r)
+
+-- the fixed part of a response ([MS-SMB2] 2.2.16)
+abbrev pub close_response_fields : CloseResponse → List Field
+close_response_fields r =
+    num 0 2 60 ∷ num 2 2 r.flags.0 ∷ num 4 4 0 ∷ num 8 8 r.creation_time ∷ num 16 8 r.last_access_time
+    ∷ num 24 8 r.last_write_time ∷ num 32 8 r.change_time ∷ num 40 8 r.allocation_size ∷ num 48 8 r.end_of_file
+    ∷ num 56 4 r.file_attributes.0 ∷ []

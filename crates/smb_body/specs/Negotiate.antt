@@ -1,0 +1,115 @@
+-- NEGOTIATE ([MS-SMB2] 2.2.3, 2.2.4).
+use Rattle.std.specs.Prelude.{◌≡◌, ℕ, ◌+◌, ◌*◌, ◌<◌, List, [], ◌∷◌, ◌++◌, length, take, drop, Bool, nat_le, nat_lt, ◌&&◌}
+use Rattle.smb_wire.specs.Fields.{Field, num, raw, number_in, AllStand, AllFit, joined}
+use Rattle.smb_wire.specs.Pairs.{units_in, unit_bytes, AreUnits}
+use Rattle.smb_body.specs.Buffers.{body, has_fixed_part}
+use Rattle.smb_body.specs.Dialects.{dialects_of}
+use Rattle.smb_body.specs.declared.types.Guid.{Guid}
+use Rattle.smb_body.specs.declared.types.Capabilities.{Capabilities}
+use Rattle.smb_body.specs.declared.negotiate.SecurityMode.{SecurityMode}
+use Rattle.smb_body.specs.declared.negotiate.NegotiateRequest.{NegotiateRequest}
+use Rattle.smb_body.specs.declared.types.Dialect.{Dialect}
+use Rattle.smb_body.specs.declared.negotiate.NegotiateResponse.{NegotiateResponse}
+
+-- what a request asks
+pub record NegotiateAsked : Type 0 where
+  pub security_mode : SecurityMode
+  pub reserved : ℕ
+  pub capabilities : Capabilities
+  pub client_guid : Guid
+  pub client_start_time : ℕ
+  pub dialects : List ℕ
+
+-- a request's value, without where its parts lie in memory
+abbrev pub negotiate_asked : NegotiateRequest → NegotiateAsked
+negotiate_asked r = record {
+  security_mode = r.security_mode;
+  reserved = r.reserved;
+  capabilities = r.capabilities;
+  client_guid = r.client_guid;
+  client_start_time = r.client_start_time;
+  dialects = dialects_of r.dialects;
+}
+
+-- the fixed part of a request ([MS-SMB2] 2.2.3)
+abbrev pub negotiate_fields : NegotiateAsked → List Field
+negotiate_fields a =
+    num 0 2 36 ∷ num 2 2 (length a.dialects) ∷ num 4 2 a.security_mode.0 ∷ num 6 2 a.reserved
+    ∷ num 8 4 a.capabilities.0 ∷ raw 12 16 a.client_guid.0 ∷ num 28 8 a.client_start_time ∷ []
+
+-- a request says this: its fields stand at their places, and then its dialects, one or more
+pub record SaysNegotiate (request : List ℕ) (a : NegotiateAsked) : Type 0 where
+  pub fields : AllStand (body request) (negotiate_fields a)
+  pub some : 0 < length a.dialects
+  pub dialects : units_in (take (2 * length a.dialects) (drop 36 (body request))) ≡ a.dialects
+
+-- whether a request says anything
+abbrev pub is_negotiate : List ℕ → Bool
+is_negotiate request =
+    has_fixed_part 36 36 request
+    && nat_lt 0 (number_in 2 2 (body request))
+    && nat_le (36 + 2 * number_in 2 2 (body request)) (length (body request))
+
+-- what a request says, if it says anything
+abbrev pub negotiate_of : List ℕ → NegotiateAsked
+negotiate_of request = record {
+  security_mode = record { 0 = number_in 2 4 (body request) };
+  reserved = number_in 2 6 (body request);
+  capabilities = record { 0 = number_in 4 8 (body request) };
+  client_guid = record { 0 = take 16 (drop 12 (body request)) };
+  client_start_time = number_in 8 28 (body request);
+  dialects = units_in (take (2 * number_in 2 2 (body request)) (drop 36 (body request)));
+}
+
+-- the one spelling of a request
+unfoldable pub negotiate_spelling : NegotiateAsked → List ℕ
+negotiate_spelling a = joined (negotiate_fields a) ++ unit_bytes a.dialects
+
+-- each number fits its field
+pub record FitsNegotiate (a : NegotiateAsked) : Type 0 where
+  pub fields : AllFit (negotiate_fields a)
+  pub dialects : AreUnits a.dialects
+
+-- a length passes its field
+abbrev pub is_negotiate_too_long : NegotiateAsked → Bool
+is_negotiate_too_long a = nat_lt 65535 (length a.dialects)
+
+-- what a response answers
+pub record NegotiateAnswered : Type 0 where
+  pub security_mode : SecurityMode
+  pub dialect_revision : Dialect
+  pub server_guid : Guid
+  pub capabilities : Capabilities
+  pub max_transact_size : ℕ
+  pub max_read_size : ℕ
+  pub max_write_size : ℕ
+  pub system_time : ℕ
+  pub server_start_time : ℕ
+  pub security_buffer : List ℕ
+
+-- a response's value, without where its buffer lies in memory
+abbrev pub negotiate_answered : NegotiateResponse → NegotiateAnswered
+negotiate_answered r = record {
+  security_mode = r.security_mode;
+  dialect_revision = r.dialect_revision;
+  server_guid = r.server_guid;
+  capabilities = r.capabilities;
+  max_transact_size = r.max_transact_size;
+  max_read_size = r.max_read_size;
+  max_write_size = r.max_write_size;
+  system_time = r.system_time;
+  server_start_time = r.server_start_time;
+  security_buffer = r.security_buffer.now;
+}
+
+-- the fixed part of a response ([MS-SMB2] 2.2.4)
+abbrev pub negotiate_response_fields : NegotiateAnswered → List Field
+negotiate_response_fields a =
+    num 0 2 65 ∷ num 2 2 a.security_mode.0 ∷ num 4 2 a.dialect_revision.0 ∷ num 6 2 0 ∷ raw 8 16 a.server_guid.0
+    ∷ num 24 4 a.capabilities.0 ∷ num 28 4 a.max_transact_size ∷ num 32 4 a.max_read_size
+    ∷ num 36 4 a.max_write_size ∷ num 40 8 a.system_time ∷ num 48 8 a.server_start_time ∷ num 56 2 128
+    ∷ num 58 2 (length a.security_buffer) ∷ num 60 4 0 ∷ []
+
+-- the length of a response's buffer passes its field
+abbrev pub is_negotiate_response_too_long : NegotiateAnswered → Bool
+is_negotiate_response_too_long a = nat_lt 65535 (length a.security_buffer)

@@ -1,0 +1,39 @@
+-- QUERY_INFO's request ([MS-SMB2] 2.2.37).
+use Rattle.std.specs.Prelude.{ℕ, List, [], ◌∷◌, Bool}
+use Rattle.smb_wire.specs.Fields.{Field, num, number_in, AllStand, AllFit}
+use Rattle.smb_body.specs.Buffers.{body, has_fixed_part, file_id_at}
+use Rattle.smb_body.specs.declared.query_info.QueryInfoRequest.{QueryInfoRequest}
+
+-- the fixed part of a request ([MS-SMB2] 2.2.37)
+abbrev pub query_info_fields : QueryInfoRequest → List Field
+query_info_fields r =
+    num 0 2 41 ∷ num 2 1 r.info_type.0 ∷ num 3 1 r.file_info_class.0 ∷ num 4 4 r.output_buffer_length
+    ∷ num 8 2 r.input_buffer_offset ∷ num 10 2 r.reserved ∷ num 12 4 r.input_buffer_length
+    ∷ num 16 4 r.additional_information.0 ∷ num 20 4 r.flags.0 ∷ num 24 8 r.file_id.persistent
+    ∷ num 32 8 r.file_id.volatile ∷ []
+
+-- a request says this: its fields stand at their places
+pub record SaysQueryInfo (request : List ℕ) (r : QueryInfoRequest) : Type 0 where
+  pub fields : AllStand (body request) (query_info_fields r)
+
+-- whether a request says anything
+abbrev pub is_query_info : List ℕ → Bool
+is_query_info = has_fixed_part 40 41
+
+-- what a request says, if it says anything
+abbrev pub query_info_of : List ℕ → QueryInfoRequest
+query_info_of request = record {
+  info_type = record { 0 = number_in 1 2 (body request) };
+  file_info_class = record { 0 = number_in 1 3 (body request) };
+  output_buffer_length = number_in 4 4 (body request);
+  input_buffer_offset = number_in 2 8 (body request);
+  reserved = number_in 2 10 (body request);
+  input_buffer_length = number_in 4 12 (body request);
+  additional_information = record { 0 = number_in 4 16 (body request) };
+  flags = record { 0 = number_in 4 20 (body request) };
+  file_id = file_id_at 24 (body request);
+}
+
+-- each number fits its field
+pub record FitsQueryInfo (r : QueryInfoRequest) : Type 0 where
+  pub fields : AllFit (query_info_fields r)

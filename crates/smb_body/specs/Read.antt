@@ -1,0 +1,49 @@
+-- READ ([MS-SMB2] 2.2.19, 2.2.20).
+use Rattle.std.specs.Prelude.{ℕ, List, [], ◌∷◌, length, Bool, nat_lt}
+use Rattle.smb_wire.specs.Fields.{Field, num, number_in, AllStand, AllFit}
+use Rattle.smb_body.specs.Buffers.{body, has_fixed_part, file_id_at}
+use Rattle.smb_body.specs.declared.read.ReadRequest.{ReadRequest}
+
+-- the fixed part of a request ([MS-SMB2] 2.2.19)
+abbrev pub read_fields : ReadRequest → List Field
+read_fields r =
+    num 0 2 49 ∷ num 2 1 r.padding ∷ num 3 1 r.flags.0 ∷ num 4 4 r.length ∷ num 8 8 r.offset
+    ∷ num 16 8 r.file_id.persistent ∷ num 24 8 r.file_id.volatile ∷ num 32 4 r.minimum_count
+    ∷ num 36 4 r.channel.0 ∷ num 40 4 r.remaining_bytes ∷ num 44 2 r.read_channel_info_offset
+    ∷ num 46 2 r.read_channel_info_length ∷ []
+
+-- a request says this: its fields stand at their places
+pub record SaysRead (request : List ℕ) (r : ReadRequest) : Type 0 where
+  pub fields : AllStand (body request) (read_fields r)
+
+-- whether a request says anything
+abbrev pub is_read : List ℕ → Bool
+is_read = has_fixed_part 48 49
+
+-- what a request says, if it says anything
+abbrev pub read_of : List ℕ → ReadRequest
+read_of request = record {
+  padding = number_in 1 2 (body request);
+  flags = record { 0 = number_in 1 3 (body request) };
+  length = number_in 4 4 (body request);
+  offset = number_in 8 8 (body request);
+  file_id = file_id_at 16 (body request);
+  minimum_count = number_in 4 32 (body request);
+  channel = record { 0 = number_in 4 36 (body request) };
+  remaining_bytes = number_in 4 40 (body request);
+  read_channel_info_offset = number_in 2 44 (body request);
+  read_channel_info_length = number_in 2 46 (body request);
+}
+
+-- each number fits its field
+pub record FitsRead (r : ReadRequest) : Type 0 where
+  pub fields : AllFit (read_fields r)
+
+-- the fixed part of a response ([MS-SMB2] 2.2.20)
+abbrev pub read_response_fields : List ℕ → List Field
+read_response_fields buffer =
+    num 0 2 17 ∷ num 2 1 80 ∷ num 3 1 0 ∷ num 4 4 (length buffer) ∷ num 8 4 0 ∷ num 12 4 0 ∷ []
+
+-- the length of a response's buffer passes its field
+abbrev pub is_read_response_too_long : List ℕ → Bool
+is_read_response_too_long buffer = nat_lt 4294967295 (length buffer)

@@ -1,0 +1,223 @@
+-- Requests of all commands ([MS-SMB2] 2.2).
+use Rattle.std.specs.Prelude.{◌≡◌, ℕ, ◌<◌, List, ◌++◌, length, Bool, false, nat_eq, Option, Some, None, if◌then◌else◌, ◌↔◌}
+use Rattle.smb_wire.specs.Fields.{joined}
+use Rattle.smb_body.specs.Negotiate.{NegotiateAsked, negotiate_asked, SaysNegotiate, is_negotiate, negotiate_of, negotiate_spelling, FitsNegotiate, is_negotiate_too_long}
+use Rattle.smb_body.specs.SessionSetup.{SessionSetupAsked, session_setup_asked, SaysSessionSetup, is_session_setup, session_setup_of, session_setup_laid, session_setup_spelling, FitsSessionSetup, is_session_setup_too_long}
+use Rattle.smb_body.specs.Reserved.{reserved_fields, SaysReserved, is_reserved, reserved_of, FitsReserved}
+use Rattle.smb_body.specs.TreeConnect.{TreeConnectAsked, tree_connect_asked, SaysTreeConnect, is_tree_connect, tree_connect_of, tree_connect_laid, tree_connect_spelling, FitsTreeConnect, is_tree_connect_too_long}
+use Rattle.smb_body.specs.Create.{CreateAsked, create_asked, SaysCreate, is_create, create_of, create_laid, create_spelling, FitsCreate, is_create_too_long}
+use Rattle.smb_body.specs.Close.{close_fields, SaysClose, is_close, close_of, FitsClose}
+use Rattle.smb_body.specs.Flush.{flush_fields, SaysFlush, is_flush, flush_of, FitsFlush}
+use Rattle.smb_body.specs.Read.{read_fields, SaysRead, is_read, read_of, FitsRead}
+use Rattle.smb_body.specs.Write.{WriteAsked, write_asked, SaysWrite, is_write, write_of, write_laid, write_spelling, FitsWrite, is_write_too_long}
+use Rattle.smb_body.specs.Lock.{LockAsked, lock_asked, SaysLock, is_lock, lock_of, lock_spelling, FitsLock, is_lock_too_long}
+use Rattle.smb_body.specs.QueryDirectory.{QueryDirectoryAsked, query_directory_asked, SaysQueryDirectory, is_query_directory, query_directory_of, query_directory_laid, query_directory_spelling, FitsQueryDirectory, is_query_directory_too_long}
+use Rattle.smb_body.specs.QueryInfo.{query_info_fields, SaysQueryInfo, is_query_info, query_info_of, FitsQueryInfo}
+use Rattle.smb_body.specs.SetInfo.{SetInfoAsked, set_info_asked, SaysSetInfo, is_set_info, set_info_of, set_info_laid, set_info_spelling, FitsSetInfo, is_set_info_too_long}
+use Rattle.smb_body.specs.declared.reserved.ReservedRequest.{ReservedRequest}
+use Rattle.smb_body.specs.declared.close.CloseRequest.{CloseRequest}
+use Rattle.smb_body.specs.declared.flush.FlushRequest.{FlushRequest}
+use Rattle.smb_body.specs.declared.read.ReadRequest.{ReadRequest}
+use Rattle.smb_body.specs.declared.query_info.QueryInfoRequest.{QueryInfoRequest}
+use Rattle.smb_body.specs.declared.request.Request.{Request}
+use Rattle.smb_body.specs.declared.request.Request.TheVariants.{Negotiate, SessionSetup, Logoff, TreeConnect, TreeDisconnect, Create, Close, Flush, Read, Write, Lock, Cancel, Echo, QueryDirectory, QueryInfo, SetInfo}
+
+-- a request, without where its parts lie in memory
+pub data RequestValue : Type 0 where
+  asks_negotiate : NegotiateAsked → RequestValue
+  asks_session_setup : SessionSetupAsked → RequestValue
+  asks_logoff : ReservedRequest → RequestValue
+  asks_tree_connect : TreeConnectAsked → RequestValue
+  asks_tree_disconnect : ReservedRequest → RequestValue
+  asks_create : CreateAsked → RequestValue
+  asks_close : CloseRequest → RequestValue
+  asks_flush : FlushRequest → RequestValue
+  asks_read : ReadRequest → RequestValue
+  asks_write : WriteAsked → RequestValue
+  asks_lock : LockAsked → RequestValue
+  asks_cancel : ReservedRequest → RequestValue
+  asks_echo : ReservedRequest → RequestValue
+  asks_query_directory : QueryDirectoryAsked → RequestValue
+  asks_query_info : QueryInfoRequest → RequestValue
+  asks_set_info : SetInfoAsked → RequestValue
+
+-- a request's value
+abbrev pub request_value : Request → RequestValue
+request_value (Negotiate r) = asks_negotiate (negotiate_asked r)
+request_value (SessionSetup r) = asks_session_setup (session_setup_asked r)
+request_value (Logoff r) = asks_logoff r
+request_value (TreeConnect r) = asks_tree_connect (tree_connect_asked r)
+request_value (TreeDisconnect r) = asks_tree_disconnect r
+request_value (Create r) = asks_create (create_asked r)
+request_value (Close r) = asks_close r
+request_value (Flush r) = asks_flush r
+request_value (Read r) = asks_read r
+request_value (Write r) = asks_write (write_asked r)
+request_value (Lock r) = asks_lock (lock_asked r)
+request_value (Cancel r) = asks_cancel r
+request_value (Echo r) = asks_echo r
+request_value (QueryDirectory r) = asks_query_directory (query_directory_asked r)
+request_value (QueryInfo r) = asks_query_info r
+request_value (SetInfo r) = asks_set_info (set_info_asked r)
+
+-- the number of its command ([MS-SMB2] 2.2.1)
+abbrev pub command_of : RequestValue → ℕ
+command_of (asks_negotiate a) = 0
+command_of (asks_session_setup a) = 1
+command_of (asks_logoff a) = 2
+command_of (asks_tree_connect a) = 3
+command_of (asks_tree_disconnect a) = 4
+command_of (asks_create a) = 5
+command_of (asks_close a) = 6
+command_of (asks_flush a) = 7
+command_of (asks_read a) = 8
+command_of (asks_write a) = 9
+command_of (asks_lock a) = 10
+command_of (asks_cancel a) = 12
+command_of (asks_echo a) = 13
+command_of (asks_query_directory a) = 14
+command_of (asks_query_info a) = 16
+command_of (asks_set_info a) = 17
+
+-- the bytes of a request, its header among them, say this in its body
+abbrev pub SaysBody : List ℕ → RequestValue → Type 0
+SaysBody request (asks_negotiate a) = SaysNegotiate request a
+SaysBody request (asks_session_setup a) = SaysSessionSetup request a
+SaysBody request (asks_logoff a) = SaysReserved request a
+SaysBody request (asks_tree_connect a) = SaysTreeConnect request a
+SaysBody request (asks_tree_disconnect a) = SaysReserved request a
+SaysBody request (asks_create a) = SaysCreate request a
+SaysBody request (asks_close a) = SaysClose request a
+SaysBody request (asks_flush a) = SaysFlush request a
+SaysBody request (asks_read a) = SaysRead request a
+SaysBody request (asks_write a) = SaysWrite request a
+SaysBody request (asks_lock a) = SaysLock request a
+SaysBody request (asks_cancel a) = SaysReserved request a
+SaysBody request (asks_echo a) = SaysReserved request a
+SaysBody request (asks_query_directory a) = SaysQueryDirectory request a
+SaysBody request (asks_query_info a) = SaysQueryInfo request a
+SaysBody request (asks_set_info a) = SaysSetInfo request a
+
+-- a request of this command says this
+pub record SaysRequest (command : ℕ) (request : List ℕ) (v : RequestValue) : Type 0 where
+  pub kind : command_of v ≡ command
+  pub says : SaysBody request v
+
+-- a value where a test holds
+abbrev pub value_if : Bool → RequestValue → Option RequestValue
+value_if readable v = if readable then Some v else None
+
+-- what a request of a command says; IOCTL, CHANGE_NOTIFY, OPLOCK_BREAK and numbers without a command say nothing
+unfoldable pub request_of : ℕ → List ℕ → Option RequestValue
+request_of command request =
+    if nat_eq command 0 then value_if (is_negotiate request) (asks_negotiate (negotiate_of request)) else
+    if nat_eq command 1 then value_if (is_session_setup request) (asks_session_setup (session_setup_of request)) else
+    if nat_eq command 2 then value_if (is_reserved request) (asks_logoff (reserved_of request)) else
+    if nat_eq command 3 then value_if (is_tree_connect request) (asks_tree_connect (tree_connect_of request)) else
+    if nat_eq command 4 then value_if (is_reserved request) (asks_tree_disconnect (reserved_of request)) else
+    if nat_eq command 5 then value_if (is_create request) (asks_create (create_of request)) else
+    if nat_eq command 6 then value_if (is_close request) (asks_close (close_of request)) else
+    if nat_eq command 7 then value_if (is_flush request) (asks_flush (flush_of request)) else
+    if nat_eq command 8 then value_if (is_read request) (asks_read (read_of request)) else
+    if nat_eq command 9 then value_if (is_write request) (asks_write (write_of request)) else
+    if nat_eq command 10 then value_if (is_lock request) (asks_lock (lock_of request)) else
+    if nat_eq command 12 then value_if (is_reserved request) (asks_cancel (reserved_of request)) else
+    if nat_eq command 13 then value_if (is_reserved request) (asks_echo (reserved_of request)) else
+    if nat_eq command 14 then value_if (is_query_directory request) (asks_query_directory (query_directory_of request)) else
+    if nat_eq command 16 then value_if (is_query_info request) (asks_query_info (query_info_of request)) else
+    if nat_eq command 17 then value_if (is_set_info request) (asks_set_info (set_info_of request)) else
+    None
+
+-- the same but for layout: the offsets of checked buffers as a writer sets them
+abbrev pub request_laid : RequestValue → RequestValue
+request_laid (asks_negotiate a) = asks_negotiate a
+request_laid (asks_session_setup a) = asks_session_setup (session_setup_laid a)
+request_laid (asks_logoff a) = asks_logoff a
+request_laid (asks_tree_connect a) = asks_tree_connect (tree_connect_laid a)
+request_laid (asks_tree_disconnect a) = asks_tree_disconnect a
+request_laid (asks_create a) = asks_create (create_laid a)
+request_laid (asks_close a) = asks_close a
+request_laid (asks_flush a) = asks_flush a
+request_laid (asks_read a) = asks_read a
+request_laid (asks_write a) = asks_write (write_laid a)
+request_laid (asks_lock a) = asks_lock a
+request_laid (asks_cancel a) = asks_cancel a
+request_laid (asks_echo a) = asks_echo a
+request_laid (asks_query_directory a) = asks_query_directory (query_directory_laid a)
+request_laid (asks_query_info a) = asks_query_info a
+request_laid (asks_set_info a) = asks_set_info (set_info_laid a)
+
+-- two values differ in nothing but offsets of checked buffers
+abbrev pub SameButForLayout : RequestValue → RequestValue → Type 0
+SameButForLayout v w = request_laid v ≡ request_laid w
+
+-- the one spelling of a body
+abbrev pub request_spelling : RequestValue → List ℕ
+request_spelling (asks_negotiate a) = negotiate_spelling a
+request_spelling (asks_session_setup a) = session_setup_spelling a
+request_spelling (asks_logoff a) = joined (reserved_fields a)
+request_spelling (asks_tree_connect a) = tree_connect_spelling a
+request_spelling (asks_tree_disconnect a) = joined (reserved_fields a)
+request_spelling (asks_create a) = create_spelling a
+request_spelling (asks_close a) = joined (close_fields a)
+request_spelling (asks_flush a) = joined (flush_fields a)
+request_spelling (asks_read a) = joined (read_fields a)
+request_spelling (asks_write a) = write_spelling a
+request_spelling (asks_lock a) = lock_spelling a
+request_spelling (asks_cancel a) = joined (reserved_fields a)
+request_spelling (asks_echo a) = joined (reserved_fields a)
+request_spelling (asks_query_directory a) = query_directory_spelling a
+request_spelling (asks_query_info a) = joined (query_info_fields a)
+request_spelling (asks_set_info a) = set_info_spelling a
+
+-- each number fits its field
+abbrev pub FitsRequest : RequestValue → Type 0
+FitsRequest (asks_negotiate a) = FitsNegotiate a
+FitsRequest (asks_session_setup a) = FitsSessionSetup a
+FitsRequest (asks_logoff a) = FitsReserved a
+FitsRequest (asks_tree_connect a) = FitsTreeConnect a
+FitsRequest (asks_tree_disconnect a) = FitsReserved a
+FitsRequest (asks_create a) = FitsCreate a
+FitsRequest (asks_close a) = FitsClose a
+FitsRequest (asks_flush a) = FitsFlush a
+FitsRequest (asks_read a) = FitsRead a
+FitsRequest (asks_write a) = FitsWrite a
+FitsRequest (asks_lock a) = FitsLock a
+FitsRequest (asks_cancel a) = FitsReserved a
+FitsRequest (asks_echo a) = FitsReserved a
+FitsRequest (asks_query_directory a) = FitsQueryDirectory a
+FitsRequest (asks_query_info a) = FitsQueryInfo a
+FitsRequest (asks_set_info a) = FitsSetInfo a
+
+-- a length or a count passes its field
+abbrev pub is_too_long : RequestValue → Bool
+is_too_long (asks_negotiate a) = is_negotiate_too_long a
+is_too_long (asks_session_setup a) = is_session_setup_too_long a
+is_too_long (asks_tree_connect a) = is_tree_connect_too_long a
+is_too_long (asks_create a) = is_create_too_long a
+is_too_long (asks_write a) = is_write_too_long a
+is_too_long (asks_lock a) = is_lock_too_long a
+is_too_long (asks_query_directory a) = is_query_directory_too_long a
+is_too_long (asks_set_info a) = is_set_info_too_long a
+is_too_long _ = false
+
+-- a list that may not be empty is not: the dialects of a NEGOTIATE, the elements of a LOCK
+abbrev pub HasElements : RequestValue → Type 0
+HasElements (asks_negotiate a) = 0 < length a.dialects
+HasElements (asks_lock a) = 0 < length a.locks
+HasElements _ = Unit {0}
+
+-- what was written is read behind any header, the same but for layout
+abbrev pub IsReadBack : RequestValue → Type 0
+IsReadBack v =
+    (header : List ℕ) → length header ≡ 64 → HasElements v →
+    SaysRequest (command_of v) (header ++ request_spelling v) (request_laid v)
+
+-- a request of a command says one value at most, that which `request_of` gives
+abbrev pub RequestsAreTold : Type 0
+RequestsAreTold =
+    (command : ℕ) (request : List ℕ) (v : RequestValue) → SaysRequest command request v ↔ (request_of command request ≡ Some v)
+
+-- what a writer sets is layout alone
+abbrev pub LaidIsTheSame : Type 0
+LaidIsTheSame = (v : RequestValue) → SameButForLayout (request_laid v) v

@@ -1,0 +1,100 @@
+-- SESSION_SETUP ([MS-SMB2] 2.2.5, 2.2.6).
+use Rattle.std.specs.Prelude.{ℕ, List, [], ◌∷◌, ◌++◌, length, Bool, nat_lt, ◌&&◌}
+use Rattle.smb_wire.specs.Fields.{Field, num, number_in, AllStand, AllFit, joined}
+use Rattle.smb_body.specs.Buffers.{body, has_fixed_part, slice, is_within, Holds}
+use Rattle.smb_body.specs.declared.session_setup.SessionSetupFlags.{SessionSetupFlags}
+use Rattle.smb_body.specs.declared.session_setup.SessionSecurityMode.{SessionSecurityMode}
+use Rattle.smb_body.specs.declared.types.Capabilities.{Capabilities}
+use Rattle.smb_body.specs.declared.types.Channel.{Channel}
+use Rattle.smb_body.specs.declared.session_setup.SessionSetupRequest.{SessionSetupRequest}
+use Rattle.smb_body.specs.declared.session_setup.SessionFlags.{SessionFlags}
+use Rattle.smb_body.specs.declared.session_setup.SessionSetupResponse.{SessionSetupResponse}
+
+-- what a request asks
+pub record SessionSetupAsked : Type 0 where
+  pub flags : SessionSetupFlags
+  pub security_mode : SessionSecurityMode
+  pub capabilities : Capabilities
+  pub channel : Channel
+  pub security_buffer_offset : ℕ
+  pub security_buffer : List ℕ
+  pub previous_session_id : ℕ
+
+-- a request's value, without where its parts lie in memory
+abbrev pub session_setup_asked : SessionSetupRequest → SessionSetupAsked
+session_setup_asked r = record {
+  flags = r.flags;
+  security_mode = r.security_mode;
+  capabilities = r.capabilities;
+  channel = r.channel;
+  security_buffer_offset = r.security_buffer_offset;
+  security_buffer = r.security_buffer.now;
+  previous_session_id = r.previous_session_id;
+}
+
+-- the fixed part of a request ([MS-SMB2] 2.2.5)
+abbrev pub session_setup_fields : SessionSetupAsked → List Field
+session_setup_fields a =
+    num 0 2 25 ∷ num 2 1 a.flags.0 ∷ num 3 1 a.security_mode.0 ∷ num 4 4 a.capabilities.0 ∷ num 8 4 a.channel.0
+    ∷ num 12 2 a.security_buffer_offset ∷ num 14 2 (length a.security_buffer) ∷ num 16 8 a.previous_session_id
+    ∷ []
+
+-- a request says this: its fields stand at their places, and its buffer is what an offset and a length name
+pub record SaysSessionSetup (request : List ℕ) (a : SessionSetupAsked) : Type 0 where
+  pub fields : AllStand (body request) (session_setup_fields a)
+  pub security_buffer : Holds 88 a.security_buffer_offset request a.security_buffer
+
+-- whether a request says anything
+abbrev pub is_session_setup : List ℕ → Bool
+is_session_setup request =
+    has_fixed_part 24 25 request
+    && is_within 88 (number_in 2 12 (body request)) (number_in 2 14 (body request)) request
+
+-- what a request says, if it says anything
+abbrev pub session_setup_of : List ℕ → SessionSetupAsked
+session_setup_of request = record {
+  flags = record { 0 = number_in 1 2 (body request) };
+  security_mode = record { 0 = number_in 1 3 (body request) };
+  capabilities = record { 0 = number_in 4 4 (body request) };
+  channel = record { 0 = number_in 4 8 (body request) };
+  security_buffer_offset = number_in 2 12 (body request);
+  security_buffer = slice (number_in 2 12 (body request)) (number_in 2 14 (body request)) request;
+  previous_session_id = number_in 8 16 (body request);
+}
+
+-- the same but for layout: the offset as a writer sets it, straight behind the fixed part
+abbrev pub session_setup_laid : SessionSetupAsked → SessionSetupAsked
+session_setup_laid a = record a { security_buffer_offset = 88 }
+
+-- the one spelling of a request
+unfoldable pub session_setup_spelling : SessionSetupAsked → List ℕ
+session_setup_spelling a = joined (session_setup_fields (session_setup_laid a)) ++ a.security_buffer
+
+-- each number fits its field
+pub record FitsSessionSetup (a : SessionSetupAsked) : Type 0 where
+  pub fields : AllFit (session_setup_fields (session_setup_laid a))
+
+-- a length passes its field
+abbrev pub is_session_setup_too_long : SessionSetupAsked → Bool
+is_session_setup_too_long a = nat_lt 65535 (length a.security_buffer)
+
+-- what a response answers
+pub record SessionSetupAnswered : Type 0 where
+  pub session_flags : SessionFlags
+  pub security_buffer : List ℕ
+
+-- a response's value, without where its buffer lies in memory
+abbrev pub session_setup_answered : SessionSetupResponse → SessionSetupAnswered
+session_setup_answered r = record {
+  session_flags = r.session_flags;
+  security_buffer = r.security_buffer.now;
+}
+
+-- the fixed part of a response ([MS-SMB2] 2.2.6)
+abbrev pub session_setup_response_fields : SessionSetupAnswered → List Field
+session_setup_response_fields a =
+    num 0 2 9 ∷ num 2 2 a.session_flags.0 ∷ num 4 2 72 ∷ num 6 2 (length a.security_buffer) ∷ []
+
+-- the length of a response's buffer passes its field
+abbrev pub is_session_setup_response_too_long : SessionSetupAnswered → Bool
+is_session_setup_response_too_long a = nat_lt 65535 (length a.security_buffer)

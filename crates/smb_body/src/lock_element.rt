@@ -1,0 +1,12 @@
+//! An element of a LOCK.
+
+use super::masks::LockFlags;
+
+/// An element of a LOCK: a range and what to do with it ([MS-SMB2] 2.2.26.1).
+#[derive(Clone, Copy, Debug, PartialEq, Eq)]
+pub struct LockElement {
+    pub offset: u64,
+    pub length: u64,
+    pub flags: LockFlags,
+    pub reserved: u32,
+}

@@ -1,0 +1,108 @@
+//! QUERY_DIRECTORY ([MS-SMB2] 2.2.33).
+
+ghost use Rattle.std.specs.Prelude.{◌≡◌, ◌++◌, ◌≤◌, length, take, is_some, IfSome, OnOk, IfErr, false};
+ghost use Rattle.smb_wire.specs.Fields.{appended};
+ghost use Rattle.smb_body.specs.Refusals.{refusal};
+ghost use Rattle.smb_body.specs.QueryDirectory.{query_directory_asked, query_directory_fields, is_query_directory, query_directory_of, query_directory_laid, query_directory_spelling, FitsQueryDirectory, is_query_directory_too_long};
+
+use super::buffer::{body, file_id_in, text};
+use super::fault::BodyFault;
+use super::types::{FileId, InformationClass};
+use smb_wire::{
+    Units, WireFault, put_bytes, put_u8, put_u16, put_u32, put_u64, u8_in, u16_in, u32_in,
+};
+
+/// Flags of a QUERY_DIRECTORY request ([MS-SMB2] 2.2.33).
+#[derive(Clone, Copy, Debug, PartialEq, Eq)]
+pub struct QueryDirectoryFlags(pub u8);
+
+impl QueryDirectoryFlags {
+    /// The scan starts anew.
+    pub const RESTART_SCANS: QueryDirectoryFlags = QueryDirectoryFlags(1);
+
+    /// One entry at most is returned.
+    pub const RETURN_SINGLE_ENTRY: QueryDirectoryFlags = QueryDirectoryFlags(2);
+
+    /// The scan starts anew.
+    pub const REOPEN: QueryDirectoryFlags = QueryDirectoryFlags(0x10);
+}
+
+/// A QUERY_DIRECTORY request ([MS-SMB2] 2.2.33).
+#[derive(Clone, Copy, Debug)]
+pub struct QueryDirectoryRequest<'a> {
+    pub file_information_class: InformationClass,
+    pub flags: QueryDirectoryFlags,
+    pub file_index: u32,
+    pub file_id: FileId,
+    pub file_name_offset: u16,
+    pub file_name: Units<'a>,
+    pub output_buffer_length: u32,
+}
+
+/// What a QUERY_DIRECTORY request says, or None where it says nothing.
+pub(crate) fn read_query_directory(request: &[u8]) -> Option<QueryDirectoryRequest<'_>>
+    ensures some { is_some result ≡ is_query_directory request.now }
+    ensures value { IfSome result (λ r. query_directory_asked r ≡ query_directory_of request.now) }
+{
+    let body = body(request);
+    if body.len() < 32 || u16_in(body, 0) != 33 {
+        return None;
+    }
+    let file_name_offset = u16_in(body, 24);
+    let file_name = text(
+        request,
+        96,
+        file_name_offset as usize,
+        u16_in(body, 26) as usize,
+    )?;
+    Some(QueryDirectoryRequest {
+        file_information_class: InformationClass(u8_in(body, 2)),
+        flags: QueryDirectoryFlags(u8_in(body, 3)),
+        file_index: u32_in(body, 4),
+        file_id: file_id_in(body, 8),
+        file_name_offset,
+        file_name,
+        output_buffer_length: u32_in(body, 28),
+    })
+}
+
+/// Adds the fixed part. After an error some of it stands there.
+fn put_fixed(request: &QueryDirectoryRequest<'_>, out: &mut Vec<u8>) -> Result<(), WireFault>
+    requires { length (query_directory_asked request.now).file_name ≤ 32767 }
+    ensures ok { OnOk result (out.new.items ≡
+        appended out.old.items (query_directory_fields (query_directory_laid (query_directory_asked request.now)))) }
+    ensures kept { take (length out.old.items) out.new.items ≡ out.old.items }
+{
+    put_u16(out, 33)?;
+    put_u8(out, request.file_information_class.0)?;
+    put_u8(out, request.flags.0)?;
+    put_u32(out, request.file_index)?;
+    put_u64(out, request.file_id.persistent)?;
+    put_u64(out, request.file_id.volatile)?;
+    put_u16(out, 96)?;
+    put_u16(out, 2 * request.file_name.len() as u16)?;
+    put_u32(out, request.output_buffer_length)?;
+    Ok(())
+}
+
+/// Adds the body. After an error some of it stands there.
+pub(crate) fn put_query_directory(
+    request: QueryDirectoryRequest<'_>,
+    out: &mut Vec<u8>,
+) -> Result<(), BodyFault>
+    ensures ok { OnOk result (out.new.items ≡
+        out.old.items ++ query_directory_spelling (query_directory_asked request.entry)) }
+    ensures fits { OnOk result (FitsQueryDirectory (query_directory_asked request.entry)) }
+    ensures short { OnOk result
+        (is_query_directory_too_long (query_directory_asked request.entry) ≡ false) }
+    ensures fault { IfErr result (λ fault. fault ≡
+        refusal (is_query_directory_too_long (query_directory_asked request.entry))) }
+    ensures kept { take (length out.old.items) out.new.items ≡ out.old.items }
+{
+    if request.file_name.len() > 32_767 {
+        return Err(BodyFault::TooLong);
+    }
+    put_fixed(&request, out)?;
+    put_bytes(out, request.file_name.bytes())?;
+    Ok(())
+}

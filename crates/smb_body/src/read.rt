@@ -1,0 +1,120 @@
+//! READ ([MS-SMB2] 2.2.19, 2.2.20).
+
+ghost use Rattle.std.specs.Prelude.{◌≡◌, length, take, is_some, IfSome, OnOk, ◌++◌, ◌≤◌, IfErr, false};
+ghost use Rattle.smb_wire.specs.Fields.{AllFit, appended, joined};
+ghost use Rattle.smb_body.specs.Refusals.{refusal};
+ghost use Rattle.smb_body.specs.Read.{read_fields, is_read, read_of, FitsRead, read_response_fields, is_read_response_too_long};
+
+use super::buffer::{body, file_id_in};
+use super::fault::BodyFault;
+use super::types::{Channel, FileId};
+use smb_wire::{
+    WireFault, put_bytes, put_u8, put_u16, put_u32, put_u64, u8_in, u16_in, u32_in, u64_in,
+};
+
+/// Flags of a READ request ([MS-SMB2] 2.2.19). The profile ignores them.
+#[derive(Clone, Copy, Debug, PartialEq, Eq)]
+pub struct ReadFlags(pub u8);
+
+/// A READ request ([MS-SMB2] 2.2.19).
+#[derive(Clone, Copy, Debug)]
+pub struct ReadRequest {
+    pub padding: u8,
+    pub flags: ReadFlags,
+    pub length: u32,
+    pub offset: u64,
+    pub file_id: FileId,
+    pub minimum_count: u32,
+    pub channel: Channel,
+    pub remaining_bytes: u32,
+    pub read_channel_info_offset: u16,
+    pub read_channel_info_length: u16,
+}
+
+/// What a READ request says, or None where it says nothing.
+pub(crate) fn read_read(request: &[u8]) -> Option<ReadRequest>
+    ensures some { is_some result ≡ is_read request.now }
+    ensures value { IfSome result (λ r. r ≡ read_of request.now) }
+{
+    let body = body(request);
+    if body.len() < 48 || u16_in(body, 0) != 49 {
+        return None;
+    }
+    Some(ReadRequest {
+        padding: u8_in(body, 2),
+        flags: ReadFlags(u8_in(body, 3)),
+        length: u32_in(body, 4),
+        offset: u64_in(body, 8),
+        file_id: file_id_in(body, 16),
+        minimum_count: u32_in(body, 32),
+        channel: Channel(u32_in(body, 36)),
+        remaining_bytes: u32_in(body, 40),
+        read_channel_info_offset: u16_in(body, 44),
+        read_channel_info_length: u16_in(body, 46),
+    })
+}
+
+/// Adds the body. After an error some of it stands there.
+pub(crate) fn put_read(request: ReadRequest, out: &mut Vec<u8>) -> Result<(), WireFault>
+    ensures ok { OnOk result (out.new.items ≡ appended out.old.items (read_fields request)) }
+    ensures fits { OnOk result (FitsRead request) }
+    ensures kept { take (length out.old.items) out.new.items ≡ out.old.items }
+{
+    put_u16(out, 49)?;
+    put_u8(out, request.padding)?;
+    put_u8(out, request.flags.0)?;
+    put_u32(out, request.length)?;
+    put_u64(out, request.offset)?;
+    put_u64(out, request.file_id.persistent)?;
+    put_u64(out, request.file_id.volatile)?;
+    put_u32(out, request.minimum_count)?;
+    put_u32(out, request.channel.0)?;
+    put_u32(out, request.remaining_bytes)?;
+    put_u16(out, request.read_channel_info_offset)?;
+    put_u16(out, request.read_channel_info_length)?;
+    Ok(())
+}
+
+/// A READ response ([MS-SMB2] 2.2.20).
+#[derive(Clone, Copy, Debug)]
+pub struct ReadResponse<'a> {
+    pub buffer: &'a [u8],
+}
+
+/// Adds the fixed part of a response. After an error some of it stands there.
+fn put_response_fixed(response: &ReadResponse<'_>, out: &mut Vec<u8>) -> Result<(), WireFault>
+    requires { length response.now.buffer.now ≤ 4294967295 }
+    ensures ok { OnOk result (out.new.items ≡
+        appended out.old.items (read_response_fields response.now.buffer.now)) }
+    ensures kept { take (length out.old.items) out.new.items ≡ out.old.items }
+{
+    put_u16(out, 17)?;
+    put_u8(out, 80)?;
+    put_u8(out, 0)?;
+    put_u32(out, response.buffer.len() as u32)?;
+    put_u32(out, 0)?;
+    put_u32(out, 0)?;
+    Ok(())
+}
+
+/// Adds the body of a response. After an error some of it stands there.
+pub(crate) fn put_read_response(
+    response: ReadResponse<'_>,
+    out: &mut Vec<u8>,
+) -> Result<(), BodyFault>
+    ensures ok { OnOk result (out.new.items ≡
+        out.old.items ++ (joined (read_response_fields response.entry.buffer.now)
+        ++ response.entry.buffer.now)) }
+    ensures fits { OnOk result (AllFit (read_response_fields response.entry.buffer.now)) }
+    ensures short { OnOk result (is_read_response_too_long response.entry.buffer.now ≡ false) }
+    ensures fault { IfErr result (λ fault. fault ≡
+        refusal (is_read_response_too_long response.entry.buffer.now)) }
+    ensures kept { take (length out.old.items) out.new.items ≡ out.old.items }
+{
+    if response.buffer.len() > 4_294_967_295 {
+        return Err(BodyFault::TooLong);
+    }
+    put_response_fixed(&response, out)?;
+    put_bytes(out, response.buffer)?;
+    Ok(())
+}
