@@ -1,2 +1,3 @@
 pub mod Script
 pub mod Reading
+pub mod Show

@@ -1,83 +1,12 @@
 //! A replay: the events of a text, and what the share answers.
 
-use super::config::{ConfigFault, Configuration};
+use super::config::Configuration;
+use super::input::{CommandFault, read_input};
 use super::script::Script;
 use smb_engine::{Answer, RunFault, ServeFault, Share};
-use std::alloc::{AllocError, Global};
-use std::io::{ErrorKind, Read, Write};
-use std::{fmt, io};
-
-/// How many bytes of input are read at most.
-pub(crate) const INPUT_LIMIT: u64 = 67_108_864;
-
-/// What ends a replay. Its text is what is printed.
-#[derive(Clone, Copy, Debug, PartialEq, Eq)]
-pub(crate) enum ReplayFault {
-    ConfigUnread,
-    ConfigRefused,
-    InputFailed,
-    InputTooLong,
-    OutputFailed,
-    Unreadable(u64),
-    BadEvent(u64),
-    TooManyConnections(u64),
-    NoMemory,
-}
-
-impl fmt::Display for ReplayFault {
-    fn fmt<W: fmt::Write>(&self, f: &mut fmt::Formatter<W>) -> fmt::Result {
-        match self {
-            ReplayFault::ConfigUnread => write!(f, "config: cannot be read"),
-            ReplayFault::ConfigRefused => write!(f, "config: refused"),
-            ReplayFault::InputFailed => write!(f, "input: failed"),
-            ReplayFault::InputTooLong => write!(f, "input too long"),
-            ReplayFault::OutputFailed => write!(f, "output: failed"),
-            ReplayFault::Unreadable(line) => write!(f, "line {line}: unreadable"),
-            ReplayFault::BadEvent(line) => write!(f, "line {line}: bad event"),
-            ReplayFault::TooManyConnections(line) => write!(f, "line {line}: too many connections"),
-            ReplayFault::NoMemory => write!(f, "no memory"),
-        }
-    }
-}
-
-impl ReplayFault {
-    /// The exit status: 3 for want of memory, else 1.
-    pub(crate) fn status(self) -> u8 {
-        match self {
-            ReplayFault::NoMemory => 3,
-            _ => 1,
-        }
-    }
-}
-
-impl From<AllocError> for ReplayFault {
-    fn from(_error: AllocError) -> ReplayFault {
-        ReplayFault::NoMemory
-    }
-}
-
-impl From<ConfigFault> for ReplayFault {
-    fn from(fault: ConfigFault) -> ReplayFault {
-        match fault {
-            ConfigFault::Refused => ReplayFault::ConfigRefused,
-            ConfigFault::NoMemory => ReplayFault::NoMemory,
-        }
-    }
-}
-
-/// The whole input, of at most [`INPUT_LIMIT`] bytes.
-fn read_input<R: Read + Drop>(alloc: Global, input: R) -> Result<Vec<u8>, ReplayFault> {
-    let mut text = Vec::new(alloc);
-    match input.take(INPUT_LIMIT + 1).read_to_end(&mut text) {
-        Ok(_) => {}
-        Err(error) if error.kind() == ErrorKind::OutOfMemory => return Err(ReplayFault::NoMemory),
-        Err(_) => return Err(ReplayFault::InputFailed),
-    }
-    if text.len() as u64 > INPUT_LIMIT {
-        return Err(ReplayFault::InputTooLong);
-    }
-    Ok(text)
-}
+use std::alloc::Global;
+use std::io;
+use std::io::{Read, Write};
 
 /// How many bytes are written as hex at a time.
 const HEX_PART: usize = 512;
@@ -107,21 +36,21 @@ fn write_answer<W: Write>(answer: &Answer, output: &mut W) -> io::Result<()> {
 }
 
 /// Writes answers in order.
-fn write_answers<W: Write>(answers: &[Answer], output: &mut W) -> Result<(), ReplayFault> {
+fn write_answers<W: Write>(answers: &[Answer], output: &mut W) -> Result<(), CommandFault> {
     for answer in answers {
-        write_answer(answer, output).map_err(|_| ReplayFault::OutputFailed)?;
+        write_answer(answer, output).map_err(|_| CommandFault::OutputFailed)?;
     }
-    output.flush().map_err(|_| ReplayFault::OutputFailed)
+    output.flush().map_err(|_| CommandFault::OutputFailed)
 }
 
 /// What a fault of the share is in the text's lines.
-fn fault_at(places: &[u64], fault: RunFault) -> ReplayFault {
+fn fault_at(places: &[u64], fault: RunFault) -> CommandFault {
     let line = places.get(fault.place).copied().unwrap_or(0);
     match fault.fault {
-        ServeFault::TooManyConnections => ReplayFault::TooManyConnections(line),
-        ServeFault::BadEvent => ReplayFault::BadEvent(line),
-        ServeFault::NoMemory { done: _ } => ReplayFault::NoMemory,
-        ServeFault::BadConfig => ReplayFault::ConfigRefused,
+        ServeFault::TooManyConnections => CommandFault::TooManyConnections(line),
+        ServeFault::BadEvent => CommandFault::BadEvent(line),
+        ServeFault::NoMemory { done: _ } => CommandFault::NoMemory,
+        ServeFault::BadConfig => CommandFault::ConfigRefused,
     }
 }
 
@@ -131,13 +60,13 @@ fn replay<R: Read + Drop, W: Write>(
     config: &str,
     input: R,
     output: &mut W,
-) -> Result<(), ReplayFault> {
+) -> Result<(), CommandFault> {
     let configuration = Configuration::read(alloc, config)?;
     let text = read_input(alloc, input)?;
     let script = Script::read(alloc, &text)?;
     let mut share = match Share::new(alloc, configuration.config, configuration.hello) {
         Ok(share) => share,
-        Err(_) => return Err(ReplayFault::ConfigRefused),
+        Err(_) => return Err(CommandFault::ConfigRefused),
     };
     let mut answers = Vec::new(alloc);
     let ran = share.run(&script.events, &mut answers);
@@ -146,7 +75,7 @@ fn replay<R: Read + Drop, W: Write>(
         return Err(fault_at(&script.places, fault));
     }
     match script.unreadable_at {
-        Some(line) => Err(ReplayFault::Unreadable(line)),
+        Some(line) => Err(CommandFault::Unreadable(line)),
         None => Ok(()),
     }
 }

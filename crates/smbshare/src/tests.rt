@@ -1,8 +1,9 @@
-//! Rows of bytes in and bytes out, set by hand from the standard's tables, and every refusal of a replay.
+//! Rows of bytes in and bytes out, set by hand from the standard's tables, and every refusal of a command.
 
 mod configs;
 mod faults;
 mod rows;
+mod shows;
 
 use super::config::BUILT_IN;
 use super::replay::replay_text;

@@ -9,9 +9,9 @@ use std::test::Fail;
 
 /// A reader that gives a text, a few bytes at a call, and fails at a call.
 #[derive(Drop)]
-struct Failing<'a> {
-    text: &'a [u8],
-    calls: u32,
+pub(super) struct Failing<'a> {
+    pub(super) text: &'a [u8],
+    pub(super) calls: u32,
 }
 
 impl Read for Failing<'_> {
@@ -29,8 +29,8 @@ impl Read for Failing<'_> {
 }
 
 /// A writer that takes some calls, and then fails.
-struct Full {
-    calls: u32,
+pub(super) struct Full {
+    pub(super) calls: u32,
 }
 
 impl Write for Full {
@@ -180,7 +180,7 @@ fn a_configuration_is_refused_first(rt: HostRuntime) {
 
 /// A reader that never ends.
 #[derive(Drop)]
-struct Endless;
+pub(super) struct Endless;
 
 impl Read for Endless {
     fn read(&mut self, buffer: &mut [u8]) -> io::Result<usize> {
