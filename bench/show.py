@@ -16,6 +16,8 @@ import sys
 import tempfile
 import time
 
+from frames import echoes, frame, header, negotiate
+
 PROGRAM = os.path.join(os.path.dirname(__file__), '..', 'crates', 'smbshare', 'out', 'smbshare')
 TEXT_LIMIT = 67108864
 SIZES = [8 << 20, 16 << 20, (TEXT_LIMIT - (1 << 20)) // 2]
@@ -23,31 +25,16 @@ CHAIN = 16
 WRITTEN = 4096
 
 
-def header(command, message_id, next_command=0):
-    return struct.pack('<4sHHIHHIIQIIQ16s', b'\xfeSMB', 64, 1, 0, command, 31, 0, next_command,
-                       message_id, 0, 1, 1, bytes(16))
+def negotiates(first):
+    return negotiate(first), [('NEGOTIATE', first)]
 
 
-def frame(payload):
-    return struct.pack('>I', len(payload)) + payload
-
-
-def negotiate(first):
-    body = struct.pack('<HHHHI16sQH', 36, 1, 1, 0, 0, bytes(16), 0, 0x0210)
-    return frame(header(0, first) + body), [('NEGOTIATE', first)]
-
-
-def echoes(first, count=CHAIN):
-    payload = b''
-    for i in range(count):
-        last = i == count - 1
-        payload += header(13, first + i, 0 if last else 72) + struct.pack('<HH', 4, 0)
-        payload += b'' if last else bytes(4)
-    return frame(payload), [('ECHO', first + i) for i in range(count)]
+def chain(first):
+    return echoes(first, CHAIN), [('ECHO', first + i) for i in range(CHAIN)]
 
 
 def echo(first):
-    return echoes(first, 1)
+    return echoes(first, 1), [('ECHO', first)]
 
 
 def create(first):
@@ -66,7 +53,7 @@ def write(first):
     return frame(header(9, first) + body + bytes(WRITTEN)), [('WRITE', first)]
 
 
-STREAMS = {'mixed': [negotiate, echoes, create, read, write, read, create, echoes], 'ECHO': [echo]}
+STREAMS = {'mixed': [negotiates, chain, create, read, write, read, create, chain], 'ECHO': [echo]}
 
 
 def stream(kinds, size):

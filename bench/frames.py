@@ -1,0 +1,26 @@
+"""Frames of SMB2 requests, spelled for the benchmarks."""
+import struct
+
+
+def header(command, message_id, next_command=0):
+    return struct.pack('<4sHHIHHIIQIIQ16s', b'\xfeSMB', 64, 0, 0, command, 31, 0, next_command,
+                       message_id, 0, 0, 0, bytes(16))
+
+
+def frame(payload):
+    return struct.pack('>I', len(payload)) + payload
+
+
+def negotiate(message_id=0):
+    body = struct.pack('<HHHHI16sQH', 36, 1, 1, 0, 0, bytes(16), 0, 0x0210)
+    return frame(header(0, message_id) + body)
+
+
+def echoes(first, count):
+    """A frame of `count` ECHO requests with the MessageIds from `first` on."""
+    payload = b''
+    for i in range(count):
+        last = i == count - 1
+        payload += header(13, first + i, 0 if last else 72) + struct.pack('<HH', 4, 0)
+        payload += b'' if last else bytes(4)
+    return frame(payload)
