@@ -2,6 +2,7 @@
 
 mod configs;
 mod faults;
+mod lines;
 mod rows;
 mod shows;
 

@@ -12,12 +12,13 @@ use std::test::Fail;
 pub(super) struct Failing<'a> {
     pub(super) text: &'a [u8],
     pub(super) calls: u32,
+    pub(super) kind: ErrorKind,
 }
 
 impl Read for Failing<'_> {
     fn read(&mut self, buffer: &mut [u8]) -> io::Result<usize> {
         if self.calls == 0 {
-            return Err(io::Error::from(ErrorKind::ConnectionReset));
+            return Err(io::Error::from(self.kind));
         }
         self.calls -= 1;
         let count = self.text.len().min(buffer.len()).min(5);
@@ -139,11 +140,29 @@ fn a_read_fails(rt: HostRuntime) {
         let input = Failing {
             text: b"+ 1\n> 1 0 85\n",
             calls,
+            kind: ErrorKind::ConnectionReset,
         };
         let status = replay_text(rt.alloc(), BUILT_IN, input, &mut out, &mut err);
         assert_eq!(rt; status, 1);
         assert!(rt; out.is_empty());
         assert_eq!(rt; err.as_slice(), b"input: failed\n".as_slice());
+    }
+}
+
+#[test]
+fn memory_is_wanting(rt: HostRuntime) {
+    for calls in 0..3u32 {
+        let mut out = Vec::new(rt.alloc());
+        let mut err = Vec::new(rt.alloc());
+        let input = Failing {
+            text: b"+ 1\n> 1 0 85\n",
+            calls,
+            kind: ErrorKind::OutOfMemory,
+        };
+        let status = replay_text(rt.alloc(), BUILT_IN, input, &mut out, &mut err);
+        assert_eq!(rt; status, 3);
+        assert!(rt; out.is_empty());
+        assert_eq!(rt; err.as_slice(), b"no memory\n".as_slice());
     }
 }
 
@@ -172,6 +191,7 @@ fn a_configuration_is_refused_first(rt: HostRuntime) {
     let input = Failing {
         text: b"",
         calls: 0,
+        kind: ErrorKind::ConnectionReset,
     };
     let status = replay_text(rt.alloc(), "share = 1", input, &mut out, &mut err);
     assert_eq!(rt; status, 1);

@@ -4,6 +4,7 @@ use super::super::show::show_text;
 use super::faults::{Endless, Failing, Full};
 use super::{NEGOTIATE, expand};
 use std::alloc::{AllocError, Global};
+use std::io::ErrorKind;
 use std::process::Abort;
 use std::test::Fail;
 
@@ -177,12 +178,28 @@ fn a_read_fails(rt: HostRuntime) {
         let input = Failing {
             text: b"00000044fe",
             calls,
+            kind: ErrorKind::ConnectionReset,
         };
         let status = show_text(rt.alloc(), input, &mut out, &mut err);
         assert_eq!(rt; status, 1);
         assert!(rt; out.is_empty());
         assert_eq!(rt; err.as_slice(), b"input: failed\n".as_slice());
     }
+}
+
+#[test]
+fn memory_is_wanting(rt: HostRuntime) {
+    let mut out = Vec::new(rt.alloc());
+    let mut err = Vec::new(rt.alloc());
+    let input = Failing {
+        text: b"00000044fe",
+        calls: 1,
+        kind: ErrorKind::OutOfMemory,
+    };
+    let status = show_text(rt.alloc(), input, &mut out, &mut err);
+    assert_eq!(rt; status, 3);
+    assert!(rt; out.is_empty());
+    assert_eq!(rt; err.as_slice(), b"no memory\n".as_slice());
 }
 
 #[test]
