@@ -2,9 +2,9 @@
 import struct
 
 
-def header(command, message_id, next_command=0):
+def header(command, message_id, next_command=0, session_id=0, tree_id=0):
     return struct.pack('<4sHHIHHIIQIIQ16s', b'\xfeSMB', 64, 0, 0, command, 31, 0, next_command,
-                       message_id, 0, 0, 0, bytes(16))
+                       message_id, 0, tree_id, session_id, bytes(16))
 
 
 def frame(payload):
@@ -14,6 +14,19 @@ def frame(payload):
 def negotiate(message_id=0):
     body = struct.pack('<HHHHI16sQH', 36, 1, 1, 0, 0, bytes(16), 0, 0x0210)
     return frame(header(0, message_id) + body)
+
+
+def session_setup(message_id, token=b'a'):
+    """A frame of a SESSION_SETUP for a new session."""
+    body = struct.pack('<HBBIIHHQ', 25, 0, 1, 0, 0, 88, len(token), 0) + token
+    return frame(header(1, message_id) + body)
+
+
+def tree_connect(message_id, session_id, path='\\\\s\\data'):
+    """A frame of a TREE_CONNECT in a session."""
+    units = path.encode('utf-16-le')
+    body = struct.pack('<HHHH', 9, 0, 72, len(units)) + units
+    return frame(header(3, message_id, session_id=session_id) + body)
 
 
 def echoes(first, count):

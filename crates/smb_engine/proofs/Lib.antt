@@ -1,4 +1,6 @@
-pub mod Windows
+pub mod Numbered
+pub mod Endings
+pub mod Sessions
 pub mod Heard
 pub mod Lists
 pub mod Turns

@@ -9,7 +9,8 @@ use Rattle.std.specs.declared.cmp.Ordering.{Ordering}
 use Rattle.std.specs.declared.cmp.Ordering.TheVariants.{Less, Equal, Greater}
 use Rattle.std.proofs.lemmas.List.{append-nil}
 use Rattle.smb_frame.proofs.Streams.{rest-none}
-use Rattle.smb_engine.specs.State.{SharedState, LinkState, ShareState}
+use Rattle.smb_session.specs.Authenticator.{Meaning}
+use Rattle.smb_engine.specs.State.{SharedState, LinkState, ShareState, shared_ended}
 use Rattle.smb_engine.specs.Output.{Output}
 use Rattle.smb_engine.specs.Sink.{Heard}
 use Rattle.smb_engine.specs.Stream.{longest_payload, PieceStep, piece_step, shared_after_piece, count_in_piece}
@@ -84,7 +85,7 @@ pub unread-waits : (links : List (ℕ × LinkState)) → AllWait links → map u
 unread-waits [] w = refl
 unread-waits (e ∷ links) w = rw (rest-none longest_payload e.1.stream w.0.partial, unread-waits links w.1) refl
 
-pub same_unread : (s : ShareState) → AllWait s.links → s ≡ unread s
+pub same_unread : {S : Type 0} (s : ShareState S) → AllWait s.links → s ≡ unread s
 same_unread s w = ap (λ t. record s { links = t }) (sym (unread-waits s.links w))
 
 -- reading rests, and connections by their number
@@ -135,63 +136,63 @@ remove-set test [] w = refl
 remove-set test (e ∷ es) w = set_out_at test e es w (test e.0) refl (remove-set test es w)
 
 -- what a piece leaves of the connections
-pub bytes_step-none : (s : ShareState) (n moment : ℕ) (piece : List ℕ) → link_of n s.links ≡ None → bytes_step s n moment piece ≡ record { state = s; outputs = [] }
+pub bytes_step-none : {S : Type 0} (m : Meaning S) (s : ShareState S) (n moment : ℕ) (piece : List ℕ) → link_of n s.links ≡ None → bytes_step m s n moment piece ≡ record { state = s; outputs = [] }
 unfolding bytes_step
-bytes_step-none s n moment piece h = rw h refl
+bytes_step-none m s n moment piece h = rw h refl
 
-pub bytes_step-some : (s : ShareState) (n moment : ℕ) (piece : List ℕ) (link : LinkState) → link_of n s.links ≡ Some link →
-    bytes_step s n moment piece ≡ settled s n (piece_step n moment s.shared link piece)
+pub bytes_step-some : {S : Type 0} (m : Meaning S) (s : ShareState S) (n moment : ℕ) (piece : List ℕ) (link : LinkState) → link_of n s.links ≡ Some link →
+    bytes_step m s n moment piece ≡ settled s n (piece_step m n moment s.shared link piece)
 unfolding bytes_step
-bytes_step-some s n moment piece link h = rw h refl
+bytes_step-some m s n moment piece link h = rw h refl
 
-pub fate_is : (s : ShareState) (n moment : ℕ) (piece : List ℕ) (link link' : LinkState) (shared' : SharedState) (stays : Bool) → link_of n s.links ≡ Some link →
-    IsPieceHeld (piece_step n moment s.shared link piece) shared' link' stays → stays ≡ is_open_after s n moment piece
+pub fate_is : {S : Type 0} (m : Meaning S) (s : ShareState S) (n moment : ℕ) (piece : List ℕ) (link link' : LinkState) (shared' : SharedState S) (stays : Bool) → link_of n s.links ≡ Some link →
+    IsPieceHeld (piece_step m n moment s.shared link piece) shared' link' stays → stays ≡ is_open_after m s n moment piece
 unfolding is_open_after
-fate_is s n moment piece link link' shared' stays h t = rw h t.fate
+fate_is m s n moment piece link link' shared' stays h t = rw h t.fate
 
-pub fate_none : (s : ShareState) (n moment : ℕ) (piece : List ℕ) → link_of n s.links ≡ None → false ≡ is_open_after s n moment piece
+pub fate_none : {S : Type 0} (m : Meaning S) (s : ShareState S) (n moment : ℕ) (piece : List ℕ) → link_of n s.links ≡ None → false ≡ is_open_after m s n moment piece
 unfolding is_open_after
-fate_none s n moment piece h = rw h refl
+fate_none m s n moment piece h = rw h refl
 
-pub take_none : (s : ShareState) (n moment : ℕ) (piece : List ℕ) → AllWait s.links → link_of n s.links ≡ None → s ≡ unread (bytes_step s n moment piece).state
-take_none s n moment piece w h = rw (bytes_step-none s n moment piece h, unread-waits s.links w) refl
+pub take_none : {S : Type 0} (m : Meaning S) (s : ShareState S) (n moment : ℕ) (piece : List ℕ) → AllWait s.links → link_of n s.links ≡ None → s ≡ unread (bytes_step m s n moment piece).state
+take_none m s n moment piece w h = rw (bytes_step-none m s n moment piece h, unread-waits s.links w) refl
 
-pub take_none-outputs : (hears : Output → List Heard) (s : ShareState) (n moment : ℕ) (piece : List ℕ) (front : List Heard) → link_of n s.links ≡ None → front ≡ front ++ flat_map hears (bytes_step s n moment piece).outputs
-take_none-outputs hears s n moment piece front h = sym (append-nil front) ∙ ap (λ d. front ++ flat_map hears d.outputs) (sym (bytes_step-none s n moment piece h))
+pub take_none-outputs : {S : Type 0} (m : Meaning S) (hears : Output → List Heard) (s : ShareState S) (n moment : ℕ) (piece : List ℕ) (front : List Heard) → link_of n s.links ≡ None → front ≡ front ++ flat_map hears (bytes_step m s n moment piece).outputs
+take_none-outputs m hears s n moment piece front h = sym (append-nil front) ∙ ap (λ d. front ++ flat_map hears d.outputs) (sym (bytes_step-none m s n moment piece h))
 
-settled_at : (s : ShareState) (n : ℕ) (t : PieceStep) (b : Bool) → t.stays_open ≡ b → (settled s n t).outputs ≡ t.outputs
+settled_at : {S : Type 0} (s : ShareState S) (n : ℕ) (t : PieceStep S) (b : Bool) → t.stays_open ≡ b → (settled s n t).outputs ≡ t.outputs
 settled_at s n t true e = rw e refl
 settled_at s n t false e = rw e refl
 
 -- the connection stays open
-pub take_open : (s : ShareState) (n moment : ℕ) (piece : List ℕ) (link link' : LinkState) (shared' : SharedState) → AllWait s.links → link_of n s.links ≡ Some link →
-    IsPieceHeld (piece_step n moment s.shared link piece) shared' link' true → record s { shared = shared'; links = with_link n link' s.links } ≡ unread (bytes_step s n moment piece).state
-take_open s n moment piece link link' shared' w h t =
-    let t' = piece_step n moment s.shared link piece in
-    let is : bytes_step s n moment piece ≡ record { state = record s { shared = t'.shared; links = with_link n t'.link s.links }; outputs = t'.outputs } =
-    bytes_step-some s n moment piece link h ∙ rw (← t.fate) refl in
+pub take_open : {S : Type 0} (m : Meaning S) (s : ShareState S) (n moment : ℕ) (piece : List ℕ) (link link' : LinkState) (shared' : SharedState S) → AllWait s.links → link_of n s.links ≡ Some link →
+    IsPieceHeld (piece_step m n moment s.shared link piece) shared' link' true → record s { shared = shared'; links = with_link n link' s.links } ≡ unread (bytes_step m s n moment piece).state
+take_open m s n moment piece link link' shared' w h t =
+    let t' = piece_step m n moment s.shared link piece in
+    let is : bytes_step m s n moment piece ≡ record { state = record s { shared = t'.shared; links = with_link n t'.link s.links }; outputs = t'.outputs } =
+    bytes_step-some m s n moment piece link h ∙ rw (← t.fate) refl in
     rw (is, unread-with (is_at (nat_cmp n)) t'.link s.links, unread-waits s.links w, t.same, ← t.rests refl) refl
 
-pub take_over : (s : ShareState) (n moment : ℕ) (piece : List ℕ) (link link' : LinkState) (shared' : SharedState) → AllWait s.links → link_of n s.links ≡ Some link →
-    IsPieceHeld (piece_step n moment s.shared link piece) shared' link' false → record s { shared = shared'; links = without_link n s.links } ≡ unread (bytes_step s n moment piece).state
-take_over s n moment piece link link' shared' w h t =
-    let t' = piece_step n moment s.shared link piece in
-    let is : bytes_step s n moment piece ≡ record { state = record s { shared = t'.shared; links = without_link n s.links }; outputs = t'.outputs } =
-    bytes_step-some s n moment piece link h ∙ rw (← t.fate) refl in
+pub take_over : {S : Type 0} (m : Meaning S) (s : ShareState S) (n moment : ℕ) (piece : List ℕ) (link link' : LinkState) (shared' : SharedState S) → AllWait s.links → link_of n s.links ≡ Some link →
+    IsPieceHeld (piece_step m n moment s.shared link piece) shared' link' false → record s { shared = shared_ended shared' n; links = without_link n s.links } ≡ unread (bytes_step m s n moment piece).state
+take_over m s n moment piece link link' shared' w h t =
+    let t' = piece_step m n moment s.shared link piece in
+    let is : bytes_step m s n moment piece ≡ record { state = record s { shared = shared_ended t'.shared n; links = without_link n s.links }; outputs = t'.outputs } =
+    bytes_step-some m s n moment piece link h ∙ rw (← t.fate) refl in
     rw (is, unread-without (is_at (nat_cmp n)) s.links, unread-waits s.links w, t.same) refl
 
-pub take_outputs : (hears : Output → List Heard) (s : ShareState) (n moment : ℕ) (piece : List ℕ) (link : LinkState) (front all : List Heard) → link_of n s.links ≡ Some link →
-    all ≡ front ++ flat_map hears (piece_step n moment s.shared link piece).outputs → all ≡ front ++ flat_map hears (bytes_step s n moment piece).outputs
-take_outputs hears s n moment piece link front all h f =
-    let t' = piece_step n moment s.shared link piece in
-    f ∙ ap (λ t. front ++ flat_map hears t) (sym (ap (λ d. d.outputs) (bytes_step-some s n moment piece link h) ∙ settled_at s n t' t'.stays_open refl))
+pub take_outputs : {S : Type 0} (m : Meaning S) (hears : Output → List Heard) (s : ShareState S) (n moment : ℕ) (piece : List ℕ) (link : LinkState) (front all : List Heard) → link_of n s.links ≡ Some link →
+    all ≡ front ++ flat_map hears (piece_step m n moment s.shared link piece).outputs → all ≡ front ++ flat_map hears (bytes_step m s n moment piece).outputs
+take_outputs m hears s n moment piece link front all h f =
+    let t' = piece_step m n moment s.shared link piece in
+    f ∙ ap (λ t. front ++ flat_map hears t) (sym (ap (λ d. d.outputs) (bytes_step-some m s n moment piece link h) ∙ settled_at s n t' t'.stays_open refl))
 
-pub take_stopped : (s : ShareState) (n moment k : ℕ) (piece : List ℕ) (link : LinkState) (shared' : SharedState) → AllWait s.links → link_of n s.links ≡ Some link →
-    shared' ≡ shared_after_piece n moment s.shared link piece k → record s { shared = shared'; links = without_link n s.links } ≡ unread (stopped s n moment piece k)
+pub take_stopped : {S : Type 0} (m : Meaning S) (s : ShareState S) (n moment k : ℕ) (piece : List ℕ) (link : LinkState) (shared' : SharedState S) → AllWait s.links → link_of n s.links ≡ Some link →
+    shared' ≡ shared_after_piece m n moment s.shared link piece k → record s { shared = shared_ended shared' n; links = without_link n s.links } ≡ unread (stopped m s n moment piece k)
 unfolding stopped
-take_stopped s n moment k piece link shared' w h t =
+take_stopped m s n moment k piece link shared' w h t =
     rw (h, unread-without (is_at (nat_cmp n)) s.links, unread-waits s.links w, t) refl
 
-pub take_within : (s : ShareState) (n moment k : ℕ) (piece : List ℕ) (link : LinkState) → link_of n s.links ≡ Some link → k ≤ count_in_piece n moment s.shared link piece → k ≤ count_on s n moment piece
+pub take_within : {S : Type 0} (m : Meaning S) (s : ShareState S) (n moment k : ℕ) (piece : List ℕ) (link : LinkState) → link_of n s.links ≡ Some link → k ≤ count_in_piece m n moment s.shared link piece → k ≤ count_on m s n moment piece
 unfolding count_on
-take_within s n moment k piece link h b = rw h b
+take_within m s n moment k piece link h b = rw h b

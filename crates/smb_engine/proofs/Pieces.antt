@@ -7,7 +7,9 @@ use Rattle.std.proofs.lemmas.Grind.{flat_map-append}
 use Rattle.smb_frame.specs.Reading.{first, fault_of, payloads, rest}
 use Rattle.smb_frame.specs.Unread.{Unread, with_piece}
 use Rattle.smb_frame.proofs.Streams.{payloads-more, rest-none}
+use Rattle.smb_session.specs.Window.{GoodWindow}
 use Rattle.smb_engine.specs.declared.connection.Connection.{Connection}
+use Rattle.smb_session.specs.Authenticator.{Meaning}
 use Rattle.smb_engine.specs.State.{SharedState, LinkState}
 use Rattle.smb_engine.specs.Output.{Output, end_of}
 use Rattle.smb_engine.specs.Sink.{Heard}
@@ -40,28 +42,28 @@ over_at : (open_still : Bool) {a b : List ℕ} → (IsTrue open_still → a ≡ 
 over_at false r x = refl
 over_at true {a = a} {b = b} r x = rw (← r refl) (sym x)
 
-module _ (number moment : ℕ) where
-  pub stopped-held : (shared : SharedState) (link : LinkState) (piece held : List ℕ) (k : ℕ) → Waits link → held ≡ link.stream ++ piece →
-      shared_after_some number moment shared link.connection (payloads longest_payload held) k ≡ shared_after_piece number moment shared link piece k
+module _ {S : Type 0} (m : Meaning S) (number moment : ℕ) where
+  pub stopped-held : (shared : SharedState S) (link : LinkState) (piece held : List ℕ) (k : ℕ) → Waits link → held ≡ link.stream ++ piece →
+      shared_after_some m number moment shared link.connection (payloads longest_payload held) k ≡ shared_after_piece m number moment shared link piece k
   unfolding shared_after_piece
   stopped-held shared link piece held k w h = rw (added-waits link piece w, h) refl
 
-  pub count-held : (shared : SharedState) (link : LinkState) (piece held : List ℕ) → Waits link → held ≡ link.stream ++ piece →
-      count_in_all number moment shared link.connection (payloads longest_payload held) ≡ count_in_piece number moment shared link piece
+  pub count-held : (shared : SharedState S) (link : LinkState) (piece held : List ℕ) → Waits link → held ≡ link.stream ++ piece →
+      count_in_all m number moment shared link.connection (payloads longest_payload held) ≡ count_in_piece m number moment shared link piece
   unfolding count_in_piece
   count-held shared link piece held w h = rw (added-waits link piece w, h) refl
 
   -- what the added payloads come to
-  steps_by : SharedState → LinkState → List ℕ → PayloadSteps
-  steps_by shared link piece = payload_steps number moment shared link.connection (added_payloads link.stream piece)
+  steps_by : SharedState S → LinkState → List ℕ → PayloadSteps S
+  steps_by shared link piece = payload_steps m number moment shared link.connection (added_payloads link.stream piece)
 
-  steps-held : (shared : SharedState) (link : LinkState) (piece held : List ℕ) → Waits link → held ≡ link.stream ++ piece →
-      payload_steps number moment shared link.connection (payloads longest_payload held) ≡ steps_by shared link piece
+  steps-held : (shared : SharedState S) (link : LinkState) (piece held : List ℕ) → Waits link → held ≡ link.stream ++ piece →
+      payload_steps m number moment shared link.connection (payloads longest_payload held) ≡ steps_by shared link piece
   unfolding steps_by
   steps-held shared link piece held w h = rw (added-waits link piece w, h) refl
 
-  step-open : (shared : SharedState) (link : LinkState) (piece : List ℕ) → ((steps_by shared link piece).stays_open && is_none (fault_of longest_payload (rest longest_payload (link.stream ++ piece)))) ≡ true →
-      piece_step number moment shared link piece ≡ record {
+  step-open : (shared : SharedState S) (link : LinkState) (piece : List ℕ) → ((steps_by shared link piece).stays_open && is_none (fault_of longest_payload (rest longest_payload (link.stream ++ piece)))) ≡ true →
+      piece_step m number moment shared link piece ≡ record {
         shared = (steps_by shared link piece).shared;
         link = record { stream = link.stream ++ piece; connection = (steps_by shared link piece).connection };
         outputs = (steps_by shared link piece).outputs;
@@ -70,18 +72,18 @@ module _ (number moment : ℕ) where
   unfolding piece_step steps_by
   step-open shared link piece t = rw t refl
 
-  step-over : (shared : SharedState) (link : LinkState) (piece : List ℕ) → ((steps_by shared link piece).stays_open && is_none (fault_of longest_payload (rest longest_payload (link.stream ++ piece)))) ≡ false →
-      piece_step number moment shared link piece ≡ record { shared = (steps_by shared link piece).shared; link = link; outputs = (steps_by shared link piece).outputs ++ end_of number ∷ []; stays_open = false }
+  step-over : (shared : SharedState S) (link : LinkState) (piece : List ℕ) → ((steps_by shared link piece).stays_open && is_none (fault_of longest_payload (rest longest_payload (link.stream ++ piece)))) ≡ false →
+      piece_step m number moment shared link piece ≡ record { shared = (steps_by shared link piece).shared; link = link; outputs = (steps_by shared link piece).outputs ++ end_of number ∷ []; stays_open = false }
   unfolding piece_step steps_by
   step-over shared link piece t = rw t refl
 
   -- the connection stays open
-  pub stays_as : (hears : Output → List Heard) (shared : SharedState) (link : LinkState) (piece held held' : List ℕ) (shared' : SharedState) (connection' : Connection) (heard heard' : List Heard) (open_still : Bool) →
+  pub stays_as : (hears : Output → List Heard) (shared : SharedState S) (link : LinkState) (piece held held' : List ℕ) (shared' : SharedState S) (connection' : Connection) (heard heard' : List Heard) (open_still : Bool) →
       Waits link → held ≡ link.stream ++ piece →
-      record { shared = shared'; connection = connection'; heard = heard'; stays_open = open_still } ≡ steps_heard hears heard (payload_steps number moment shared link.connection (payloads longest_payload held)) →
+      record { shared = shared'; connection = connection'; heard = heard'; stays_open = open_still } ≡ steps_heard hears heard (payload_steps m number moment shared link.connection (payloads longest_payload held)) →
       (IsTrue open_still → (held' ≡ rest longest_payload held) × (first longest_payload held' ≡ None)) → true ≡ (open_still && is_none (fault_of longest_payload held')) →
-      length connection'.window.usable ≤ 256 →
-      IsPieceHeld (piece_step number moment shared link piece) shared' (record { stream = held'; connection = connection' }) true × (heard' ≡ heard ++ flat_map hears (piece_step number moment shared link piece).outputs)
+      GoodWindow connection'.window →
+      IsPieceHeld (piece_step m number moment shared link piece) shared' (record { stream = held'; connection = connection' }) true × (heard' ≡ heard ++ flat_map hears (piece_step m number moment shared link piece).outputs)
   stays_as hears shared link piece held held' shared' connection' heard heard' open_still w h e r x few =
       let parts = and_parts open_still (is_none (fault_of longest_payload held')) (sym x) in
       let left = r parts.0 in
@@ -94,16 +96,16 @@ module _ (number moment : ℕ) where
           same = ap (λ s. s.shared) all;
           fate = refl;
           rests = λ t. rw (same_rest, ap (λ s. s.connection) all) refl;
-          waits = λ t. record { partial = left.1; sound = none_is _ parts.1; few = few };
+          waits = λ t. record { partial = left.1; sound = none_is _ parts.1; window = few };
         },
         ap (λ s. s.heard) all,
       )
 
-  pub ends_as : (hears : Output → List Heard) (shared : SharedState) (link link' : LinkState) (piece held held' : List ℕ) (shared' : SharedState) (connection' : Connection) (heard heard' : List Heard) (open_still : Bool) →
+  pub ends_as : (hears : Output → List Heard) (shared : SharedState S) (link link' : LinkState) (piece held held' : List ℕ) (shared' : SharedState S) (connection' : Connection) (heard heard' : List Heard) (open_still : Bool) →
       Waits link → held ≡ link.stream ++ piece →
-      record { shared = shared'; connection = connection'; heard = heard'; stays_open = open_still } ≡ steps_heard hears heard (payload_steps number moment shared link.connection (payloads longest_payload held)) →
+      record { shared = shared'; connection = connection'; heard = heard'; stays_open = open_still } ≡ steps_heard hears heard (payload_steps m number moment shared link.connection (payloads longest_payload held)) →
       (IsTrue open_still → (held' ≡ rest longest_payload held) × (first longest_payload held' ≡ None)) → false ≡ (open_still && is_none (fault_of longest_payload held')) →
-      IsPieceHeld (piece_step number moment shared link piece) shared' link' false × (heard' ++ flat_map hears (end_of number ∷ []) ≡ heard ++ flat_map hears (piece_step number moment shared link piece).outputs)
+      IsPieceHeld (piece_step m number moment shared link piece) shared' link' false × (heard' ++ flat_map hears (end_of number ∷ []) ≡ heard ++ flat_map hears (piece_step m number moment shared link piece).outputs)
   ends_as hears shared link link' piece held held' shared' connection' heard heard' open_still w h e r x =
       let all = e ∙ ap (steps_heard hears heard) (steps-held shared link piece held w h) in
       let test : ((steps_by shared link piece).stays_open && is_none (fault_of longest_payload (rest longest_payload (link.stream ++ piece)))) ≡ false =

@@ -12,7 +12,8 @@ use Rattle.smb_engine.specs.declared.event.Event.TheVariants.{Opened, Bytes, End
 use Rattle.smb_engine.specs.declared.fault.RunFault.{RunFault}
 use Rattle.smb_engine.specs.declared.fault.ServeFault.{ServeFault}
 use Rattle.smb_engine.specs.declared.fault.ServeFault.TheVariants.{TooManyConnections, NoMemory, BadEvent, BadConfig}
-use Rattle.smb_engine.specs.State.{SharedState, LinkState, ShareState}
+use Rattle.smb_session.specs.Authenticator.{Meaning}
+use Rattle.smb_engine.specs.State.{SharedState, LinkState, ShareState, shared_opened}
 use Rattle.smb_engine.specs.Output.{Output}
 use Rattle.smb_engine.specs.Stream.{longest_payload, PayloadSteps, payload_steps, added_payloads, PieceStep, closed_by, piece_step, shared_after_piece, count_in_piece}
 use Rattle.smb_engine.specs.Share.{EventStep, settled, bytes_step, stopped, count_on, ended, opened, new_link, opening_refusal, OpeningRefused, unread, unread_link, unread_entry, link_of}
@@ -30,211 +31,212 @@ unread_entries : (links : List (ℕ × LinkState)) → map unread_entry (map unr
 unread_entries [] = refl
 unread_entries (e ∷ links) = rw (rest-rest e.1.stream, unread_entries links) refl
 
-pub unread-unread : (s : ShareState) → unread (unread s) ≡ unread s
+pub unread-unread : {S : Type 0} (s : ShareState S) → unread (unread s) ≡ unread s
 unread-unread s = ap (λ t. record s { links = t }) (unread_entries s.links)
 
-abbrev unread_piece : PieceStep → PieceStep
+abbrev unread_piece : {S : Type 0} → PieceStep S → PieceStep S
 unread_piece t = record t { link = unread_link t.link }
 
-abbrev pub unread_step : EventStep → EventStep
+abbrev pub unread_step : {S : Type 0} → EventStep S → EventStep S
 unread_step d = record d { state = unread d.state }
 
-closed-rest : (n moment : ℕ) (link : LinkState) (steps : PayloadSteps) (stream held : List ℕ) (b : Bool) → rest longest_payload held ≡ rest longest_payload stream →
-    (steps.stays_open && is_none (fault_of longest_payload (rest longest_payload stream))) ≡ b →
-    unread_piece (closed_by n moment (unread_link link) held steps) ≡ unread_piece (closed_by n moment link stream steps)
-closed-rest n moment link steps stream held true r e = rw (r, e) (rw r refl)
-closed-rest n moment link steps stream held false r e = rw (r, e) (rw (rest-rest link.stream) refl)
+module _ {S : Type 0} (m : Meaning S) where
+  closed-rest : (n moment : ℕ) (link : LinkState) (steps : PayloadSteps S) (stream held : List ℕ) (b : Bool) → rest longest_payload held ≡ rest longest_payload stream →
+      (steps.stays_open && is_none (fault_of longest_payload (rest longest_payload stream))) ≡ b →
+      unread_piece (closed_by n (unread_link link) held steps) ≡ unread_piece (closed_by n link stream steps)
+  closed-rest n moment link steps stream held true r e = rw (r, e) (rw r refl)
+  closed-rest n moment link steps stream held false r e = rw (r, e) (rw (rest-rest link.stream) refl)
 
-piece-rest : (n moment : ℕ) (shared : SharedState) (link : LinkState) (piece : List ℕ) → unread_piece (piece_step n moment shared (unread_link link) piece) ≡ unread_piece (piece_step n moment shared link piece)
-unfolding piece_step
-piece-rest n moment shared link piece =
-    rw added-rest (closed-rest n moment link (payload_steps n moment shared link.connection (added_payloads link.stream piece)) (link.stream ++ piece) (rest longest_payload link.stream ++ piece) _ (sym (rest-more longest_payload piece link.stream)) refl)
+  piece-rest : (n moment : ℕ) (shared : SharedState S) (link : LinkState) (piece : List ℕ) → unread_piece (piece_step m n moment shared (unread_link link) piece) ≡ unread_piece (piece_step m n moment shared link piece)
+  unfolding piece_step
+  piece-rest n moment shared link piece =
+      rw added-rest (closed-rest n moment link (payload_steps m n moment shared link.connection (added_payloads link.stream piece)) (link.stream ++ piece) (rest longest_payload link.stream ++ piece) _ (sym (rest-more longest_payload piece link.stream)) refl)
 
-settled-unread_at : (s : ShareState) (n : ℕ) (t : PieceStep) (b : Bool) → t.stays_open ≡ b → unread_step (settled s n t) ≡ settled (unread s) n (unread_piece t)
-settled-unread_at s n t true e = rw (e, unread-with (is_at (nat_cmp n)) t.link s.links) refl
-settled-unread_at s n t false e = rw (e, unread-without (is_at (nat_cmp n)) s.links) refl
+  settled-unread_at : (s : ShareState S) (n : ℕ) (t : PieceStep S) (b : Bool) → t.stays_open ≡ b → unread_step (settled s n t) ≡ settled (unread s) n (unread_piece t)
+  settled-unread_at s n t true e = rw (e, unread-with (is_at (nat_cmp n)) t.link s.links) refl
+  settled-unread_at s n t false e = rw (e, unread-without (is_at (nat_cmp n)) s.links) refl
 
-settled-unread : (s : ShareState) (n : ℕ) (t : PieceStep) → unread_step (settled s n t) ≡ settled (unread s) n (unread_piece t)
-settled-unread s n t = settled-unread_at s n t t.stays_open refl
+  settled-unread : (s : ShareState S) (n : ℕ) (t : PieceStep S) → unread_step (settled s n t) ≡ settled (unread s) n (unread_piece t)
+  settled-unread s n t = settled-unread_at s n t t.stays_open refl
 
-bytes_at : (s : ShareState) (n moment : ℕ) (piece : List ℕ) (o : Option LinkState) →
-    unread_step (option_map_or (λ link. settled (unread s) n (piece_step n moment s.shared link piece)) (option_map unread_link o) (record { state = unread s; outputs = [] }))
-    ≡ unread_step (option_map_or (λ link. settled s n (piece_step n moment s.shared link piece)) o (record { state = s; outputs = [] }))
-bytes_at s n moment piece None = rw unread-unread refl
-bytes_at s n moment piece (Some link) =
-    settled-unread (unread s) n (piece_step n moment s.shared (unread_link link) piece)
-    ∙ ap (λ t. settled t n (unread_piece (piece_step n moment s.shared (unread_link link) piece))) (unread-unread s)
-    ∙ ap (settled (unread s) n) (piece-rest n moment s.shared link piece)
-    ∙ sym (settled-unread s n (piece_step n moment s.shared link piece))
+  bytes_at : (s : ShareState S) (n moment : ℕ) (piece : List ℕ) (o : Option LinkState) →
+      unread_step (option_map_or (λ link. settled (unread s) n (piece_step m n moment s.shared link piece)) (option_map unread_link o) (record { state = unread s; outputs = [] }))
+      ≡ unread_step (option_map_or (λ link. settled s n (piece_step m n moment s.shared link piece)) o (record { state = s; outputs = [] }))
+  bytes_at s n moment piece None = rw unread-unread refl
+  bytes_at s n moment piece (Some link) =
+      settled-unread (unread s) n (piece_step m n moment s.shared (unread_link link) piece)
+      ∙ ap (λ t. settled t n (unread_piece (piece_step m n moment s.shared (unread_link link) piece))) (unread-unread s)
+      ∙ ap (settled (unread s) n) (piece-rest n moment s.shared link piece)
+      ∙ sym (settled-unread s n (piece_step m n moment s.shared link piece))
 
-bytes_step-unread : (s : ShareState) (n moment : ℕ) (piece : List ℕ) → unread_step (bytes_step (unread s) n moment piece) ≡ unread_step (bytes_step s n moment piece)
-unfolding bytes_step
-bytes_step-unread s n moment piece = rw (link_of-unread (is_at (nat_cmp n)) s.links) (bytes_at s n moment piece (link_of n s.links))
+  bytes_step-unread : (s : ShareState S) (n moment : ℕ) (piece : List ℕ) → unread_step (bytes_step m (unread s) n moment piece) ≡ unread_step (bytes_step m s n moment piece)
+  unfolding bytes_step
+  bytes_step-unread s n moment piece = rw (link_of-unread (is_at (nat_cmp n)) s.links) (bytes_at s n moment piece (link_of n s.links))
 
--- an event over rests leaves and puts out what it does over whole streams
-pub event_step-unread : (s : ShareState) (event : Event) → unread_step (event_step (unread s) event) ≡ unread_step (event_step s event)
-event_step-unread s (Opened n) = rw (unread-insert s.next new_link (map unread_entry s.links), unread-insert s.next new_link s.links, unread_entries s.links) refl
-event_step-unread s (Bytes n moment piece) = bytes_step-unread s n moment piece.items
-event_step-unread s (Ended n) = rw (unread-without (is_at (nat_cmp n)) (map unread_entry s.links), unread_entries s.links, unread-without (is_at (nat_cmp n)) s.links) refl
+  -- an event over rests leaves and puts out what it does over whole streams
+  pub event_step-unread : (s : ShareState S) (event : Event) → unread_step (event_step m (unread s) event) ≡ unread_step (event_step m s event)
+  event_step-unread s (Opened n) = rw (unread-insert s.next new_link (map unread_entry s.links), unread-insert s.next new_link s.links, unread_entries s.links) refl
+  event_step-unread s (Bytes n moment piece) = bytes_step-unread s n moment piece.items
+  event_step-unread s (Ended n) = rw (unread-without (is_at (nat_cmp n)) (map unread_entry s.links), unread_entries s.links, unread-without (is_at (nat_cmp n)) s.links) refl
 
-refusal-unread : (s : ShareState) (event : Event) → refusal (unread s) event ≡ refusal s event
-refusal-unread s (Opened n) = rw length-map refl
-refusal-unread s (Bytes n moment piece) = refl
-refusal-unread s (Ended n) = refl
+  refusal-unread : (s : ShareState S) (event : Event) → refusal (unread s) event ≡ refusal s event
+  refusal-unread s (Opened n) = rw length-map refl
+  refusal-unread s (Bytes n moment piece) = refl
+  refusal-unread s (Ended n) = refl
 
-later-none : (o : Option RunFault) → option_map later o ≡ None → o ≡ None
-later-none None h = refl
-later-none (Some f) h = cc
+  later-none : (o : Option RunFault) → option_map later o ≡ None → o ≡ None
+  later-none None h = refl
+  later-none (Some f) h = cc
 
-goes_at : (s : ShareState) (d : EventStep) (r : Ran) (o : Option ServeFault) → (option_map_or (refused_at_once s) o (then_ran d r)).stop ≡ None → (o ≡ None) × (r.stop ≡ None)
-goes_at s d r None h = (refl, later-none r.stop h)
-goes_at s d r (Some why) h = cc
+  goes_at : (s : ShareState S) (d : EventStep S) (r : Ran S) (o : Option ServeFault) → (option_map_or (refused_at_once s) o (then_ran d r)).stop ≡ None → (o ≡ None) × (r.stop ≡ None)
+  goes_at s d r None h = (refl, later-none r.stop h)
+  goes_at s d r (Some why) h = cc
 
-run-goes : (s : ShareState) (event : Event) (events : List Event) → (run s (event ∷ events)).stop ≡ None →
-    (refusal s event ≡ None) × ((run (event_step s event).state events).stop ≡ None)
-run-goes s event events h = goes_at s (event_step s event) (run (event_step s event).state events) (refusal s event) h
+  run-goes : (s : ShareState S) (event : Event) (events : List Event) → (run m s (event ∷ events)).stop ≡ None →
+      (refusal s event ≡ None) × ((run m (event_step m s event).state events).stop ≡ None)
+  run-goes s event events h = goes_at s (event_step m s event) (run m (event_step m s event).state events) (refusal s event) h
 
-run-cons : (s : ShareState) (event : Event) (events : List Event) → refusal s event ≡ None →
-    run s (event ∷ events) ≡ then_ran (event_step s event) (run (event_step s event).state events)
-run-cons s event events h = rw h refl
+  run-cons : (s : ShareState S) (event : Event) (events : List Event) → refusal s event ≡ None →
+      run m s (event ∷ events) ≡ then_ran (event_step m s event) (run m (event_step m s event).state events)
+  run-cons s event events h = rw h refl
 
-abbrev and_then : Ran → EventStep → Ran
-and_then r d = record { state = d.state; outputs = r.outputs ++ d.outputs; stop = None }
+  abbrev and_then : Ran S → EventStep S → Ran S
+  and_then r d = record { state = d.state; outputs = r.outputs ++ d.outputs; stop = None }
 
--- one more event at the end, which is not refused
-pub run-more : (s : ShareState) (events others : List Event) (event : Event) (i : ℕ) → drop i events ≡ event ∷ others →
-    (run s (take i events)).stop ≡ None → refusal (run s (take i events)).state event ≡ None →
-    run s (take (i + 1) events) ≡ and_then (run s (take i events)) (event_step (run s (take i events)).state event)
-run-more s [] others event zero h g r = cc
-run-more s (x ∷ events) others event zero h g r =
-    let e : x ≡ event = cc in
-    rw (e, r) (ap (λ t. record { state = (event_step s event).state; outputs = t; stop = None }) (append-nil (event_step s event).outputs))
-run-more s [] others event (suc i) h g r = cc
-run-more s (x ∷ events) others event (suc i) h g r =
-    let e : suc i + 1 ≡ suc (i + 1) = omega arith in
-    let p = run-goes s x (take i events) g in
-    let first = event_step s x in
-    let before = run first.state (take i events) in
-    let last = event_step before.state event in
-    let whole = run-cons s x (take i events) p.0 in
-    let r' : refusal before.state event ≡ None = ap (λ t. refusal t.state event) (sym whole) ∙ r in
-    rw (e, whole, run-cons s x (take (i + 1) events) p.0, run-more first.state events others event i h p.1 r')
-    (ap (λ t. record { state = last.state; outputs = t; stop = None }) (sym (append_assoc first.outputs before.outputs last.outputs)))
+  -- one more event at the end, which is not refused
+  pub run-more : (s : ShareState S) (events others : List Event) (event : Event) (i : ℕ) → drop i events ≡ event ∷ others →
+      (run m s (take i events)).stop ≡ None → refusal (run m s (take i events)).state event ≡ None →
+      run m s (take (i + 1) events) ≡ and_then (run m s (take i events)) (event_step m (run m s (take i events)).state event)
+  run-more s [] others event zero h g r = cc
+  run-more s (x ∷ events) others event zero h g r =
+      let e : x ≡ event = cc in
+      rw (e, r) (ap (λ t. record { state = (event_step m s event).state; outputs = t; stop = None }) (append-nil (event_step m s event).outputs))
+  run-more s [] others event (suc i) h g r = cc
+  run-more s (x ∷ events) others event (suc i) h g r =
+      let e : suc i + 1 ≡ suc (i + 1) = omega arith in
+      let p = run-goes s x (take i events) g in
+      let first = event_step m s x in
+      let before = run m first.state (take i events) in
+      let last = event_step m before.state event in
+      let whole = run-cons s x (take i events) p.0 in
+      let r' : refusal before.state event ≡ None = ap (λ t. refusal t.state event) (sym whole) ∙ r in
+      rw (e, whole, run-cons s x (take (i + 1) events) p.0, run-more first.state events others event i h p.1 r')
+      (ap (λ t. record { state = last.state; outputs = t; stop = None }) (sym (append_assoc first.outputs before.outputs last.outputs)))
 
--- the run stops at an event that is refused
-pub run-refused : (s : ShareState) (events others : List Event) (event : Event) (i : ℕ) (why : ServeFault) → drop i events ≡ event ∷ others →
-    (run s (take i events)).stop ≡ None → refusal (run s (take i events)).state event ≡ Some why →
-    run s events ≡ record { state = (run s (take i events)).state; outputs = (run s (take i events)).outputs; stop = Some (record { place = i; fault = why }) }
-run-refused s [] others event zero why h g r = cc
-run-refused s (x ∷ events) others event zero why h g r = let e : x ≡ event = cc in rw (e, r) refl
-run-refused s [] others event (suc i) why h g r = cc
-run-refused s (x ∷ events) others event (suc i) why h g r =
-    let p = run-goes s x (take i events) g in
-    let first = event_step s x in
-    let whole = run-cons s x (take i events) p.0 in
-    let r' : refusal (run first.state (take i events)).state event ≡ Some why = ap (λ t. refusal t.state event) (sym whole) ∙ r in
-    rw (whole, run-cons s x events p.0, run-refused first.state events others event i why h p.1 r') refl
+  -- the run stops at an event that is refused
+  pub run-refused : (s : ShareState S) (events others : List Event) (event : Event) (i : ℕ) (why : ServeFault) → drop i events ≡ event ∷ others →
+      (run m s (take i events)).stop ≡ None → refusal (run m s (take i events)).state event ≡ Some why →
+      run m s events ≡ record { state = (run m s (take i events)).state; outputs = (run m s (take i events)).outputs; stop = Some (record { place = i; fault = why }) }
+  run-refused s [] others event zero why h g r = cc
+  run-refused s (x ∷ events) others event zero why h g r = let e : x ≡ event = cc in rw (e, r) refl
+  run-refused s [] others event (suc i) why h g r = cc
+  run-refused s (x ∷ events) others event (suc i) why h g r =
+      let p = run-goes s x (take i events) g in
+      let first = event_step m s x in
+      let whole = run-cons s x (take i events) p.0 in
+      let r' : refusal (run m first.state (take i events)).state event ≡ Some why = ap (λ t. refusal t.state event) (sym whole) ∙ r in
+      rw (whole, run-cons s x events p.0, run-refused first.state events others event i why h p.1 r') refl
 
-stopped_at : (s : ShareState) (n moment k : ℕ) (piece : List ℕ) (o : Option LinkState) →
-    unread (option_map_or (λ link. ended (record (unread s) { shared = shared_after_piece n moment s.shared link piece k }) n) (option_map unread_link o) (unread s))
-    ≡ unread (option_map_or (λ link. ended (record s { shared = shared_after_piece n moment s.shared link piece k }) n) o s)
-unfolding shared_after_piece
-stopped_at s n moment k piece None = unread-unread s
-stopped_at s n moment k piece (Some link) =
-    rw (added-rest, unread-without (is_at (nat_cmp n)) (map unread_entry s.links), unread_entries s.links, unread-without (is_at (nat_cmp n)) s.links) refl
+  stopped_at : (s : ShareState S) (n moment k : ℕ) (piece : List ℕ) (o : Option LinkState) →
+      unread (option_map_or (λ link. ended (record (unread s) { shared = shared_after_piece m n moment s.shared link piece k }) n) (option_map unread_link o) (unread s))
+      ≡ unread (option_map_or (λ link. ended (record s { shared = shared_after_piece m n moment s.shared link piece k }) n) o s)
+  unfolding shared_after_piece
+  stopped_at s n moment k piece None = unread-unread s
+  stopped_at s n moment k piece (Some link) =
+      rw (added-rest, unread-without (is_at (nat_cmp n)) (map unread_entry s.links), unread_entries s.links, unread-without (is_at (nat_cmp n)) s.links) refl
 
-stopped-unread : (s : ShareState) (n moment k : ℕ) (piece : List ℕ) → unread (stopped (unread s) n moment piece k) ≡ unread (stopped s n moment piece k)
-unfolding stopped
-stopped-unread s n moment k piece = rw (link_of-unread (is_at (nat_cmp n)) s.links) (stopped_at s n moment k piece (link_of n s.links))
+  stopped-unread : (s : ShareState S) (n moment k : ℕ) (piece : List ℕ) → unread (stopped m (unread s) n moment piece k) ≡ unread (stopped m s n moment piece k)
+  unfolding stopped
+  stopped-unread s n moment k piece = rw (link_of-unread (is_at (nat_cmp n)) s.links) (stopped_at s n moment k piece (link_of n s.links))
 
-stopped_event-unread : (s : ShareState) (event : Event) (k : ℕ) → unread (stopped_event (unread s) event k) ≡ unread (stopped_event s event k)
-stopped_event-unread s (Opened n) k = unread-unread s
-stopped_event-unread s (Bytes n moment piece) k = stopped-unread s n moment k piece.items
-stopped_event-unread s (Ended n) k = unread-unread s
+  stopped_event-unread : (s : ShareState S) (event : Event) (k : ℕ) → unread (stopped_event m (unread s) event k) ≡ unread (stopped_event m s event k)
+  stopped_event-unread s (Opened n) k = unread-unread s
+  stopped_event-unread s (Bytes n moment piece) k = stopped-unread s n moment k piece.items
+  stopped_event-unread s (Ended n) k = unread-unread s
 
-count_at : (s : ShareState) (n moment : ℕ) (piece : List ℕ) (o : Option LinkState) →
-    option_map_or (λ link. count_in_piece n moment s.shared link piece) (option_map unread_link o) 0 ≡ option_map_or (λ link. count_in_piece n moment s.shared link piece) o 0
-unfolding count_in_piece
-count_at s n moment piece None = refl
-count_at s n moment piece (Some link) = rw added-rest refl
+  count_at : (s : ShareState S) (n moment : ℕ) (piece : List ℕ) (o : Option LinkState) →
+      option_map_or (λ link. count_in_piece m n moment s.shared link piece) (option_map unread_link o) 0 ≡ option_map_or (λ link. count_in_piece m n moment s.shared link piece) o 0
+  unfolding count_in_piece
+  count_at s n moment piece None = refl
+  count_at s n moment piece (Some link) = rw added-rest refl
 
-count_on-unread : (s : ShareState) (n moment : ℕ) (piece : List ℕ) → count_on (unread s) n moment piece ≡ count_on s n moment piece
-unfolding count_on
-count_on-unread s n moment piece = rw (link_of-unread (is_at (nat_cmp n)) s.links) (count_at s n moment piece (link_of n s.links))
+  count_on-unread : (s : ShareState S) (n moment : ℕ) (piece : List ℕ) → count_on m (unread s) n moment piece ≡ count_on m s n moment piece
+  unfolding count_on
+  count_on-unread s n moment piece = rw (link_of-unread (is_at (nat_cmp n)) s.links) (count_at s n moment piece (link_of n s.links))
 
-count_of-unread : (s : ShareState) (event : Event) → count_of (unread s) event ≡ count_of s event
-count_of-unread s (Opened n) = refl
-count_of-unread s (Bytes n moment piece) = count_on-unread s n moment piece.items
-count_of-unread s (Ended n) = refl
+  count_of-unread : (s : ShareState S) (event : Event) → count_of m (unread s) event ≡ count_of m s event
+  count_of-unread s (Opened n) = refl
+  count_of-unread s (Bytes n moment piece) = count_on-unread s n moment piece.items
+  count_of-unread s (Ended n) = refl
 
--- the first i events of a run are done, and none was refused
-pub record RunSoFar (start now : ShareState) (front outputs : List Output) (events : List Event) (i : ℕ) : Type 0 where
-  pub goes : (run start (take i events)).stop ≡ None
-  pub state : now ≡ unread (run start (take i events)).state
-  pub says : outputs ≡ front ++ (run start (take i events)).outputs
+  -- the first i events of a run are done, and none was refused
+  pub record RunSoFar (start now : ShareState S) (front outputs : List Output) (events : List Event) (i : ℕ) : Type 0 where
+    pub goes : (run m start (take i events)).stop ≡ None
+    pub state : now ≡ unread (run m start (take i events)).state
+    pub says : outputs ≡ front ++ (run m start (take i events)).outputs
 
-pub run_none : (start : ShareState) (front : List Output) (events : List Event) → start ≡ unread start → RunSoFar start start front front events 0
-run_none start front events h = record { goes = refl; state = h; says = sym (append-nil front) }
+  pub run_none : (start : ShareState S) (front : List Output) (events : List Event) → start ≡ unread start → RunSoFar start start front front events 0
+  run_none start front events h = record { goes = refl; state = h; says = sym (append-nil front) }
 
-at_place : (events : List Event) (event : Event) (i : ℕ) → i < length events → event ≡ get_or events i event → drop i events ≡ event ∷ drop (i + 1) events
-at_place events event i p e = drop_more events i event p ∙ ap (λ x. x ∷ drop (i + 1) events) (sym e)
+  at_place : (events : List Event) (event : Event) (i : ℕ) → i < length events → event ≡ get_or events i event → drop i events ≡ event ∷ drop (i + 1) events
+  at_place events event i p e = drop_more events i event p ∙ ap (λ x. x ∷ drop (i + 1) events) (sym e)
 
-not_refused : (start now : ShareState) (events : List Event) (event : Event) (i : ℕ) (o : Option ServeFault) → now ≡ unread (run start (take i events)).state → refusal now event ≡ o →
-    refusal (run start (take i events)).state event ≡ o
-not_refused start now events event i o h r = sym (refusal-unread (run start (take i events)).state event) ∙ ap (λ t. refusal t event) (sym h) ∙ r
+  not_refused : (start now : ShareState S) (events : List Event) (event : Event) (i : ℕ) (o : Option ServeFault) → now ≡ unread (run m start (take i events)).state → refusal now event ≡ o →
+      refusal (run m start (take i events)).state event ≡ o
+  not_refused start now events event i o h r = sym (refusal-unread (run m start (take i events)).state event) ∙ ap (λ t. refusal t event) (sym h) ∙ r
 
-pub run_more : (start now new : ShareState) (front outputs outputs' : List Output) (events : List Event) (event : Event) (i : ℕ) → RunSoFar start now front outputs events i →
-    i < length events → event ≡ get_or events i event → refusal now event ≡ None → new ≡ unread (event_step now event).state → outputs' ≡ outputs ++ (event_step now event).outputs →
-    RunSoFar start new front outputs' events (i + 1)
-run_more start now new front outputs outputs' events event i h p e r s t =
-    let before = run start (take i events) in
-    let same : unread_step (event_step now event) ≡ unread_step (event_step before.state event) = ap (λ x. unread_step (event_step x event)) h.state ∙ event_step-unread before.state event in
-    let more = run-more start events (drop (i + 1) events) event i (at_place events event i p e) h.goes (not_refused start now events event i None h.state r) in
-    record {
-      goes = ap (λ d. d.stop) more;
-      state = s ∙ ap (λ d. d.state) same ∙ ap (λ d. unread d.state) (sym more);
-      says = t ∙ ap (λ x. outputs ++ x) (ap (λ d. d.outputs) same) ∙ ap (λ x. x ++ (event_step before.state event).outputs) h.says
-          ∙ append_assoc front before.outputs (event_step before.state event).outputs ∙ ap (λ d. front ++ d.outputs) (sym more);
-    }
+  pub run_more : (start now new : ShareState S) (front outputs outputs' : List Output) (events : List Event) (event : Event) (i : ℕ) → RunSoFar start now front outputs events i →
+      i < length events → event ≡ get_or events i event → refusal now event ≡ None → new ≡ unread (event_step m now event).state → outputs' ≡ outputs ++ (event_step m now event).outputs →
+      RunSoFar start new front outputs' events (i + 1)
+  run_more start now new front outputs outputs' events event i h p e r s t =
+      let before = run m start (take i events) in
+      let same : unread_step (event_step m now event) ≡ unread_step (event_step m before.state event) = ap (λ x. unread_step (event_step m x event)) h.state ∙ event_step-unread before.state event in
+      let more = run-more start events (drop (i + 1) events) event i (at_place events event i p e) h.goes (not_refused start now events event i None h.state r) in
+      record {
+        goes = ap (λ d. d.stop) more;
+        state = s ∙ ap (λ d. d.state) same ∙ ap (λ d. unread d.state) (sym more);
+        says = t ∙ ap (λ x. outputs ++ x) (ap (λ d. d.outputs) same) ∙ ap (λ x. x ++ (event_step m before.state event).outputs) h.says
+            ∙ append_assoc front before.outputs (event_step m before.state event).outputs ∙ ap (λ d. front ++ d.outputs) (sym more);
+      }
 
-pub run_all : (start now : ShareState) (front outputs : List Output) (events : List Event) (i : ℕ) → RunSoFar start now front outputs events i → length events ≤ i →
-    record { state = now; outputs = outputs; stop = None } ≡ run_behind front (run start events)
-run_all start now front outputs events i h p =
-    rw (h.state, h.says, ← h.goes) (ap (λ es. run_behind front (run start es)) (take_all i events p))
+  pub run_all : (start now : ShareState S) (front outputs : List Output) (events : List Event) (i : ℕ) → RunSoFar start now front outputs events i → length events ≤ i →
+      record { state = now; outputs = outputs; stop = None } ≡ run_behind front (run m start events)
+  run_all start now front outputs events i h p =
+      rw (h.state, h.says, ← h.goes) (ap (λ es. run_behind front (run m start es)) (take_all i events p))
 
-run_refused : (start now new : ShareState) (front outputs : List Output) (events : List Event) (event : Event) (i : ℕ) (why : ServeFault) → RunSoFar start now front outputs events i →
-    i < length events → event ≡ get_or events i event → refusal now event ≡ Some why → new ≡ now →
-    record { state = new; outputs = outputs; stop = Some (record { place = i; fault = why }) } ≡ run_behind front (run start events)
-run_refused start now new front outputs events event i why h p e r s =
-    rw (s, h.state, h.says, run-refused start events (drop (i + 1) events) event i why (at_place events event i p e) h.goes (not_refused start now events event i (Some why) h.state r)) refl
+  run_refused : (start now new : ShareState S) (front outputs : List Output) (events : List Event) (event : Event) (i : ℕ) (why : ServeFault) → RunSoFar start now front outputs events i →
+      i < length events → event ≡ get_or events i event → refusal now event ≡ Some why → new ≡ now →
+      record { state = new; outputs = outputs; stop = Some (record { place = i; fault = why }) } ≡ run_behind front (run m start events)
+  run_refused start now new front outputs events event i why h p e r s =
+      rw (s, h.state, h.says, run-refused start events (drop (i + 1) events) event i why (at_place events event i p e) h.goes (not_refused start now events event i (Some why) h.state r)) refl
 
--- an event at which the run stops, whatever the fault
-pub run_stops : (start now new : ShareState) (front outputs outputs' : List Output) (events : List Event) (event : Event) (place : ℕ) (fault : ServeFault) (i : ℕ) → RunSoFar start now front outputs events i →
-    place ≡ i → i < length events → event ≡ get_or events i event → EventStopped now event fault new → outputs' ≡ outputs → RunStopped start events place fault new front outputs'
-run_stops start now new front outputs outputs' events event place (NoMemory done) i h q p e s t =
-    rw (q, t) (record {
-      event = event;
-      others = drop (i + 1) events;
-      at = at_place events event i p e;
-      unrefused = h.goes;
-      sound = not_refused start now events event i None h.state s.0;
-      within = let same = ap (λ x. count_of x event) h.state ∙ count_of-unread (run start (take i events)).state event in rw (← same) s.1;
-      state = s.2 ∙ ap (λ x. unread (stopped_event x event done)) h.state ∙ stopped_event-unread (run start (take i events)).state event done;
-      outputs = h.says;
-    })
-run_stops start now new front outputs outputs' events event place TooManyConnections i h q p e s t = rw (q, t) (run_refused start now new front outputs events event i TooManyConnections h p e s.0 s.1)
-run_stops start now new front outputs outputs' events event place BadEvent i h q p e s t = rw (q, t) (run_refused start now new front outputs events event i BadEvent h p e s.0 s.1)
-run_stops start now new front outputs outputs' events event place BadConfig i h q p e s t = absurd s
+  -- an event at which the run stops, whatever the fault
+  pub run_stops : (start now new : ShareState S) (front outputs outputs' : List Output) (events : List Event) (event : Event) (place : ℕ) (fault : ServeFault) (i : ℕ) → RunSoFar start now front outputs events i →
+      place ≡ i → i < length events → event ≡ get_or events i event → EventStopped m now event fault new → outputs' ≡ outputs → RunStopped m start events place fault new front outputs'
+  run_stops start now new front outputs outputs' events event place (NoMemory done) i h q p e s t =
+      rw (q, t) (record {
+        event = event;
+        others = drop (i + 1) events;
+        at = at_place events event i p e;
+        unrefused = h.goes;
+        sound = not_refused start now events event i None h.state s.0;
+        within = let same = ap (λ x. count_of m x event) h.state ∙ count_of-unread (run m start (take i events)).state event in rw (← same) s.1;
+        state = s.2 ∙ ap (λ x. unread (stopped_event m x event done)) h.state ∙ stopped_event-unread (run m start (take i events)).state event done;
+        outputs = h.says;
+      })
+  run_stops start now new front outputs outputs' events event place TooManyConnections i h q p e s t = rw (q, t) (run_refused start now new front outputs events event i TooManyConnections h p e s.0 s.1)
+  run_stops start now new front outputs outputs' events event place BadEvent i h q p e s t = rw (q, t) (run_refused start now new front outputs events event i BadEvent h p e s.0 s.1)
+  run_stops start now new front outputs outputs' events event place BadConfig i h q p e s t = absurd s
 
-pub opened-unread : (s : ShareState) → s ≡ unread s → opened s ≡ unread (opened s)
-unfolding rest
-opened-unread s h = rw (unread-insert s.next new_link s.links) (ap (λ t. record { shared = s.shared; links = insert_entry nat_cmp t.links s.next new_link; next = s.next + 1 }) h)
+  pub opened-unread : (s : ShareState S) → s ≡ unread s → opened s ≡ unread (opened s)
+  unfolding rest
+  opened-unread s h = rw (unread-insert s.next new_link s.links) (ap (λ t. record { shared = shared_opened s.shared s.next; links = insert_entry nat_cmp t.links s.next new_link; next = s.next + 1 }) h)
 
-open_refused : (s : ShareState) (n : ℕ) (o : Option ServeFault) → n ≡ s.next → opening_refusal s ≡ o → refusal s (Opened n) ≡ o
-open_refused s n o e h = rw (eq-eqb n s.next e) h
+  open_refused : (s : ShareState S) (n : ℕ) (o : Option ServeFault) → n ≡ s.next → opening_refusal s ≡ o → refusal s (Opened n) ≡ o
+  open_refused s n o e h = rw (eq-eqb n s.next e) h
 
-pub open_stops : (s new : ShareState) (n : ℕ) (fault : ServeFault) → s ≡ unread s → n ≡ s.next → OpeningRefused s fault → new ≡ s → EventStopped s (Opened n) fault new
-open_stops s new n (NoMemory done) w e h k = (open_refused s n None e h.0, omega (arith, h.1), k ∙ w)
-open_stops s new n TooManyConnections w e h k = (open_refused s n (Some TooManyConnections) e h, k)
-open_stops s new n BadEvent w e h k = absurd h
-open_stops s new n BadConfig w e h k = absurd h
+  pub open_stops : (s new : ShareState S) (n : ℕ) (fault : ServeFault) → s ≡ unread s → n ≡ s.next → OpeningRefused s fault → new ≡ s → EventStopped m s (Opened n) fault new
+  open_stops s new n (NoMemory done) w e h k = (open_refused s n None e h.0, omega (arith, h.1), k ∙ w)
+  open_stops s new n TooManyConnections w e h k = (open_refused s n (Some TooManyConnections) e h, k)
+  open_stops s new n BadEvent w e h k = absurd h
+  open_stops s new n BadConfig w e h k = absurd h

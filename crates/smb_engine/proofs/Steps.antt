@@ -8,6 +8,7 @@ use Rattle.smb_frame.specs.Reading.{first, after, payloads, rest}
 use Rattle.smb_frame.proofs.Frames.{first_is}
 use Rattle.smb_frame.proofs.Streams.{payloads-none, payloads-some, rest-none, rest-some}
 use Rattle.smb_engine.specs.declared.connection.Connection.{Connection}
+use Rattle.smb_session.specs.Authenticator.{Meaning}
 use Rattle.smb_engine.specs.State.{SharedState}
 use Rattle.smb_engine.specs.Chain.{PayloadStep, payload_step, shared_after, count_in}
 use Rattle.smb_engine.specs.Output.{Output, reply_frame}
@@ -20,20 +21,20 @@ by_test : {X : Type 0} (b : Bool) (x y z : X) → (b ≡ true → x ≡ z) → (
 by_test true x y z p q = p refl
 by_test false x y z p q = q refl
 
-module _ (hears : Output → List Heard) (number moment : ℕ) where
+module _ {S : Type 0} (m : Meaning S) (hears : Output → List Heard) (number moment : ℕ) where
   -- what is left to do of some held bytes, behind what was done, is what there was to do at first
-  pub record StepsSoFar (shared₀ : SharedState) (connection₀ : Connection) (heard₀ : List Heard) (held₀ : List ℕ)
-      (shared : SharedState) (connection : Connection) (heard : List Heard) (held : List ℕ) (done : ℕ) : Type 0 where
-    pub says : steps_heard hears heard (payload_steps number moment shared connection (payloads longest_payload held))
-        ≡ steps_heard hears heard₀ (payload_steps number moment shared₀ connection₀ (payloads longest_payload held₀))
+  pub record StepsSoFar (shared₀ : SharedState S) (connection₀ : Connection) (heard₀ : List Heard) (held₀ : List ℕ)
+      (shared : SharedState S) (connection : Connection) (heard : List Heard) (held : List ℕ) (done : ℕ) : Type 0 where
+    pub says : steps_heard hears heard (payload_steps m number moment shared connection (payloads longest_payload held))
+        ≡ steps_heard hears heard₀ (payload_steps m number moment shared₀ connection₀ (payloads longest_payload held₀))
     pub left : rest longest_payload held ≡ rest longest_payload held₀
-    pub stops : (k : ℕ) → shared_after_some number moment shared connection (payloads longest_payload held) k
-        ≡ shared_after_some number moment shared₀ connection₀ (payloads longest_payload held₀) (done + k)
+    pub stops : (k : ℕ) → shared_after_some m number moment shared connection (payloads longest_payload held) k
+        ≡ shared_after_some m number moment shared₀ connection₀ (payloads longest_payload held₀) (done + k)
     pub count : done + length held ≤ length held₀
-    pub number_of : done + count_in_all number moment shared connection (payloads longest_payload held)
-        ≡ count_in_all number moment shared₀ connection₀ (payloads longest_payload held₀)
+    pub number_of : done + count_in_all m number moment shared connection (payloads longest_payload held)
+        ≡ count_in_all m number moment shared₀ connection₀ (payloads longest_payload held₀)
 
-  pub steps_none : (shared : SharedState) (connection : Connection) (heard : List Heard) (held : List ℕ) → StepsSoFar shared connection heard held shared connection heard held 0
+  pub steps_none : (shared : SharedState S) (connection : Connection) (heard : List Heard) (held : List ℕ) → StepsSoFar shared connection heard held shared connection heard held 0
   steps_none shared connection heard held = record {
     says = refl;
     left = refl;
@@ -42,119 +43,119 @@ module _ (hears : Output → List Heard) (number moment : ℕ) where
     number_of = omega arith;
   }
 
-  heard-more : (a : List Heard) (b : List Output) (x : PayloadSteps) → steps_heard hears a (after_outputs b x) ≡ steps_heard hears (a ++ flat_map hears b) x
+  heard-more : (a : List Heard) (b : List Output) (x : PayloadSteps S) → steps_heard hears a (after_outputs b x) ≡ steps_heard hears (a ++ flat_map hears b) x
   heard-more a b x = ap (λ t. record { shared = x.shared; connection = x.connection; heard = t; stays_open = x.stays_open })
       (ap (λ t. a ++ t) (flat_map-append hears b x.outputs) ∙ sym (append_assoc a (flat_map hears b) (flat_map hears x.outputs)))
 
   -- bytes with a first payload
-  steps-some : (shared : SharedState) (connection : Connection) (held payload : List ℕ) (step : PayloadStep) → first longest_payload held ≡ Some payload →
-      step ≡ payload_step moment shared connection payload →
-      payload_steps number moment shared connection (payloads longest_payload held)
-      ≡ and_then number moment (λ shared' connection'. payload_steps number moment shared' connection' (payloads longest_payload (after payload held))) step
+  steps-some : (shared : SharedState S) (connection : Connection) (held payload : List ℕ) (step : PayloadStep S) → first longest_payload held ≡ Some payload →
+      step ≡ payload_step m number moment shared connection payload →
+      payload_steps m number moment shared connection (payloads longest_payload held)
+      ≡ and_then number (λ shared' connection'. payload_steps m number moment shared' connection' (payloads longest_payload (after payload held))) step
   steps-some shared connection held payload step e p =
-      ap (payload_steps number moment shared connection) (payloads-some longest_payload held payload e)
-      ∙ ap (and_then number moment (λ shared' connection'. payload_steps number moment shared' connection' (payloads longest_payload (after payload held)))) (sym p)
+      ap (payload_steps m number moment shared connection) (payloads-some longest_payload held payload e)
+      ∙ ap (and_then number (λ shared' connection'. payload_steps m number moment shared' connection' (payloads longest_payload (after payload held)))) (sym p)
 
-  after_some-past : (shared : SharedState) (connection : Connection) (held payload : List ℕ) (step : PayloadStep) (n k : ℕ) → first longest_payload held ≡ Some payload →
-      step ≡ payload_step moment shared connection payload → count_in moment shared connection payload ≡ n →
-      shared_after_some number moment shared connection (payloads longest_payload held) (n + k)
-      ≡ shared_after_some number moment step.shared step.connection (payloads longest_payload (after payload held)) k
+  after_some-past : (shared : SharedState S) (connection : Connection) (held payload : List ℕ) (step : PayloadStep S) (n k : ℕ) → first longest_payload held ≡ Some payload →
+      step ≡ payload_step m number moment shared connection payload → count_in m number moment shared connection payload ≡ n →
+      shared_after_some m number moment shared connection (payloads longest_payload held) (n + k)
+      ≡ shared_after_some m number moment step.shared step.connection (payloads longest_payload (after payload held)) k
   after_some-past shared connection held payload step n k e p c =
       let test : ltb (n + k) n ≡ false = le-ltb _ _ (omega arith) in
       let left : n + k - n ≡ k = omega arith in
-      ap (λ ps. shared_after_some number moment shared connection ps (n + k)) (payloads-some longest_payload held payload e) ∙ rw (c, test, left, p) refl
+      ap (λ ps. shared_after_some m number moment shared connection ps (n + k)) (payloads-some longest_payload held payload e) ∙ rw (c, test, left, p) refl
 
-  pub after_some-zero : (shared : SharedState) (connection : Connection) (ps : List (List ℕ)) → shared_after_some number moment shared connection ps 0 ≡ shared
+  pub after_some-zero : (shared : SharedState S) (connection : Connection) (ps : List (List ℕ)) → shared_after_some m number moment shared connection ps 0 ≡ shared
   after_some-zero shared connection [] = refl
   after_some-zero shared connection (payload ∷ ps) =
-      let n = count_in moment shared connection payload in
-      by_test (ltb 0 n) _ _ shared (λ t. shared_after-none moment shared connection payload)
+      let n = count_in m number moment shared connection payload in
+      by_test (ltb 0 n) _ _ shared (λ t. shared_after-none m number moment shared connection payload)
       (λ t.
       let z : n ≡ 0 = let k = ltb-false 0 n t in omega arith in
       let e : 0 - n ≡ 0 = omega arith in
-      rw e (after_some-zero (payload_step moment shared connection payload).shared (payload_step moment shared connection payload).connection ps
-      ∙ sym (shared_after-all moment shared connection payload) ∙ ap (shared_after moment shared connection payload) z ∙ shared_after-none moment shared connection payload))
+      rw e (after_some-zero (payload_step m number moment shared connection payload).shared (payload_step m number moment shared connection payload).connection ps
+      ∙ sym (shared_after-all m number moment shared connection payload) ∙ ap (shared_after m number moment shared connection payload) z ∙ shared_after-none m number moment shared connection payload))
 
-  after-some : (shared : SharedState) (connection : Connection) (held payload : List ℕ) (k : ℕ) → first longest_payload held ≡ Some payload → k ≤ count_in moment shared connection payload →
-      shared_after moment shared connection payload k ≡ shared_after_some number moment shared connection (payloads longest_payload held) k
+  after-some : (shared : SharedState S) (connection : Connection) (held payload : List ℕ) (k : ℕ) → first longest_payload held ≡ Some payload → k ≤ count_in m number moment shared connection payload →
+      shared_after m number moment shared connection payload k ≡ shared_after_some m number moment shared connection (payloads longest_payload held) k
   after-some shared connection held payload k f b =
-      let n = count_in moment shared connection payload in
-      let opened = ap (λ ps. shared_after_some number moment shared connection ps k) (payloads-some longest_payload held payload f) in
-      sym (opened ∙ by_test (ltb k n) _ _ (shared_after moment shared connection payload k) (λ t. refl)
+      let n = count_in m number moment shared connection payload in
+      let opened = ap (λ ps. shared_after_some m number moment shared connection ps k) (payloads-some longest_payload held payload f) in
+      sym (opened ∙ by_test (ltb k n) _ _ (shared_after m number moment shared connection payload k) (λ t. refl)
       (λ t.
       let z : k ≡ n = let q = ltb-false k n t in omega arith in
       let e : k - n ≡ 0 = omega arith in
-      rw e (after_some-zero (payload_step moment shared connection payload).shared (payload_step moment shared connection payload).connection (payloads longest_payload (after payload held))
-      ∙ sym (shared_after-all moment shared connection payload) ∙ ap (shared_after moment shared connection payload) (sym z))))
+      rw e (after_some-zero (payload_step m number moment shared connection payload).shared (payload_step m number moment shared connection payload).connection (payloads longest_payload (after payload held))
+      ∙ sym (shared_after-all m number moment shared connection payload) ∙ ap (shared_after m number moment shared connection payload) (sym z))))
 
-  pub steps_more : (shared₀ : SharedState) (connection₀ : Connection) (heard₀ : List Heard) (held₀ : List ℕ) (shared : SharedState) (connection : Connection) (heard : List Heard) (held : List ℕ) (done : ℕ)
-      (shared' : SharedState) (connection' : Connection) (heard' : List Heard) (held' payload replies : List ℕ) (n : ℕ) →
+  pub steps_more : (shared₀ : SharedState S) (connection₀ : Connection) (heard₀ : List Heard) (held₀ : List ℕ) (shared : SharedState S) (connection : Connection) (heard : List Heard) (held : List ℕ) (done : ℕ)
+      (shared' : SharedState S) (connection' : Connection) (heard' : List Heard) (held' payload replies : List ℕ) (n : ℕ) →
       StepsSoFar shared₀ connection₀ heard₀ held₀ shared connection heard held done → first longest_payload held ≡ Some payload →
-      record { shared = shared'; connection = connection'; replies = Some replies } ≡ payload_step moment shared connection payload →
-      count_in moment shared connection payload ≡ n → held' ≡ after payload held → heard' ≡ heard ++ flat_map hears (reply_frame number replies) → n ≤ length payload →
+      record { shared = shared'; connection = connection'; replies = Some replies } ≡ payload_step m number moment shared connection payload →
+      count_in m number moment shared connection payload ≡ n → held' ≡ after payload held → heard' ≡ heard ++ flat_map hears (reply_frame number replies) → n ≤ length payload →
       StepsSoFar shared₀ connection₀ heard₀ held₀ shared' connection' heard' held' (done + n)
   steps_more shared₀ connection₀ heard₀ held₀ shared connection heard held done shared' connection' heard' held' payload replies n h f e c p t b =
       record {
-        says = rw (p, t) (sym (heard-more heard (reply_frame number replies) (payload_steps number moment shared' connection' (payloads longest_payload (after payload held)))))
+        says = rw (p, t) (sym (heard-more heard (reply_frame number replies) (payload_steps m number moment shared' connection' (payloads longest_payload (after payload held)))))
             ∙ ap (steps_heard hears heard) (sym (steps-some shared connection held payload _ f e)) ∙ h.says;
         left = rw p (sym (rest-some longest_payload held payload f) ∙ h.left);
         stops = λ k. let assoc : done + n + k ≡ done + (n + k) = omega arith in
             rw (p, assoc) (sym (after_some-past shared connection held payload _ n k f e c) ∙ h.stops (n + k));
         number_of =
-            let step : count_in_all number moment shared connection (payloads longest_payload held) ≡ n + count_in_all number moment shared' connection' (payloads longest_payload (after payload held)) =
-            ap (count_in_all number moment shared connection) (payloads-some longest_payload held payload f) ∙ rw (← e, c) refl in
+            let step : count_in_all m number moment shared connection (payloads longest_payload held) ≡ n + count_in_all m number moment shared' connection' (payloads longest_payload (after payload held)) =
+            ap (count_in_all m number moment shared connection) (payloads-some longest_payload held payload f) ∙ rw (← e, c) refl in
             rw p (omega (arith, step, h.number_of));
         count = rw p (omega (arith, h.count, first_is longest_payload held payload f, length-drop (length payload + 4) held));
       }
 
   -- a payload that ends the connection
-  pub steps_over : (shared₀ : SharedState) (connection₀ : Connection) (heard₀ : List Heard) (held₀ : List ℕ) (shared : SharedState) (connection : Connection) (heard : List Heard) (held : List ℕ) (done : ℕ)
-      (shared' : SharedState) (connection' : Connection) (payload : List ℕ) →
+  pub steps_over : (shared₀ : SharedState S) (connection₀ : Connection) (heard₀ : List Heard) (held₀ : List ℕ) (shared : SharedState S) (connection : Connection) (heard : List Heard) (held : List ℕ) (done : ℕ)
+      (shared' : SharedState S) (connection' : Connection) (payload : List ℕ) →
       StepsSoFar shared₀ connection₀ heard₀ held₀ shared connection heard held done → first longest_payload held ≡ Some payload →
-      record { shared = shared'; connection = connection'; replies = None } ≡ payload_step moment shared connection payload →
-      record { shared = shared'; connection = connection'; heard = heard; stays_open = false } ≡ steps_heard hears heard₀ (payload_steps number moment shared₀ connection₀ (payloads longest_payload held₀))
+      record { shared = shared'; connection = connection'; replies = None } ≡ payload_step m number moment shared connection payload →
+      record { shared = shared'; connection = connection'; heard = heard; stays_open = false } ≡ steps_heard hears heard₀ (payload_steps m number moment shared₀ connection₀ (payloads longest_payload held₀))
   steps_over shared₀ connection₀ heard₀ held₀ shared connection heard held done shared' connection' payload h f e =
       ap (λ t. record { shared = shared'; connection = connection'; heard = t; stays_open = false }) (sym (append-nil heard))
       ∙ ap (steps_heard hears heard) (sym (steps-some shared connection held payload _ f e)) ∙ h.says
 
   -- no whole frame is left
-  pub steps_all : (shared₀ : SharedState) (connection₀ : Connection) (heard₀ : List Heard) (held₀ : List ℕ) (shared : SharedState) (connection : Connection) (heard : List Heard) (held : List ℕ) (done : ℕ) →
+  pub steps_all : (shared₀ : SharedState S) (connection₀ : Connection) (heard₀ : List Heard) (held₀ : List ℕ) (shared : SharedState S) (connection : Connection) (heard : List Heard) (held : List ℕ) (done : ℕ) →
       StepsSoFar shared₀ connection₀ heard₀ held₀ shared connection heard held done → first longest_payload held ≡ None →
-      record { shared = shared; connection = connection; heard = heard; stays_open = true } ≡ steps_heard hears heard₀ (payload_steps number moment shared₀ connection₀ (payloads longest_payload held₀))
+      record { shared = shared; connection = connection; heard = heard; stays_open = true } ≡ steps_heard hears heard₀ (payload_steps m number moment shared₀ connection₀ (payloads longest_payload held₀))
   steps_all shared₀ connection₀ heard₀ held₀ shared connection heard held done h f =
       ap (λ t. record { shared = shared; connection = connection; heard = t; stays_open = true }) (sym (append-nil heard))
-      ∙ ap (λ ps. steps_heard hears heard (payload_steps number moment shared connection ps)) (sym (payloads-none longest_payload held f)) ∙ h.says
+      ∙ ap (λ ps. steps_heard hears heard (payload_steps m number moment shared connection ps)) (sym (payloads-none longest_payload held f)) ∙ h.says
 
-  pub held_all : (shared₀ : SharedState) (connection₀ : Connection) (heard₀ : List Heard) (held₀ : List ℕ) (shared : SharedState) (connection : Connection) (heard : List Heard) (held : List ℕ) (done : ℕ) →
+  pub held_all : (shared₀ : SharedState S) (connection₀ : Connection) (heard₀ : List Heard) (held₀ : List ℕ) (shared : SharedState S) (connection : Connection) (heard : List Heard) (held : List ℕ) (done : ℕ) →
       StepsSoFar shared₀ connection₀ heard₀ held₀ shared connection heard held done → first longest_payload held ≡ None → held ≡ rest longest_payload held₀
   held_all shared₀ connection₀ heard₀ held₀ shared connection heard held done h f = sym (rest-none longest_payload held f) ∙ h.left
 
   -- memory ran out after the requests done so far
-  pub steps_stopped : (shared₀ : SharedState) (connection₀ : Connection) (heard₀ : List Heard) (held₀ : List ℕ) (shared : SharedState) (connection : Connection) (heard : List Heard) (held : List ℕ) (done : ℕ) →
-      StepsSoFar shared₀ connection₀ heard₀ held₀ shared connection heard held done → shared ≡ shared_after_some number moment shared₀ connection₀ (payloads longest_payload held₀) done
+  pub steps_stopped : (shared₀ : SharedState S) (connection₀ : Connection) (heard₀ : List Heard) (held₀ : List ℕ) (shared : SharedState S) (connection : Connection) (heard : List Heard) (held : List ℕ) (done : ℕ) →
+      StepsSoFar shared₀ connection₀ heard₀ held₀ shared connection heard held done → shared ≡ shared_after_some m number moment shared₀ connection₀ (payloads longest_payload held₀) done
   steps_stopped shared₀ connection₀ heard₀ held₀ shared connection heard held done h =
       let e : done + 0 ≡ done = omega arith in
-      sym (after_some-zero shared connection (payloads longest_payload held)) ∙ h.stops 0 ∙ ap (shared_after_some number moment shared₀ connection₀ (payloads longest_payload held₀)) e
+      sym (after_some-zero shared connection (payloads longest_payload held)) ∙ h.stops 0 ∙ ap (shared_after_some m number moment shared₀ connection₀ (payloads longest_payload held₀)) e
 
   -- memory ran out after k requests of the payload that stands first
-  pub steps_stopped_in : (shared₀ : SharedState) (connection₀ : Connection) (heard₀ : List Heard) (held₀ : List ℕ) (shared : SharedState) (connection : Connection) (heard : List Heard) (held : List ℕ) (done : ℕ)
-      (shared' : SharedState) (payload : List ℕ) (k : ℕ) →
+  pub steps_stopped_in : (shared₀ : SharedState S) (connection₀ : Connection) (heard₀ : List Heard) (held₀ : List ℕ) (shared : SharedState S) (connection : Connection) (heard : List Heard) (held : List ℕ) (done : ℕ)
+      (shared' : SharedState S) (payload : List ℕ) (k : ℕ) →
       StepsSoFar shared₀ connection₀ heard₀ held₀ shared connection heard held done → first longest_payload held ≡ Some payload →
-      k ≤ count_in moment shared connection payload → shared' ≡ shared_after moment shared connection payload k →
-      shared' ≡ shared_after_some number moment shared₀ connection₀ (payloads longest_payload held₀) (done + k)
+      k ≤ count_in m number moment shared connection payload → shared' ≡ shared_after m number moment shared connection payload k →
+      shared' ≡ shared_after_some m number moment shared₀ connection₀ (payloads longest_payload held₀) (done + k)
   steps_stopped_in shared₀ connection₀ heard₀ held₀ shared connection heard held done shared' payload k h f b e =
       e ∙ after-some shared connection held payload k f b ∙ h.stops k
 
-  pub steps_within : (shared₀ : SharedState) (connection₀ : Connection) (heard₀ : List Heard) (held₀ : List ℕ) (shared : SharedState) (connection : Connection) (heard : List Heard) (held : List ℕ) (done k : ℕ) (payload : List ℕ) →
-      StepsSoFar shared₀ connection₀ heard₀ held₀ shared connection heard held done → first longest_payload held ≡ Some payload → k ≤ count_in moment shared connection payload →
-      done + k ≤ count_in_all number moment shared₀ connection₀ (payloads longest_payload held₀)
+  pub steps_within : (shared₀ : SharedState S) (connection₀ : Connection) (heard₀ : List Heard) (held₀ : List ℕ) (shared : SharedState S) (connection : Connection) (heard : List Heard) (held : List ℕ) (done k : ℕ) (payload : List ℕ) →
+      StepsSoFar shared₀ connection₀ heard₀ held₀ shared connection heard held done → first longest_payload held ≡ Some payload → k ≤ count_in m number moment shared connection payload →
+      done + k ≤ count_in_all m number moment shared₀ connection₀ (payloads longest_payload held₀)
   steps_within shared₀ connection₀ heard₀ held₀ shared connection heard held done k payload h f b =
-      let step = ap (count_in_all number moment shared connection) (payloads-some longest_payload held payload f) in
+      let step = ap (count_in_all m number moment shared connection) (payloads-some longest_payload held payload f) in
       omega (arith, h.number_of, step)
 
-  pub steps_done : (shared₀ : SharedState) (connection₀ : Connection) (heard₀ : List Heard) (held₀ : List ℕ) (shared : SharedState) (connection : Connection) (heard : List Heard) (held : List ℕ) (done : ℕ) →
+  pub steps_done : (shared₀ : SharedState S) (connection₀ : Connection) (heard₀ : List Heard) (held₀ : List ℕ) (shared : SharedState S) (connection : Connection) (heard : List Heard) (held : List ℕ) (done : ℕ) →
       StepsSoFar shared₀ connection₀ heard₀ held₀ shared connection heard held done →
-      done ≤ count_in_all number moment shared₀ connection₀ (payloads longest_payload held₀)
+      done ≤ count_in_all m number moment shared₀ connection₀ (payloads longest_payload held₀)
   steps_done shared₀ connection₀ heard₀ held₀ shared connection heard held done h = omega (arith, h.number_of)
 
 -- what stood first in a list still does

@@ -7,15 +7,22 @@ use Rattle.std.proofs.lemmas.Option.{cond_some}
 use Rattle.std.proofs.Common.{length-append}
 use Rattle.smb_head.specs.Chains.{IsRequest, chain_of}
 use Rattle.smb_head.proofs.Chaining.{chain_is}
-use Rattle.smb_engine.specs.Window.{may_use}
+use Rattle.smb_session.specs.Window.{may_use}
+use Rattle.std.proofs.lemmas.Bool.{and_parts, leb-true}
+use Rattle.smb_body.specs.Smb1.{smb1_of, is_smb1}
+use Rattle.smb_body.specs.declared.smb1.Smb1Dialects.{Smb1Dialects}
+use Rattle.smb_engine.specs.declared.smb1.Smb1Answer.{Smb1Answer}
+use Rattle.smb_engine.specs.Smb1.{answer_to_smb1}
 use Rattle.std.proofs.lemmas.List.{take_all}
 use Rattle.std.proofs.lemmas.Bool.{ne_eqb}
 use Rattle.smb_head.specs.Headers.{header_of}
 use Rattle.smb_head.specs.Replies.{so_far}
 use Rattle.smb_engine.specs.declared.connection.Connection.{Connection}
+use Rattle.smb_session.specs.Authenticator.{Meaning}
 use Rattle.smb_engine.specs.State.{SharedState}
-use Rattle.smb_engine.specs.Request.{Performed, performed}
-use Rattle.smb_engine.specs.Chain.{is_cancel, is_negotiate_request, message_ids, keeps_negotiate_rule, Turn, replied, turn_after, turn_after_all, admitted, count_in, turn_before, step_of, refused_step, payload_step, shared_after}
+use Rattle.smb_engine.specs.Response.{Performed}
+use Rattle.smb_engine.specs.Request.{performed}
+use Rattle.smb_engine.specs.Chain.{is_cancel, is_negotiate_request, message_ids, keeps_negotiate_rule, Turn, replied, turn_after, turn_after_all, admitted, turn_before, PayloadStep, step_of, refused_step, first_negotiate, first_step, count_in_first, chain_step, shared_after_chain, count_in_chain, payload_step, shared_after, count_in}
 use Rattle.smb_engine.specs.Held.{TurnHeld, turn_held, chain_held}
 use Rattle.smb_engine.proofs.Lists.{drop_found}
 
@@ -57,66 +64,66 @@ ids_more requests i request found at h e =
     append_assoc found ((header_of request).message_id ∷ []) (message_ids (drop (i + 1) requests)) ∙ ap (λ t. found ++ t) (sym step) ∙ h
 
 -- one more request at the end of a chain
-pub turns-more : (moment : ℕ) (turn : Turn) (i : ℕ) (requests : List (List ℕ)) (request : List ℕ) → slice_get requests i ≡ Some request →
-    turn_after_all moment turn (take (i + 1) requests) ≡ turn_after moment (turn_after_all moment turn (take i requests)) request
-turns-more moment turn i [] request h = cc
-turns-more moment turn zero (x ∷ requests) request h = let e : x ≡ request = cc in rw e refl
-turns-more moment turn (suc i) (x ∷ requests) request h =
+pub turns-more : {S : Type 0} (m : Meaning S) (number moment : ℕ) (turn : Turn S) (i : ℕ) (requests : List (List ℕ)) (request : List ℕ) → slice_get requests i ≡ Some request →
+    turn_after_all m number moment turn (take (i + 1) requests) ≡ turn_after m number moment (turn_after_all m number moment turn (take i requests)) request
+turns-more m number moment turn i [] request h = cc
+turns-more m number moment turn zero (x ∷ requests) request h = let e : x ≡ request = cc in rw e refl
+turns-more m number moment turn (suc i) (x ∷ requests) request h =
     let e : suc i + 1 ≡ suc (i + 1) = omega arith in
-    rw e (turns-more moment (turn_after moment turn x) i requests request h)
+    rw e (turns-more m number moment (turn_after m number moment turn x) i requests request h)
 
 -- the turn that a chain begins with
-abbrev pub first_turn : SharedState → Connection → Turn
+abbrev pub first_turn : {S : Type 0} → SharedState S → Connection → Turn S
 first_turn shared connection = record { shared = shared; connection = connection; context = record { session_id = 0; tree_id = 0 }; replies = [] }
 
 -- i requests are done, and this is what the code holds
-pub record ChainSoFar (moment : ℕ) (start : Turn) (now : TurnHeld) (requests : List (List ℕ)) (i : ℕ) : Type 0 where
-  pub so_far : now ≡ turn_held (turn_after_all moment start (take i requests))
+pub record ChainSoFar {S : Type 0} (m : Meaning S) (number moment : ℕ) (start : Turn S) (now : TurnHeld S) (requests : List (List ℕ)) (i : ℕ) : Type 0 where
+  pub so_far : now ≡ turn_held (turn_after_all m number moment start (take i requests))
 
-turn_of_held : (turn : Turn) (now : TurnHeld) → now ≡ turn_held turn →
+turn_of_held : {S : Type 0} (turn : Turn S) (now : TurnHeld S) → now ≡ turn_held turn →
     record { shared = now.shared; connection = now.connection; context = now.context; replies = turn.replies } ≡ turn
 turn_of_held turn now h = rw h refl
 
 -- where a chain stands before its next request
-pub chain_at : (moment : ℕ) (start : Turn) (now : TurnHeld) (requests : List (List ℕ)) (i : ℕ) → ChainSoFar moment start now requests i →
-    now.replies ≡ so_far (turn_after_all moment start (take i requests)).replies
-chain_at moment start now requests i h = ap (λ t. t.replies) h.so_far
+pub chain_at : {S : Type 0} (m : Meaning S) (number moment : ℕ) (start : Turn S) (now : TurnHeld S) (requests : List (List ℕ)) (i : ℕ) → ChainSoFar m number moment start now requests i →
+    now.replies ≡ so_far (turn_after_all m number moment start (take i requests)).replies
+chain_at m number moment start now requests i h = ap (λ t. t.replies) h.so_far
 
-pub chain_more : (moment : ℕ) (start : Turn) (now new : TurnHeld) (requests : List (List ℕ)) (request : List ℕ) (i : ℕ) →
-    ChainSoFar moment start now requests i → slice_get requests i ≡ Some request →
-    new ≡ turn_held (turn_after moment (record { shared = now.shared; connection = now.connection; context = now.context; replies = (turn_after_all moment start (take i requests)).replies }) request) →
-    ChainSoFar moment start new requests (i + 1)
-chain_more moment start now new requests request i h at e = record {
-  so_far = e ∙ ap (λ t. turn_held (turn_after moment t request)) (turn_of_held (turn_after_all moment start (take i requests)) now h.so_far)
-      ∙ ap turn_held (sym (turns-more moment start i requests request at));
+pub chain_more : {S : Type 0} (m : Meaning S) (number moment : ℕ) (start : Turn S) (now new : TurnHeld S) (requests : List (List ℕ)) (request : List ℕ) (i : ℕ) →
+    ChainSoFar m number moment start now requests i → slice_get requests i ≡ Some request →
+    new ≡ turn_held (turn_after m number moment (record { shared = now.shared; connection = now.connection; context = now.context; replies = (turn_after_all m number moment start (take i requests)).replies }) request) →
+    ChainSoFar m number moment start new requests (i + 1)
+chain_more m number moment start now new requests request i h at e = record {
+  so_far = e ∙ ap (λ t. turn_held (turn_after m number moment t request)) (turn_of_held (turn_after_all m number moment start (take i requests)) now h.so_far)
+      ∙ ap turn_held (sym (turns-more m number moment start i requests request at));
 }
 
-pub chain_all : (moment : ℕ) (start : Turn) (now : TurnHeld) (requests : List (List ℕ)) (i : ℕ) →
-    ChainSoFar moment start now requests i → length requests ≤ i →
-    record { shared = now.shared; connection = now.connection; replies = now.replies } ≡ chain_held (turn_after_all moment start requests)
-chain_all moment start now requests i h p =
-    let e = h.so_far ∙ ap (λ rs. turn_held (turn_after_all moment start rs)) (take_all i requests p) in
+pub chain_all : {S : Type 0} (m : Meaning S) (number moment : ℕ) (start : Turn S) (now : TurnHeld S) (requests : List (List ℕ)) (i : ℕ) →
+    ChainSoFar m number moment start now requests i → length requests ≤ i →
+    record { shared = now.shared; connection = now.connection; replies = now.replies } ≡ chain_held (turn_after_all m number moment start requests)
+chain_all m number moment start now requests i h p =
+    let e = h.so_far ∙ ap (λ rs. turn_held (turn_after_all m number moment start rs)) (take_all i requests p) in
     rw e refl
 
-shared-replied : (now : Turn) (request : List ℕ) (p : Performed) → (replied now request p).shared ≡ p.shared
+shared-replied : {S : Type 0} (now : Turn S) (request : List ℕ) (p : Performed S) → (replied now request p).shared ≡ p.shared
 shared-replied now request p = elim (p.response) as (λ r. (replied now request (record p { response = r })).shared ≡ p.shared) [ None ↦ refl | Some response ↦ refl ]
 
 -- a reply changes nothing of what is shared
-pub shared-turn_after : (moment : ℕ) (now : Turn) (request : List ℕ) →
-    (turn_after moment now request).shared ≡ (performed now.shared now.connection.dialect now.context moment request).shared
+pub shared-turn_after : {S : Type 0} (m : Meaning S) (number moment : ℕ) (now : Turn S) (request : List ℕ) →
+    (turn_after m number moment now request).shared ≡ (performed m number moment now.shared now.connection.dialect now.context request).shared
 unfolding turn_after
-shared-turn_after moment now request = shared-replied now request (performed now.shared now.connection.dialect now.context moment request)
+shared-turn_after m number moment now request = shared-replied now request (performed m number moment now.shared now.connection.dialect now.context request)
 
 -- where memory ran out, before the request was performed or after
-pub chain_stopped : (moment : ℕ) (start : Turn) (now : TurnHeld) (requests : List (List ℕ)) (request : List ℕ) (i : ℕ) (left : SharedState) (done : Bool) →
-    ChainSoFar moment start now requests i → slice_get requests i ≡ Some request →
-    left ≡ (if done then (performed now.shared now.connection.dialect now.context moment request).shared else now.shared) →
-    left ≡ (turn_after_all moment start (take (if done then i + 1 else i) requests)).shared
-chain_stopped moment start now requests request i left true h at e =
-    e ∙ ap (λ t. (performed t.shared t.connection.dialect t.context moment request).shared) h.so_far
-    ∙ sym (shared-turn_after moment (turn_after_all moment start (take i requests)) request)
-    ∙ ap (λ t. t.shared) (sym (turns-more moment start i requests request at))
-chain_stopped moment start now requests request i left false h at e = e ∙ ap (λ t. t.shared) h.so_far
+pub chain_stopped : {S : Type 0} (m : Meaning S) (number moment : ℕ) (start : Turn S) (now : TurnHeld S) (requests : List (List ℕ)) (request : List ℕ) (i : ℕ) (left : SharedState S) (done : Bool) →
+    ChainSoFar m number moment start now requests i → slice_get requests i ≡ Some request →
+    left ≡ (if done then (performed m number moment now.shared now.connection.dialect now.context request).shared else now.shared) →
+    left ≡ (turn_after_all m number moment start (take (if done then i + 1 else i) requests)).shared
+chain_stopped m number moment start now requests request i left true h at e =
+    e ∙ ap (λ t. (performed m number moment t.shared t.connection.dialect t.context request).shared) h.so_far
+    ∙ sym (shared-turn_after m number moment (turn_after_all m number moment start (take i requests)) request)
+    ∙ ap (λ t. t.shared) (sym (turns-more m number moment start i requests request at))
+chain_stopped m number moment start now requests request i left false h at e = e ∙ ap (λ t. t.shared) h.so_far
 
 -- requests take a byte each and more
 requests_short : (requests : List (List ℕ)) → AllByRecursion IsRequest requests → length requests ≤ length (concat requests)
@@ -141,40 +148,105 @@ count_at connection payload (Some requests) h =
     let chained = chain_is payload requests (admitted_chain connection payload requests h) in
     omega (arith, requests_short requests chained.each, ap length chained.whole)
 
--- a payload has no more requests than bytes
-pub count_in_few : (moment : ℕ) (shared : SharedState) (connection : Connection) (payload : List ℕ) → count_in moment shared connection payload ≤ length payload
-unfolding count_in
-count_in_few moment shared connection payload = count_at connection payload (admitted connection payload) refl
+-- a chain has no more requests than bytes
+count_in_chain_few : {S : Type 0} (m : Meaning S) (number moment : ℕ) (shared : SharedState S) (connection : Connection) (payload : List ℕ) →
+    count_in_chain m number moment shared connection payload ≤ length payload
+unfolding count_in_chain
+count_in_chain_few m number moment shared connection payload = count_at connection payload (admitted connection payload) refl
 
-module _ (moment : ℕ) (shared : SharedState) (connection : Connection) where
-  after-none_at : (requests : Option (List (List ℕ))) → option_map_or (λ rs. (turn_after_all moment (turn_before moment shared connection rs) (take 0 rs)).shared) requests shared ≡ shared
-  after-none_at None = refl
-  after-none_at (Some requests) = refl
+-- an SMB_COM_NEGOTIATE takes a byte and more
+first_long_at : (payload : List ℕ) (came readable : Bool) (dialects : Smb1Dialects) (o : Option Smb1Dialects) → is_smb1 payload ≡ readable →
+    (if came then None else (if readable then o else None)) ≡ Some dialects → 1 ≤ length payload
+first_long_at payload true readable dialects o e h = cc
+first_long_at payload false true dialects o e h = omega (arith, leb-true 35 (length payload) (and_parts _ _ (and_parts _ _ (and_parts _ _ e).0).0).0)
+first_long_at payload false false dialects o e h = cc
+
+first_long : (connection : Connection) (payload : List ℕ) (dialects : Smb1Dialects) → first_negotiate connection payload ≡ Some dialects → 1 ≤ length payload
+unfolding first_negotiate smb1_of
+first_long connection payload dialects h = first_long_at payload connection.payload_came (is_smb1 payload) dialects _ refl h
+
+count_first_few : (dialects : Smb1Dialects) → count_in_first dialects ≤ 1
+count_first_few dialects = elim (answer_to_smb1 dialects) as (λ o. option_map_or (λ answer. 1) o 0 ≤ 1) [ None ↦ omega arith | Some answer ↦ omega arith ]
+
+count_in_at : (payload : List ℕ) (k : ℕ) (o : Option Smb1Dialects) → ((dialects : Smb1Dialects) → o ≡ Some dialects → 1 ≤ length payload) → k ≤ length payload →
+    option_map_or count_in_first o k ≤ length payload
+count_in_at payload k None f h = h
+count_in_at payload k (Some dialects) f h = omega (arith, f dialects refl, count_first_few dialects)
+
+-- a payload has no more requests than bytes
+pub count_in_few : {S : Type 0} (m : Meaning S) (number moment : ℕ) (shared : SharedState S) (connection : Connection) (payload : List ℕ) → count_in m number moment shared connection payload ≤ length payload
+unfolding count_in
+count_in_few m number moment shared connection payload =
+    count_in_at payload _ (first_negotiate connection payload) (first_long connection payload) (count_in_chain_few m number moment shared connection payload)
+
+module _ {S : Type 0} (m : Meaning S) (number moment : ℕ) (shared : SharedState S) (connection : Connection) where
+  chain-none_at : (requests : Option (List (List ℕ))) → option_map_or (λ rs. (turn_after_all m number moment (turn_before shared connection rs) (take 0 rs)).shared) requests shared ≡ shared
+  chain-none_at None = refl
+  chain-none_at (Some requests) = refl
+
+  chain-none : (payload : List ℕ) → shared_after_chain m number moment shared connection payload 0 ≡ shared
+  unfolding shared_after_chain
+  chain-none payload = chain-none_at (admitted connection payload)
+
+  after-none_at : (payload : List ℕ) (o : Option Smb1Dialects) → option_map_or (λ dialects. shared) o (shared_after_chain m number moment shared connection payload 0) ≡ shared
+  after-none_at payload None = chain-none payload
+  after-none_at payload (Some dialects) = refl
 
   -- after no request nothing has changed
-  pub shared_after-none : (payload : List ℕ) → shared_after moment shared connection payload 0 ≡ shared
+  pub shared_after-none : (payload : List ℕ) → shared_after m number moment shared connection payload 0 ≡ shared
   unfolding shared_after
-  shared_after-none payload = after-none_at (admitted connection payload)
+  shared_after-none payload = after-none_at payload (first_negotiate connection payload)
 
-  after-all_at : (requests : Option (List (List ℕ))) →
-      option_map_or (λ rs. (turn_after_all moment (turn_before moment shared connection rs) (take (option_map_or length requests 0) rs)).shared) requests shared
-      ≡ (option_map_or (λ rs. step_of moment shared connection (turn_after_all moment (turn_before moment shared connection rs) rs)) requests (refused_step moment shared connection)).shared
-  after-all_at None = refl
-  after-all_at (Some requests) = ap (λ rs. (turn_after_all moment (turn_before moment shared connection requests) rs).shared) (take_all (length requests) requests (omega arith))
+  chain-all_at : (requests : Option (List (List ℕ))) →
+      option_map_or (λ rs. (turn_after_all m number moment (turn_before shared connection rs) (take (option_map_or length requests 0) rs)).shared) requests shared
+      ≡ (option_map_or (λ rs. step_of (turn_after_all m number moment (turn_before shared connection rs) rs)) requests (refused_step shared connection)).shared
+  chain-all_at None = refl
+  chain-all_at (Some requests) = ap (λ rs. (turn_after_all m number moment (turn_before shared connection requests) rs).shared) (take_all (length requests) requests (omega arith))
+
+  chain-all : (payload : List ℕ) → shared_after_chain m number moment shared connection payload (count_in_chain m number moment shared connection payload) ≡ (chain_step m number moment shared connection payload).shared
+  unfolding shared_after_chain count_in_chain chain_step
+  chain-all payload = chain-all_at (admitted connection payload)
+
+  first-shared_at : (o : Option Smb1Answer) (f : Smb1Answer → PayloadStep S) → ((answer : Smb1Answer) → (f answer).shared ≡ shared) →
+      (option_map_or f o (refused_step shared connection)).shared ≡ shared
+  first-shared_at None f h = refl
+  first-shared_at (Some answer) f h = h answer
+
+  -- an SMB_COM_NEGOTIATE changes nothing that is shared
+  pub first-shared : (dialects : Smb1Dialects) → (first_step m moment shared connection dialects).shared ≡ shared
+  unfolding first_step
+  first-shared dialects = first-shared_at (answer_to_smb1 dialects) _ (λ answer. refl)
+
+  after-all_at : (payload : List ℕ) (o : Option Smb1Dialects) →
+      option_map_or (λ dialects. shared) o (shared_after_chain m number moment shared connection payload (option_map_or count_in_first o (count_in_chain m number moment shared connection payload)))
+      ≡ (option_map_or (first_step m moment shared connection) o (chain_step m number moment shared connection payload)).shared
+  after-all_at payload None = chain-all payload
+  after-all_at payload (Some dialects) = sym (first-shared dialects)
 
   -- after all of its requests, what the payload leaves
-  pub shared_after-all : (payload : List ℕ) → shared_after moment shared connection payload (count_in moment shared connection payload) ≡ (payload_step moment shared connection payload).shared
+  pub shared_after-all : (payload : List ℕ) → shared_after m number moment shared connection payload (count_in m number moment shared connection payload) ≡ (payload_step m number moment shared connection payload).shared
   unfolding shared_after count_in payload_step
-  shared_after-all payload = after-all_at (admitted connection payload)
+  shared_after-all payload = after-all_at payload (first_negotiate connection payload)
 
-  refused_at : (requests : Option (List (List ℕ))) (shared' : SharedState) (connection' : Connection) →
-      record { shared = shared'; connection = connection'; replies = None }
-      ≡ option_map_or (λ rs. step_of moment shared connection (turn_after_all moment (turn_before moment shared connection rs) rs)) requests (refused_step moment shared connection) → shared' ≡ shared
-  refused_at None shared' connection' h = ap (λ s. s.shared) h
-  refused_at (Some requests) shared' connection' h = let e = ap (λ s. s.replies) h in cc
+  chain-refused_at : (requests : Option (List (List ℕ))) →
+      (option_map_or (λ rs. step_of (turn_after_all m number moment (turn_before shared connection rs) rs)) requests (refused_step shared connection)).replies ≡ None →
+      (option_map_or (λ rs. step_of (turn_after_all m number moment (turn_before shared connection rs) rs)) requests (refused_step shared connection)).shared ≡ shared
+  chain-refused_at None h = refl
+  chain-refused_at (Some requests) h = cc
+
+  chain-refused : (payload : List ℕ) → (chain_step m number moment shared connection payload).replies ≡ None → (chain_step m number moment shared connection payload).shared ≡ shared
+  unfolding chain_step
+  chain-refused payload h = chain-refused_at (admitted connection payload) h
+
+  refused_at : (payload : List ℕ) (o : Option Smb1Dialects) →
+      (option_map_or (first_step m moment shared connection) o (chain_step m number moment shared connection payload)).replies ≡ None →
+      (option_map_or (first_step m moment shared connection) o (chain_step m number moment shared connection payload)).shared ≡ shared
+  refused_at payload None h = chain-refused payload h
+  refused_at payload (Some dialects) h = first-shared dialects
 
   -- what ends the connection changes nothing that is shared
-  pub refused-shared : (payload : List ℕ) (shared' : SharedState) (connection' : Connection) →
-      record { shared = shared'; connection = connection'; replies = None } ≡ payload_step moment shared connection payload → shared' ≡ shared
+  pub refused-shared : (payload : List ℕ) (shared' : SharedState S) (connection' : Connection) →
+      record { shared = shared'; connection = connection'; replies = None } ≡ payload_step m number moment shared connection payload → shared' ≡ shared
   unfolding payload_step
-  refused-shared payload shared' connection' h = refused_at (admitted connection payload) shared' connection' h
+  refused-shared payload shared' connection' h =
+      ap (λ s. s.shared) h ∙ refused_at payload (first_negotiate connection payload) (sym (ap (λ s. s.replies) h))

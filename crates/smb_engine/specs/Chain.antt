@@ -5,13 +5,19 @@ use Rattle.std.specs.List.{list_any}
 use Rattle.smb_head.specs.Headers.{header_of}
 use Rattle.smb_head.specs.Chains.{chain_of, is_related}
 use Rattle.smb_head.specs.Replies.{Reply, joined_replies}
+use Rattle.smb_body.specs.Smb1.{smb1_of}
+use Rattle.smb_body.specs.declared.smb1.Smb1Dialects.{Smb1Dialects}
 use Rattle.smb_engine.specs.declared.context.Context.{Context}
 use Rattle.smb_engine.specs.declared.connection.Connection.{Connection}
-use Rattle.smb_engine.specs.declared.dialect.Dialect.{Dialect}
+use Rattle.smb_session.specs.declared.dialect.Dialect.{Dialect}
 use Rattle.smb_engine.specs.Status.{status_code}
-use Rattle.smb_engine.specs.Window.{may_use, without, granted, with_more}
-use Rattle.smb_engine.specs.State.{SharedState}
-use Rattle.smb_engine.specs.Request.{ResponseState, Performed, performed}
+use Rattle.smb_session.specs.Window.{first_window, may_use, without, granted, with_more}
+use Rattle.smb_session.specs.Authenticator.{Meaning}
+use Rattle.smb_engine.specs.Negotiate.{negotiate_answer}
+use Rattle.smb_engine.specs.Smb1.{answer_to_smb1, reply_to_smb1}
+use Rattle.smb_engine.specs.State.{SharedState, hello_of}
+use Rattle.smb_engine.specs.Response.{ResponseState, Performed}
+use Rattle.smb_engine.specs.Request.{performed}
 
 abbrev pub is_cancel : List ℕ → Bool
 is_cancel request = (header_of request).command.0 == 0x0C
@@ -38,8 +44,8 @@ admitted connection payload =
     (chain_of payload) None
 
 -- where a chain stands: what is shared, the connection, what the next related request acts under, and the replies
-pub record Turn : Type 0 where
-  pub shared : SharedState
+pub record Turn (S : Type 0) : Type 0 where
+  pub shared : SharedState S
   pub connection : Connection
   pub context : Context
   pub replies : List Reply
@@ -65,7 +71,7 @@ reply_to request response credits = record {
 }
 
 -- a request that was performed: what answers it grants credits and joins the replies
-abbrev pub replied : Turn → List ℕ → Performed → Turn
+abbrev pub replied : {S : Type 0} → Turn S → List ℕ → Performed S → Turn S
 replied turn request p = option_map_or
     (λ response. let credits = granted turn.connection.window (header_of request).credits in record {
       shared = p.shared;
@@ -76,48 +82,81 @@ replied turn request p = option_map_or
     p.response
     (record { shared = p.shared; connection = record turn.connection { dialect = p.dialect }; context = p.context; replies = turn.replies })
 
-module _ (moment : ℕ) where
-  -- one request of a chain
-  unfoldable pub turn_after : Turn → List ℕ → Turn
-  turn_after turn request = replied turn request (performed turn.shared turn.connection.dialect turn.context moment request)
+module _ {S : Type 0} (m : Meaning S) (number moment : ℕ) where
+  -- one request of a chain on a connection
+  unfoldable pub turn_after : Turn S → List ℕ → Turn S
+  turn_after turn request = replied turn request (performed m number moment turn.shared turn.connection.dialect turn.context request)
 
   -- the requests of a chain, in order
-  abbrev pub turn_after_all : Turn → List (List ℕ) → Turn
+  abbrev pub turn_after_all : Turn S → List (List ℕ) → Turn S
   turn_after_all turn [] = turn
   turn_after_all turn (request ∷ requests) = turn_after_all (turn_after turn request) requests
 
+-- where a chain begins: its MessageIds have left the window
+abbrev pub turn_before : {S : Type 0} → SharedState S → Connection → List (List ℕ) → Turn S
+turn_before shared connection requests = record {
+  shared = shared;
+  connection = record connection { payload_came = true; window = without connection.window (message_ids requests) };
+  context = record { session_id = 0; tree_id = 0 };
+  replies = [];
+}
+
 -- what a payload leaves, and the payload of its replies; no payload where it ends the connection
-pub record PayloadStep : Type 0 where
-  pub shared : SharedState
+pub record PayloadStep (S : Type 0) : Type 0 where
+  pub shared : SharedState S
   pub connection : Connection
   pub replies : Option (List ℕ)
 
-module _ (moment : ℕ) (shared : SharedState) (connection : Connection) where
-  -- where a chain begins: its MessageIds have left the window
-  abbrev pub turn_before : List (List ℕ) → Turn
-  turn_before requests = record {
-    shared = shared;
-    connection = record connection { payload_came = true; window = without connection.window (message_ids requests) };
-    context = record { session_id = 0; tree_id = 0 };
-    replies = [];
-  }
+abbrev pub step_of : {S : Type 0} → Turn S → PayloadStep S
+step_of turn = record { shared = turn.shared; connection = turn.connection; replies = Some (joined_replies turn.replies) }
 
-  abbrev pub step_of : Turn → PayloadStep
-  step_of turn = record { shared = turn.shared; connection = turn.connection; replies = Some (joined_replies turn.replies) }
+abbrev pub refused_step : {S : Type 0} → SharedState S → Connection → PayloadStep S
+refused_step shared connection = record { shared = shared; connection = connection; replies = None }
 
-  abbrev pub refused_step : PayloadStep
-  refused_step = record { shared = shared; connection = connection; replies = None }
+-- the first payload of a connection may be an SMB_COM_NEGOTIATE: which dialects it lists (3.3.5.3.1)
+unfoldable pub first_negotiate : Connection → List ℕ → Option Smb1Dialects
+first_negotiate connection payload = if connection.payload_came then None else smb1_of payload
 
-  -- one payload: performed whole and answered, or refused whole, which ends the connection
-  unfoldable pub payload_step : List ℕ → PayloadStep
-  payload_step payload =
-      option_map_or (λ requests. step_of (turn_after_all moment (turn_before requests) requests)) (admitted connection payload) refused_step
+-- it is answered by an SMB2 NEGOTIATE response, and the client goes on with MessageId 1; without a dialect of the share
+-- it ends the connection
+unfoldable pub first_step : {S : Type 0} → Meaning S → ℕ → SharedState S → Connection → Smb1Dialects → PayloadStep S
+first_step m moment shared connection dialects = option_map_or
+    (λ answer. record {
+      shared = shared;
+      connection = record connection { payload_came = true; dialect = answer.dialect; window = first_window 1 };
+      replies = Some (joined_replies (reply_to_smb1 (negotiate_answer shared.settings.guid (hello_of m shared) moment answer.dialect_revision) ∷ []));
+    })
+    (answer_to_smb1 dialects)
+    (refused_step shared connection)
 
-  -- what is shared after the first k requests of a payload
-  unfoldable pub shared_after : List ℕ → ℕ → SharedState
-  shared_after payload k =
-      option_map_or (λ requests. (turn_after_all moment (turn_before requests) (take k requests)).shared) (admitted connection payload) shared
+abbrev pub count_in_first : Smb1Dialects → ℕ
+count_in_first dialects = option_map_or (λ answer. 1) (answer_to_smb1 dialects) 0
 
-  -- how many requests of a payload are performed
+module _ {S : Type 0} (m : Meaning S) (number moment : ℕ) (shared : SharedState S) (connection : Connection) where
+  -- a chain: performed whole and answered, or refused whole, which ends the connection
+  unfoldable pub chain_step : List ℕ → PayloadStep S
+  chain_step payload =
+      option_map_or (λ requests. step_of (turn_after_all m number moment (turn_before shared connection requests) requests))
+      (admitted connection payload) (refused_step shared connection)
+
+  -- what is shared after its first k requests
+  unfoldable pub shared_after_chain : List ℕ → ℕ → SharedState S
+  shared_after_chain payload k =
+      option_map_or (λ requests. (turn_after_all m number moment (turn_before shared connection requests) (take k requests)).shared)
+      (admitted connection payload) shared
+
+  -- how many of its requests are performed
+  unfoldable pub count_in_chain : List ℕ → ℕ
+  count_in_chain payload = option_map_or length (admitted connection payload) 0
+
+  -- one payload
+  unfoldable pub payload_step : List ℕ → PayloadStep S
+  payload_step payload = option_map_or (first_step m moment shared connection) (first_negotiate connection payload) (chain_step payload)
+
+  -- what is shared after the first k requests of a payload; an SMB_COM_NEGOTIATE changes nothing of it
+  unfoldable pub shared_after : List ℕ → ℕ → SharedState S
+  shared_after payload k = option_map_or (λ dialects. shared) (first_negotiate connection payload) (shared_after_chain payload k)
+
+  -- how many requests of a payload are performed; an SMB_COM_NEGOTIATE that is answered is one
   unfoldable pub count_in : List ℕ → ℕ
-  count_in payload = option_map_or length (admitted connection payload) 0
+  count_in payload = option_map_or count_in_first (first_negotiate connection payload) (count_in_chain payload)

@@ -2,13 +2,14 @@
 use Rattle.std.specs.Prelude.{◌≡◌, ℕ, ◌++◌, Bool, List, IsTrue}
 use Rattle.std.specs.List.{flat_map, AllByRecursion}
 use Rattle.smb_frame.specs.Reading.{first, fault_of}
-use Rattle.std.specs.Prelude.{None, ◌≤◌, ◌<◌, length}
+use Rattle.std.specs.Prelude.{None, ◌≤◌, ◌<◌, length, map}
 use Rattle.smb_head.specs.Replies.{Held, so_far}
 use Rattle.smb_engine.specs.declared.context.Context.{Context}
 use Rattle.smb_engine.specs.declared.connection.Connection.{Connection}
-use Rattle.smb_engine.specs.declared.request.Response.{Response}
+use Rattle.smb_engine.specs.declared.response.Response.{Response}
 use Rattle.smb_engine.specs.State.{SharedState, LinkState}
-use Rattle.smb_engine.specs.Request.{ResponseState}
+use Rattle.smb_session.specs.Window.{GoodWindow}
+use Rattle.smb_engine.specs.Response.{ResponseState}
 use Rattle.smb_engine.specs.Chain.{Turn}
 use Rattle.smb_engine.specs.Output.{Output}
 use Rattle.smb_engine.specs.Sink.{Heard}
@@ -20,32 +21,32 @@ abbrev pub response_of : Response → ResponseState
 response_of response = record { status = response.status; under = response.under; body = response.body.items }
 
 -- a turn, with its replies joined
-pub record TurnHeld : Type 0 where
-  pub shared : SharedState
+pub record TurnHeld (S : Type 0) : Type 0 where
+  pub shared : SharedState S
   pub connection : Connection
   pub context : Context
   pub replies : Held
 
-abbrev pub turn_held : Turn → TurnHeld
+abbrev pub turn_held : {S : Type 0} → Turn S → TurnHeld S
 turn_held turn = record { shared = turn.shared; connection = turn.connection; context = turn.context; replies = so_far turn.replies }
 
 -- a chain that was performed, with its replies joined
-pub record ChainHeld : Type 0 where
-  pub shared : SharedState
+pub record ChainHeld (S : Type 0) : Type 0 where
+  pub shared : SharedState S
   pub connection : Connection
   pub replies : Held
 
-abbrev pub chain_held : Turn → ChainHeld
+abbrev pub chain_held : {S : Type 0} → Turn S → ChainHeld S
 chain_held turn = record { shared = turn.shared; connection = turn.connection; replies = so_far turn.replies }
 
 -- steps, with their outputs as a place for outputs holds them, behind what stood there
-pub record StepsHeard : Type 0 where
-  pub shared : SharedState
+pub record StepsHeard (S : Type 0) : Type 0 where
+  pub shared : SharedState S
   pub connection : Connection
   pub heard : List Heard
   pub stays_open : Bool
 
-abbrev pub steps_heard : (Output → List Heard) → List Heard → PayloadSteps → StepsHeard
+abbrev pub steps_heard : {S : Type 0} → (Output → List Heard) → List Heard → PayloadSteps S → StepsHeard S
 steps_heard hears before steps = record {
   shared = steps.shared;
   connection = steps.connection;
@@ -53,23 +54,25 @@ steps_heard hears before steps = record {
   stays_open = steps.stays_open;
 }
 
--- what is held between calls: less than a whole frame, nothing wrong with it, and a window of at most 256 numbers
+-- what is held between calls: less than a whole frame, nothing wrong with it, and a good window
 pub record Waits (link : LinkState) : Type 0 where
   pub partial : first longest_payload link.stream ≡ None
   pub sound : fault_of longest_payload link.stream ≡ None
-  pub few : length link.connection.window.usable ≤ 256
+  pub window : GoodWindow link.connection.window
 
 abbrev pub AllWait : List (ℕ × LinkState) → Type 0
 AllWait = AllByRecursion (λ entry. Waits entry.1)
 
--- what is held of all connections between calls: each waits, at most 64 are open, and each has a number that was given
-pub record AreKept (links : List (ℕ × LinkState)) (next : ℕ) : Type 0 where
+-- what is held of all connections between calls: each waits, at most 64 are open, each has a number that was given, and
+-- these connections may have sessions
+pub record AreKept (connections : List ℕ) (links : List (ℕ × LinkState)) (next : ℕ) : Type 0 where
   pub waits : AllWait links
   pub few : length links ≤ 64
   pub given : AllByRecursion (λ entry. entry.0 < next) links
+  pub known : connections ≡ map (λ entry. entry.0) links
 
 -- what the code leaves of a piece: the connection with its rest alone, where it is still open
-pub record IsPieceHeld (step : PieceStep) (shared : SharedState) (link : LinkState) (stays_open : Bool) : Type 0 where
+pub record IsPieceHeld {S : Type 0} (step : PieceStep S) (shared : SharedState S) (link : LinkState) (stays_open : Bool) : Type 0 where
   pub same : shared ≡ step.shared
   pub fate : stays_open ≡ step.stays_open
   pub rests : IsTrue stays_open → link ≡ unread_link step.link

@@ -1,8 +1,10 @@
-pub mod Window
 pub mod Status
 pub mod Settings
 pub mod Negotiate
 pub mod State
+pub mod Response
+pub mod Smb1
+pub mod Session
 pub mod Request
 pub mod Chain
 pub mod Output

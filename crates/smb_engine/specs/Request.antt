@@ -1,32 +1,24 @@
 -- One request: the order of checks, and each command ([MS-SMB2] 3.3.5.2).
-use Rattle.std.specs.Prelude.{ℕ, List, Option, Some, None, if◌then◌else◌}
+use Rattle.std.specs.Prelude.{ℕ, Bool, true, false, ◌&&◌, not, List, Option, Some, None, if◌then◌else◌}
 use Rattle.std.specs.Option.{option_map_or}
 use Rattle.smb_head.specs.Headers.{header_of}
 use Rattle.smb_head.specs.Chains.{is_related}
 use Rattle.smb_head.specs.Commands.{code_of, known_command}
 use Rattle.smb_head.specs.declared.command.Command.{Command}
-use Rattle.smb_head.specs.declared.command.Command.TheVariants.{Negotiate, Cancel, Echo}
+use Rattle.smb_head.specs.declared.command.Command.TheVariants.{Negotiate, SessionSetup, Logoff, TreeConnect, TreeDisconnect, Cancel, Echo}
+use Rattle.smb_session.specs.Authenticator.{Meaning}
+use Rattle.smb_session.specs.Negotiate.{best_of, revision_of}
+use Rattle.smb_session.specs.Table.{knows_session, knows_tree}
+use Rattle.smb_session.specs.declared.dialect.Dialect.{Dialect}
+use Rattle.smb_body.specs.Requests.{RequestValue, asks_negotiate, asks_session_setup, asks_logoff, asks_tree_connect, asks_tree_disconnect, asks_echo, request_of}
+use Rattle.smb_body.specs.Replies.{answers_echo}
 use Rattle.smb_engine.specs.declared.status.Status.{Status}
-use Rattle.smb_engine.specs.declared.status.Status.TheVariants.{Success, InvalidParameter, NotSupported}
-use Rattle.smb_engine.specs.declared.dialect.Dialect.{Dialect}
+use Rattle.smb_engine.specs.declared.status.Status.TheVariants.{Success, InvalidParameter, NotSupported, NetworkNameDeleted, UserSessionDeleted}
 use Rattle.smb_engine.specs.declared.context.Context.{Context}
-use Rattle.smb_body.specs.Requests.{RequestValue, asks_negotiate, asks_echo, request_of}
-use Rattle.smb_body.specs.Replies.{ReplyValue, answers_error, answers_echo, reply_spelling}
-use Rattle.smb_engine.specs.Negotiate.{best_of, negotiate_answer}
-use Rattle.smb_engine.specs.State.{SharedState}
-
--- what answers a request: its status, the session and the tree that it acts under, and the body
-pub record ResponseState : Type 0 where
-  pub status : Status
-  pub under : Context
-  pub body : List ℕ
-
--- what a request leaves, and what answers it; CANCEL has no answer
-pub record Performed : Type 0 where
-  pub shared : SharedState
-  pub dialect : Option Dialect
-  pub context : Context
-  pub response : Option ResponseState
+use Rattle.smb_engine.specs.Negotiate.{negotiate_answer}
+use Rattle.smb_engine.specs.State.{SharedState, hello_of}
+use Rattle.smb_engine.specs.Response.{Performed, success, answered, refused}
+use Rattle.smb_engine.specs.Session.{session_set_up, session_logged_off, tree_joined, tree_left}
 
 -- the session and the tree that a request acts under: its own, or for a related one those of the request before it
 -- (3.3.5.2.7.2)
@@ -35,41 +27,77 @@ acts_under context request =
     if is_related request then context
     else record { session_id = (header_of request).session_id; tree_id = (header_of request).tree_id }
 
-abbrev pub success : Context → ReplyValue → ResponseState
-success under reply = record { status = Success; under = under; body = reply_spelling reply }
+-- the commands that are built. The others are NOT_SUPPORTED, whatever their body
+abbrev pub is_built : Command → Bool
+is_built Negotiate = true
+is_built SessionSetup = true
+is_built Logoff = true
+is_built TreeConnect = true
+is_built TreeDisconnect = true
+is_built Echo = true
+is_built command = false
 
--- a failure has the error body, whatever its command (2.2.2)
-abbrev pub failure : Context → Status → ResponseState
-failure under status = record { status = status; under = under; body = reply_spelling answers_error }
+-- the commands that act under a session (3.3.5.2.9)
+abbrev pub needs_session : Command → Bool
+needs_session Negotiate = false
+needs_session SessionSetup = false
+needs_session Echo = false
+needs_session command = true
 
--- what changes nothing but for the context
-abbrev pub answered : SharedState → Option Dialect → Context → ResponseState → Performed
-answered shared dialect under response = record { shared = shared; dialect = dialect; context = under; response = Some response }
+-- and those that act under a tree (3.3.5.2.11)
+abbrev pub needs_tree : Command → Bool
+needs_tree Negotiate = false
+needs_tree SessionSetup = false
+needs_tree Logoff = false
+needs_tree TreeConnect = false
+needs_tree Echo = false
+needs_tree command = true
 
--- NEGOTIATE (3.3.5.4), by what its body says: the greatest dialect that is listed stands from now on; none is
+-- what a command acts under has to stand: a finished session of this connection, and then a tree of that session
+abbrev pub standing_refusal : {S : Type 0} → SharedState S → ℕ → Context → Command → Option Status
+standing_refusal shared number under command =
+    if needs_session command && not (knows_session shared.sessions.table number under.session_id) then Some UserSessionDeleted else
+    if needs_tree command && not (knows_tree shared.sessions.table under.session_id under.tree_id) then Some NetworkNameDeleted else None
+
+-- NEGOTIATE (3.3.5.4), by the dialects that its body lists: the greatest of the share's stands from now on; none is
 -- NOT_SUPPORTED
-unfoldable pub negotiated : SharedState → Option Dialect → Context → ℕ → Option RequestValue → Performed
-negotiated shared dialect under moment (Some (asks_negotiate asked)) = option_map_or
-    (λ best. answered shared (Some best) under (success under (negotiate_answer shared.settings.guid shared.hello moment best)))
-    (best_of asked.dialects)
-    (answered shared dialect under (failure under NotSupported))
-negotiated shared dialect under moment other = answered shared dialect under (failure under InvalidParameter)
+unfoldable pub negotiated : {S : Type 0} → Meaning S → ℕ → SharedState S → Option Dialect → Context → List ℕ → Performed S
+negotiated m moment shared dialect under dialects = option_map_or
+    (λ best. answered (Some best) (record {
+      shared = shared;
+      response = success under (negotiate_answer shared.settings.guid (hello_of m shared) moment (revision_of best));
+    }))
+    (best_of dialects)
+    (answered dialect (refused shared under NotSupported))
 
--- ECHO (3.3.5.17), by what its body says
-unfoldable pub echoed : SharedState → Option Dialect → Context → Option RequestValue → Performed
-echoed shared dialect under (Some (asks_echo asked)) = answered shared dialect under (success under answers_echo)
-echoed shared dialect under other = answered shared dialect under (failure under InvalidParameter)
+module _ {S : Type 0} (m : Meaning S) (number moment : ℕ) (shared : SharedState S) (dialect : Option Dialect) (under : Context) where
+  -- a request whose body is read and whose session and tree stand. (Those of the other commands don't come here.)
+  abbrev pub acted : RequestValue → Performed S
+  acted (asks_negotiate asked) = negotiated m moment shared dialect under asked.dialects
+  acted (asks_session_setup asked) = answered dialect (session_set_up m number shared under asked)
+  acted (asks_logoff asked) = answered dialect (session_logged_off number shared under)
+  acted (asks_tree_connect asked) = answered dialect (tree_joined number shared under asked.path)
+  acted (asks_tree_disconnect asked) = answered dialect (tree_left number shared under)
+  acted (asks_echo asked) = answered dialect (record { shared = shared; response = success under answers_echo })
+  acted other = answered dialect (refused shared under NotSupported)
 
--- a request of a known command, or of none. Those not yet built are NOT_SUPPORTED, whatever their body.
-abbrev pub by_command : SharedState → Option Dialect → Context → ℕ → List ℕ → Option Command → Performed
-by_command shared dialect under moment request None = answered shared dialect under (failure under InvalidParameter)
-by_command shared dialect under moment request (Some Negotiate) = negotiated shared dialect under moment (request_of (code_of Negotiate) request)
-by_command shared dialect under moment request (Some Echo) = echoed shared dialect under (request_of (code_of Echo) request)
-by_command shared dialect under moment request (Some Cancel) =
-    record { shared = shared; dialect = dialect; context = under; response = None }
-by_command shared dialect under moment request (Some command) = answered shared dialect under (failure under NotSupported)
+  -- a request by its command and what its body says: an unreadable body is refused first, then what doesn't stand
+  unfoldable pub by_body : Command → Option RequestValue → Performed S
+  by_body command None = answered dialect (refused shared under InvalidParameter)
+  by_body command (Some asked) = option_map_or
+      (λ status. answered dialect (refused shared under status))
+      (standing_refusal shared number under command)
+      (acted asked)
 
--- what one request leaves, and what answers it
-unfoldable pub performed : SharedState → Option Dialect → Context → ℕ → List ℕ → Performed
-performed shared dialect context moment request =
-    by_command shared dialect (acts_under context request) moment request (known_command (header_of request).command.0)
+  -- a request of a known command, or of none: the order of the checks. CANCEL does nothing and has no answer
+  abbrev pub by_command : List ℕ → Option Command → Performed S
+  by_command request None = answered dialect (refused shared under InvalidParameter)
+  by_command request (Some Cancel) = record { shared = shared; dialect = dialect; context = under; response = None }
+  by_command request (Some command) =
+      if is_built command then by_body command (request_of (code_of command) request)
+      else answered dialect (refused shared under NotSupported)
+
+-- what one request on a connection leaves, and what answers it
+unfoldable pub performed : {S : Type 0} → Meaning S → ℕ → ℕ → SharedState S → Option Dialect → Context → List ℕ → Performed S
+performed m number moment shared dialect context request =
+    by_command m number moment shared dialect (acts_under context request) request (known_command (header_of request).command.0)

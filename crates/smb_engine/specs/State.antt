@@ -1,12 +1,16 @@
 -- The state of a share ([MS-SMB2] 3.3.1).
-use Rattle.std.specs.Prelude.{ℕ, List}
+use Rattle.std.specs.Prelude.{ℕ, ◌==◌, not, List, filter}
+use Rattle.smb_session.specs.Authenticator.{Meaning}
+use Rattle.smb_session.specs.Numbers.{without_number}
+use Rattle.smb_session.specs.Table.{TableState, connected}
+use Rattle.smb_session.specs.Sessions.{SessionsState}
 use Rattle.smb_engine.specs.Settings.{Settings}
 use Rattle.smb_engine.specs.declared.connection.Connection.{Connection}
 
--- what all connections share: the configuration, and the token of the authenticator's hello (3.3.1.5)
-pub record SharedState : Type 0 where
+-- what all connections share: the configuration, and the sessions with their authenticator (3.3.1.5)
+pub record SharedState (S : Type 0) : Type 0 where
   pub settings : Settings
-  pub hello : List ℕ
+  pub sessions : SessionsState S
 
 -- a connection with its stream: in the definition all bytes that came, in the code those that are unread (3.3.1.7)
 pub record LinkState : Type 0 where
@@ -14,7 +18,28 @@ pub record LinkState : Type 0 where
   pub connection : Connection
 
 -- the whole share: what is shared, the open connections in rising number, and the next connection's number
-pub record ShareState : Type 0 where
-  pub shared : SharedState
+pub record ShareState (S : Type 0) : Type 0 where
+  pub shared : SharedState S
   pub links : List (ℕ × LinkState)
   pub next : ℕ
+
+-- the token that the authenticator offers first
+abbrev pub hello_of : {S : Type 0} → Meaning S → SharedState S → List ℕ
+hello_of m shared = m.hello shared.sessions.authenticator
+
+abbrev pub with_table : {S : Type 0} → SharedState S → TableState → SharedState S
+with_table shared table = record shared { sessions = record shared.sessions { table = table } }
+
+-- a connection may begin sessions from now on
+abbrev pub shared_opened : {S : Type 0} → SharedState S → ℕ → SharedState S
+shared_opened shared number = with_table shared (connected shared.sessions.table number)
+
+-- a connection is gone, and its sessions with their trees (3.3.7.1)
+abbrev pub without_connection : TableState → ℕ → TableState
+without_connection table number = record table {
+  connections = without_number table.connections number;
+  sessions = filter (λ e. not (e.1.connection == number)) table.sessions;
+}
+
+unfoldable pub shared_ended : {S : Type 0} → SharedState S → ℕ → SharedState S
+shared_ended shared number = with_table shared (without_connection shared.sessions.table number)

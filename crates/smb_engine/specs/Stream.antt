@@ -3,6 +3,7 @@ use Rattle.std.specs.Prelude.{ℕ, ◌+◌, ◌-◌, Bool, true, false, ◌&&◌
 use Rattle.std.specs.Option.{option_map_or}
 use Rattle.smb_frame.specs.Reading.{payloads, rest, fault_of}
 use Rattle.smb_engine.specs.declared.connection.Connection.{Connection}
+use Rattle.smb_session.specs.Authenticator.{Meaning}
 use Rattle.smb_engine.specs.State.{SharedState, LinkState}
 use Rattle.smb_engine.specs.Chain.{PayloadStep, payload_step, shared_after, count_in}
 use Rattle.smb_engine.specs.Output.{Output, end_of, reply_frame}
@@ -12,79 +13,79 @@ abbrev pub longest_payload : ℕ
 longest_payload = 131072
 
 -- what payloads leave and put out, and whether the connection stays open
-pub record PayloadSteps : Type 0 where
-  pub shared : SharedState
+pub record PayloadSteps (S : Type 0) : Type 0 where
+  pub shared : SharedState S
   pub connection : Connection
   pub outputs : List Output
   pub stays_open : Bool
 
 -- steps that come after others have put something out
-abbrev pub after_outputs : List Output → PayloadSteps → PayloadSteps
+abbrev pub after_outputs : {S : Type 0} → List Output → PayloadSteps S → PayloadSteps S
 after_outputs outputs steps = record steps { outputs = outputs ++ steps.outputs }
 
-module _ (number moment : ℕ) where
-  -- a payload's replies and what comes of the payloads after it; or the end
-  abbrev pub and_then : (SharedState → Connection → PayloadSteps) → PayloadStep → PayloadSteps
-  and_then others step = option_map_or
-      (λ replies. after_outputs (reply_frame number replies) (others step.shared step.connection))
-      step.replies
-      (record { shared = step.shared; connection = step.connection; outputs = []; stays_open = false })
+-- a payload's replies to a connection and what comes of the payloads after it; or the end
+abbrev pub and_then : {S : Type 0} → ℕ → (SharedState S → Connection → PayloadSteps S) → PayloadStep S → PayloadSteps S
+and_then number others step = option_map_or
+    (λ replies. after_outputs (reply_frame number replies) (others step.shared step.connection))
+    step.replies
+    (record { shared = step.shared; connection = step.connection; outputs = []; stays_open = false })
 
+module _ {S : Type 0} (m : Meaning S) (number moment : ℕ) where
   -- payloads in order, up to one that ends the connection
-  abbrev pub payload_steps : SharedState → Connection → List (List ℕ) → PayloadSteps
+  abbrev pub payload_steps : SharedState S → Connection → List (List ℕ) → PayloadSteps S
   payload_steps shared connection [] = record { shared = shared; connection = connection; outputs = []; stays_open = true }
   payload_steps shared connection (payload ∷ payloads) =
-      and_then (λ shared' connection'. payload_steps shared' connection' payloads) (payload_step moment shared connection payload)
+      and_then number (λ shared' connection'. payload_steps shared' connection' payloads) (payload_step m number moment shared connection payload)
 
   -- what is shared after the first k requests of these payloads
-  abbrev pub shared_after_some : SharedState → Connection → List (List ℕ) → ℕ → SharedState
+  abbrev pub shared_after_some : SharedState S → Connection → List (List ℕ) → ℕ → SharedState S
   shared_after_some shared connection [] k = shared
   shared_after_some shared connection (payload ∷ payloads) k =
-      if nat_lt k (count_in moment shared connection payload)
-      then shared_after moment shared connection payload k
+      if nat_lt k (count_in m number moment shared connection payload)
+      then shared_after m number moment shared connection payload k
       else shared_after_some
-      (payload_step moment shared connection payload).shared (payload_step moment shared connection payload).connection
-      payloads (k - count_in moment shared connection payload)
+      (payload_step m number moment shared connection payload).shared (payload_step m number moment shared connection payload).connection
+      payloads (k - count_in m number moment shared connection payload)
 
   -- how many requests of these payloads are performed, up to a payload that ends the connection
-  abbrev pub count_in_all : SharedState → Connection → List (List ℕ) → ℕ
+  abbrev pub count_in_all : SharedState S → Connection → List (List ℕ) → ℕ
   count_in_all shared connection [] = 0
   count_in_all shared connection (payload ∷ payloads) =
-      count_in moment shared connection payload
+      count_in m number moment shared connection payload
       + option_map_or
-      (λ replies. count_in_all (payload_step moment shared connection payload).shared (payload_step moment shared connection payload).connection payloads)
-      (payload_step moment shared connection payload).replies 0
+      (λ replies. count_in_all (payload_step m number moment shared connection payload).shared (payload_step m number moment shared connection payload).connection payloads)
+      (payload_step m number moment shared connection payload).replies 0
 
 -- the payloads that a piece adds to a stream
 abbrev pub added_payloads : List ℕ → List ℕ → List (List ℕ)
 added_payloads stream piece = drop (length (payloads longest_payload stream)) (payloads longest_payload (stream ++ piece))
 
 -- what a piece leaves of what is shared and of its connection, and puts out
-pub record PieceStep : Type 0 where
-  pub shared : SharedState
+pub record PieceStep (S : Type 0) : Type 0 where
+  pub shared : SharedState S
   pub link : LinkState
   pub outputs : List Output
   pub stays_open : Bool
 
-module _ (number moment : ℕ) where
-  -- the connection stays open, or ends by a payload or by what is wrong with the rest of its stream
-  abbrev pub closed_by : LinkState → List ℕ → PayloadSteps → PieceStep
-  closed_by link stream steps =
-      if steps.stays_open && is_none (fault_of longest_payload (rest longest_payload stream))
-      then record { shared = steps.shared; link = record { stream = stream; connection = steps.connection }; outputs = steps.outputs; stays_open = true }
-      else record { shared = steps.shared; link = link; outputs = steps.outputs ++ end_of number ∷ []; stays_open = false }
+-- the connection stays open, or ends by a payload or by what is wrong with the rest of its stream
+abbrev pub closed_by : {S : Type 0} → ℕ → LinkState → List ℕ → PayloadSteps S → PieceStep S
+closed_by number link stream steps =
+    if steps.stays_open && is_none (fault_of longest_payload (rest longest_payload stream))
+    then record { shared = steps.shared; link = record { stream = stream; connection = steps.connection }; outputs = steps.outputs; stays_open = true }
+    else record { shared = steps.shared; link = link; outputs = steps.outputs ++ end_of number ∷ []; stays_open = false }
 
+module _ {S : Type 0} (m : Meaning S) (number moment : ℕ) where
   -- a piece: the payloads that it adds to the stream, in order
-  unfoldable pub piece_step : SharedState → LinkState → List ℕ → PieceStep
+  unfoldable pub piece_step : SharedState S → LinkState → List ℕ → PieceStep S
   piece_step shared link piece =
-      closed_by link (link.stream ++ piece) (payload_steps number moment shared link.connection (added_payloads link.stream piece))
+      closed_by number link (link.stream ++ piece) (payload_steps m number moment shared link.connection (added_payloads link.stream piece))
 
   -- what is shared after the first k requests of a piece
-  unfoldable pub shared_after_piece : SharedState → LinkState → List ℕ → ℕ → SharedState
+  unfoldable pub shared_after_piece : SharedState S → LinkState → List ℕ → ℕ → SharedState S
   shared_after_piece shared link piece k =
-      shared_after_some number moment shared link.connection (added_payloads link.stream piece) k
+      shared_after_some m number moment shared link.connection (added_payloads link.stream piece) k
 
   -- how many requests of a piece are performed
-  unfoldable pub count_in_piece : SharedState → LinkState → List ℕ → ℕ
+  unfoldable pub count_in_piece : SharedState S → LinkState → List ℕ → ℕ
   count_in_piece shared link piece =
-      count_in_all number moment shared link.connection (added_payloads link.stream piece)
+      count_in_all m number moment shared link.connection (added_payloads link.stream piece)

@@ -1,8 +1,7 @@
 //! A connection, and what is unread of its stream ([MS-SMB2] 3.3.1.7).
 
-use super::dialect::Dialect;
-use super::window::Window;
 use smb_frame::FrameBuffer;
+use smb_session::{Dialect, Window};
 use std::marker::Model;
 
 /// What a connection has agreed on, and which MessageIds its client may use.

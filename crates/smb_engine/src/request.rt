@@ -1,32 +1,29 @@
 //! One request: the order of checks, and each command ([MS-SMB2] 3.3.5.2).
+//!
+//! An error of a command says that memory could not be had, and tells whether the command was performed: true
+//! where its reply alone could not be made.
 
-ghost use Rattle.std.specs.Prelude.{ℕ, List, Option, ◌≡◌, ◌≤◌, Some, None, OnErr, IfOk, IfSome, length, if◌then◌else◌};
+ghost use Rattle.std.specs.Prelude.{ℕ, List, Option, ◌≡◌, ◌≤◌, false, Some, None, IfOk, IfErr, IfSome, length, if◌then◌else◌};
 ghost use Rattle.std.specs.Option.{option_map};
 ghost use Rattle.smb_head.specs.Headers.{header_of};
 ghost use Rattle.smb_head.specs.Commands.{code_of};
-ghost use Rattle.smb_body.specs.Requests.{request_of};
-ghost use Rattle.smb_body.specs.Replies.{reply_value, reply_length, reply_spelling};
-ghost use Rattle.smb_engine.specs.State.{SharedState};
-ghost use Rattle.smb_engine.specs.Request.{acts_under, answered, failure, negotiated, echoed, performed};
+ghost use Rattle.smb_body.specs.Dialects.{dialects_of};
+ghost use Rattle.smb_body.specs.Requests.{request_of, request_value};
+ghost use Rattle.smb_body.specs.Replies.{reply_value, reply_length};
+ghost use Rattle.smb_session.specs.Negotiate.{best_of};
+ghost use Rattle.smb_engine.specs.Response.{answered, success, failure};
+ghost use Rattle.smb_engine.specs.Request.{acts_under, is_built, needs_session, needs_tree, standing_refusal, negotiated, acted, by_body, performed};
 ghost use Rattle.smb_engine.specs.Held.{response_of};
 
 use super::context::Context;
-use super::dialect::Dialect;
-use super::negotiate;
+use super::response::{Response, failure, respond};
 use super::shared::Shared;
 use super::status::Status;
 use bitflags::Flags;
-use smb_body::{Reply, Request, read_body, write_reply};
+use smb_body::{Dialects, Reply, Request, read_body};
 use smb_head::{Command, Header, HeaderFlags};
-use std::alloc::{AllocError, Global};
-
-/// What answers a request: its status, what it acts under, and the body of the reply.
-#[derive(Drop)]
-pub(crate) struct Response {
-    pub(crate) status: Status,
-    pub(crate) under: Context,
-    pub(crate) body: Vec<u8>,
-}
+use smb_session::{Authenticator, Dialect};
+use std::alloc::Global;
 
 /// The session and the tree that a request acts under: its own, or for a related one the context's.
 fn acts_under(context: Context, header: &Header) -> Context
@@ -42,107 +39,210 @@ fn acts_under(context: Context, header: &Header) -> Context
     }
 }
 
-/// A response of this status with this reply's body.
-fn respond(
-    alloc: Global,
-    status: Status,
-    under: Context,
-    reply: &Reply<'_>,
-) -> Result<Response, AllocError>
-    requires { reply_length (reply_value reply.now) ≤ 65552 }
-    ensures ok { IfOk result (λ response. response_of response
-        ≡ record { status = status; under = under; body = reply_spelling (reply_value reply.now) }) }
-    ensures len { IfOk result (λ response. length response.body.items ≤ 65552) }
+/// Whether a command is built.
+fn is_built(command: Command) -> bool
+    ensures { result ≡ is_built command }
 {
-    let mut body = Vec::new(alloc);
-    match write_reply(reply, &mut body) {
-        Ok(()) => Ok(Response {
-            status,
-            under,
-            body,
-        }),
-        Err(_) => Err(AllocError),
-    }
+    matches!(
+        command,
+        Command::Negotiate
+            | Command::SessionSetup
+            | Command::Logoff
+            | Command::TreeConnect
+            | Command::TreeDisconnect
+            | Command::Echo
+    )
 }
 
-/// A failure.
-fn failure(alloc: Global, under: Context, status: Status) -> Result<Response, AllocError>
+/// Whether a command acts under a session.
+fn needs_session(command: Command) -> bool
+    ensures { result ≡ needs_session command }
+{
+    !matches!(
+        command,
+        Command::Negotiate | Command::SessionSetup | Command::Echo
+    )
+}
+
+/// Whether a command acts under a tree.
+fn needs_tree(command: Command) -> bool
+    ensures { result ≡ needs_tree command }
+{
+    needs_session(command) && !matches!(command, Command::Logoff | Command::TreeConnect)
+}
+
+/// A refusal, which changes nothing.
+fn refused(alloc: Global, under: Context, status: Status) -> Result<Response, bool>
     ensures ok { IfOk result (λ response. response_of response ≡ failure under status) }
     ensures len { IfOk result (λ response. length response.body.items ≤ 65552) }
+    ensures err { IfErr result (λ performed. performed ≡ false) }
 {
-    respond(alloc, status, under, &Reply::Error)
-}
-
-/// ECHO ([MS-SMB2] 3.3.5.17).
-#[tactic(auto, unfolding(crate::specs::Request::echoed))]
-fn echoed(alloc: Global, under: Context, request: &[u8]) -> Result<Response, AllocError>
-    ensures ok { (shared : SharedState) → (before : Option Dialect) → IfOk result (λ response. answered shared before under (response_of response)
-        ≡ echoed shared before under (request_of (code_of Command.Echo) request.now)) }
-    ensures len { IfOk result (λ response. length response.body.items ≤ 65552) }
-{
-    match read_body(Command::Echo.code().0, request) {
-        Ok(Request::Echo(_)) => respond(alloc, Status::Success, under, &Reply::Echo),
-        _ => failure(alloc, under, Status::InvalidParameter),
+    match failure(alloc, under, status) {
+        Ok(response) => Ok(response),
+        Err(_) => Err(false),
     }
 }
 
-impl Shared {
+/// A response to what changes nothing.
+fn told(alloc: Global, under: Context, reply: &Reply<'_>) -> Result<Response, bool>
+    requires { reply_length (reply_value reply.now) ≤ 65552 }
+    ensures ok { IfOk result (λ response. response_of response ≡ success under (reply_value reply.now)) }
+    ensures len { IfOk result (λ response. length response.body.items ≤ 65552) }
+    ensures err { IfErr result (λ performed. performed ≡ false) }
+{
+    match respond(alloc, Status::Success, under, reply) {
+        Ok(response) => Ok(response),
+        Err(_) => Err(false),
+    }
+}
+
+impl<A: Authenticator + Drop> Shared<A> {
+    /// Why a request is refused whose session or tree does not stand.
+    fn standing_refusal(&self, number: u64, under: Context, command: Command) -> Option<Status>
+        ensures { result ≡ standing_refusal self.now number under command }
+    {
+        if needs_session(command) && !self.sessions.knows(number, under.session_id, None) {
+            return Some(Status::UserSessionDeleted);
+        }
+        if needs_tree(command)
+            && !self
+                .sessions
+                .knows(number, under.session_id, Some(under.tree_id))
+        {
+            return Some(Status::NetworkNameDeleted);
+        }
+        None
+    }
+
+    /// The greatest dialect of the share that a list has.
+    fn best_dialect(&self, number: u64, dialects: Dialects<'_>) -> Option<Dialect>
+        ensures { result ≡ best_of (dialects_of dialects.entry) }
+    {
+        match self.sessions.negotiate(number, dialects.bytes()) {
+            Ok(best) => Some(best),
+            Err(_) => None,
+        }
+    }
+
     /// NEGOTIATE ([MS-SMB2] 3.3.5.4).
     #[tactic(auto, unfolding(crate::specs::Request::negotiated))]
     fn negotiated(
-        &mut self,
+        &self,
+        number: u64,
         moment: u64,
         dialect: &mut Option<Dialect>,
         under: Context,
-        request: &[u8],
-    ) -> Result<Response, AllocError>
-        ensures ok { IfOk result (λ response. record { shared = self.new; dialect = dialect.new; context = under; response = Some (response_of response) }
-            ≡ negotiated self.old dialect.old under moment (request_of (code_of Command.Negotiate) request.now)) }
+        dialects: Dialects<'_>,
+    ) -> Result<Response, bool>
+        ensures ok { IfOk result (λ response. answered dialect.new (record { shared = self.now; response = response_of response })
+            ≡ negotiated A.meaning moment self.now dialect.old under (dialects_of dialects.entry)) }
         ensures len { IfOk result (λ response. length response.body.items ≤ 65552) }
-        ensures err { OnErr result (self.new ≡ self.old) }
+        ensures err { IfErr result (λ performed. performed ≡ false) }
     {
         let alloc = self.allocator();
-        let asked = match read_body(Command::Negotiate.code().0, request) {
-            Ok(Request::Negotiate(asked)) => asked,
-            _ => return failure(alloc, under, Status::InvalidParameter),
+        let Some(best) = self.best_dialect(number, dialects) else {
+            return refused(alloc, under, Status::NotSupported);
         };
-        let Some(best) = negotiate::best_dialect(asked.dialects) else {
-            return failure(alloc, under, Status::NotSupported);
-        };
-        let reply = self.negotiate_response(moment, best);
-        let response = respond(alloc, Status::Success, under, &reply)?;
+        let reply = self.negotiate_response(moment, best.revision());
+        let response = told(alloc, under, &reply)?;
         *dialect = Some(best);
         Ok(response)
     }
 
+    /// Performs a request whose body is read, and whose session and tree stand.
+    fn act(
+        &mut self,
+        number: u64,
+        moment: u64,
+        dialect: &mut Option<Dialect>,
+        under: Context,
+        request: &Request<'_>,
+    ) -> Result<Response, bool>
+        ensures ok { IfOk result (λ response. answered dialect.new (record { shared = self.new; response = response_of response })
+            ≡ acted A.meaning number moment self.old dialect.old under (request_value request.now)) }
+        ensures len { IfOk result (λ response. length response.body.items ≤ 65552) }
+        ensures err { IfErr result (λ performed. self.new
+            ≡ (if performed then (acted A.meaning number moment self.old dialect.old under (request_value request.now)).shared else self.old)) }
+        ensures known { self.new.sessions.table.connections ≡ self.old.sessions.table.connections }
+    {
+        let alloc = self.allocator();
+        match request {
+            Request::Negotiate(asked) => {
+                self.negotiated(number, moment, dialect, under, asked.dialects)
+            }
+            Request::SessionSetup(asked) => self.set_up(number, under, asked),
+            Request::Logoff(_) => self.log_off(number, under),
+            Request::TreeConnect(asked) => self.connect_tree(number, under, asked.path),
+            Request::TreeDisconnect(_) => self.disconnect_tree(number, under),
+            Request::Echo(_) => told(alloc, under, &Reply::Echo),
+            _ => refused(alloc, under, Status::NotSupported),
+        }
+    }
+
+    /// Performs a request of a command that is built.
+    #[tactic(auto, unfolding(crate::specs::Request::by_body))]
+    fn by_body(
+        &mut self,
+        number: u64,
+        moment: u64,
+        dialect: &mut Option<Dialect>,
+        under: Context,
+        command: Command,
+        request: &[u8],
+    ) -> Result<Response, bool>
+        ensures ok { IfOk result (λ response. answered dialect.new (record { shared = self.new; response = response_of response })
+            ≡ by_body A.meaning number moment self.old dialect.old under command (request_of (code_of command) request.now)) }
+        ensures len { IfOk result (λ response. length response.body.items ≤ 65552) }
+        ensures err { IfErr result (λ performed. self.new
+            ≡ (if performed then (by_body A.meaning number moment self.old dialect.old under command (request_of (code_of command) request.now)).shared else self.old)) }
+        ensures known { self.new.sessions.table.connections ≡ self.old.sessions.table.connections }
+    {
+        let alloc = self.allocator();
+        let request = match read_body(command.code().0, request) {
+            Ok(request) => request,
+            Err(_) => return refused(alloc, under, Status::InvalidParameter),
+        };
+        match self.standing_refusal(number, under, command) {
+            Some(status) => refused(alloc, under, status),
+            None => self.act(number, moment, dialect, under, &request),
+        }
+    }
+
     /// Performs one request of this header, and gives what answers it. CANCEL has no answer.
     ///
-    /// An error says that memory could not be had; then nothing was performed.
-    #[tactic(auto, unfolding(crate::specs::Request::performed, crate::specs::Request::echoed))]
+    /// An error says that memory could not be had, and tells whether the request was performed.
+    #[tactic(auto, unfolding(crate::specs::Request::performed))]
     pub(crate) fn perform(
         &mut self,
+        number: u64,
         moment: u64,
         dialect: &mut Option<Dialect>,
         context: &mut Context,
         header: &Header,
         request: &[u8],
-    ) -> Result<Option<Response>, AllocError>
+    ) -> Result<Option<Response>, bool>
         requires { header.now ≡ header_of request.now }
         ensures ok { IfOk result (λ response. record { shared = self.new; dialect = dialect.new; context = context.new; response = option_map response_of response }
-            ≡ performed self.old dialect.old context.old moment request.now) }
+            ≡ performed A.meaning number moment self.old dialect.old context.old request.now) }
         ensures len { IfOk result (λ response. IfSome response (λ r. length r.body.items ≤ 65552)) }
-        ensures err { OnErr result (self.new ≡ self.old) }
+        ensures err { IfErr result (λ done. self.new
+            ≡ (if done then (performed A.meaning number moment self.old dialect.old context.old request.now).shared else self.old)) }
+        ensures known { self.new.sessions.table.connections ≡ self.old.sessions.table.connections }
     {
         let alloc = self.allocator();
         let under = acts_under(*context, header);
-        *context = under;
         let response = match header.command.known() {
-            None => failure(alloc, under, Status::InvalidParameter)?,
-            Some(Command::Negotiate) => self.negotiated(moment, dialect, under, request)?,
-            Some(Command::Echo) => echoed(alloc, under, request)?,
-            Some(Command::Cancel) => return Ok(None),
-            Some(_) => failure(alloc, under, Status::NotSupported)?,
+            None => refused(alloc, under, Status::InvalidParameter)?,
+            Some(Command::Cancel) => {
+                *context = under;
+                return Ok(None);
+            }
+            Some(command) if is_built(command) => {
+                self.by_body(number, moment, dialect, under, command, request)?
+            }
+            Some(_) => refused(alloc, under, Status::NotSupported)?,
         };
+        *context = response.under;
         Ok(Some(response))
     }
 }

@@ -1,12 +1,14 @@
 //! The share over its connections.
 
-ghost use Rattle.std.specs.Prelude.{◌≡◌, ◌≤◌, ◌+◌, ◌++◌, true, false, Some, None, OnOk, OnErr, IfOk, IfErr, IsSome, is_some, length, if◌then◌else◌};
-ghost use Rattle.std.specs.List.{flat_map};
-ghost use Rattle.std.specs.BTreeMap.{insert_entry};
+ghost use Rattle.std.specs.Prelude.{◌≡◌, ◌<◌, ◌≤◌, ◌+◌, ◌++◌, true, false, Some, None, OnOk, OnErr, IfOk, IfErr, IsSome, is_some, length, if◌then◌else◌};
+ghost use Rattle.std.specs.List.{AllByRecursion, flat_map};
+ghost use Rattle.std.specs.Map.{remove_entry};
+ghost use Rattle.std.specs.BTreeMap.{is_at, insert_entry};
 ghost use Rattle.std.specs.Ordering.{nat_cmp};
 ghost use Rattle.smb_engine.specs.Settings.{settings_of, is_lawful};
+ghost use Rattle.smb_engine.specs.State.{shared_opened};
 ghost use Rattle.smb_engine.specs.Output.{bytes_of, outputs_of};
-ghost use Rattle.smb_engine.specs.Share.{new_share, link_of, new_link, opened, ended, opening_refusal, bytes_step, is_open_after, stopped, count_on, unread, OpeningRefused, PieceStopped, GoodState};
+ghost use Rattle.smb_engine.specs.Share.{MakingRefused, new_share, link_of, new_link, opened, ended, opening_refusal, bytes_step, is_open_after, stopped, count_on, unread, OpeningRefused, PieceStopped, GoodState};
 ghost use Rattle.smb_engine.specs.Run.{unknown_refusal, refusal, event_step, run, run_behind, EventStopped, RunStopped};
 
 use super::config::Config;
@@ -16,8 +18,8 @@ use super::fault::{RunFault, ServeFault};
 use super::output::{Answer, Sink};
 use super::shared::Shared;
 use super::stream::take_piece;
-use super::window::Window;
 use smb_frame::FrameBuffer;
+use smb_session::{Authenticator, Window};
 use std::alloc::{AllocError, Global};
 use std::collections::BTreeMap;
 use std::marker::Model;
@@ -25,23 +27,23 @@ use std::marker::Model;
 /// How many connections may be open.
 const CONNECTION_LIMIT: usize = 64;
 
-/// A share and its open connections.
+/// A share and its open connections. Who may come in, its authenticator decides.
 #[derive(Drop)]
-pub struct Share {
-    shared: Shared,
+pub struct Share<A: Authenticator + Drop> {
+    shared: Shared<A>,
     links: BTreeMap<u64, Link>,
     next: u64,
 }
 
-impl Model for Share {
+impl<A: Authenticator + Drop> Model for Share<A> {
     ghost use Rattle.smb_engine.specs.State.{ShareState};
     ghost use Rattle.smb_engine.specs.Held.{AreKept};
 
-    ghost Value = { ShareState };
+    ghost Value = { ShareState A };
 
     ghost view = { λ s. record { shared = s.shared; links = s.links.entries; next = s.next } };
 
-    ghost invariant = { λ s. AreKept s.links.entries s.next };
+    ghost invariant = { λ s. AreKept s.shared.sessions.table.connections s.links.entries s.next };
 }
 
 /// A new connection: nothing came, no dialect stands, and its window is {0}.
@@ -58,7 +60,7 @@ fn fresh_link(alloc: Global) -> Link
     }
 }
 
-/// Adds a connection.
+/// Adds a connection's stream.
 fn put_link(links: &mut BTreeMap<u64, Link>, number: u64, link: Link) -> Result<(), AllocError>
     ensures ok { OnOk result (links.new.entries ≡ insert_entry nat_cmp links.old.entries number link) }
     ensures err { OnErr result (links.new.entries ≡ links.old.entries) }
@@ -67,22 +69,56 @@ fn put_link(links: &mut BTreeMap<u64, Link>, number: u64, link: Link) -> Result<
     Ok(())
 }
 
-impl Share {
-    /// A share of this configuration, without a connection. `hello` is the token that the authenticator
-    /// offers in each NEGOTIATE response, of at most 4,096 bytes.
+/// Takes a connection's stream out.
+fn drop_link(links: &mut BTreeMap<u64, Link>, number: u64)
+    ensures { links.new.entries ≡ remove_entry (is_at (nat_cmp number)) links.old.entries }
+{
+    let _ = links.remove(&number);
+}
+
+/// Adds a connection, which may begin sessions from now on. An error changes nothing.
+fn add_connection<A: Authenticator + Drop>(
+    shared: &mut Shared<A>,
+    links: &mut BTreeMap<u64, Link>,
+    number: u64,
+    link: Link,
+) -> Result<(), AllocError>
+    requires { AllByRecursion (λ entry. entry.0 < number) links.old.entries }
+    ensures shared { OnOk result (shared.new ≡ shared_opened shared.old number) }
+    ensures links { OnOk result (links.new.entries ≡ insert_entry nat_cmp links.old.entries number link) }
+    ensures err_shared { OnErr result (shared.new ≡ shared.old) }
+    ensures err_links { OnErr result (links.new.entries ≡ links.old.entries) }
+{
+    put_link(links, number, link)?;
+    match shared.connect(number) {
+        Ok(()) => Ok(()),
+        Err(fault) => {
+            drop_link(links, number);
+            Err(fault)
+        }
+    }
+}
+
+impl<A: Authenticator + Drop> Share<A> {
+    /// A share of this configuration, without a connection and without a session. Its authenticator decides
+    /// who may come in.
     ///
-    /// A configuration that breaks its rules is [`ServeFault::BadConfig`].
-    pub fn new(alloc: Global, config: Config, hello: Vec<u8>) -> Result<Self, ServeFault>
-        requires { length hello.items ≤ 4096 }
+    /// A configuration that breaks its rules is [`ServeFault::BadConfig`]; else memory may be wanting,
+    /// [`ServeFault::NoMemory`].
+    pub fn new(alloc: Global, config: Config, authenticator: A) -> Result<Self, ServeFault>
         ensures lawful { OnOk result (is_lawful (settings_of config) ≡ true) }
-        ensures state { IfOk result (λ share. share ≡ new_share (settings_of config) hello.items) }
-        ensures err { IfErr result (λ fault. (fault ≡ ServeFault.BadConfig) × (is_lawful (settings_of config) ≡ false)) }
+        ensures state { IfOk result (λ share. share ≡ new_share (settings_of config) authenticator) }
+        ensures err { IfErr result (MakingRefused (settings_of config)) }
     {
         if !config.is_lawful() {
             return Err(ServeFault::BadConfig);
         }
+        let shared = match Shared::new(alloc, config, authenticator) {
+            Ok(shared) => shared,
+            Err(_) => return Err(ServeFault::NoMemory { done: 0 }),
+        };
         Ok(Share {
-            shared: Shared::new(alloc, config, hello),
+            shared,
             links: BTreeMap::new(alloc),
             next: 1,
         })
@@ -104,7 +140,7 @@ impl Share {
             return Err(ServeFault::TooManyConnections);
         }
         let link = fresh_link(self.shared.allocator());
-        match put_link(&mut self.links, number, link) {
+        match add_connection(&mut self.shared, &mut self.links, number, link) {
             Ok(()) => {}
             Err(_) => return Err(ServeFault::NoMemory { done: 0 }),
         }
@@ -130,11 +166,11 @@ impl Share {
         piece: &[u8],
         out: &mut K,
     ) -> Result<Fate, usize>
-        ensures state { OnOk result (self.new ≡ unread (bytes_step self.old connection moment piece.now).state) }
-        ensures outputs { OnOk result (K.content out.new ≡ K.content out.old ++ flat_map K.hears (bytes_step self.old connection moment piece.now).outputs) }
-        ensures fate { IfOk result (λ fate. fate ≡ (if is_open_after self.old connection moment piece.now then Fate.Open else Fate.Ended)) }
-        ensures err { IfErr result (λ k. self.new ≡ unread (stopped self.old connection moment piece.now k)) }
-        ensures within { IfErr result (λ k. k ≤ count_on self.old connection moment piece.now) }
+        ensures state { OnOk result (self.new ≡ unread (bytes_step A.meaning self.old connection moment piece.now).state) }
+        ensures outputs { OnOk result (K.content out.new ≡ K.content out.old ++ flat_map K.hears (bytes_step A.meaning self.old connection moment piece.now).outputs) }
+        ensures fate { IfOk result (λ fate. fate ≡ (if is_open_after A.meaning self.old connection moment piece.now then Fate.Open else Fate.Ended)) }
+        ensures err { IfErr result (λ k. self.new ≡ unread (stopped A.meaning self.old connection moment piece.now k)) }
+        ensures within { IfErr result (λ k. k ≤ count_on A.meaning self.old connection moment piece.now) }
         ensures kept { OnErr result (K.content out.new ≡ K.content out.old) }
     {
         let link = match self.links.get_mut(&connection) {
@@ -144,21 +180,25 @@ impl Share {
         match take_piece(&mut self.shared, link, connection, moment, piece, out) {
             Ok(true) => Ok(Fate::Open),
             Ok(false) => {
+                self.shared.disconnect(connection);
                 self.links.remove(&connection);
                 Ok(Fate::Ended)
             }
             Err(done) => {
+                self.shared.disconnect(connection);
                 self.links.remove(&connection);
                 Err(done)
             }
         }
     }
 
-    /// Ends a connection; on one that is not open it does nothing. It takes no memory.
+    /// Ends a connection, and its sessions with it; on one that is not open it does nothing. It takes no
+    /// memory.
     pub fn ended(&mut self, connection: u64)
         ensures state { self.new ≡ unread (ended self.old connection) }
         ensures good { GoodState self.new }
     {
+        self.shared.disconnect(connection);
         let _ = self.links.remove(&connection);
         self.good();
     }
@@ -175,10 +215,10 @@ impl Share {
         out: &mut Vec<u8>,
     ) -> Result<Fate, ServeFault>
         requires { IsSome (link_of connection self.old.links) }
-        ensures state { OnOk result (self.new ≡ unread (bytes_step self.old connection moment piece.now).state) }
-        ensures outputs { OnOk result (out.new.items ≡ out.old.items ++ flat_map bytes_of (bytes_step self.old connection moment piece.now).outputs) }
-        ensures fate { IfOk result (λ fate. fate ≡ (if is_open_after self.old connection moment piece.now then Fate.Open else Fate.Ended)) }
-        ensures err { IfErr result (λ fault. PieceStopped self.old connection moment piece.now fault self.new) }
+        ensures state { OnOk result (self.new ≡ unread (bytes_step A.meaning self.old connection moment piece.now).state) }
+        ensures outputs { OnOk result (out.new.items ≡ out.old.items ++ flat_map bytes_of (bytes_step A.meaning self.old connection moment piece.now).outputs) }
+        ensures fate { IfOk result (λ fate. fate ≡ (if is_open_after A.meaning self.old connection moment piece.now then Fate.Open else Fate.Ended)) }
+        ensures err { IfErr result (λ fault. PieceStopped A.meaning self.old connection moment piece.now fault self.new) }
         ensures kept { OnErr result (out.new.items ≡ out.old.items) }
         ensures good { GoodState self.new }
     {
@@ -198,10 +238,10 @@ impl Share {
         piece: &[u8],
         answers: &mut Vec<Answer>,
     ) -> Result<(), usize>
-        ensures state { OnOk result (self.new ≡ unread (bytes_step self.old connection moment piece.now).state) }
-        ensures outputs { OnOk result (outputs_of answers.new.items ≡ outputs_of answers.old.items ++ (bytes_step self.old connection moment piece.now).outputs) }
-        ensures err { IfErr result (λ k. self.new ≡ unread (stopped self.old connection moment piece.now k)) }
-        ensures within { IfErr result (λ k. k ≤ count_on self.old connection moment piece.now) }
+        ensures state { OnOk result (self.new ≡ unread (bytes_step A.meaning self.old connection moment piece.now).state) }
+        ensures outputs { OnOk result (outputs_of answers.new.items ≡ outputs_of answers.old.items ++ (bytes_step A.meaning self.old connection moment piece.now).outputs) }
+        ensures err { IfErr result (λ k. self.new ≡ unread (stopped A.meaning self.old connection moment piece.now k)) }
+        ensures within { IfErr result (λ k. k ≤ count_on A.meaning self.old connection moment piece.now) }
         ensures kept { OnErr result (outputs_of answers.new.items ≡ outputs_of answers.old.items) }
     {
         match self.take(connection, moment, piece, answers) {
@@ -220,9 +260,9 @@ impl Share {
     /// Takes one event.
     fn event(&mut self, event: &Event, answers: &mut Vec<Answer>) -> Result<(), ServeFault>
         ensures unrefused { OnOk result (refusal self.old event.now ≡ None) }
-        ensures state { OnOk result (self.new ≡ unread (event_step self.old event.now).state) }
-        ensures outputs { OnOk result (outputs_of answers.new.items ≡ outputs_of answers.old.items ++ (event_step self.old event.now).outputs) }
-        ensures err { IfErr result (λ fault. EventStopped self.old event.now fault self.new) }
+        ensures state { OnOk result (self.new ≡ unread (event_step A.meaning self.old event.now).state) }
+        ensures outputs { OnOk result (outputs_of answers.new.items ≡ outputs_of answers.old.items ++ (event_step A.meaning self.old event.now).outputs) }
+        ensures err { IfErr result (λ fault. EventStopped A.meaning self.old event.now fault self.new) }
         ensures kept { OnErr result (outputs_of answers.new.items ≡ outputs_of answers.old.items) }
     {
         let _ = &self.shared;
@@ -262,8 +302,8 @@ impl Share {
     /// Takes events in order, up to one that is refused.
     fn run_events(&mut self, events: &[Event], answers: &mut Vec<Answer>) -> Result<(), RunFault>
         ensures ok { OnOk result (record { state = self.new; outputs = outputs_of answers.new.items; stop = None }
-            ≡ run_behind (outputs_of answers.old.items) (run self.old events.now)) }
-        ensures err { IfErr result (λ e. RunStopped self.old events.now e.place e.fault self.new (outputs_of answers.old.items) (outputs_of answers.new.items)) }
+            ≡ run_behind (outputs_of answers.old.items) (run A.meaning self.old events.now)) }
+        ensures err { IfErr result (λ e. RunStopped A.meaning self.old events.now e.place e.fault self.new (outputs_of answers.old.items) (outputs_of answers.new.items)) }
     {
         let _ = &self.shared;
         let mut place = 0;
@@ -285,8 +325,8 @@ impl Share {
     /// unanswered, and then its connection has ended; an opening changed nothing.
     pub fn run(&mut self, events: &[Event], answers: &mut Vec<Answer>) -> Result<(), RunFault>
         ensures ok { OnOk result (record { state = self.new; outputs = outputs_of answers.new.items; stop = None }
-            ≡ run_behind (outputs_of answers.old.items) (run self.old events.now)) }
-        ensures err { IfErr result (λ e. RunStopped self.old events.now e.place e.fault self.new (outputs_of answers.old.items) (outputs_of answers.new.items)) }
+            ≡ run_behind (outputs_of answers.old.items) (run A.meaning self.old events.now)) }
+        ensures err { IfErr result (λ e. RunStopped A.meaning self.old events.now e.place e.fault self.new (outputs_of answers.old.items) (outputs_of answers.new.items)) }
         ensures good { GoodState self.new }
     {
         let result = self.run_events(events, answers);

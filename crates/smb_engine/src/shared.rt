@@ -1,49 +1,117 @@
 //! What all connections share ([MS-SMB2] 3.3.1.5).
 
-ghost use Rattle.std.specs.Prelude.{◌≡◌, ◌≤◌, true, length};
-ghost use Rattle.smb_engine.specs.Settings.{settings_of, is_lawful};
+ghost use Rattle.std.specs.Prelude.{◌≡◌, ◌<◌, ◌≤◌, ◌∷◌, [], ◌++◌, true, OnOk, OnErr, IfOk, length};
+ghost use Rattle.std.specs.Bool.{OnTrue, OnFalse};
+ghost use Rattle.smb_wire.specs.Number.{spelling};
+ghost use Rattle.smb_wire.specs.Pairs.{unit_bytes, AreUnits};
+ghost use Rattle.smb_session.specs.Numbers.{IsRising};
+ghost use Rattle.smb_session.specs.Table.{numbers_on};
+ghost use Rattle.smb_head.specs.Replies.{joined_replies};
 ghost use Rattle.smb_body.specs.Replies.{reply_value};
+ghost use Rattle.smb_session.specs.Good.{GoodTable};
+ghost use Rattle.smb_session.specs.Sessions.{new_sessions};
+ghost use Rattle.smb_engine.specs.Settings.{settings_of, is_lawful};
 ghost use Rattle.smb_engine.specs.Negotiate.{negotiate_answer};
+ghost use Rattle.smb_engine.specs.Smb1.{reply_to_smb1};
+ghost use Rattle.smb_engine.specs.State.{hello_of, shared_opened, shared_ended};
 
 use super::config::Config;
-use super::dialect::Dialect;
-use super::negotiate;
+use super::context::Context;
+use super::response::respond;
+use super::status::Status;
+use super::{negotiate, smb1};
 use smb_body::Reply;
-use std::alloc::Global;
+use smb_head::{Header, ReplyChain};
+use smb_session::{Authenticator, Sessions};
+use smb_wire::{Units, put_u16};
+use std::alloc::{AllocError, Global};
 use std::marker::Model;
 
-/// The configuration, and the token of the authenticator's hello.
+/// The configuration, and the sessions with their authenticator.
 #[derive(Drop)]
-pub(crate) struct Shared {
+pub(crate) struct Shared<A: Authenticator + Drop> {
     config: Config,
-    hello: Vec<u8>,
+    pub(crate) sessions: Sessions<A>,
     alloc: Global,
 }
 
-impl Model for Shared {
-    ghost use Rattle.std.specs.Prelude.{◌≡◌, ◌≤◌, true, length};
+impl<A: Authenticator + Drop> Model for Shared<A> {
+    ghost use Rattle.std.specs.Prelude.{◌≡◌, true};
     ghost use Rattle.smb_engine.specs.Settings.{settings_of, is_lawful};
     ghost use Rattle.smb_engine.specs.State.{SharedState};
 
-    ghost Value = { SharedState };
+    ghost Value = { SharedState A };
 
-    ghost view = { λ s. record { settings = settings_of s.config; hello = s.hello.items } };
+    ghost view = { λ s. record { settings = settings_of s.config; sessions = s.sessions } };
 
-    ghost invariant = { λ s. (is_lawful (settings_of s.config) ≡ true) × (length s.hello.items ≤ 4096) };
+    ghost invariant = { λ s. is_lawful (settings_of s.config) ≡ true };
 }
 
-impl Shared {
-    /// What connections share at first.
-    pub(crate) fn new(alloc: Global, config: Config, hello: Vec<u8>) -> Self
-        requires lawful { is_lawful (settings_of config) ≡ true }
-        requires short { length hello.items ≤ 4096 }
-        ensures { result ≡ record { settings = settings_of config; hello = hello.items } }
+/// Adds the bytes of a unit.
+fn put_unit(bytes: &mut Vec<u8>, unit: u16) -> Result<(), AllocError>
+    ensures { OnOk result (bytes.new.items ≡ bytes.old.items ++ spelling 2 unit) }
+{
+    match put_u16(bytes, unit) {
+        Ok(()) => Ok(()),
+        Err(_) => Err(AllocError),
+    }
+}
+
+/// The bytes of units, each of which is a character of ASCII.
+fn wide(alloc: Global, characters: &[u8]) -> Result<Vec<u8>, AllocError>
+    ensures bytes { IfOk result (λ bytes. bytes.items ≡ unit_bytes characters.now) }
+    ensures fits { AreUnits characters.now }
+{
+    let mut bytes = Vec::new(alloc);
+    for character in characters {
+        put_unit(&mut bytes, u16::from(*character))?;
+    }
+    Ok(bytes)
+}
+
+/// No session, for the share of a name in ASCII.
+fn sessions_of<A: Authenticator + Drop>(
+    alloc: Global,
+    authenticator: A,
+    name: &[u8],
+) -> Result<Sessions<A>, AllocError>
+    ensures { IfOk result (λ sessions. sessions ≡ new_sessions authenticator name.now) }
+{
+    let bytes = wide(alloc, name)?;
+    let Some(share) = Units::of(&bytes) else {
+        return Err(AllocError);
+    };
+    match Sessions::new(alloc, authenticator, share) {
+        Ok(sessions) => Ok(sessions),
+        Err(_) => Err(AllocError),
+    }
+}
+
+/// A payload of one reply.
+fn single_reply(alloc: Global, header: &Header, body: &[u8]) -> Result<Vec<u8>, AllocError>
+    requires { length body.now ≤ 65552 }
+    ensures bytes { IfOk result (λ bytes. bytes.items ≡ joined_replies (record { header = header.now; body = body.now } ∷ [])) }
+    ensures len { IfOk result (λ bytes. length bytes.items ≤ 1049856) }
+{
+    let mut replies = ReplyChain::begin(alloc);
+    match replies.push(header, body) {
+        Ok(()) => Ok(replies.finish()),
+        Err(_) => Err(AllocError),
+    }
+}
+
+impl<A: Authenticator + Drop> Shared<A> {
+    /// What connections share at first: no session.
+    pub(crate) fn new(alloc: Global, config: Config, authenticator: A) -> Result<Self, AllocError>
+        requires { is_lawful (settings_of config) ≡ true }
+        ensures { IfOk result (λ shared. shared ≡ record { settings = settings_of config; sessions = new_sessions authenticator (settings_of config).share }) }
     {
-        Shared {
+        let sessions = sessions_of(alloc, authenticator, config.share.as_bytes())?;
+        Ok(Shared {
             config,
-            hello,
+            sessions,
             alloc,
-        }
+        })
     }
 
     /// The allocator of what the share makes.
@@ -51,18 +119,80 @@ impl Shared {
         self.alloc
     }
 
-    /// The NEGOTIATE response.
-    pub(crate) fn negotiate_response(&self, moment: u64, dialect: Dialect) -> Reply<'_>
-        ensures response { reply_value result ≡ negotiate_answer self.now.settings.guid self.now.hello moment dialect }
-        ensures short { length self.now.hello ≤ 4096 }
+    /// A NEGOTIATE response that tells a dialect's revision.
+    pub(crate) fn negotiate_response(&self, moment: u64, dialect_revision: u16) -> Reply<'_>
+        ensures response { reply_value result ≡ negotiate_answer self.now.settings.guid (hello_of A.meaning self.now) moment dialect_revision }
+        ensures short { length (hello_of A.meaning self.now) ≤ 4096 }
     {
-        negotiate::response(self.config.guid, &self.hello, moment, dialect)
+        negotiate::response(
+            self.config.guid,
+            self.sessions.hello(),
+            moment,
+            dialect_revision,
+        )
     }
 
-    /// The configuration keeps its rules. (The body does nothing.)
+    /// Lets a connection begin sessions from now on. An error changes nothing.
+    pub(crate) fn connect(&mut self, number: u64) -> Result<(), AllocError>
+        ensures ok { OnOk result (self.new ≡ shared_opened self.old number) }
+        ensures err { OnErr result (self.new ≡ self.old) }
+    {
+        match self.sessions.connect(number) {
+            Ok(()) => Ok(()),
+            Err(_) => Err(AllocError),
+        }
+    }
+
+    /// Ends the least session of a connection; false where it has none and is forgotten.
+    #[tactic(auto, unfolding(crate::specs::State::shared_ended))]
+    fn end_one(&mut self, number: u64) -> bool
+        ensures ended { OnTrue result (shared_ended self.new number ≡ shared_ended self.old number) }
+        ensures fewer { OnTrue result (length (numbers_on self.new.sessions.table.sessions number) < length (numbers_on self.old.sessions.table.sessions number)) }
+        ensures none { OnFalse result (self.new ≡ shared_ended self.old number) }
+    {
+        self.sessions.good();
+        let Some(_session) = self.sessions.end_connection(number) else {
+            return false;
+        };
+        true
+    }
+
+    /// Ends a connection's sessions in rising number, and forgets it. It takes no memory.
+    pub(crate) fn disconnect(&mut self, number: u64)
+        ensures ended { self.new ≡ shared_ended self.old number }
+        ensures rising { IsRising self.old.sessions.table.connections }
+    {
+        self.sessions.good();
+        while self.end_one(number) {}
+    }
+
+    /// A reply to an SMB_COM_NEGOTIATE, as a payload: an SMB2 NEGOTIATE response to MessageId 0, which tells
+    /// one credit.
+    pub(crate) fn smb1_reply(
+        &self,
+        moment: u64,
+        dialect_revision: u16,
+    ) -> Result<Vec<u8>, AllocError>
+        ensures bytes { IfOk result (λ bytes. bytes.items
+            ≡ joined_replies (reply_to_smb1 (negotiate_answer self.now.settings.guid (hello_of A.meaning self.now) moment dialect_revision) ∷ [])) }
+        ensures len { IfOk result (λ bytes. length bytes.items ≤ 1049856) }
+    {
+        let under = Context {
+            session_id: 0,
+            tree_id: 0,
+        };
+        let reply = self.negotiate_response(moment, dialect_revision);
+        let response = respond(self.alloc, Status::Success, under, &reply)?;
+        let bytes = single_reply(self.alloc, &smb1::reply_header(), &response.body)?;
+        Ok(bytes)
+    }
+
+    /// The configuration keeps its rules, and the sessions are good. (The body does nothing.)
     pub(crate) fn good(&self)
-        ensures { is_lawful self.now.settings ≡ true }
+        ensures lawful { is_lawful self.now.settings ≡ true }
+        ensures sessions { GoodTable self.now.sessions.table }
     {
         let _ = &self.config;
+        self.sessions.good();
     }
 }

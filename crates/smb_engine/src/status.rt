@@ -8,7 +8,13 @@ ghost use Rattle.smb_engine.specs.Status.{status_code};
 pub enum Status {
     Success,
     InvalidParameter,
+    MoreProcessingRequired,
+    LogonFailure,
     NotSupported,
+    NetworkNameDeleted,
+    BadNetworkName,
+    RequestNotAccepted,
+    UserSessionDeleted,
 }
 
 impl Status {
@@ -19,7 +25,13 @@ impl Status {
         match self {
             Status::Success => 0,
             Status::InvalidParameter => 0xC000_000D,
+            Status::MoreProcessingRequired => 0xC000_0016,
+            Status::LogonFailure => 0xC000_006D,
             Status::NotSupported => 0xC000_00BB,
+            Status::NetworkNameDeleted => 0xC000_00C9,
+            Status::BadNetworkName => 0xC000_00CC,
+            Status::RequestNotAccepted => 0xC000_00D0,
+            Status::UserSessionDeleted => 0xC000_0203,
         }
     }
 }

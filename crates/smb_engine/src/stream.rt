@@ -10,11 +10,12 @@ use super::connection::{Connection, Link};
 use super::output::Sink;
 use super::shared::Shared;
 use smb_frame::FrameBuffer;
+use smb_session::Authenticator;
 
 /// Performs the payloads of the whole frames that are held, in order, and puts out their replies. Ok tells
 /// whether the connection stays open and how many requests were performed; an error, the latter.
-fn take_payloads<K: Sink>(
-    shared: &mut Shared,
+fn take_payloads<A: Authenticator + Drop, K: Sink>(
+    shared: &mut Shared<A>,
     buffer: &mut FrameBuffer,
     connection: &mut Connection,
     number: u64,
@@ -23,20 +24,21 @@ fn take_payloads<K: Sink>(
 ) -> Result<(bool, usize), usize>
     requires { buffer.old.limit ≡ longest_payload }
     ensures ok { IfOk result (λ r. record { shared = shared.new; connection = connection.new; heard = K.content out.new; stays_open = r.0 }
-        ≡ steps_heard K.hears (K.content out.old) (payload_steps number moment shared.old connection.old (payloads longest_payload buffer.old.bytes))) }
+        ≡ steps_heard K.hears (K.content out.old) (payload_steps A.meaning number moment shared.old connection.old (payloads longest_payload buffer.old.bytes))) }
     ensures rest { IfOk result (λ r. IsTrue r.0 → (buffer.new.bytes ≡ rest longest_payload buffer.old.bytes) × (first longest_payload buffer.new.bytes ≡ None)) }
-    ensures done { IfOk result (λ r. shared.new ≡ shared_after_some number moment shared.old connection.old (payloads longest_payload buffer.old.bytes) r.1) }
-    ensures count { IfOk result (λ r. r.1 ≤ count_in_all number moment shared.old connection.old (payloads longest_payload buffer.old.bytes)) }
-    ensures err { IfErr result (λ k. shared.new ≡ shared_after_some number moment shared.old connection.old (payloads longest_payload buffer.old.bytes) k) }
-    ensures within { IfErr result (λ k. k ≤ count_in_all number moment shared.old connection.old (payloads longest_payload buffer.old.bytes)) }
+    ensures done { IfOk result (λ r. shared.new ≡ shared_after_some A.meaning number moment shared.old connection.old (payloads longest_payload buffer.old.bytes) r.1) }
+    ensures count { IfOk result (λ r. r.1 ≤ count_in_all A.meaning number moment shared.old connection.old (payloads longest_payload buffer.old.bytes)) }
+    ensures err { IfErr result (λ k. shared.new ≡ shared_after_some A.meaning number moment shared.old connection.old (payloads longest_payload buffer.old.bytes) k) }
+    ensures within { IfErr result (λ k. k ≤ count_in_all A.meaning number moment shared.old connection.old (payloads longest_payload buffer.old.bytes)) }
     ensures kept { take (length (K.content out.old)) (K.content out.new) ≡ K.content out.old }
     ensures limit { buffer.new.limit ≡ longest_payload }
+    ensures known { shared.new.sessions.table.connections ≡ shared.old.sessions.table.connections }
 {
     let _length = buffer.len();
     let alloc = shared.allocator();
     let mut done = 0;
     while let Some(payload) = buffer.next() {
-        match shared.payload(moment, connection, payload) {
+        match shared.payload(number, moment, connection, payload) {
             Err(k) => return Err(done + k),
             Ok(None) => return Ok((false, done)),
             Ok(Some(replies)) => {
@@ -64,8 +66,8 @@ fn stays_open(open_still: bool, buffer: &FrameBuffer) -> bool
 /// stays open; an error, how many requests were performed.
 ///
 /// After an error nothing was put out. The connection is to be given up then, and where it doesn't stay open.
-pub(crate) fn take_piece<K: Sink>(
-    shared: &mut Shared,
+pub(crate) fn take_piece<A: Authenticator + Drop, K: Sink>(
+    shared: &mut Shared<A>,
     link: &mut Link,
     number: u64,
     moment: u64,
@@ -73,11 +75,12 @@ pub(crate) fn take_piece<K: Sink>(
     out: &mut K,
 ) -> Result<bool, usize>
     requires { Waits link.old }
-    ensures ok { IfOk result (λ stays_open. IsPieceHeld (piece_step number moment shared.old link.old piece.now) shared.new link.new stays_open) }
-    ensures outputs { OnOk result (K.content out.new ≡ K.content out.old ++ flat_map K.hears (piece_step number moment shared.old link.old piece.now).outputs) }
-    ensures err { IfErr result (λ k. shared.new ≡ shared_after_piece number moment shared.old link.old piece.now k) }
-    ensures within { IfErr result (λ k. k ≤ count_in_piece number moment shared.old link.old piece.now) }
+    ensures ok { IfOk result (λ stays_open. IsPieceHeld (piece_step A.meaning number moment shared.old link.old piece.now) shared.new link.new stays_open) }
+    ensures outputs { OnOk result (K.content out.new ≡ K.content out.old ++ flat_map K.hears (piece_step A.meaning number moment shared.old link.old piece.now).outputs) }
+    ensures err { IfErr result (λ k. shared.new ≡ shared_after_piece A.meaning number moment shared.old link.old piece.now k) }
+    ensures within { IfErr result (λ k. k ≤ count_in_piece A.meaning number moment shared.old link.old piece.now) }
     ensures kept { OnErr result (K.content out.new ≡ K.content out.old) }
+    ensures known { shared.new.sessions.table.connections ≡ shared.old.sessions.table.connections }
 {
     let before = out.mark();
     match link.buffer.push(piece) {

@@ -1,8 +1,8 @@
 -- Pairs of bytes and the units that they spell.
-use Rattle.std.proofs.Common.{◌≡◌, ℕ, zero, suc, ◌+◌, ◌*◌, ◌/◌, ◌%◌, ◌^◌, ◌<◌, ◌≤◌, List, [], ◌∷◌, length, get_or, take, drop, map, refl, arith, length-drop}
-use Rattle.std.proofs.lemmas.List.{length-take-le, get_or-drop}
+use Rattle.std.proofs.Common.{◌≡◌, ℕ, zero, suc, ◌+◌, ◌-◌, ◌*◌, ◌/◌, ◌%◌, ◌^◌, ◌<◌, ◌≤◌, List, [], ◌∷◌, length, get_or, take, drop, map, refl, sym, ap, ◌∙◌, arith, length-drop}
+use Rattle.std.proofs.lemmas.List.{length-take-le, get_or-drop, take-map, drop-map}
 use Rattle.std.specs.Simd.{first_chunks}
-use Rattle.std.specs.List.{flat_map}
+use Rattle.std.specs.List.{flat_map, slice_range}
 use Rattle.smb_wire.specs.Number.{IsBytes, number, spelling}
 use Rattle.smb_wire.specs.Pairs.{IsPair, AllPairs, AreUnits, unit_bytes, units_in}
 use Rattle.smb_wire.proofs.Numbers.{spelling_of_number}
@@ -39,6 +39,10 @@ pub all_fit : (pairs : List (List ℕ)) (i : ℕ) → AllPairs pairs → get_or 
 all_fit [] i h = omega arith
 all_fit (p ∷ ps) zero h = pair_fits p (head_pair p ps h)
 all_fit (p ∷ ps) (suc i) h = all_fit ps i (tail_pairs p ps h)
+
+-- a range of the units is the units of a range
+pub units_range : (pairs : List (List ℕ)) (from to : ℕ) → map number (slice_range pairs from to) ≡ slice_range (map number pairs) from to
+units_range pairs from to = sym (ap (λ us. take (to - from) us) (drop-map number from pairs) ∙ take-map number (to - from) (drop from pairs))
 
 take_fits : (n : ℕ) (xs : List ℕ) → IsBytes xs → IsBytes (take n xs)
 take_fits zero xs h i = omega arith

@@ -21,3 +21,17 @@ impl From<AllocError> for WireFault {
         WireFault::NoMemory
     }
 }
+
+/// Why a name is no path, in the order in which it is looked at.
+#[derive(Clone, Copy, Debug, PartialEq, Eq, Error)]
+pub enum PathFault {
+    /// W3: the name begins with a separator.
+    #[error("leading separator")]
+    LeadingSeparator,
+    /// W4: the name has more than 32 components.
+    #[error("too deep")]
+    TooDeep,
+    /// W2: a component has not 1 to 255 units, has a unit that no component may have, or is `.` or `..`.
+    #[error("bad name")]
+    BadName,
+}

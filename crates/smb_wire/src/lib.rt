@@ -1,4 +1,4 @@
-//! What every layer of the protocol reads and writes: numbers, and tables of fields.
+//! What every layer of the protocol reads and writes: numbers, tables of fields, text, names and paths.
 //!
 //! A number is unsigned and stands with its lowest byte first ([MS-SMB2] 2.2). [`u16_at`] and its kin
 //! take any bytes and any place; [`u16_in`] and its kin are for a place that was looked at before; both
@@ -11,16 +11,30 @@
 //! [`laws_of_fields`].
 //!
 //! Text is [`Units`]: UTF-16 units over borrowed bytes, as `specs/Pairs.antt` says.
+//!
+//! Names are compared folded, a to z as A to Z: `specs/Names.antt`. [`same_name`] and [`compare_folded`]
+//! compare borrowed text in place; a [`FoldedName`] is a key of its own. A [`PathView`] is a name cut into
+//! its components, over the same borrowed text; which names are paths, and why the others are none, is
+//! `specs/Paths.antt`. Names and paths allocate nothing.
 #![tactic(auto)]
 
 mod fault;
 mod fields;
+mod folded;
+mod names;
 mod number;
+mod parts;
+mod paths;
+mod split;
 mod units;
 
-pub use fault::WireFault;
+pub use fault::{PathFault, WireFault};
 pub use fields::{laws_of_fields, put_bytes, put_u8, u8_in, u16_in, u32_in, u64_in};
+pub use folded::FoldedName;
+pub use names::{compare_folded, fold_unit, same_name};
 pub use number::{laws_of_numbers, put_u16, put_u32, put_u64, u16_at, u32_at, u64_at};
+pub use paths::PathView;
+pub use split::{laws_of_components, split_path};
 pub use units::{Units, laws_of_units};
 
 #[cfg(test)]

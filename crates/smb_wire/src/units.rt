@@ -13,7 +13,7 @@ pub struct Units<'a> {
 }
 
 impl<'a> Units<'a> {
-    ghost use Rattle.std.specs.Prelude.{◌≡◌, ◌<◌, ◌%◌, nat_eq, length, is_some, slice_index, IfSome};
+    ghost use Rattle.std.specs.Prelude.{◌≡◌, ◌<◌, ◌≤◌, ◌%◌, nat_eq, length, is_some, slice_index, slice_range, IfSome};
     ghost use Rattle.smb_wire.specs.Pairs.{units_in, unit_bytes, AreUnits};
     ghost use Rattle.smb_wire.specs.Units.{units_of};
 
@@ -43,6 +43,16 @@ impl<'a> Units<'a> {
         ensures { result ≡ slice_index (units_of self.entry) i }
     {
         LittleEndian::read_u16(&self.pairs[i])
+    }
+
+    /// The units from `from` to before `to`, which are in order and at most [`len`](Units::len).
+    pub fn range(self, from: usize, to: usize) -> Units<'a>
+        requires order { from ≤ to }
+        requires within { to ≤ length (units_of self) }
+        ensures { units_of result ≡ slice_range (units_of self.entry) from to }
+    {
+        let pairs = &self.pairs[from..to];
+        Units { pairs }
     }
 
     /// The bytes that spell the text.

@@ -1,12 +1,16 @@
 //! The configuration file: TOML.
 
-ghost use Rattle.std.specs.Prelude.{◌≡◌, ◌≤◌, true, IfOk, length};
+ghost use Rattle.std.specs.Prelude.{◌≡◌, ◌≤◌, ◌++◌, ◌∷◌, [], true, false, OnOk, IfOk, length, map};
+ghost use Rattle.std.specs.List.{AllByRecursion, list_any};
+ghost use Rattle.std.specs.Str.{bytes_eq};
+ghost use Rattle.smb_session.specs.Tokens.{HaveOwnTokens};
+ghost use Rattle.smb_session.specs.Answers.{known_user};
 ghost use Rattle.smb_engine.specs.Settings.{settings_of, is_lawful};
 
 use hex::{FromHex, FromHexError};
 use smb_engine::Config;
+use smb_session::{Tokens, User};
 use std::alloc::{AllocError, Global};
-use std::collections::BTreeSet;
 use toml::{Table, Value};
 
 /// The configuration that holds where none is given.
@@ -60,20 +64,11 @@ impl From<FromHexError> for ConfigFault {
     }
 }
 
-/// Who may come in, by a token.
-#[derive(Debug, Drop)]
-pub(crate) struct User {
-    pub(crate) name: String,
-    pub(crate) token: Vec<u8>,
-}
-
-/// What a configuration file says. Its users and `guest` wait for sessions.
+/// What a configuration file says: the share, and who may come in.
 #[derive(Debug, Drop)]
 pub(crate) struct Configuration {
     pub(crate) config: Config,
-    pub(crate) hello: Vec<u8>,
-    pub(crate) guest: bool,
-    pub(crate) users: Vec<User>,
+    pub(crate) authenticator: Tokens,
 }
 
 /// Whether a key is one of these.
@@ -119,36 +114,52 @@ fn read_token(alloc: Global, table: &Table, key: &str) -> Result<Vec<u8>, Config
 }
 
 /// One user.
-fn read_user(alloc: Global, value: &Value) -> Result<User, ConfigFault> {
+fn read_user(alloc: Global, value: &Value) -> Result<User, ConfigFault>
+    ensures { IfOk result (λ user. length user.name.items ≤ 256) }
+{
     let table = value.as_table().ok_or(ConfigFault::Refused)?;
     only_keys(table, &USER_KEYS)?;
-    let name = text(table, "name")?;
+    let name = text(table, "name")?.as_bytes();
     if name.is_empty() || name.len() > NAME_LIMIT {
         return Err(ConfigFault::Refused);
     }
-    Ok(User {
-        name: String::from_str(alloc, name)?,
-        token: read_token(alloc, table, "token")?,
-    })
+    let token = read_token(alloc, table, "token")?;
+    let name = Vec::from_slice(alloc, name)?;
+    Ok(User { name, token })
 }
 
-/// The users, no two of them with one token.
-fn read_users(alloc: Global, table: &Table) -> Result<Vec<User>, ConfigFault> {
+/// Whether one of the users has this token.
+fn is_taken(users: &[User], token: &[u8]) -> bool
+    ensures { result ≡ list_any (λ user. bytes_eq token.now user.token.items) users.now }
+{
+    users.iter().any(|user| token == user.token.as_slice())
+}
+
+/// Adds a user with a token of its own. An error leaves the users as they were.
+fn add_user(users: &mut Vec<User>, user: User) -> Result<(), ConfigFault>
+    requires { list_any (λ other. bytes_eq user.token.items other.token.items) users.old.items ≡ false }
+    ensures { OnOk result (users.new.items ≡ users.old.items ++ user ∷ []) }
+{
+    users.push(user).map_err(AllocError::from)?;
+    Ok(())
+}
+
+/// The users, no two of them with one token. It takes time in proportion to the square of their number.
+fn read_users(alloc: Global, table: &Table) -> Result<Vec<User>, ConfigFault>
+    ensures names { IfOk result (λ users. AllByRecursion (λ user. length user.name.items ≤ 256) users.items) }
+    ensures tokens { IfOk result (λ users. HaveOwnTokens (map known_user users.items)) }
+{
     let mut users = Vec::new(alloc);
     let Some(value) = table.get("user") else {
         return Ok(users);
     };
     let values = value.as_array().ok_or(ConfigFault::Refused)?;
-    let mut tokens = BTreeSet::new(alloc);
     for value in values {
         let user = read_user(alloc, value)?;
-        let is_new = tokens
-            .insert(user.token.clone()?)
-            .map_err(AllocError::from)?;
-        if !is_new {
+        if is_taken(&users, &user.token) {
             return Err(ConfigFault::Refused);
         }
-        users.push(user).map_err(AllocError::from)?;
+        add_user(&mut users, user)?;
     }
     Ok(users)
 }
@@ -157,7 +168,6 @@ impl Configuration {
     /// Reads a configuration whole: every rule is looked at before anything is done by it.
     pub(crate) fn read(alloc: Global, document: &str) -> Result<Self, ConfigFault>
         ensures lawful { IfOk result (λ read. is_lawful (settings_of read.config) ≡ true) }
-        ensures short { IfOk result (λ read. length read.hello.items ≤ 4096) }
     {
         let table = match toml::table_from_str(alloc, document) {
             Ok(table) => table,
@@ -175,14 +185,16 @@ impl Configuration {
         if !config.is_lawful() {
             return Err(ConfigFault::Refused);
         }
+        let hello = read_token(alloc, &table, "hello")?;
+        let guest = table
+            .get("guest")
+            .and_then(Value::as_bool)
+            .ok_or(ConfigFault::Refused)?;
+        let users = read_users(alloc, &table)?;
+        let authenticator = Tokens::new(alloc, &hello, guest, users)?;
         Ok(Configuration {
             config,
-            hello: read_token(alloc, &table, "hello")?,
-            guest: table
-                .get("guest")
-                .and_then(Value::as_bool)
-                .ok_or(ConfigFault::Refused)?,
-            users: read_users(alloc, &table)?,
+            authenticator,
         })
     }
 }

@@ -64,8 +64,9 @@ fn replay<R: Read + Drop, W: Write>(
     let configuration = Configuration::read(alloc, config)?;
     let text = read_input(alloc, input)?;
     let script = Script::read(alloc, &text)?;
-    let mut share = match Share::new(alloc, configuration.config, configuration.hello) {
+    let mut share = match Share::new(alloc, configuration.config, configuration.authenticator) {
         Ok(share) => share,
+        Err(ServeFault::NoMemory { done: _ }) => return Err(CommandFault::NoMemory),
         Err(_) => return Err(CommandFault::ConfigRefused),
     };
     let mut answers = Vec::new(alloc);

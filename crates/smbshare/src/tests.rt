@@ -4,6 +4,7 @@ mod configs;
 mod faults;
 mod lines;
 mod rows;
+mod sessions;
 mod shows;
 
 use super::config::BUILT_IN;

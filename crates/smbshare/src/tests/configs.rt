@@ -1,6 +1,7 @@
 //! The rules of a configuration, each broken once.
 
 use super::super::config::{BUILT_IN, ConfigFault, Configuration};
+use smb_session::{Answer, Authenticator};
 use std::alloc::Global;
 use std::process::Abort;
 use std::test::Fail;
@@ -37,12 +38,19 @@ fn reads_the_built_in(rt: HostRuntime) -> Result<(), Fail> {
     );
     assert_eq!(rt; built_in.config.capacity, 67_108_864);
     assert_eq!(rt; built_in.config.created, 116_444_736_000_000_000);
-    assert!(rt; built_in.hello.is_empty());
-    assert!(rt; !built_in.guest);
-    assert_eq!(rt; built_in.users.len(), 1);
-    if let Some(user) = built_in.users.first() {
-        assert_eq!(rt; user.name.as_str(), "ann");
-        assert_eq!(rt; user.token.as_slice(), b"a".as_slice());
+    let mut authenticator = built_in.authenticator;
+    assert!(rt; authenticator.hello().is_empty());
+    match authenticator.step(1, b"a".as_slice())? {
+        Answer::Accept { user, flags, token } => {
+            assert_eq!(rt; user.as_slice(), b"ann".as_slice());
+            assert_eq!(rt; flags, 0);
+            assert!(rt; token.is_empty());
+        }
+        answer => assert!(rt; false, "{answer:?}"),
+    }
+    match authenticator.step(1, b"b".as_slice())? {
+        Answer::Deny => {}
+        answer => assert!(rt; false, "{answer:?}"),
     }
     Ok(())
 }

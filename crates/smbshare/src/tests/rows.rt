@@ -3,18 +3,14 @@
 use super::super::config::Configuration;
 use super::{ECHO, ECHOED, MOMENT, NEGOTIATE, NEGOTIATED, answers, brings, expand, replays};
 use smb_engine::{Answer, Event, Fate, RunFault, ServeFault, Share};
+use smb_session::Tokens;
 use std::alloc::{AllocError, Global};
 use std::test::Fail;
 
 /// A share of the built-in configuration.
-fn share(alloc: Global) -> Result<Share, Fail> {
+fn share(alloc: Global) -> Result<Share<Tokens>, Fail> {
     let read = Configuration::read(alloc, super::BUILT_IN)?;
-    let mut hello = Vec::new(alloc);
-    hello.extend_from_slice(&read.hello)?;
-    if hello.len() > 4_096 {
-        return Err(Fail::from("a long hello"));
-    }
-    Ok(Share::new(alloc, read.config, hello)?)
+    Ok(Share::new(alloc, read.config, read.authenticator)?)
 }
 
 /// The bytes that words spell.

@@ -5,28 +5,28 @@ use Rattle.smb_engine.proofs.stream.take_payloads.Goals as goal
 
 pub returns-in-Err-clause-err : goal.returns-in-Err-clause-err
 returns-in-Err-clause-err g c =
-    steps_stopped_in g.K.Sink.hears _ _ _ _ _ _ _ _ _ _ _ _ _ _ c.loop-payload.invariant.so_far
+    steps_stopped_in g.A.Authenticator.meaning g.K.Sink.hears _ _ _ _ _ _ _ _ _ _ _ _ _ _ c.loop-payload.invariant.so_far
     (at_limit c.loop-payload.buffer.limit c.loop-payload.buffer.bytes _ c.loop-payload.invariant.limit c.in-Some.ensures.first) c.in-Err.ensures.err.0 c.in-Err.ensures.err.1
 
 pub returns-in-Err-clause-within : goal.returns-in-Err-clause-within
 returns-in-Err-clause-within g c =
-    steps_within g.K.Sink.hears _ _ _ _ _ _ _ _ _ _ _ _ _ c.loop-payload.invariant.so_far
+    steps_within g.A.Authenticator.meaning g.K.Sink.hears _ _ _ _ _ _ _ _ _ _ _ _ _ c.loop-payload.invariant.so_far
     (at_limit c.loop-payload.buffer.limit c.loop-payload.buffer.bytes _ c.loop-payload.invariant.limit c.in-Some.ensures.first) c.in-Err.ensures.err.0
 
 pub returns-in-Ok-None-clause-ok : goal.returns-in-Ok-None-clause-ok
 returns-in-Ok-None-clause-ok g c =
-    steps_over g.K.Sink.hears _ _ _ _ _ _ _ _ _ _ _ _ _ _ c.loop-payload.invariant.so_far
+    steps_over g.A.Authenticator.meaning g.K.Sink.hears _ _ _ _ _ _ _ _ _ _ _ _ _ _ c.loop-payload.invariant.so_far
     (at_limit c.loop-payload.buffer.limit c.loop-payload.buffer.bytes _ c.loop-payload.invariant.limit c.in-Some.ensures.first) (rw c.in-Ok-None.field-0-is at c.in-Ok-None.ensures.ok)
 
 pub returns-in-Ok-None-clause-done : goal.returns-in-Ok-None-clause-done
 returns-in-Ok-None-clause-done g c =
-    refused-shared _ _ _ _ _ _ (rw c.in-Ok-None.field-0-is at c.in-Ok-None.ensures.ok)
-    ∙ steps_stopped g.K.Sink.hears _ _ _ _ _ _ _ _ _ _ _ c.loop-payload.invariant.so_far
+    refused-shared g.A.Authenticator.meaning _ _ _ _ _ _ _ (rw c.in-Ok-None.field-0-is at c.in-Ok-None.ensures.ok)
+    ∙ steps_stopped g.A.Authenticator.meaning g.K.Sink.hears _ _ _ _ _ _ _ _ _ _ _ c.loop-payload.invariant.so_far
 
 pub returns-in-Err-put_replies-clause-err : goal.returns-in-Err-put_replies-clause-err
 returns-in-Err-put_replies-clause-err g c =
-    steps_stopped g.K.Sink.hears _ _ _ _ _ _ _ _ _ _ _
-    (steps_more g.K.Sink.hears _ _ _ _ _ _ _ _ _ _ _ _ _ _ _ _ _ _ c.loop-payload.invariant.so_far
+    steps_stopped g.A.Authenticator.meaning g.K.Sink.hears _ _ _ _ _ _ _ _ _ _ _
+    (steps_more g.A.Authenticator.meaning g.K.Sink.hears _ _ _ _ _ _ _ _ _ _ _ _ _ _ _ _ _ _ c.loop-payload.invariant.so_far
     (at_limit c.loop-payload.buffer.limit c.loop-payload.buffer.bytes _ c.loop-payload.invariant.limit c.in-Some.ensures.first)
     (rw c.in-Ok-Some.field-0-is at c.in-Ok-Some.ensures.ok) (rw c.in-Ok-Some.field-0-is at c.in-Ok-Some.ensures.count)
     (ap (λ b. b.bytes) (c.done.ensures _ (sym c.in-Some.ensures.first))) refl
@@ -35,29 +35,30 @@ returns-in-Err-put_replies-clause-err g c =
 pub returns-in-Err-put_replies-clause-within : goal.returns-in-Err-put_replies-clause-within
 returns-in-Err-put_replies-clause-within g c =
     let n = rw c.in-Ok-Some.field-0-is at c.in-Ok-Some.ensures.count in
-    steps_within g.K.Sink.hears _ _ _ _ _ _ _ _ _ _ _ _ _ c.loop-payload.invariant.so_far
+    steps_within g.A.Authenticator.meaning g.K.Sink.hears _ _ _ _ _ _ _ _ _ _ _ _ _ c.loop-payload.invariant.so_far
     (at_limit c.loop-payload.buffer.limit c.loop-payload.buffer.bytes _ c.loop-payload.invariant.limit c.in-Some.ensures.first) (omega (arith, n))
 
 pub loop-payload-preserved : goal.loop-payload-preserved
 loop-payload-preserved g c = record {
-  so_far = steps_more g.K.Sink.hears _ _ _ _ _ _ _ _ _ _ _ _ _ _ _ _ _ _ c.loop-payload.invariant.so_far
+  so_far = steps_more g.A.Authenticator.meaning g.K.Sink.hears _ _ _ _ _ _ _ _ _ _ _ _ _ _ _ _ _ _ c.loop-payload.invariant.so_far
       (at_limit c.loop-payload.buffer.limit c.loop-payload.buffer.bytes _ c.loop-payload.invariant.limit c.in-Some.ensures.first)
       (rw c.in-Ok-Some.field-0-is at c.in-Ok-Some.ensures.ok) (rw c.in-Ok-Some.field-0-is at c.in-Ok-Some.ensures.count)
       (ap (λ b. b.bytes) (c.done.ensures _ (sym c.in-Some.ensures.first))) (search rules)
       (let n = rw c.in-Ok-Some.field-0-is at c.in-Ok-Some.ensures.count in omega (arith, n, c.payload.ensures.few));
   kept = kept_more _ _ _ c.loop-payload.invariant.kept c.put_replies.ensures.kept;
+  known = c.payload.ensures.known ∙ c.loop-payload.invariant.known;
   limit = ap (λ b. b.limit) (c.done.ensures _ (sym c.in-Some.ensures.first)) ∙ c.loop-payload.invariant.limit;
 }
 
 pub returns-clause-ok : goal.returns-clause-ok
 returns-clause-ok g c =
-    steps_all g.K.Sink.hears _ _ _ _ _ _ _ _ _ _ _ c.loop-payload.invariant.so_far (at_limit c.loop-payload.buffer.limit c.loop-payload.buffer.bytes _ c.loop-payload.invariant.limit c.in_default.ensures.first)
+    steps_all g.A.Authenticator.meaning g.K.Sink.hears _ _ _ _ _ _ _ _ _ _ _ c.loop-payload.invariant.so_far (at_limit c.loop-payload.buffer.limit c.loop-payload.buffer.bytes _ c.loop-payload.invariant.limit c.in_default.ensures.first)
 
 pub returns-clause-rest : goal.returns-clause-rest
 returns-clause-rest g c = λ t. (
-  held_all g.K.Sink.hears _ _ _ _ _ _ _ _ _ _ _ c.loop-payload.invariant.so_far (at_limit c.loop-payload.buffer.limit c.loop-payload.buffer.bytes _ c.loop-payload.invariant.limit c.in_default.ensures.first),
+  held_all g.A.Authenticator.meaning g.K.Sink.hears _ _ _ _ _ _ _ _ _ _ _ c.loop-payload.invariant.so_far (at_limit c.loop-payload.buffer.limit c.loop-payload.buffer.bytes _ c.loop-payload.invariant.limit c.in_default.ensures.first),
   at_limit c.loop-payload.buffer.limit c.loop-payload.buffer.bytes _ c.loop-payload.invariant.limit c.in_default.ensures.first,
 )
 
 pub returns-clause-done : goal.returns-clause-done
-returns-clause-done g c = steps_stopped g.K.Sink.hears _ _ _ _ _ _ _ _ _ _ _ c.loop-payload.invariant.so_far
+returns-clause-done g c = steps_stopped g.A.Authenticator.meaning g.K.Sink.hears _ _ _ _ _ _ _ _ _ _ _ c.loop-payload.invariant.so_far

@@ -3,7 +3,7 @@ use Rattle.smb_engine.proofs.Heard.{same_bytes, bytes_more}
 use Rattle.smb_engine.proofs.share.Share.feed.Goals as goal
 
 pub returns-in-Ok-clause-outputs : goal.returns-in-Ok-clause-outputs
-returns-in-Ok-clause-outputs c = bytes_more c.take-taken.new.out.items c.args.out.now.items (bytes_step c.args.self.now c.args.connection c.args.moment c.args.piece.now).outputs c.in-Ok.ensures.outputs
+returns-in-Ok-clause-outputs g c = bytes_more c.take-taken.new.out.items c.args.out.now.items (bytes_step g.A.Authenticator.meaning c.args.self.now c.args.connection c.args.moment c.args.piece.now).outputs c.in-Ok.ensures.outputs
 
 pub returns-in-Err-clause-kept : goal.returns-in-Err-clause-kept
-returns-in-Err-clause-kept c = same_bytes _ _ c.in-Err.ensures.kept
+returns-in-Err-clause-kept g c = same_bytes _ _ c.in-Err.ensures.kept

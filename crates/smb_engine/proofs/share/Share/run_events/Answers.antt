@@ -4,14 +4,14 @@ use Rattle.smb_engine.proofs.Runs.{run_none, run_more, run_stops}
 use Rattle.smb_engine.proofs.share.Share.run_events.Goals as goal
 
 pub loop-event-init : goal.loop-event-init
-loop-event-init c = record { so_far = run_none _ _ _ (rw (← c.self.view_is) (same_unread _ c.self.invariant.waits)); place = refl }
+loop-event-init g c = record { so_far = run_none g.A.Authenticator.meaning _ _ _ (rw (← c.self.view_is) (same_unread _ c.self.invariant.waits)); place = refl }
 
 pub returns-in-Err-clause-err : goal.returns-in-Err-clause-err
-returns-in-Err-clause-err c =
-    run_stops _ _ _ _ _ _ _ _ _ _ _ c.loop-event.invariant.so_far c.loop-event.invariant.place c.loop-event-test.true c.event-item.is c.in-Err.ensures.err c.in-Err.ensures.kept
+returns-in-Err-clause-err g c =
+    run_stops g.A.Authenticator.meaning _ _ _ _ _ _ _ _ _ _ _ c.loop-event.invariant.so_far c.loop-event.invariant.place c.loop-event-test.true c.event-item.is c.in-Err.ensures.err c.in-Err.ensures.kept
 
 pub loop-event-preserved : goal.loop-event-preserved
-loop-event-preserved c = record {
-  so_far = run_more _ _ _ _ _ _ _ _ _ c.loop-event.invariant.so_far c.loop-event-test.true c.event-item.is c.in-Ok.ensures.unrefused c.in-Ok.ensures.state c.in-Ok.ensures.outputs;
+loop-event-preserved g c = record {
+  so_far = run_more g.A.Authenticator.meaning _ _ _ _ _ _ _ _ _ c.loop-event.invariant.so_far c.loop-event-test.true c.event-item.is c.in-Ok.ensures.unrefused c.in-Ok.ensures.state c.in-Ok.ensures.outputs;
   place = omega arith;
 }

@@ -1,0 +1,49 @@
+//! What answers a request.
+
+ghost use Rattle.std.specs.Prelude.{◌≡◌, ◌≤◌, IfOk, length};
+ghost use Rattle.smb_body.specs.Replies.{reply_value, reply_length, reply_spelling};
+ghost use Rattle.smb_engine.specs.Response.{with_body, failure};
+ghost use Rattle.smb_engine.specs.Held.{response_of};
+
+use super::context::Context;
+use super::status::Status;
+use smb_body::{Reply, write_reply};
+use std::alloc::{AllocError, Global};
+
+/// What answers a request: its status, the session and the tree that it tells, and the body of the reply.
+#[derive(Drop)]
+pub(crate) struct Response {
+    pub(crate) status: Status,
+    pub(crate) under: Context,
+    pub(crate) body: Vec<u8>,
+}
+
+/// A response of this status with this reply's body.
+pub(crate) fn respond(
+    alloc: Global,
+    status: Status,
+    under: Context,
+    reply: &Reply<'_>,
+) -> Result<Response, AllocError>
+    requires { reply_length (reply_value reply.now) ≤ 65552 }
+    ensures ok { IfOk result (λ response. response_of response ≡ with_body under status (reply_value reply.now)) }
+    ensures len { IfOk result (λ response. length response.body.items ≤ 65552) }
+{
+    let mut body = Vec::new(alloc);
+    match write_reply(reply, &mut body) {
+        Ok(()) => Ok(Response {
+            status,
+            under,
+            body,
+        }),
+        Err(_) => Err(AllocError),
+    }
+}
+
+/// A failure.
+pub(crate) fn failure(alloc: Global, under: Context, status: Status) -> Result<Response, AllocError>
+    ensures ok { IfOk result (λ response. response_of response ≡ failure under status) }
+    ensures len { IfOk result (λ response. length response.body.items ≤ 65552) }
+{
+    respond(alloc, status, under, &Reply::Error)
+}

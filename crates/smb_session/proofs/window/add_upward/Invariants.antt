@@ -1,0 +1,9 @@
+use Rattle.std.proofs.Common.{◌≡◌, ◌+◌, ◌++◌, length}
+use Rattle.smb_session.specs.Window.{upward}
+use Rattle.smb_session.proofs.window.add_upward.Given as goal
+
+abbrev pub invariant-loop-i : goal.invariant-loop-i
+invariant-loop-i l = record {
+  items : l.usable.items ≡ l.fn.usable.items ++ upward l.first l.i;
+  len : length l.usable.items ≡ length l.fn.usable.items + l.i;
+}

@@ -1,0 +1,20 @@
+-- What an authenticator means: who a client is, and the tokens of the exchange that finds it out ([MS-SMB2] 3.3.5.5.3).
+use Rattle.std.specs.Prelude.{ℕ, ◌≤◌, List, length}
+
+-- an answer to a client's token: more is to come, with a token; a user is accepted, with session flags and a last token; or no
+pub data Answered : Type 0 where
+  continues : List ℕ → Answered
+  accepts : List ℕ → ℕ → List ℕ → Answered
+  denies : Answered
+
+-- an authenticator as functions of its state: the token that it offers first, and what a session and a token are answered and leave
+pub record Meaning (S : Type 0) : Type 0 where
+  pub hello : S → List ℕ
+  pub answer : S → ℕ → List ℕ → Answered
+  pub next : S → ℕ → List ℕ → S
+
+-- the sizes of an answer: a token has at most 4,096 bytes, a user at most 256, and the flags are IS_GUEST 1 and IS_NULL 2 (2.2.6)
+abbrev pub IsLawful : Answered → Type 0
+IsLawful (continues token) = length token ≤ 4096
+IsLawful (accepts user flags token) = (length user ≤ 256) × (flags ≤ 3) × (length token ≤ 4096)
+IsLawful denies = Unit {0}

@@ -1,0 +1,30 @@
+-- What the table holds besides: for each connection the numbers of its sessions.
+use Rattle.std.specs.Prelude.{◌≡◌, ℕ, ◌-◌, List, map}
+use Rattle.std.specs.Option.{option_map_or}
+use Rattle.std.specs.List.{AllByRecursion}
+use Rattle.std.specs.Map.{lookup}
+use Rattle.std.specs.BTreeMap.{is_at}
+use Rattle.std.specs.Ordering.{nat_cmp}
+use Rattle.smb_session.specs.Numbers.{without_number}
+use Rattle.smb_session.specs.Session.{SessionState}
+use Rattle.smb_session.specs.Table.{TableState, numbers_on, changed_at, ended}
+use Rattle.smb_session.specs.Good.{GoodTable}
+
+-- the table, without its index
+abbrev pub table_of : List (ℕ × List ℕ) → List (ℕ × SessionState) → ℕ → TableState
+table_of index sessions next = record { connections = map (λ e. e.0) index; sessions = sessions; next = next }
+
+-- the index without a session that stands
+abbrev pub index_without : List (ℕ × List ℕ) → List (ℕ × SessionState) → ℕ → List (ℕ × List ℕ)
+index_without index sessions number = option_map_or
+    (λ session. changed_at (λ numbers. without_number numbers number) session.connection index)
+    (lookup (is_at (nat_cmp number)) sessions) index
+
+-- the table as it was before its last session began
+abbrev pub withdrawn : TableState → TableState
+withdrawn table = record (ended table (table.next - 1)) { next = table.next - 1 }
+
+-- the table is good, and the index has each connection's sessions
+pub record IsHeld (index : List (ℕ × List ℕ)) (sessions : List (ℕ × SessionState)) (next : ℕ) : Type 0 where
+  pub good : GoodTable (table_of index sessions next)
+  pub indexed : AllByRecursion (λ e. e.1 ≡ numbers_on sessions e.0) index

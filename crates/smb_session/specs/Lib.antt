@@ -1,0 +1,15 @@
+pub mod Numbers
+pub mod Window
+pub mod Authenticator
+pub mod Answers
+pub mod Scripted
+pub mod Tokens
+pub mod Negotiate
+pub mod Session
+pub mod Table
+pub mod Good
+pub mod Held
+pub mod Path
+pub mod Setup
+pub mod Done
+pub mod Sessions

@@ -1,0 +1,79 @@
+-- SESSION_SETUP ([MS-SMB2] 3.3.5.5).
+use Rattle.std.specs.Prelude.{ℕ, Bool, false, ◌||◌, ◌==◌, not, nat_le, bit_and, List, [], length, Option, None, Some, is_some, if◌then◌else◌}
+use Rattle.std.specs.Option.{option_map_or, option_eq}
+use Rattle.std.specs.Str.{bytes_eq}
+use Rattle.smb_session.specs.declared.fault.SessionFault.{SessionFault}
+use Rattle.smb_session.specs.declared.fault.SessionFault.TheVariants.{UnknownSession, NotAccepted}
+use Rattle.smb_session.specs.declared.setup.SetupStatus.{SetupStatus}
+use Rattle.smb_session.specs.declared.setup.SetupStatus.TheVariants.{Success, MoreProcessingRequired, LogonFailure}
+use Rattle.smb_session.specs.Numbers.{contains}
+use Rattle.smb_session.specs.Session.{SessionState, finished_by}
+use Rattle.smb_session.specs.Table.{TableState, session_at, numbers_on, begun, ended, changed}
+use Rattle.smb_session.specs.Authenticator.{Answered, continues, accepts, denies}
+
+-- a connection that can begin no session: it is not known, it has 16 of them (unfinished ones count), or the numbers are spent
+abbrev pub has_all_sessions : TableState → ℕ → Bool
+has_all_sessions table connection =
+    not (contains table.connections connection)
+    || nat_le 16 (length (numbers_on table.sessions connection))
+    || (table.next == 18446744073709551615)
+
+-- why a session that stands is not set up further: it is another connection's, or finished
+abbrev pub standing_refusal : ℕ → SessionState → Option SessionFault
+standing_refusal connection session =
+    if not (session.connection == connection) then Some UnknownSession else
+    if is_some session.user then Some NotAccepted else None
+
+-- why the authenticator is not asked, the first that holds: BINDING (0x01) is set; SessionId 0 asks for a session that cannot begin;
+-- SessionId names none of this connection, or a finished one
+abbrev pub setup_refusal : TableState → ℕ → ℕ → ℕ → Option SessionFault
+setup_refusal table connection number flags =
+    if not (bit_and flags 1 == 0) then Some NotAccepted else
+    if number == 0 then (if has_all_sessions table connection then Some NotAccepted else None) else
+    option_map_or (standing_refusal connection) (session_at table number) (Some UnknownSession)
+
+-- the session that is set up: SessionId 0 asks for a new one
+abbrev pub setup_number : TableState → ℕ → ℕ
+setup_number table number = if number == 0 then table.next else number
+
+-- the table as the authenticator is asked: a new session has begun (3.3.5.5.1)
+abbrev pub setup_table : TableState → ℕ → ℕ → TableState
+setup_table table connection number = if number == 0 then begun table connection else table
+
+-- a session that is finished, by this user
+abbrev pub is_of_user : List ℕ → SessionState → Bool
+is_of_user user session = option_eq bytes_eq session.user (Some user)
+
+-- the session that an accepted one ends: that of PreviousSessionId, where it is finished and of the same user, on whatever
+-- connection. It is another one, since the one that is accepted was not finished before (3.3.5.5.3)
+abbrev pub previous_ended : TableState → List ℕ → ℕ → Option ℕ
+previous_ended table user previous =
+    if option_map_or (is_of_user user) (session_at table previous) false then Some previous else None
+
+-- an accepted session is finished, and the previous one ends
+abbrev pub accepted : TableState → ℕ → List ℕ → ℕ → TableState
+accepted table number user previous =
+    changed (finished_by user) (option_map_or (ended table) (previous_ended table user previous) table) number
+
+-- the table after an answer about a session
+abbrev pub answered : TableState → ℕ → ℕ → Answered → TableState
+answered table number previous (continues token) = table
+answered table number previous (accepts user flags token) = accepted table number user previous
+answered table number previous denies = ended table number
+
+-- what is told of an answer: the session's number, the status, session flags, a token, and the session that ended
+pub record Told : Type 0 where
+  pub session : ℕ
+  pub status : SetupStatus
+  pub flags : ℕ
+  pub token : List ℕ
+  pub ended : Option ℕ
+
+-- and by each answer
+abbrev pub told : TableState → ℕ → ℕ → Answered → Told
+told table number previous (continues token) =
+    record { session = number; status = MoreProcessingRequired; flags = 0; token = token; ended = None }
+told table number previous (accepts user flags token) =
+    record { session = number; status = Success; flags = flags; token = token; ended = previous_ended table user previous }
+told table number previous denies =
+    record { session = number; status = LogonFailure; flags = 0; token = []; ended = None }

@@ -1,0 +1,102 @@
+-- The table of sessions, with their trees ([MS-SMB2] 3.3.1.5, 3.3.1.8, 3.3.1.9).
+use Rattle.std.specs.Prelude.{ℕ, ◌+◌, Bool, false, ◌&&◌, ◌==◌, not, List, [], ◌∷◌, ◌++◌, Option, None, Some, is_some, if◌then◌else◌, slice_get}
+use Rattle.std.specs.Option.{option_map_or}
+use Rattle.std.specs.Map.{lookup, remove_entry}
+use Rattle.std.specs.BTreeMap.{is_at}
+use Rattle.std.specs.Ordering.{nat_cmp}
+use Rattle.smb_session.specs.declared.fault.SessionFault.{SessionFault}
+use Rattle.smb_session.specs.declared.fault.SessionFault.TheVariants.{UnknownSession, UnknownTree}
+use Rattle.smb_session.specs.Numbers.{contains, with_number, without_number}
+use Rattle.smb_session.specs.Session.{SessionState, fresh_session, with_tree, without_tree}
+
+-- the connections that are known and the sessions by their numbers, both in rising order, and the next session's number
+pub record TableState : Type 0 where
+  pub connections : List ℕ
+  pub sessions : List (ℕ × SessionState)
+  pub next : ℕ
+
+-- no connection, and the first session will be 1
+abbrev pub no_sessions : TableState
+no_sessions = record { connections = []; sessions = []; next = 1 }
+
+-- the session of a number
+abbrev pub session_at : TableState → ℕ → Option SessionState
+session_at table number = lookup (is_at (nat_cmp number)) table.sessions
+
+-- the numbers of a connection's sessions
+abbrev pub numbers_on : List (ℕ × SessionState) → ℕ → List ℕ
+numbers_on [] connection = []
+numbers_on (e ∷ sessions) connection =
+    if e.1.connection == connection then e.0 ∷ numbers_on sessions connection else numbers_on sessions connection
+
+-- a connection more; one that is known already changes nothing
+abbrev pub connected : TableState → ℕ → TableState
+connected table connection =
+    if contains table.connections connection then table else record table { connections = with_number table.connections connection }
+
+-- a session more, which has begun on a connection and has the next number
+abbrev pub begun : TableState → ℕ → TableState
+begun table connection =
+    record table { sessions = table.sessions ++ (table.next, fresh_session connection) ∷ []; next = table.next + 1 }
+
+-- a session and its trees are gone
+abbrev pub ended : TableState → ℕ → TableState
+ended table number = record table { sessions = remove_entry (is_at (nat_cmp number)) table.sessions }
+
+-- what stands at a number is changed, where something does
+abbrev pub changed_at : {X : Type 0} → (X → X) → ℕ → List (ℕ × X) → List (ℕ × X)
+changed_at change number [] = []
+changed_at change number (e ∷ entries) =
+    if number == e.0 then (e.0, change e.1) ∷ entries else e ∷ changed_at change number entries
+
+-- the session of a number is changed, where there is one
+abbrev pub changed : (SessionState → SessionState) → TableState → ℕ → TableState
+changed change table number = record table { sessions = changed_at change number table.sessions }
+
+-- whether a number is that of a finished session of this connection (3.3.5.2.9)
+abbrev pub knows_session : TableState → ℕ → ℕ → Bool
+knows_session table connection number =
+    option_map_or (λ session. (session.connection == connection) && is_some session.user) (session_at table number) false
+
+-- whether a session is connected to a tree (3.3.5.2.11)
+abbrev pub knows_tree : TableState → ℕ → ℕ → Bool
+knows_tree table number tree = option_map_or (λ session. contains session.trees tree) (session_at table number) false
+
+-- both, or where no tree is named the first alone
+abbrev pub knows : TableState → ℕ → ℕ → Option ℕ → Bool
+knows table connection number None = knows_session table connection number
+knows table connection number (Some tree) = knows_session table connection number && knows_tree table number tree
+
+-- LOGOFF: only a finished session of the connection is logged off (3.3.5.6)
+abbrev pub logoff_refusal : TableState → ℕ → ℕ → Option SessionFault
+logoff_refusal table connection number = if knows_session table connection number then None else Some UnknownSession
+
+-- TREE_DISCONNECT: the session, then the tree (3.3.5.8)
+abbrev pub tree_disconnect_refusal : TableState → ℕ → ℕ → ℕ → Option SessionFault
+tree_disconnect_refusal table connection number tree =
+    if not (knows_session table connection number) then Some UnknownSession else
+    if knows_tree table number tree then None else Some UnknownTree
+
+-- and then the tree is gone
+abbrev pub tree_disconnected : TableState → ℕ → ℕ → TableState
+tree_disconnected table number tree = changed (without_tree tree) table number
+
+-- TREE_CONNECT: the tree that a session is given, which is its next one (3.3.5.7)
+abbrev pub next_tree_of : TableState → ℕ → ℕ
+next_tree_of table number = option_map_or (λ session. session.next_tree) (session_at table number) 0
+
+-- and the table with it
+abbrev pub tree_connected : TableState → ℕ → TableState
+tree_connected = changed with_tree
+
+-- what an end of a connection leaves, and the session that it tells
+pub record EndStep : Type 0 where
+  pub table : TableState
+  pub told : Option ℕ
+
+-- the end of a connection: its least session ends and is told; where it has none, the connection is known no longer (3.3.7.1)
+abbrev pub end_connection_step : TableState → ℕ → EndStep
+end_connection_step table connection = option_map_or
+    (λ number. record { table = ended table number; told = Some number })
+    (slice_get (numbers_on table.sessions connection) 0)
+    (record { table = record table { connections = without_number table.connections connection }; told = None })

@@ -1,0 +1,42 @@
+-- The authenticator with a list of tokens.
+use Rattle.std.specs.Prelude.{◌≡◌, ℕ, Bool, false, List, [], ◌∷◌, codes, find, Option, if◌then◌else◌}
+use Rattle.std.specs.Option.{option_map_or}
+use Rattle.std.specs.List.{AllByRecursion}
+use Rattle.std.specs.Str.{bytes_eq}
+use Rattle.smb_session.specs.Authenticator.{Answered, accepts, denies, Meaning}
+
+-- a user and the token by which it is known
+pub record KnownUser : Type 0 where
+  pub name : List ℕ
+  pub token : List ℕ
+
+-- its first token, whether guests may come, and the users
+pub record TokenList : Type 0 where
+  pub hello : List ℕ
+  pub guest : Bool
+  pub users : List KnownUser
+
+-- the user of a token
+abbrev pub user_of : List KnownUser → List ℕ → Option KnownUser
+user_of users token = find (λ user. bytes_eq user.token token) users
+
+-- where a token is no user's: a guest, with IS_GUEST, where guests may come (2.2.6)
+abbrev pub answer_to_stranger : Bool → Answered
+answer_to_stranger guest = if guest then accepts (codes "guest") 1 [] else denies
+
+-- a user's token brings that user, and another a guest or a denial. The token answered is empty
+abbrev pub token_answer : Bool → List KnownUser → List ℕ → Answered
+token_answer guest users token = option_map_or (λ user. accepts user.name 0 []) (user_of users token) (answer_to_stranger guest)
+
+-- answers by the list, which stays as it is
+abbrev pub by_tokens : Meaning TokenList
+by_tokens = record {
+  hello = λ list. list.hello;
+  answer = λ list session token. token_answer list.guest list.users token;
+  next = λ list session token. list;
+}
+
+-- no two users share a token
+abbrev pub HaveOwnTokens : List KnownUser → Type 0
+HaveOwnTokens [] = Unit {0}
+HaveOwnTokens (user ∷ users) = AllByRecursion (λ other. bytes_eq other.token user.token ≡ false) users × HaveOwnTokens users

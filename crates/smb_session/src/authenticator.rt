@@ -1,0 +1,47 @@
+//! Who finds out who a client is ([MS-SMB2] 3.3.5.5.3).
+
+ghost use Rattle.std.specs.Prelude.{◌≡◌, ◌≤◌, length, IfOk, OnOk, OnErr};
+ghost use Rattle.smb_session.specs.Authenticator.{IsLawful};
+ghost use Rattle.smb_session.specs.Answers.{answered_by};
+
+use std::alloc::AllocError;
+
+/// What an authenticator answers to a client's token.
+#[derive(Debug, Drop)]
+pub enum Answer {
+    /// More is to come: the client is to answer this token.
+    Continue(Vec<u8>),
+    /// The client is a user.
+    Accept {
+        /// The user, of at most 256 bytes: two sessions are of the same user where these are equal.
+        user: Vec<u8>,
+        /// Session flags: 1 a guest, 2 without a name ([MS-SMB2] 2.2.6).
+        flags: u16,
+        /// The last token, of at most 4,096 bytes.
+        token: Vec<u8>,
+    },
+    /// The client is not let in.
+    Deny,
+}
+
+/// Finds out who a client is, by an exchange of tokens.
+///
+/// What it does is `meaning`: functions of its state. Tokens have at most 4,096 bytes and users at most 256;
+/// flags are 0 to 3.
+pub trait Authenticator {
+    ghost use Rattle.smb_session.specs.Authenticator.{Meaning};
+
+    ghost meaning: { Meaning Self };
+
+    /// The token that it offers before any exchange, in each NEGOTIATE response.
+    fn hello(&self) -> &[u8]
+        ensures value { result.now ≡ meaning.hello self.now }
+        ensures short { length result.now ≤ 4096 };
+
+    /// Takes a client's token in the exchange for a session. Want of memory changes nothing.
+    fn step(&mut self, session: u64, token: &[u8]) -> Result<Answer, AllocError>
+        ensures answer { IfOk result (λ answer. answered_by answer ≡ meaning.answer self.old session token.now) }
+        ensures next { OnOk result (self.new ≡ meaning.next self.old session token.now) }
+        ensures lawful { IfOk result (λ answer. IsLawful (answered_by answer)) }
+        ensures err { OnErr result (self.new ≡ self.old) };
+}

@@ -1,0 +1,301 @@
+//! The sessions over an authenticator.
+
+ghost use Rattle.std.specs.Prelude.{◌≡◌, ◌≤◌, true, false, Some, None, OnOk, OnErr, IfOk, IfErr, length, if◌then◌else◌};
+ghost use Rattle.std.specs.Option.{option_map_or};
+ghost use Rattle.smb_wire.specs.Pairs.{units_in};
+ghost use Rattle.smb_wire.specs.Units.{units_of};
+ghost use Rattle.smb_session.specs.Negotiate.{best_of};
+ghost use Rattle.smb_session.specs.Session.{has_all_trees};
+ghost use Rattle.smb_session.specs.Table.{session_at, connected, begun, ended, knows, logoff_refusal, tree_disconnect_refusal, tree_disconnected, next_tree_of, tree_connected, end_connection_step};
+ghost use Rattle.smb_session.specs.Setup.{has_all_sessions, setup_refusal};
+ghost use Rattle.smb_session.specs.Sessions.{new_sessions, asked_step, setup_step, tree_connect_refusal, IsRefused};
+ghost use Rattle.smb_session.specs.Done.{told_by};
+ghost use Rattle.smb_session.specs.Good.{GoodTable};
+
+use super::authenticator::{Answer, Authenticator};
+use super::dialect::{Dialect, best_dialect};
+use super::fault::SessionFault;
+use super::path::leads_to;
+use super::setup::{SetupAsk, SetupDone, SetupStatus};
+use super::table::Table;
+use smb_wire::Units;
+use std::alloc::{AllocError, Global};
+use std::marker::Model;
+
+/// The sessions of all connections, with their trees, and the authenticator that lets clients in.
+#[derive(Drop)]
+pub struct Sessions<A: Authenticator + Drop> {
+    alloc: Global,
+    authenticator: A,
+    share: Vec<u8>,
+    table: Table,
+}
+
+impl<A: Authenticator + Drop> Model for Sessions<A> {
+    ghost use Rattle.std.specs.Prelude.{◌≡◌, ◌%◌, length};
+    ghost use Rattle.smb_wire.specs.Pairs.{units_in};
+    ghost use Rattle.smb_session.specs.Sessions.{SessionsState};
+
+    ghost Value = { SessionsState A };
+
+    ghost view = { λ s. record { authenticator = s.authenticator; share = units_in s.share.items; table = s.table } };
+
+    ghost invariant = { λ s. length s.share.items % 2 ≡ 0 };
+}
+
+impl<A: Authenticator + Drop> Sessions<A> {
+    /// No connection and no session, for the share of this name.
+    ///
+    /// Fails where the name cannot be copied.
+    pub fn new(alloc: Global, authenticator: A, share: Units<'_>) -> Result<Self, SessionFault>
+        ensures ok { IfOk result (λ sessions. sessions ≡ new_sessions authenticator (units_of share.entry)) }
+        ensures err { IfErr result (λ fault. fault ≡ SessionFault.NoMemory) }
+    {
+        let share = Vec::from_slice(alloc, share.bytes())?;
+        Ok(Sessions {
+            alloc,
+            authenticator,
+            share,
+            table: Table::new(alloc),
+        })
+    }
+
+    /// The same, where the first session will have this number.
+    #[cfg(test)]
+    pub(crate) fn starting_at(alloc: Global, authenticator: A, next: u64) -> Self
+        requires { 1 ≤ next }
+    {
+        Sessions {
+            alloc,
+            authenticator,
+            share: Vec::new(alloc),
+            table: Table::starting_at(alloc, next),
+        }
+    }
+
+    /// Makes a connection known; one that is known already stays as it is.
+    ///
+    /// [`SessionFault::NoMemory`], which changes nothing, is the only refusal.
+    pub fn connect(&mut self, connection: u64) -> Result<(), SessionFault>
+        ensures ok { OnOk result (self.new ≡ record self.old { table = connected self.old.table connection }) }
+        ensures err { IfErr result (λ fault. fault ≡ SessionFault.NoMemory) }
+        ensures kept { OnErr result (self.new ≡ self.old) }
+    {
+        self.table.connect(connection)?;
+        Ok(())
+    }
+
+    /// The greatest dialect of the share among those that the bytes spell, two bytes each ([MS-SMB2]
+    /// 3.3.5.4); a last odd byte is passed over. It is the same for every connection.
+    ///
+    /// [`SessionFault::NoDialect`] where none is spoken.
+    pub fn negotiate(&self, _connection: u64, dialects: &[u8]) -> Result<Dialect, SessionFault>
+        ensures { result ≡ option_map_or Ok (best_of (units_in dialects.now)) (Err SessionFault.NoDialect) }
+    {
+        match best_dialect(dialects) {
+            Some(dialect) => Ok(dialect),
+            None => Err(SessionFault::NoDialect),
+        }
+    }
+
+    /// The token that the authenticator offers, of at most 4,096 bytes.
+    pub fn hello(&self) -> &[u8]
+        ensures value { result.now ≡ A.meaning.hello self.now.authenticator }
+        ensures short { length result.now ≤ 4096 }
+    {
+        self.authenticator.hello()
+    }
+
+    /// Whether this is a finished session of the connection ([MS-SMB2] 3.3.5.2.9), and where a tree is named
+    /// is connected to it ([MS-SMB2] 3.3.5.2.11).
+    pub fn knows(&self, connection: u64, session: u64, tree: Option<u32>) -> bool
+        ensures { result ≡ knows self.now.table connection session tree }
+    {
+        self.table.knows(connection, session, tree)
+    }
+
+    /// Asks the authenticator about a session, and performs its answer.
+    fn ask(&mut self, session: u64, ask: &SetupAsk<'_>) -> Result<SetupDone, AllocError>
+        ensures step { IfOk result (λ done. record { state = self.new; told = told_by done } ≡ asked_step A.meaning self.old session ask.now.previous_session ask.now.token.now) }
+        ensures flags { IfOk result (λ done. done.flags ≤ 3) }
+        ensures token { IfOk result (λ done. length done.token.items ≤ 4096) }
+        ensures kept { OnErr result (self.new ≡ self.old) }
+    {
+        match self.authenticator.step(session, ask.token)? {
+            Answer::Continue(token) => Ok(SetupDone {
+                session,
+                status: SetupStatus::MoreProcessingRequired,
+                flags: 0,
+                token,
+                ended: None,
+            }),
+            Answer::Accept { user, flags, token } => {
+                let ended = self.table.accept(session, user, ask.previous_session);
+                Ok(SetupDone {
+                    session,
+                    status: SetupStatus::Success,
+                    flags,
+                    token,
+                    ended,
+                })
+            }
+            Answer::Deny => {
+                self.table.end(session);
+                Ok(SetupDone {
+                    session,
+                    status: SetupStatus::LogonFailure,
+                    flags: 0,
+                    token: Vec::new(self.alloc),
+                    ended: None,
+                })
+            }
+        }
+    }
+
+    /// Begins a session on a connection that can have one, and asks about it.
+    fn begin(&mut self, connection: u64, ask: &SetupAsk<'_>) -> Result<SetupDone, AllocError>
+        requires { has_all_sessions self.old.table connection ≡ false }
+        ensures step { IfOk result (λ done. record { state = self.new; told = told_by done }
+            ≡ asked_step A.meaning (record self.old { table = begun self.old.table connection }) self.old.table.next ask.now.previous_session ask.now.token.now) }
+        ensures flags { IfOk result (λ done. done.flags ≤ 3) }
+        ensures token { IfOk result (λ done. length done.token.items ≤ 4096) }
+        ensures kept { OnErr result (self.new ≡ self.old) }
+    {
+        let session = self.table.begin(connection)?;
+        match self.ask(session, ask) {
+            Ok(done) => Ok(done),
+            Err(error) => {
+                self.table.withdraw();
+                Err(error)
+            }
+        }
+    }
+
+    /// A SESSION_SETUP ([MS-SMB2] 3.3.5.5): `session` is the header's SessionId, 0 for a new session. The
+    /// authenticator is asked once, where nothing is refused. A denial is no refusal: it is told, and the
+    /// session is gone.
+    ///
+    /// Refused are, in this order: BINDING, [`SessionFault::NotAccepted`]; with SessionId 0 a 17th session
+    /// of the connection, one past the last number, or one of a connection that is not known,
+    /// [`SessionFault::NotAccepted`]; a number of no session of this connection,
+    /// [`SessionFault::UnknownSession`], and of a finished one, [`SessionFault::NotAccepted`]. Each, and
+    /// [`SessionFault::NoMemory`], changes nothing.
+    pub fn setup(
+        &mut self,
+        connection: u64,
+        session: u64,
+        ask: &SetupAsk<'_>,
+    ) -> Result<SetupDone, SessionFault>
+        ensures unrefused { OnOk result (setup_refusal self.old.table connection session ask.now.flags ≡ None) }
+        ensures step { IfOk result (λ done. record { state = self.new; told = told_by done }
+            ≡ setup_step A.meaning self.old connection session ask.now.previous_session ask.now.token.now) }
+        ensures flags { IfOk result (λ done. done.flags ≤ 3) }
+        ensures token { IfOk result (λ done. length done.token.items ≤ 4096) }
+        ensures err { IfErr result (IsRefused (setup_refusal self.old.table connection session ask.now.flags)) }
+        ensures kept { OnErr result (self.new ≡ self.old) }
+    {
+        if let Some(fault) = self.table.setup_refusal(connection, session, ask.flags) {
+            return Err(fault);
+        }
+        let done = if session == 0 {
+            self.begin(connection, ask)
+        } else {
+            self.ask(session, ask)
+        };
+        match done {
+            Ok(done) => Ok(done),
+            Err(_) => Err(SessionFault::NoMemory),
+        }
+    }
+
+    /// Ends a session of a connection, with its trees ([MS-SMB2] 3.3.5.6).
+    ///
+    /// [`SessionFault::UnknownSession`], which changes nothing, where it is not a finished session of the
+    /// connection.
+    pub fn logoff(&mut self, connection: u64, session: u64) -> Result<(), SessionFault>
+        ensures unrefused { OnOk result (logoff_refusal self.old.table connection session ≡ None) }
+        ensures state { OnOk result (self.new ≡ record self.old { table = ended self.old.table session }) }
+        ensures err { IfErr result (λ fault. logoff_refusal self.old.table connection session ≡ Some fault) }
+        ensures kept { OnErr result (self.new ≡ self.old) }
+    {
+        let known = self.table.knows(connection, session, None);
+        if !known {
+            return Err(SessionFault::UnknownSession);
+        }
+        self.table.end(session);
+        Ok(())
+    }
+
+    /// Connects a session to the share that a path names, `\\server\share`, and gives the tree's number: 1, 2,
+    /// 3 and so on in each session, none twice ([MS-SMB2] 3.3.5.7).
+    ///
+    /// Refused are, in this order: what is not a finished session of the connection,
+    /// [`SessionFault::UnknownSession`]; another path, [`SessionFault::NoShare`]; a 17th tree, or one past
+    /// the last number, [`SessionFault::NotAccepted`]. Each changes nothing.
+    #[tactic(auto, using(crate::proofs::Steps::finished_known))]
+    pub fn tree_connect(
+        &mut self,
+        connection: u64,
+        session: u64,
+        path: Units<'_>,
+    ) -> Result<u32, SessionFault>
+        ensures unrefused { OnOk result (tree_connect_refusal self.old connection session (units_of path.entry) ≡ None) }
+        ensures number { IfOk result (λ tree. tree ≡ next_tree_of self.old.table session) }
+        ensures state { OnOk result (self.new ≡ record self.old { table = tree_connected self.old.table session }) }
+        ensures err { IfErr result (λ fault. tree_connect_refusal self.old connection session (units_of path.entry) ≡ Some fault) }
+        ensures kept { OnErr result (self.new ≡ self.old) }
+    {
+        if !self.table.knows(connection, session, None) {
+            return Err(SessionFault::UnknownSession);
+        }
+        if !leads_to(&self.share, path) {
+            return Err(SessionFault::NoShare);
+        }
+        if self.table.has_all_trees(session) {
+            return Err(SessionFault::NotAccepted);
+        }
+        Ok(self.table.add_tree(session))
+    }
+
+    /// Disconnects a session from a tree ([MS-SMB2] 3.3.5.8).
+    ///
+    /// Refused are, in this order: what is not a finished session of the connection,
+    /// [`SessionFault::UnknownSession`]; a tree that the session is not connected to,
+    /// [`SessionFault::UnknownTree`]. Each changes nothing.
+    pub fn tree_disconnect(
+        &mut self,
+        connection: u64,
+        session: u64,
+        tree: u32,
+    ) -> Result<(), SessionFault>
+        ensures unrefused { OnOk result (tree_disconnect_refusal self.old.table connection session tree ≡ None) }
+        ensures state { OnOk result (self.new ≡ record self.old { table = tree_disconnected self.old.table session tree }) }
+        ensures err { IfErr result (λ fault. tree_disconnect_refusal self.old.table connection session tree ≡ Some fault) }
+        ensures kept { OnErr result (self.new ≡ self.old) }
+    {
+        if !self.table.knows(connection, session, None) {
+            return Err(SessionFault::UnknownSession);
+        }
+        if !self.table.knows(connection, session, Some(tree)) {
+            return Err(SessionFault::UnknownTree);
+        }
+        self.table.drop_tree(session, tree);
+        Ok(())
+    }
+
+    /// Ends a connection's least session, finished or not, and tells its number. With none left the
+    /// connection is known no longer, and the answer is None.
+    pub fn end_connection(&mut self, connection: u64) -> Option<u64>
+        ensures table { record { table = self.new.table; told = result } ≡ end_connection_step self.old.table connection }
+        ensures kept { self.new ≡ record self.old { table = self.new.table } }
+    {
+        self.table.end_connection(connection)
+    }
+
+    /// What holds of the sessions between calls. (The body does nothing.)
+    pub fn good(&self)
+        ensures { GoodTable self.now.table }
+    {
+        self.table.good();
+    }
+}

@@ -1,0 +1,118 @@
+//! An authenticator with a list of tokens.
+
+ghost use Rattle.std.specs.Prelude.{◌≡◌, ◌≤◌, [], length, map, find, option_copied, IfOk};
+ghost use Rattle.std.specs.List.{AllByRecursion};
+ghost use Rattle.std.specs.Str.{bytes_eq};
+ghost use Rattle.smb_session.specs.Authenticator.{accepts, IsLawful};
+ghost use Rattle.smb_session.specs.Tokens.{TokenList, token_answer, HaveOwnTokens};
+ghost use Rattle.smb_session.specs.Answers.{answered_by, known_user};
+
+use super::authenticator::{Answer, Authenticator};
+use std::alloc::{AllocError, Global};
+use std::marker::Model;
+
+/// A user, and the token by which it is known.
+#[derive(Debug, Drop)]
+pub struct User {
+    /// At most 256 bytes.
+    pub name: Vec<u8>,
+    pub token: Vec<u8>,
+}
+
+/// Knows users by their tokens. Any other token brings a guest, where guests may come.
+#[derive(Debug, Drop)]
+pub struct Tokens {
+    alloc: Global,
+    hello: Vec<u8>,
+    guest: bool,
+    users: Vec<User>,
+}
+
+impl Model for Tokens {
+    ghost use Rattle.smb_session.specs.Tokens.{TokenList};
+
+    ghost Value = { TokenList };
+
+    ghost use Rattle.std.specs.Prelude.{◌≤◌, length, map};
+    ghost use Rattle.std.specs.List.{AllByRecursion};
+    ghost use Rattle.smb_session.specs.Answers.{known_user};
+
+    ghost view = { λ t. record { hello = t.hello.items; guest = t.guest; users = map known_user t.users.items } };
+
+    ghost invariant = { λ t. (length t.hello.items ≤ 4096) × AllByRecursion (λ user. length user.name.items ≤ 256) t.users.items };
+}
+
+/// The user of a token.
+fn find_user<'a>(users: &'a [User], token: &[u8]) -> Option<&'a User>
+    ensures { option_copied result ≡ find (λ user. bytes_eq user.token.items token.now) users.now }
+{
+    users.iter().find(|user| user.token.as_slice() == token)
+}
+
+/// A user accepted, with a copy of its name and no token.
+fn accept(alloc: Global, user: &[u8], flags: u16) -> Result<Answer, AllocError>
+    requires user { length user.now ≤ 256 }
+    requires flags { flags ≤ 3 }
+    ensures answer { IfOk result (λ answer. answered_by answer ≡ accepts user.now flags []) }
+    ensures lawful { IfOk result (λ answer. IsLawful (answered_by answer)) }
+{
+    Ok(Answer::Accept {
+        user: Vec::from_slice(alloc, user)?,
+        flags,
+        token: Vec::new(alloc),
+    })
+}
+
+/// What a token is answered.
+#[tactic(auto, using(crate::proofs::Users::known_found, crate::proofs::Users::known_absent, crate::proofs::Users::name_found))]
+fn answer_to(alloc: Global, guest: bool, users: &[User], token: &[u8]) -> Result<Answer, AllocError>
+    requires { AllByRecursion (λ user. length user.name.items ≤ 256) users.now }
+    ensures answer { IfOk result (λ answer. answered_by answer ≡ token_answer guest (map known_user users.now) token.now) }
+    ensures lawful { IfOk result (λ answer. IsLawful (answered_by answer)) }
+{
+    match find_user(users, token) {
+        Some(user) => accept(alloc, &user.name, 0),
+        None if guest => accept(alloc, b"guest", 1),
+        None => Ok(Answer::Deny),
+    }
+}
+
+impl Tokens {
+    /// An authenticator that offers `hello` first, of at most 4,096 bytes, and knows these users: no two of
+    /// them share a token.
+    ///
+    /// Fails where the first token cannot be copied.
+    pub fn new(
+        alloc: Global,
+        hello: &[u8],
+        guest: bool,
+        users: Vec<User>,
+    ) -> Result<Self, AllocError>
+        requires hello { length hello.now ≤ 4096 }
+        requires names { AllByRecursion (λ user. length user.name.items ≤ 256) users.items }
+        requires tokens { HaveOwnTokens (map known_user users.items) }
+        ensures { IfOk result (λ tokens. tokens ≡ record { hello = hello.now; guest = guest; users = map known_user users.items }) }
+    {
+        let hello = Vec::from_slice(alloc, hello)?;
+        Ok(Tokens {
+            alloc,
+            hello,
+            guest,
+            users,
+        })
+    }
+}
+
+impl Authenticator for Tokens {
+    ghost use Rattle.smb_session.specs.Tokens.{by_tokens};
+
+    ghost meaning = { by_tokens };
+
+    fn hello(&self) -> &[u8] {
+        &self.hello
+    }
+
+    fn step(&mut self, _session: u64, token: &[u8]) -> Result<Answer, AllocError> {
+        answer_to(self.alloc, self.guest, &self.users, token)
+    }
+}

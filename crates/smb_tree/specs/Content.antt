@@ -1,0 +1,89 @@
+-- What a tree contains: each entry at its path, in the order of their numbers.
+use Rattle.std.specs.Prelude.{ℕ, ◌+◌, ◌-◌, ◌^◌, Bool, ◌==◌, nat_eq, nat_le, if◌then◌else◌, List, [], ◌∷◌, ◌++◌, length, take, sum_by, replicate, Option, None, Some}
+use Rattle.std.specs.Option.{option_map}
+use Rattle.std.specs.Cmp.Lexicographic.{pointwise}
+use Rattle.smb_wire.specs.Paths.{folded_path}
+use Rattle.smb_tree.specs.declared.entry.Basic.{Basic}
+use Rattle.smb_tree.specs.declared.entry.Kind.{Kind}
+use Rattle.smb_tree.specs.declared.entry.Kind.TheVariants.{Folder}
+use Rattle.smb_tree.specs.Entries.{Entry, kept_basic, new_entry, allocation_size}
+
+-- a path: its components, folded
+abbrev pub Path : Type 0
+Path = List (List ℕ)
+
+abbrev pub is_same_path : Path → Path → Bool
+is_same_path = pointwise (pointwise nat_eq)
+
+-- an entry at its path
+abbrev pub Row : Type 0
+Row = Path × Entry
+
+-- the entries, in the order of their numbers, the next number, and how many bytes of space there are
+pub record Content : Type 0 where
+  pub rows : List Row
+  pub next : ℕ
+  pub capacity : ℕ
+
+-- the entry at a path
+abbrev pub entry_at : List Row → Path → Option Entry
+entry_at [] path = None
+entry_at (row ∷ rows) path = if is_same_path row.0 path then Some row.1 else entry_at rows path
+
+-- the entry of a number, with its path
+abbrev pub numbered : List Row → ℕ → Option Row
+numbered [] number = None
+numbered (row ∷ rows) number = if row.1.number == number then Some row else numbered rows number
+
+-- the number of the entry at a path
+abbrev pub number_at : List Row → Path → Option ℕ
+number_at rows path = option_map (λ entry. entry.number) (entry_at rows path)
+
+-- the path in which a path's last component stands; the root stands in itself
+abbrev pub parent : Path → Path
+parent path = take (length path - 1) path
+
+-- the next number; none is left once the greatest but one of 64 bits was given
+abbrev pub next_number : Content → Option ℕ
+next_number content = if nat_le (2 ^ 64 - 1) content.next then None else Some content.next
+
+-- the space that entries take
+abbrev pub used_space : List Row → ℕ
+used_space = sum_by (λ row. allocation_size (length row.1.bytes))
+
+-- the content of a new tree: the root alone, with no attributes
+abbrev pub new_content : ℕ → ℕ → Content
+new_content created capacity = record {
+  rows = ([], new_entry 1 [] Folder 0 created) ∷ [];
+  next = 2;
+  capacity = capacity;
+}
+
+-- a new entry at the path that these components spell, under the next number
+abbrev pub added : Content → List (List ℕ) → Kind → ℕ → ℕ → Content
+added content parts kind attributes moment = record content {
+  rows = content.rows ++ (folded_path parts, new_entry content.next parts kind attributes moment) ∷ [];
+  next = content.next + 1;
+}
+
+-- the entry of this number changed
+abbrev pub changed : (Entry → Entry) → List Row → ℕ → List Row
+changed change [] number = []
+changed change (row ∷ rows) number =
+    if row.1.number == number then (row.0, change row.1) ∷ rows else row ∷ changed change rows number
+
+-- bytes with another size: cut, or with zeros behind them
+abbrev pub resized : ℕ → List ℕ → List ℕ
+resized size bytes = take size bytes ++ replicate (size - length bytes) 0
+
+-- the file of this number with another size
+abbrev pub with_size : Content → ℕ → ℕ → Content
+with_size content number size = record content {
+  rows = changed (λ entry. record entry { bytes = resized size entry.bytes }) content.rows number;
+}
+
+-- the entry of this number with other times and attributes
+abbrev pub with_basic : Content → ℕ → Basic → Content
+with_basic content number basic = record content {
+  rows = changed (λ entry. record entry { basic = kept_basic basic }) content.rows number;
+}

@@ -1,0 +1,33 @@
+-- Why a change of a tree is refused: the first reason that holds. Want of memory stands apart.
+use Rattle.std.specs.Prelude.{ℕ, ◌-◌, ◌^◌, not, ◌||◌, nat_le, nat_lt, is_some, if◌then◌else◌, length, Option, None, Some}
+use Rattle.smb_tree.specs.declared.fault.TreeFault.{TreeFault}
+use Rattle.smb_tree.specs.declared.fault.TreeFault.TheVariants.{Absent, ParentAbsent, Exists, TooDeep, Full}
+use Rattle.smb_tree.specs.Entries.{Entry, is_folder, is_folder_kind}
+use Rattle.smb_tree.specs.Content.{Path, Row, Content, entry_at, numbered, parent, used_space, with_size}
+
+-- of an entry that would be added at a path, by what stands where, how many entries there are, and the next
+-- number: 4,096 entries besides the root are the most, and the greatest number but one of 64 bits is the last
+abbrev pub add_fault_by : (Path → Option Entry) → ℕ → ℕ → Path → Option TreeFault
+add_fault_by entry_at_path count next path =
+    if not (is_folder (entry_at_path (parent path))) then Some ParentAbsent else
+    if is_some (entry_at_path path) then Some Exists else
+    if nat_lt 32 (length path) then Some TooDeep else
+    if nat_le 4096 (count - 1) || nat_le (2 ^ 64 - 1) next then Some Full else None
+
+abbrev pub add_fault : Content → Path → Option TreeFault
+add_fault content path = add_fault_by (entry_at content.rows) (length content.rows) content.next path
+
+-- of a size that an entry would get: 16,777,216 bytes are the most, and the space used afterwards is within
+-- the capacity
+abbrev pub size_fault_of : Content → ℕ → ℕ → Option Row → Option TreeFault
+size_fault_of content number size None = Some Absent
+size_fault_of content number size (Some row) =
+    if is_folder_kind row.1.kind then Some Absent else
+    if nat_lt 16777216 size || nat_lt content.capacity (used_space (with_size content number size).rows) then Some Full else None
+
+abbrev pub size_fault : Content → ℕ → ℕ → Option TreeFault
+size_fault content number size = size_fault_of content number size (numbered content.rows number)
+
+-- of times and attributes that an entry would get
+abbrev pub basic_fault : Content → ℕ → Option TreeFault
+basic_fault content number = if is_some (numbered content.rows number) then None else Some Absent

@@ -1,0 +1,10 @@
+-- The text of a stored path: a whole number of units, whose components are lawful.
+use Rattle.std.specs.Prelude.{◌≡◌, ℕ, ◌%◌, List, length, true}
+use Rattle.std.specs.List.{list_all}
+use Rattle.smb_wire.specs.Pairs.{units_in}
+use Rattle.smb_wire.specs.Paths.{components, is_lawful_component}
+
+-- these bytes spell a path
+pub record SpellPath (bytes : List ℕ) : Type 0 where
+  pub even : length bytes % 2 ≡ 0
+  pub lawful : list_all is_lawful_component (components (units_in bytes)) ≡ true

@@ -1,0 +1,82 @@
+//! What an entry is.
+
+ghost use Rattle.std.specs.Prelude.{◌≡◌};
+ghost use Rattle.smb_tree.specs.Entries.{is_folder_kind, kept_basic, new_basic};
+
+use smb_wire::Units;
+
+/// The number of an entry: the root has 1, the entries that are added 2, 3 and so on, each once.
+pub type EntryNo = u64;
+
+/// Whether an entry is a file or a folder.
+#[derive(Clone, Copy, Debug, PartialEq, Eq)]
+pub enum Kind {
+    /// A file: it has bytes.
+    File,
+    /// A folder: entries stand in it.
+    Folder,
+}
+
+impl Kind {
+    /// Whether it is a folder.
+    pub fn is_folder(self) -> bool
+        ensures { result ≡ is_folder_kind self }
+    {
+        matches!(self, Kind::Folder)
+    }
+}
+
+/// The attributes that an entry keeps: READONLY 1, HIDDEN 2, SYSTEM 4, ARCHIVE 0x20 ([MS-FSCC] 2.6).
+pub const KEPT_ATTRIBUTES: u32 = 0x27;
+
+/// The times of an entry, in units of 100 ns since 1601, and its attributes ([MS-FSCC] 2.4.7).
+#[derive(Clone, Copy, Debug, PartialEq, Eq)]
+pub struct Basic {
+    pub creation_time: u64,
+    pub last_access_time: u64,
+    pub last_write_time: u64,
+    pub change_time: u64,
+    /// The kept attributes; a tree drops other bits.
+    pub attributes: u32,
+}
+
+impl Basic {
+    /// An entry's times and attributes as it is added at a moment.
+    pub fn of(attributes: u32, moment: u64) -> Basic
+        ensures { result ≡ new_basic attributes moment }
+    {
+        Basic {
+            creation_time: moment,
+            last_access_time: moment,
+            last_write_time: moment,
+            change_time: moment,
+            attributes: attributes & KEPT_ATTRIBUTES,
+        }
+    }
+
+    /// The same, without the attributes that are not kept.
+    pub fn kept(self) -> Basic
+        ensures { result ≡ kept_basic self }
+    {
+        Basic {
+            attributes: self.attributes & KEPT_ATTRIBUTES,
+            ..self
+        }
+    }
+}
+
+/// An entry as it stands.
+#[derive(Clone, Copy, Debug)]
+pub struct EntryView<'a> {
+    pub number: EntryNo,
+    /// The number of the folder in which it stands; the root's is its own.
+    pub parent: EntryNo,
+    pub kind: Kind,
+    pub basic: Basic,
+    /// The number of a file's bytes; a folder has none.
+    pub size: u64,
+    /// The entry goes once its last open is closed.
+    pub mark: bool,
+    /// The last component of its path, as it is spelled; the root's is empty.
+    pub spelling: Units<'a>,
+}

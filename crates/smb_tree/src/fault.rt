@@ -1,0 +1,51 @@
+//! Why a call of a tree refuses.
+
+ghost use Rattle.std.specs.Prelude.{◌≡◌};
+ghost use Rattle.smb_tree.specs.declared.fault.TreeFault.TheVariants.{NoMemory};
+
+use smb_wire::WireFault;
+use std::alloc::AllocError;
+use thiserror::Error;
+
+/// A refusal, in the order in which it is looked at; the tree is as it was.
+#[derive(Clone, Copy, Debug, PartialEq, Eq, Error)]
+pub enum TreeFault {
+    /// E1: no entry has the number; where the call is about a file's bytes, also where it is a folder.
+    #[error("absent")]
+    Absent,
+    /// E3: the folder in which the entry would stand is absent, or a file.
+    #[error("parent absent")]
+    ParentAbsent,
+    /// E2: an entry stands at the path.
+    #[error("exists")]
+    Exists,
+    /// E4: the folder has children.
+    #[error("not empty")]
+    NotEmpty,
+    /// E7: the path has more than 32 components.
+    #[error("too deep")]
+    TooDeep,
+    /// E5: there are 4,096 entries besides the root, the numbers are spent, the file would have more than
+    /// 16,777,216 bytes, or the used space would pass the capacity.
+    #[error("full")]
+    Full,
+    /// E6: an allocation was refused.
+    #[error("no memory")]
+    NoMemory,
+}
+
+impl From<AllocError> for TreeFault {
+    ghost from_gives = { λ _ fault. fault ≡ NoMemory };
+
+    fn from(_error: AllocError) -> TreeFault {
+        TreeFault::NoMemory
+    }
+}
+
+impl From<WireFault> for TreeFault {
+    ghost from_gives = { λ _ fault. fault ≡ NoMemory };
+
+    fn from(_fault: WireFault) -> TreeFault {
+        TreeFault::NoMemory
+    }
+}

@@ -1,0 +1,30 @@
+//! The tree of files and folders: which entry stands at which path.
+//!
+//! A [`Tree`] has a content: the entries at their paths, in the order of their numbers, with the next number
+//! and the capacity (`specs/Content.antt`). A path is a list of folded components; the entry at a path, and
+//! the entry of a number, is the first one found in the list. Every call answers by the content and changes it
+//! as its clauses say; why one is refused is `specs/Faults.antt`, the first reason that holds, and a refusal
+//! leaves the tree as it was. That the list is a finite map from paths, in which no path and no number stands
+//! twice, is the contract of [`laws_of_contents`].
+//!
+//! Code over a `T: Tree` knows all this of every tree. [`PlainTree`] is one: a list of entries, each with its
+//! whole path and its bytes.
+#![tactic(auto)]
+
+mod entry;
+mod fault;
+mod laws;
+mod look;
+mod plain;
+mod stored;
+mod texts;
+mod tree;
+
+pub use entry::{Basic, EntryNo, EntryView, KEPT_ATTRIBUTES, Kind};
+pub use fault::TreeFault;
+pub use laws::laws_of_contents;
+pub use plain::{MOST_BYTES, PlainTree};
+pub use tree::Tree;
+
+#[cfg(test)]
+mod tests;

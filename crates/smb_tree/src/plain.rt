@@ -1,0 +1,195 @@
+//! The plain tree: a list of entries.
+
+ghost use Rattle.std.specs.Prelude.{◌≡◌, ◌≤◌, ◌+◌, ◌-◌, ◌++◌, ◌∷◌, [], ◌||◌, Bool, None, Some, IfOk, IfErr, OnOk, OnErr, if◌then◌else◌, nat_lt, length};
+ghost use Rattle.smb_tree.specs.Content.{resized, new_content};
+ghost use Rattle.smb_tree.specs.Entries.{allocation_size, kept_basic, is_folder_kind};
+ghost use Rattle.smb_tree.specs.Plain.{row_of, rows_of};
+ghost use Rattle.smb_tree.specs.declared.fault.TreeFault.TheVariants.{NoMemory, Absent, Full};
+
+use super::entry::{Basic, EntryNo, EntryView, Kind};
+use super::fault::TreeFault;
+use super::look::{add_fault, place_of, stored_at, view_of};
+use super::stored::Stored;
+use super::tree::Tree;
+use smb_wire::PathView;
+use std::alloc::{AllocError, Global};
+use std::marker::Model;
+
+/// The most bytes of a file.
+pub const MOST_BYTES: u64 = 16_777_216;
+
+// The size of a cluster.
+const CLUSTER: u64 = 4096;
+
+/// A tree that is a list of entries, each with its whole path and its bytes. A look-up goes through the list.
+#[derive(Drop)]
+pub struct PlainTree {
+    entries: Vec<Stored>,
+    next: EntryNo,
+    used: u64,
+    capacity: u64,
+    alloc: Global,
+}
+
+impl Model for PlainTree {
+    ghost use Rattle.smb_tree.specs.Content.{Content};
+
+    ghost Value = { Content };
+
+    ghost use Rattle.smb_tree.specs.Tree.{content_kept, KeepsUsed};
+
+    ghost view = { content_kept };
+
+    ghost invariant = { KeepsUsed };
+}
+
+impl PlainTree {
+    /// A tree that has the root alone, its four times `created` (in units of 100 ns since 1601), with so many
+    /// bytes of space. [`NoMemory`](TreeFault::NoMemory) is the only refusal.
+    pub fn new(alloc: Global, created: u64, capacity: u64) -> Result<PlainTree, TreeFault>
+        ensures ok { IfOk result (λ tree. tree ≡ new_content created capacity) }
+        ensures err { IfErr result (λ fault. fault ≡ NoMemory) }
+    {
+        let mut entries = Vec::new(alloc);
+        let root = Stored {
+            text: Vec::new(alloc),
+            bytes: Vec::new(alloc),
+            number: 1,
+            kind: Kind::Folder,
+            basic: Basic::of(0, created),
+            mark: false,
+        };
+        put(&mut entries, root)?;
+        Ok(PlainTree {
+            entries,
+            next: 2,
+            used: 0,
+            capacity,
+            alloc,
+        })
+    }
+}
+
+// Adds a stored entry at the end.
+fn put(entries: &mut Vec<Stored>, stored: Stored) -> Result<(), AllocError>
+    ensures ok { OnOk result (rows_of entries.new.items ≡ rows_of entries.old.items ++ row_of stored ∷ []) }
+    ensures err { OnErr result (entries.new.items ≡ entries.old.items) }
+{
+    entries.push(stored)?;
+    Ok(())
+}
+
+// The space that so many bytes take.
+fn allocation_size(size: u64) -> u64
+    requires { size ≤ 16777216 }
+    ensures { result ≡ allocation_size size }
+{
+    size.div_ceil(CLUSTER) * CLUSTER
+}
+
+// The first fault of a size that a stored entry would get, where the other entries use so much space.
+fn size_fault(stored: &Stored, others: u64, capacity: u64, size: u64) -> Option<TreeFault>
+    ensures { result ≡ (if is_folder_kind stored.now.kind then Some Absent else if nat_lt 16777216 size || nat_lt capacity (others + allocation_size size) then Some Full else None) }
+{
+    if stored.kind.is_folder() {
+        return Some(TreeFault::Absent);
+    }
+    if size > MOST_BYTES || capacity < others || capacity - others < allocation_size(size) {
+        return Some(TreeFault::Full);
+    }
+    None
+}
+
+// Gives a stored entry another size.
+fn resize(stored: &mut Stored, size: u64) -> Result<(), AllocError>
+    requires { size ≤ 16777216 }
+    ensures ok { OnOk result (row_of stored.new ≡ ((row_of stored.old).0, record (row_of stored.old).1 { bytes = resized size stored.old.bytes.items })) }
+    ensures err { OnErr result (row_of stored.new ≡ row_of stored.old) }
+{
+    stored.bytes.resize(size as usize, 0)?;
+    Ok(())
+}
+
+// Gives a stored entry other times and attributes.
+fn rebase(stored: &mut Stored, basic: Basic)
+    ensures { row_of stored.new ≡ ((row_of stored.old).0, record (row_of stored.old).1 { basic = kept_basic basic }) }
+{
+    stored.basic = basic.kept();
+}
+
+impl Tree for PlainTree {
+    ghost content = { λ content. content };
+
+    fn find(&self, path: &PathView<'_>) -> Option<EntryNo> {
+        let stored = stored_at(&self.entries, path.text())?;
+        Some(stored.number)
+    }
+
+    fn entry(&self, number: EntryNo) -> Option<EntryView<'_>> {
+        let i = place_of(&self.entries, number)?;
+        Some(view_of(&self.entries, &self.entries[i]))
+    }
+
+    fn next_no(&self) -> Option<EntryNo> {
+        if self.next == EntryNo::MAX {
+            None
+        } else {
+            Some(self.next)
+        }
+    }
+
+    fn used(&self) -> u64 {
+        self.used
+    }
+
+    fn capacity(&self) -> u64 {
+        self.capacity
+    }
+
+    fn add(
+        &mut self,
+        path: &PathView<'_>,
+        kind: Kind,
+        attributes: u32,
+        moment: u64,
+    ) -> Result<EntryNo, TreeFault> {
+        if let Some(fault) = add_fault(&self.entries, self.next, path) {
+            return Err(fault);
+        }
+        let number = self.next;
+        let text = Vec::from_slice(self.alloc, path.text().bytes())?;
+        let stored = Stored {
+            text,
+            bytes: Vec::new(self.alloc),
+            number,
+            kind,
+            basic: Basic::of(attributes, moment),
+            mark: false,
+        };
+        put(&mut self.entries, stored)?;
+        self.next = number + 1;
+        Ok(number)
+    }
+
+    fn set_size(&mut self, number: EntryNo, size: u64) -> Result<(), TreeFault> {
+        let Some(i) = place_of(&self.entries, number) else {
+            return Err(TreeFault::Absent);
+        };
+        let stored = &self.entries[i];
+        let others = self.used - allocation_size(stored.bytes.len() as u64);
+        if let Some(fault) = size_fault(stored, others, self.capacity, size) {
+            return Err(fault);
+        }
+        resize(&mut self.entries[i], size)?;
+        self.used = others + allocation_size(size);
+        Ok(())
+    }
+
+    fn set_basic(&mut self, number: EntryNo, basic: Basic) -> Result<(), TreeFault> {
+        let Some(i) = place_of(&self.entries, number) else {
+            return Err(TreeFault::Absent);
+        };
+        rebase(&mut self.entries[i], basic);
+        Ok(())
+    }
+}

@@ -1,0 +1,83 @@
+//! The tree that every layer above speaks to.
+
+ghost use Rattle.std.specs.Prelude.{◌≡◌, ◌≢◌, None, Some, OnOk, OnErr, IfOk, IfErr};
+ghost use Rattle.std.specs.Option.{option_map};
+ghost use Rattle.smb_wire.specs.Paths.{folded_path};
+ghost use Rattle.smb_wire.specs.PathViews.{parts_of};
+ghost use Rattle.smb_tree.specs.Content.{number_at, next_number, used_space, added, with_size, with_basic};
+ghost use Rattle.smb_tree.specs.Faults.{add_fault, size_fault, basic_fault};
+ghost use Rattle.smb_tree.specs.Views.{shown, entry_shown};
+ghost use Rattle.smb_tree.specs.declared.fault.TreeFault.TheVariants.{NoMemory};
+
+use super::entry::{Basic, EntryNo, EntryView, Kind};
+use super::fault::TreeFault;
+use smb_wire::PathView;
+
+/// A tree of files and folders. Its content is the list of entries at their paths, with the next entry
+/// number and the capacity; every call answers by it, and changes it as it says. After a refusal it is as it
+/// was.
+pub trait Tree {
+    ghost use Rattle.smb_tree.specs.Content.{Content};
+
+    ghost content: { Self → Content };
+
+    /// The number of the entry at a path, or None.
+    fn find(&self, path: &PathView<'_>) -> Option<EntryNo>
+        ensures { result ≡ number_at (content self.now).rows (folded_path (parts_of path.now)) };
+
+    /// The entry of a number as it stands, or None.
+    fn entry(&self, number: EntryNo) -> Option<EntryView<'_>>
+        ensures { option_map shown result ≡ entry_shown (content self.now).rows number };
+
+    /// The number that the next entry gets, or None once the numbers are spent: the last is the greatest but
+    /// one of 64 bits.
+    fn next_no(&self) -> Option<EntryNo>
+        ensures { result ≡ next_number (content self.now) };
+
+    /// How many bytes of space the files use, each in whole clusters of 4,096 bytes.
+    fn used(&self) -> u64
+        ensures { result ≡ used_space (content self.now).rows };
+
+    /// How many bytes of space there are.
+    fn capacity(&self) -> u64
+        ensures { result ≡ (content self.now).capacity };
+
+    /// Adds an entry with no bytes, its four times the moment (in units of 100 ns since 1601), with the kept
+    /// ones of the attributes, and tells its number.
+    ///
+    /// [`ParentAbsent`](TreeFault::ParentAbsent) where no folder stands around the path,
+    /// [`Exists`](TreeFault::Exists) where an entry stands there, [`Full`](TreeFault::Full) where 4,096
+    /// entries stand besides the root or the numbers are spent, [`NoMemory`](TreeFault::NoMemory) where an
+    /// allocation is refused.
+    fn add(
+        &mut self,
+        path: &PathView<'_>,
+        kind: Kind,
+        attributes: u32,
+        moment: u64,
+    ) -> Result<EntryNo, TreeFault>
+        ensures ok { OnOk result (content self.new ≡ added (content self.old) (parts_of path.now) kind attributes moment) }
+        ensures number { IfOk result (λ number. number ≡ (content self.old).next) }
+        ensures lawful { OnOk result (add_fault (content self.old) (folded_path (parts_of path.now)) ≡ None) }
+        ensures err { OnErr result (content self.new ≡ content self.old) }
+        ensures why { IfErr result (λ fault. fault ≢ NoMemory → add_fault (content self.old) (folded_path (parts_of path.now)) ≡ Some fault) };
+
+    /// Gives a file another size: its bytes are cut, or get zeros behind them.
+    ///
+    /// [`Absent`](TreeFault::Absent) where no file has the number, [`Full`](TreeFault::Full) over 16,777,216
+    /// bytes or where the used space would pass the capacity, [`NoMemory`](TreeFault::NoMemory) where an
+    /// allocation is refused.
+    fn set_size(&mut self, number: EntryNo, size: u64) -> Result<(), TreeFault>
+        ensures ok { OnOk result (content self.new ≡ with_size (content self.old) number size) }
+        ensures lawful { OnOk result (size_fault (content self.old) number size ≡ None) }
+        ensures err { OnErr result (content self.new ≡ content self.old) }
+        ensures why { IfErr result (λ fault. fault ≢ NoMemory → size_fault (content self.old) number size ≡ Some fault) };
+
+    /// Gives an entry other times and attributes, of which it keeps those that are kept.
+    /// [`Absent`](TreeFault::Absent) where no entry has the number.
+    fn set_basic(&mut self, number: EntryNo, basic: Basic) -> Result<(), TreeFault>
+        ensures ok { OnOk result (content self.new ≡ with_basic (content self.old) number basic) }
+        ensures lawful { OnOk result (basic_fault (content self.old) number ≡ None) }
+        ensures err { OnErr result (content self.new ≡ content self.old) }
+        ensures why { IfErr result (λ fault. basic_fault (content self.old) number ≡ Some fault) };
+}
