@@ -1,8 +1,8 @@
 //! The rules of a configuration, each broken once.
 
 use super::super::config::{BUILT_IN, ConfigFault, Configuration};
-use smb_session::{Answer, Authenticator};
-use std::alloc::Global;
+use smb_session::{Answer, Authenticator, Tokens};
+use std::alloc::{AllocError, Global};
 use std::process::Abort;
 use std::test::Fail;
 
@@ -27,6 +27,16 @@ fn refuses(rt: &impl Abort, alloc: Global, changes: &[(&str, &str)]) {
     }
 }
 
+/// Whether a token brings this user, with no flags and with an empty token.
+fn accepts(authenticator: &mut Tokens, token: &[u8], name: &[u8]) -> Result<bool, AllocError> {
+    match authenticator.step(1, token)? {
+        Answer::Accept { user, flags, token } => {
+            Ok(user.as_slice() == name && flags == 0 && token.is_empty())
+        }
+        _ => Ok(false),
+    }
+}
+
 #[test]
 fn reads_the_built_in(rt: HostRuntime) -> Result<(), Fail> {
     let built_in = Configuration::read(rt.alloc(), BUILT_IN)?;
@@ -40,18 +50,8 @@ fn reads_the_built_in(rt: HostRuntime) -> Result<(), Fail> {
     assert_eq!(rt; built_in.config.created, 116_444_736_000_000_000);
     let mut authenticator = built_in.authenticator;
     assert!(rt; authenticator.hello().is_empty());
-    match authenticator.step(1, b"a".as_slice())? {
-        Answer::Accept { user, flags, token } => {
-            assert_eq!(rt; user.as_slice(), b"ann".as_slice());
-            assert_eq!(rt; flags, 0);
-            assert!(rt; token.is_empty());
-        }
-        answer => assert!(rt; false, "{answer:?}"),
-    }
-    match authenticator.step(1, b"b".as_slice())? {
-        Answer::Deny => {}
-        answer => assert!(rt; false, "{answer:?}"),
-    }
+    assert!(rt; accepts(&mut authenticator, b"a", b"ann")?);
+    assert!(rt; !accepts(&mut authenticator, b"b", b"ann")?);
     Ok(())
 }
 
@@ -131,7 +131,7 @@ fn takes_the_edges(rt: HostRuntime) -> Result<(), Fail> {
 }
 
 /// So many times two digits.
-fn digits(alloc: Global, count: u32) -> Result<String, std::alloc::AllocError> {
+fn digits(alloc: Global, count: u32) -> Result<String, AllocError> {
     let mut text = String::from_str(alloc, "hello = \"")?;
     for _ in 0..count {
         text.push_str("5a")?;
