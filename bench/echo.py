@@ -7,19 +7,11 @@
 Eight connections take turns; each stream is cut into pieces of 1, 7 and 4,096 bytes. Frames of one ECHO,
 and of chains of 16. Four times the requests should cost about four times the time.
 """
-import multiprocessing
-import os
-import subprocess
-import sys
-import tempfile
-import time
-
 from frames import echoes, negotiate
+from runs import piece, replayed
 
-PROGRAM = os.path.join(os.path.dirname(__file__), '..', 'crates', 'smbshare', 'out', 'smbshare')
 CONNECTIONS = 8
 PIECES = [1, 7, 4096]
-MOMENT = 116444736000000000
 
 
 def pieces(stream):
@@ -40,32 +32,16 @@ def write_replay(path, each, chain):
         for number in range(1, CONNECTIONS + 1):
             text.write(f'+ {number}\n')
         for turn in zip(*(list(pieces(stream)) for stream in streams)):
-            for number, piece in enumerate(turn, 1):
-                text.write(f'> {number} {MOMENT} {piece.hex()}\n')
+            for number, part in enumerate(turn, 1):
+                piece(text, number, part)
 
 
 def measure(requests, chain):
     each = requests // CONNECTIONS // chain
-    with tempfile.TemporaryDirectory() as folder:
-        replay, answers = os.path.join(folder, 'replay'), os.path.join(folder, 'answers')
-        # In a process of its own: the peak of the program counts what its parent holds.
-        writer = multiprocessing.Process(target=write_replay, args=(replay, each, chain))
-        writer.start()
-        writer.join()
-        with open(replay) as stdin, open(answers, 'w') as stdout:
-            start = time.monotonic()
-            process = subprocess.Popen([PROGRAM], stdin=stdin, stdout=stdout)
-            _, status, usage = os.wait4(process.pid, 0)
-            seconds = time.monotonic() - start
-        with open(answers) as lines:
-            count = sum(1 for _ in lines)
-        want = CONNECTIONS * (1 + each)
-        if status != 0 or count != want:
-            sys.exit(f'status {status}, {count} lines and not {want}')
-        text = os.path.getsize(replay) / 1e6
+    seconds, peak, text = replayed(write_replay, (each, chain), lambda line: True, CONNECTIONS * (1 + each))
     stream = CONNECTIONS * (len(negotiate()) + each * len(echoes(1, chain))) / 1e6
     print(f'| {requests:,} | {chain} | {stream:.1f} | {text:.1f} | {seconds:.2f} '
-          f'| {stream / seconds:.1f} | {usage.ru_maxrss / 1024:.0f} |')
+          f'| {stream / seconds:.1f} | {peak:.0f} |')
 
 
 def main():

@@ -29,6 +29,19 @@ def tree_connect(message_id, session_id, path='\\\\s\\data'):
     return frame(header(3, message_id, session_id=session_id) + body)
 
 
+def create(message_id, name, access, disposition, options=0, session_id=0, tree_id=0):
+    """A frame of a CREATE, in a session and a tree."""
+    units = name.encode('utf-16-le')
+    body = struct.pack('<HBBIQQIIIIIHHII', 57, 0, 0, 2, 0, 0, access, 0x80, 7, disposition, options, 120, len(units), 0, 0)
+    return frame(header(5, message_id, session_id=session_id, tree_id=tree_id) + body + units)
+
+
+def close(message_id, open_number, session_id=0, tree_id=0):
+    """A frame of a CLOSE of an open, in a session and a tree."""
+    body = struct.pack('<HHIQQ', 24, 0, 0, open_number, open_number)
+    return frame(header(6, message_id, session_id=session_id, tree_id=tree_id) + body)
+
+
 def echoes(first, count):
     """A frame of `count` ECHO requests with the MessageIds from `first` on."""
     payload = b''

@@ -7,21 +7,8 @@
 A set-up is a connection that opens, negotiates, sets up a session, connects a tree and ends. Other sessions
 stand meanwhile, 16 on each of up to 63 connections: a set-up should cost the same however many there are.
 """
-import multiprocessing
-import os
-import subprocess
-import sys
-import tempfile
-import time
-
 from frames import negotiate, session_setup, tree_connect
-
-PROGRAM = os.path.join(os.path.dirname(__file__), '..', 'crates', 'smbshare', 'out', 'smbshare')
-MOMENT = 116444736000000000
-
-
-def piece(text, number, frame):
-    text.write(f'> {number} {MOMENT} {frame.hex()}\n')
+from runs import piece, replayed, succeeds
 
 
 def write_replay(path, standing, count):
@@ -43,24 +30,9 @@ def write_replay(path, standing, count):
 
 
 def measure(standing, count):
-    with tempfile.TemporaryDirectory() as folder:
-        replay, answers = os.path.join(folder, 'replay'), os.path.join(folder, 'answers')
-        # In a process of its own: the peak of the program counts what its parent holds.
-        writer = multiprocessing.Process(target=write_replay, args=(replay, standing, count))
-        writer.start()
-        writer.join()
-        with open(replay) as stdin, open(answers, 'w') as stdout:
-            start = time.monotonic()
-            process = subprocess.Popen([PROGRAM], stdin=stdin, stdout=stdout)
-            _, status, usage = os.wait4(process.pid, 0)
-            seconds = time.monotonic() - start
-        with open(answers) as lines:
-            found = sum(1 for line in lines if line.startswith('<') and line.split()[2][24:32] == '00000000')
-        want = 17 * standing + 3 * count
-        if status != 0 or found != want:
-            sys.exit(f'status {status}, {found} successes and not {want}')
+    seconds, peak, _ = replayed(write_replay, (standing, count), succeeds, 17 * standing + 3 * count)
     print(f'| {count:,} | {16 * standing:,} | {seconds:.2f} | {1e6 * seconds / count:.0f} '
-          f'| {usage.ru_maxrss / 1024:.0f} |')
+          f'| {peak:.0f} |')
 
 
 def main():

@@ -8,17 +8,14 @@ Mixed streams have NEGOTIATE, ECHO in chains of 16, CREATE, READ and WRITE of 4,
 each ECHO. The longest is as long as 64 MiB of hex hold. Half the stream should take about half the time.
 """
 import filecmp
-import multiprocessing
 import os
 import struct
-import subprocess
 import sys
 import tempfile
-import time
 
-from frames import echoes, frame, header, negotiate
+from frames import create, echoes, frame, header, negotiate
+from runs import timed, written
 
-PROGRAM = os.path.join(os.path.dirname(__file__), '..', 'crates', 'smbshare', 'out', 'smbshare')
 TEXT_LIMIT = 67108864
 SIZES = [8 << 20, 16 << 20, (TEXT_LIMIT - (1 << 20)) // 2]
 CHAIN = 16
@@ -37,10 +34,8 @@ def echo(first):
     return echoes(first, 1), [('ECHO', first)]
 
 
-def create(first):
-    name = f'folder\\file{first % 1000}'.encode('utf-16-le')
-    body = struct.pack('<HBBIQQIIIIIHHII', 57, 0, 0, 2, 0, 0, 0x0012019f, 0x80, 7, 3, 0x40, 120, len(name), 0, 0)
-    return frame(header(5, first) + body + name), [('CREATE', first)]
+def creates(first):
+    return create(first, f'folder\\file{first % 1000}', 0x0012019F, 3, 0x40), [('CREATE', first)]
 
 
 def read(first):
@@ -53,7 +48,7 @@ def write(first):
     return frame(header(9, first) + body + bytes(WRITTEN)), [('WRITE', first)]
 
 
-STREAMS = {'mixed': [negotiates, chain, create, read, write, read, create, chain], 'ECHO': [echo]}
+STREAMS = {'mixed': [negotiates, chain, creates, read, write, read, creates, chain], 'ECHO': [echo]}
 
 
 def stream(kinds, size):
@@ -78,22 +73,15 @@ def write_case(name, size, text, want):
 def measure(name, size):
     with tempfile.TemporaryDirectory() as folder:
         text, want, listing = (os.path.join(folder, part) for part in ('text', 'want', 'listing'))
-        # In a process of its own: the peak of the program counts what its parent holds.
-        writer = multiprocessing.Process(target=write_case, args=(name, size, text, want))
-        writer.start()
-        writer.join()
-        with open(text) as stdin, open(listing, 'w') as stdout:
-            start = time.monotonic()
-            process = subprocess.Popen([PROGRAM, 'show'], stdin=stdin, stdout=stdout)
-            _, status, usage = os.wait4(process.pid, 0)
-            seconds = time.monotonic() - start
+        written(write_case, name, size, text, want)
+        status, seconds, peak = timed(['show'], text, listing)
         if status != 0 or not filecmp.cmp(listing, want, shallow=False):
             sys.exit(f'status {status}, or a wrong listing')
         with open(want) as lines:
             count = sum(1 for _ in lines)
         length = os.path.getsize(text) / 2e6
     print(f'| {name} | {length:.1f} | {count:,} | {seconds:.2f} | {length / seconds:.1f} '
-          f'| {usage.ru_maxrss / 1024:.0f} |')
+          f'| {peak:.0f} |')
 
 
 def main():

@@ -9,7 +9,9 @@ use Rattle.smb_frame.proofs.Bounds.{open_rest_short}
 use Rattle.smb_session.specs.Numbers.{contains, IsRising, with_number, without_number}
 use Rattle.smb_session.specs.Table.{TableState, connected}
 use Rattle.smb_session.specs.Good.{GoodTable}
+use Rattle.smb_opens.specs.Good.{GoodStore}
 use Rattle.smb_engine.specs.Settings.{is_lawful}
+use Rattle.smb_engine.specs.Owners.{AreOwned}
 use Rattle.smb_engine.specs.State.{SharedState, LinkState, ShareState, shared_ended}
 use Rattle.smb_engine.specs.Stream.{longest_payload}
 use Rattle.smb_engine.specs.Share.{IsGoodLink, GoodState, new_link}
@@ -113,8 +115,17 @@ good_links [] w = tt
 good_links (e ∷ links) w = (record { unread = open_rest_short longest_payload e.1.stream w.0.partial w.0.sound; window = w.0.window }, good_links links w.1)
 
 -- what is held is good
-pub kept_good : {S : Type 0} (s : ShareState S) → is_lawful s.shared.settings ≡ true → GoodTable s.shared.sessions.table → AreKept s.shared.sessions.table.connections s.links s.next → GoodState s
-kept_good s lawful sessions k = record { lawful = lawful; few = k.few; given = k.given; good = good_links s.links k.waits; sessions = sessions; known = k.known }
+pub kept_good : {S : Type 0} (s : ShareState S) → is_lawful s.shared.settings ≡ true → GoodTable s.shared.sessions.table → GoodStore s.shared.store → AreOwned s.shared.sessions.table s.shared.store.opens → AreKept s.shared.sessions.table.connections s.links s.next → GoodState s
+kept_good s lawful sessions store owned k = record {
+  lawful = lawful;
+  few = k.few;
+  given = k.given;
+  good = good_links s.links k.waits;
+  sessions = sessions;
+  known = k.known;
+  store = store;
+  owned = owned;
+}
 
 -- a connection is gone, with its sessions
 pub kept_over : {S : Type 0} (shared shared' : SharedState S) (number : ℕ) (links : List (ℕ × LinkState)) (next : ℕ) → shared' ≡ shared_ended shared number →

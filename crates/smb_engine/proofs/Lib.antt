@@ -1,4 +1,5 @@
 pub mod Numbered
+pub mod Owners
 pub mod Endings
 pub mod Sessions
 pub mod Heard

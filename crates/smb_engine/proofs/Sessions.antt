@@ -1,11 +1,11 @@
 -- What SESSION_SETUP and NEGOTIATE change.
-use Rattle.std.proofs.Common.{◌≡◌, ℕ, Bool, true, false, List, [], ◌∷◌, Option, None, Some, Ok, Err, refl, sym, ap, ◌∙◌, if◌then◌else◌}
+use Rattle.std.proofs.Common.{◌≡◌, ℕ, Bool, true, false, List, [], ◌∷◌, Option, None, Some, Ok, Err, refl, ap, ◌∙◌, if◌then◌else◌}
 use Rattle.std.specs.Option.{option_map_or}
 use Rattle.smb_session.specs.declared.dialect.Dialect.{Dialect}
 use Rattle.smb_session.specs.declared.fault.SessionFault.{SessionFault}
 use Rattle.smb_session.specs.declared.fault.SessionFault.TheVariants.{NoDialect}
 use Rattle.smb_session.specs.Authenticator.{Answered, continues, accepts, denies, Meaning}
-use Rattle.smb_session.specs.Table.{TableState, begun, ended, session_at}
+use Rattle.smb_session.specs.Table.{TableState, begun, ended}
 use Rattle.smb_session.specs.Setup.{answered, previous_ended, setup_table}
 use Rattle.smb_session.specs.Sessions.{SessionsState, setup_step}
 use Rattle.smb_head.specs.declared.header.Header.{Header}

@@ -1,7 +1,7 @@
 -- SESSION_SETUP, LOGOFF, TREE_CONNECT and TREE_DISCONNECT ([MS-SMB2] 3.3.5.5 to 3.3.5.8).
 use Rattle.std.specs.Prelude.{ℕ, List, Option, Some, None}
 use Rattle.std.specs.Option.{option_map_or}
-use Rattle.smb_body.specs.Replies.{ReplyValue, answers_error, answers_session_setup, answers_logoff, answers_tree_connect, answers_tree_disconnect}
+use Rattle.smb_body.specs.Replies.{ReplyValue, answers_session_setup, answers_logoff, answers_tree_connect, answers_tree_disconnect}
 use Rattle.smb_body.specs.SessionSetup.{SessionSetupAsked}
 use Rattle.smb_body.specs.declared.tree_connect.TreeConnectResponse.{TreeConnectResponse}
 use Rattle.smb_session.specs.Authenticator.{Meaning}
@@ -12,10 +12,14 @@ use Rattle.smb_session.specs.declared.fault.SessionFault.{SessionFault}
 use Rattle.smb_session.specs.declared.fault.SessionFault.TheVariants.{UnknownSession, UnknownTree, NoShare, NotAccepted, NoDialect, NoMemory}
 use Rattle.smb_session.specs.declared.setup.SetupStatus.{SetupStatus}
 use Rattle.smb_session.specs.declared.setup.SetupStatus.TheVariants.{Success, MoreProcessingRequired, LogonFailure}
+use Rattle.smb_opens.specs.declared.open_row.Owner.{Owner}
+use Rattle.smb_opens.specs.declared.open_row.Owner.TheVariants.{Session, Tree}
+use Rattle.smb_opens.specs.Close.{closed_all}
+use Rattle.smb_opens.specs.State.{StoreState}
 use Rattle.smb_engine.specs.declared.status.Status.{Status}
 use Rattle.smb_engine.specs.declared.status.Status.TheVariants.{NotSupported, NetworkNameDeleted, BadNetworkName, RequestNotAccepted, UserSessionDeleted}
 use Rattle.smb_engine.specs.declared.context.Context.{Context}
-use Rattle.smb_engine.specs.State.{SharedState, with_table}
+use Rattle.smb_engine.specs.State.{SharedState, with_table, with_store}
 use Rattle.smb_engine.specs.Response.{ResponseState, CommandStep, with_body, success, failure, refused}
 
 -- the status of a refusal (want of memory is none: no definition refuses for it)
@@ -37,10 +41,15 @@ setup_response under told Success = success under (setup_body told)
 setup_response under told MoreProcessingRequired = with_body under Status.MoreProcessingRequired (setup_body told)
 setup_response under told LogonFailure = failure under Status.LogonFailure
 
--- SESSION_SETUP (3.3.5.5)
+-- where a session ended, its opens are closed
+abbrev pub closed_for : StoreState → Option ℕ → StoreState
+closed_for store None = store
+closed_for store (Some session) = closed_all store (Session session)
+
+-- SESSION_SETUP (3.3.5.5): the previous session ends with its opens
 abbrev pub setup_answered : {S : Type 0} → SharedState S → Context → SetupStep S → CommandStep S
 setup_answered shared under step = record {
-  shared = record shared { sessions = step.state };
+  shared = record shared { sessions = step.state; store = closed_for shared.store step.told.ended };
   response = setup_response (record under { session_id = step.told.session }) step.told step.told.status;
 }
 
@@ -50,12 +59,19 @@ session_set_up m number shared under asked = option_map_or
     (setup_refusal shared.sessions.table number under.session_id asked.flags.0)
     (setup_answered shared under (setup_step m shared.sessions number under.session_id asked.previous_session_id asked.security_buffer))
 
--- LOGOFF (3.3.5.6): the session ends with its trees
+-- what is shared where the opens of an owner are closed
+abbrev pub with_closed : {S : Type 0} → SharedState S → Owner → SharedState S
+with_closed shared owner = with_store shared (closed_all shared.store owner)
+
+-- LOGOFF (3.3.5.6): the session ends with its trees, and their opens
 unfoldable pub session_logged_off : {S : Type 0} → ℕ → SharedState S → Context → CommandStep S
 session_logged_off number shared under = option_map_or
     (λ fault. refused shared under (status_of_refusal fault))
     (logoff_refusal shared.sessions.table number under.session_id)
-    (record { shared = with_table shared (ended shared.sessions.table under.session_id); response = success under answers_logoff })
+    (record {
+      shared = with_closed (with_table shared (ended shared.sessions.table under.session_id)) (Session under.session_id);
+      response = success under answers_logoff;
+    })
 
 -- what a tree is: a disk, without flags and capabilities, and with all access (2.2.10)
 abbrev pub tree_response : TreeConnectResponse
@@ -76,12 +92,14 @@ tree_joined number shared under path = option_map_or
       response = success (record under { tree_id = next_tree_of shared.sessions.table under.session_id }) (answers_tree_connect tree_response);
     })
 
--- TREE_DISCONNECT (3.3.5.8)
+-- TREE_DISCONNECT (3.3.5.8): the tree is gone, with its opens
 unfoldable pub tree_left : {S : Type 0} → ℕ → SharedState S → Context → CommandStep S
 tree_left number shared under = option_map_or
     (λ fault. refused shared under (status_of_refusal fault))
     (tree_disconnect_refusal shared.sessions.table number under.session_id under.tree_id)
     (record {
-      shared = with_table shared (tree_disconnected shared.sessions.table under.session_id under.tree_id);
+      shared = with_closed
+          (with_table shared (tree_disconnected shared.sessions.table under.session_id under.tree_id))
+          (Tree under.session_id under.tree_id);
       response = success under answers_tree_disconnect;
     })

@@ -11,19 +11,16 @@ use Rattle.smb_engine.specs.declared.fault.ServeFault.TheVariants.{TooManyConnec
 use Rattle.smb_engine.specs.Settings.{Settings, is_lawful}
 use Rattle.smb_session.specs.Window.{first_window, GoodWindow}
 use Rattle.smb_session.specs.Good.{GoodTable}
-use Rattle.smb_session.specs.Sessions.{new_sessions}
 use Rattle.smb_session.specs.Authenticator.{Meaning}
-use Rattle.smb_engine.specs.State.{LinkState, ShareState, shared_opened, shared_ended}
+use Rattle.smb_opens.specs.Good.{GoodStore}
+use Rattle.smb_engine.specs.State.{LinkState, ShareState, new_shared, shared_opened, shared_ended}
+use Rattle.smb_engine.specs.Owners.{AreOwned}
 use Rattle.smb_engine.specs.Output.{Output}
 use Rattle.smb_engine.specs.Stream.{longest_payload, PieceStep, piece_step, shared_after_piece, count_in_piece}
 
 -- a new share: no connection, and the first will be 1
 abbrev pub new_share : {S : Type 0} → Settings → S → ShareState S
-new_share settings authenticator = record {
-  shared = record { settings = settings; sessions = new_sessions authenticator settings.share };
-  links = [];
-  next = 1;
-}
+new_share settings authenticator = record { shared = new_shared settings authenticator; links = []; next = 1 }
 
 -- the connection of a number, another in its place, and all but it
 abbrev pub link_of : ℕ → List (ℕ × LinkState) → Option LinkState
@@ -122,7 +119,8 @@ pub record IsGoodLink (link : LinkState) : Type 0 where
   pub window : GoodWindow link.connection.window
 
 -- what holds of a share between calls: the configuration keeps its rules, at most 64 connections are open, each has a
--- number that was given, and each is good; the sessions are good, and those connections may have some that are open
+-- number that was given, and each is good; the sessions are good, and those connections may have some that are open; the
+-- files and their opens are good, and each open is a session's and a tree's that stand
 pub record GoodState {S : Type 0} (s : ShareState S) : Type 0 where
   pub lawful : is_lawful s.shared.settings ≡ true
   pub few : length s.links ≤ 64
@@ -130,3 +128,5 @@ pub record GoodState {S : Type 0} (s : ShareState S) : Type 0 where
   pub good : AllByRecursion (λ entry. IsGoodLink entry.1) s.links
   pub sessions : GoodTable s.shared.sessions.table
   pub known : s.shared.sessions.table.connections ≡ map (λ entry. entry.0) s.links
+  pub store : GoodStore s.shared.store
+  pub owned : AreOwned s.shared.sessions.table s.shared.store.opens

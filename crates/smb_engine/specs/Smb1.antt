@@ -1,6 +1,6 @@
 -- SMB_COM_NEGOTIATE as a connection's first payload, by which a client of several protocols begins
 -- ([MS-SMB2] 3.3.5.3.1, 3.3.5.3.2).
-use Rattle.std.specs.Prelude.{ℕ, List, [], ◌∷◌, replicate, Option, Some, None, if◌then◌else◌}
+use Rattle.std.specs.Prelude.{replicate, Option, Some, None, if◌then◌else◌}
 use Rattle.smb_head.specs.Replies.{Reply}
 use Rattle.smb_body.specs.Replies.{ReplyValue, reply_spelling}
 use Rattle.smb_body.specs.declared.smb1.Smb1Dialects.{Smb1Dialects}

@@ -20,7 +20,9 @@ use arrayvec::ArrayVec;
 use bitflags::Flags;
 use smb_body::{Smb1Dialects, read_smb1_negotiate};
 use smb_head::{Chain, Header, HeaderFlags, ReplyChain, read_chain};
+use smb_opens::Opens;
 use smb_session::{Authenticator, Dialect, Window};
+use smb_tree::Tree;
 use std::alloc::AllocError;
 
 /// How many requests a chain has at most.
@@ -140,7 +142,7 @@ fn first_negotiate(connection: &Connection, payload: &[u8]) -> Option<Smb1Dialec
     read_smb1_negotiate(payload)
 }
 
-impl<A: Authenticator + Drop> Shared<A> {
+impl<A: Authenticator + Drop, T: Tree + Drop, O: Opens + Drop> Shared<A, T, O> {
     /// Performs one request of a chain, and joins its reply to the others. An error tells whether the
     /// request was performed.
     #[tactic(auto, unfolding(crate::specs::Chain::turn_after))]

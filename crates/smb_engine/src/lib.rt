@@ -18,6 +18,7 @@ mod connection;
 mod context;
 mod event;
 mod fault;
+mod files;
 mod negotiate;
 mod output;
 mod request;

@@ -1,7 +1,4 @@
 //! One request: the order of checks, and each command ([MS-SMB2] 3.3.5.2).
-//!
-//! An error of a command says that memory could not be had, and tells whether the command was performed: true
-//! where its reply alone could not be made.
 
 ghost use Rattle.std.specs.Prelude.{ℕ, List, Option, ◌≡◌, ◌≤◌, false, Some, None, IfOk, IfErr, IfSome, length, if◌then◌else◌};
 ghost use Rattle.std.specs.Option.{option_map};
@@ -12,18 +9,19 @@ ghost use Rattle.smb_body.specs.Requests.{request_of, request_value};
 ghost use Rattle.smb_body.specs.Replies.{reply_value, reply_length};
 ghost use Rattle.smb_session.specs.Negotiate.{best_of};
 ghost use Rattle.smb_engine.specs.Response.{answered, success, failure};
-ghost use Rattle.smb_engine.specs.Request.{acts_under, is_built, needs_session, needs_tree, standing_refusal, negotiated, acted, by_body, performed};
+ghost use Rattle.smb_engine.specs.Request.{acts_under, is_built, needs_session, needs_tree, file_id_of, standing_refusal, negotiated, acted, by_body, performed};
 ghost use Rattle.smb_engine.specs.Held.{response_of};
 
 use super::context::Context;
-use super::response::{Response, failure, respond};
+use super::response::{Response, refused, told};
 use super::shared::Shared;
 use super::status::Status;
 use bitflags::Flags;
-use smb_body::{Dialects, Reply, Request, read_body};
+use smb_body::{Dialects, FileId, Reply, Request, read_body};
 use smb_head::{Command, Header, HeaderFlags};
+use smb_opens::Opens;
 use smb_session::{Authenticator, Dialect};
-use std::alloc::Global;
+use smb_tree::Tree;
 
 /// The session and the tree that a request acts under: its own, or for a related one the context's.
 fn acts_under(context: Context, header: &Header) -> Context
@@ -50,68 +48,58 @@ fn is_built(command: Command) -> bool
             | Command::Logoff
             | Command::TreeConnect
             | Command::TreeDisconnect
+            | Command::Create
+            | Command::Close
             | Command::Echo
     )
 }
 
-/// Whether a command acts under a session.
-fn needs_session(command: Command) -> bool
-    ensures { result ≡ needs_session command }
+/// Whether a request acts under a session.
+fn needs_session(request: &Request<'_>) -> bool
+    ensures { result ≡ needs_session (request_value request.now) }
 {
     !matches!(
-        command,
-        Command::Negotiate | Command::SessionSetup | Command::Echo
+        request,
+        Request::Negotiate(_) | Request::SessionSetup(_) | Request::Echo(_)
     )
 }
 
-/// Whether a command acts under a tree.
-fn needs_tree(command: Command) -> bool
-    ensures { result ≡ needs_tree command }
+/// Whether a request acts under a tree.
+fn needs_tree(request: &Request<'_>) -> bool
+    ensures { result ≡ needs_tree (request_value request.now) }
 {
-    needs_session(command) && !matches!(command, Command::Logoff | Command::TreeConnect)
+    needs_session(request) && !matches!(request, Request::Logoff(_) | Request::TreeConnect(_))
 }
 
-/// A refusal, which changes nothing.
-fn refused(alloc: Global, under: Context, status: Status) -> Result<Response, bool>
-    ensures ok { IfOk result (λ response. response_of response ≡ failure under status) }
-    ensures len { IfOk result (λ response. length response.body.items ≤ 65552) }
-    ensures err { IfErr result (λ performed. performed ≡ false) }
+/// The FileId that a request names, where it acts on an open.
+fn file_id_of(request: &Request<'_>) -> Option<FileId>
+    ensures { result ≡ file_id_of (request_value request.now) }
 {
-    match failure(alloc, under, status) {
-        Ok(response) => Ok(response),
-        Err(_) => Err(false),
+    match request {
+        Request::Close(asked) => Some(asked.file_id),
+        _ => None,
     }
 }
 
-/// A response to what changes nothing.
-fn told(alloc: Global, under: Context, reply: &Reply<'_>) -> Result<Response, bool>
-    requires { reply_length (reply_value reply.now) ≤ 65552 }
-    ensures ok { IfOk result (λ response. response_of response ≡ success under (reply_value reply.now)) }
-    ensures len { IfOk result (λ response. length response.body.items ≤ 65552) }
-    ensures err { IfErr result (λ performed. performed ≡ false) }
-{
-    match respond(alloc, Status::Success, under, reply) {
-        Ok(response) => Ok(response),
-        Err(_) => Err(false),
-    }
-}
-
-impl<A: Authenticator + Drop> Shared<A> {
-    /// Why a request is refused whose session or tree does not stand.
-    fn standing_refusal(&self, number: u64, under: Context, command: Command) -> Option<Status>
-        ensures { result ≡ standing_refusal self.now number under command }
+impl<A: Authenticator + Drop, T: Tree + Drop, O: Opens + Drop> Shared<A, T, O> {
+    /// Why a request is refused whose session, tree or open does not stand.
+    fn standing_refusal(&self, number: u64, under: Context, request: &Request<'_>) -> Option<Status>
+        ensures { result ≡ standing_refusal self.now number under (request_value request.now) }
     {
-        if needs_session(command) && !self.sessions.knows(number, under.session_id, None) {
+        if needs_session(request) && !self.sessions.knows(number, under.session_id, None) {
             return Some(Status::UserSessionDeleted);
         }
-        if needs_tree(command)
+        if needs_tree(request)
             && !self
                 .sessions
                 .knows(number, under.session_id, Some(under.tree_id))
         {
             return Some(Status::NetworkNameDeleted);
         }
-        None
+        match file_id_of(request) {
+            Some(id) if !self.names_open(under, id) => Some(Status::FileClosed),
+            _ => None,
+        }
     }
 
     /// The greatest dialect of the share that a list has.
@@ -149,7 +137,7 @@ impl<A: Authenticator + Drop> Shared<A> {
         Ok(response)
     }
 
-    /// Performs a request whose body is read, and whose session and tree stand.
+    /// Performs a request whose body is read, and whose session, tree and open stand.
     fn act(
         &mut self,
         number: u64,
@@ -158,6 +146,7 @@ impl<A: Authenticator + Drop> Shared<A> {
         under: Context,
         request: &Request<'_>,
     ) -> Result<Response, bool>
+        requires { standing_refusal self.old number under (request_value request.now) ≡ None }
         ensures ok { IfOk result (λ response. answered dialect.new (record { shared = self.new; response = response_of response })
             ≡ acted A.meaning number moment self.old dialect.old under (request_value request.now)) }
         ensures len { IfOk result (λ response. length response.body.items ≤ 65552) }
@@ -174,6 +163,8 @@ impl<A: Authenticator + Drop> Shared<A> {
             Request::Logoff(_) => self.log_off(number, under),
             Request::TreeConnect(asked) => self.connect_tree(number, under, asked.path),
             Request::TreeDisconnect(_) => self.disconnect_tree(number, under),
+            Request::Create(asked) => self.create_file(moment, under, asked),
+            Request::Close(asked) => self.close_file(under, asked),
             Request::Echo(_) => told(alloc, under, &Reply::Echo),
             _ => refused(alloc, under, Status::NotSupported),
         }
@@ -191,10 +182,10 @@ impl<A: Authenticator + Drop> Shared<A> {
         request: &[u8],
     ) -> Result<Response, bool>
         ensures ok { IfOk result (λ response. answered dialect.new (record { shared = self.new; response = response_of response })
-            ≡ by_body A.meaning number moment self.old dialect.old under command (request_of (code_of command) request.now)) }
+            ≡ by_body A.meaning number moment self.old dialect.old under (request_of (code_of command) request.now)) }
         ensures len { IfOk result (λ response. length response.body.items ≤ 65552) }
         ensures err { IfErr result (λ performed. self.new
-            ≡ (if performed then (by_body A.meaning number moment self.old dialect.old under command (request_of (code_of command) request.now)).shared else self.old)) }
+            ≡ (if performed then (by_body A.meaning number moment self.old dialect.old under (request_of (code_of command) request.now)).shared else self.old)) }
         ensures known { self.new.sessions.table.connections ≡ self.old.sessions.table.connections }
     {
         let alloc = self.allocator();
@@ -202,7 +193,7 @@ impl<A: Authenticator + Drop> Shared<A> {
             Ok(request) => request,
             Err(_) => return refused(alloc, under, Status::InvalidParameter),
         };
-        match self.standing_refusal(number, under, command) {
+        match self.standing_refusal(number, under, &request) {
             Some(status) => refused(alloc, under, status),
             None => self.act(number, moment, dialect, under, &request),
         }

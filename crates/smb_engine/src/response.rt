@@ -1,8 +1,11 @@
 //! What answers a request.
+//!
+//! An error says that memory could not be had, and tells whether the request was performed: true where its reply
+//! alone could not be made.
 
-ghost use Rattle.std.specs.Prelude.{◌≡◌, ◌≤◌, IfOk, length};
+ghost use Rattle.std.specs.Prelude.{◌≡◌, ◌≤◌, true, false, IfOk, IfErr, length};
 ghost use Rattle.smb_body.specs.Replies.{reply_value, reply_length, reply_spelling};
-ghost use Rattle.smb_engine.specs.Response.{with_body, failure};
+ghost use Rattle.smb_engine.specs.Response.{with_body, success, failure};
 ghost use Rattle.smb_engine.specs.Held.{response_of};
 
 use super::context::Context;
@@ -40,10 +43,45 @@ pub(crate) fn respond(
     }
 }
 
-/// A failure.
-pub(crate) fn failure(alloc: Global, under: Context, status: Status) -> Result<Response, AllocError>
+/// A refusal, which changes nothing.
+pub(crate) fn refused(alloc: Global, under: Context, status: Status) -> Result<Response, bool>
     ensures ok { IfOk result (λ response. response_of response ≡ failure under status) }
     ensures len { IfOk result (λ response. length response.body.items ≤ 65552) }
+    ensures err { IfErr result (λ performed. performed ≡ false) }
 {
-    respond(alloc, status, under, &Reply::Error)
+    match respond(alloc, status, under, &Reply::Error) {
+        Ok(response) => Ok(response),
+        Err(_) => Err(false),
+    }
+}
+
+/// The response to a request that changes nothing.
+pub(crate) fn told(alloc: Global, under: Context, reply: &Reply<'_>) -> Result<Response, bool>
+    requires { reply_length (reply_value reply.now) ≤ 65552 }
+    ensures ok { IfOk result (λ response. response_of response ≡ success under (reply_value reply.now)) }
+    ensures len { IfOk result (λ response. length response.body.items ≤ 65552) }
+    ensures err { IfErr result (λ performed. performed ≡ false) }
+{
+    match respond(alloc, Status::Success, under, reply) {
+        Ok(response) => Ok(response),
+        Err(_) => Err(false),
+    }
+}
+
+/// The response to a request that was performed.
+pub(crate) fn performed(
+    alloc: Global,
+    status: Status,
+    under: Context,
+    reply: &Reply<'_>,
+) -> Result<Response, bool>
+    requires { reply_length (reply_value reply.now) ≤ 65552 }
+    ensures ok { IfOk result (λ response. response_of response ≡ with_body under status (reply_value reply.now)) }
+    ensures len { IfOk result (λ response. length response.body.items ≤ 65552) }
+    ensures err { IfErr result (λ performed. performed ≡ true) }
+{
+    match respond(alloc, status, under, reply) {
+        Ok(response) => Ok(response),
+        Err(_) => Err(true),
+    }
 }

@@ -1,7 +1,6 @@
 //! SESSION_SETUP, LOGOFF, TREE_CONNECT and TREE_DISCONNECT ([MS-SMB2] 3.3.5.5 to 3.3.5.8).
 //!
-//! An error of a command says that memory could not be had, and tells whether the command was performed: true
-//! where its reply alone could not be made.
+//! Where a session or a tree ends, the opens beneath are closed; that takes no memory.
 
 ghost use Rattle.std.specs.Prelude.{◌≡◌, ◌≢◌, ◌≤◌, true, false, IfOk, IfErr, length, if◌then◌else◌};
 ghost use Rattle.smb_wire.specs.Units.{units_of};
@@ -9,18 +8,20 @@ ghost use Rattle.smb_body.specs.Replies.{reply_value, reply_length};
 ghost use Rattle.smb_body.specs.SessionSetup.{session_setup_asked};
 ghost use Rattle.smb_session.specs.Done.{told_by};
 ghost use Rattle.smb_engine.specs.Response.{with_body, failure};
-ghost use Rattle.smb_engine.specs.Session.{status_of_refusal, setup_response, session_set_up, session_logged_off, tree_response, tree_joined, tree_left};
-ghost use Rattle.smb_engine.specs.Held.{response_of};
+ghost use Rattle.smb_engine.specs.Session.{closed_for, status_of_refusal, setup_response, session_set_up, session_logged_off, tree_response, tree_joined, tree_left};
+ghost use Rattle.smb_engine.specs.Held.{opens_left, response_of};
 
 use super::context::Context;
-use super::response::{Response, failure, respond};
+use super::response::{Response, performed, refused};
 use super::shared::Shared;
 use super::status::Status;
 use smb_body::{
     Access, Capabilities, Reply, SessionFlags, SessionSetupRequest, SessionSetupResponse,
     ShareFlags, ShareType, TreeConnectResponse,
 };
+use smb_opens::{Opens, Owner, Store};
 use smb_session::{Authenticator, SessionFault, SetupAsk, SetupDone, SetupStatus};
+use smb_tree::Tree;
 use smb_wire::Units;
 use std::alloc::Global;
 
@@ -33,7 +34,7 @@ const TREE: TreeConnectResponse = TreeConnectResponse {
 };
 
 /// The response to a request that the sessions refuse. Want of memory is no refusal: nothing was performed.
-fn refused(alloc: Global, under: Context, fault: SessionFault) -> Result<Response, bool>
+fn refused_by(alloc: Global, under: Context, fault: SessionFault) -> Result<Response, bool>
     ensures ok { IfOk result (λ response. response_of response ≡ failure under (status_of_refusal fault)) }
     ensures memory { IfOk result (λ response. fault ≢ SessionFault.NoMemory) }
     ensures len { IfOk result (λ response. length response.body.items ≤ 65552) }
@@ -47,28 +48,7 @@ fn refused(alloc: Global, under: Context, fault: SessionFault) -> Result<Respons
         SessionFault::NoDialect => Status::NotSupported,
         SessionFault::NoMemory => return Err(false),
     };
-    match failure(alloc, under, status) {
-        Ok(response) => Ok(response),
-        Err(_) => Err(false),
-    }
-}
-
-/// The response to a request that was performed.
-fn performed(
-    alloc: Global,
-    status: Status,
-    under: Context,
-    reply: &Reply<'_>,
-) -> Result<Response, bool>
-    requires { reply_length (reply_value reply.now) ≤ 65552 }
-    ensures ok { IfOk result (λ response. response_of response ≡ with_body under status (reply_value reply.now)) }
-    ensures len { IfOk result (λ response. length response.body.items ≤ 65552) }
-    ensures err { IfErr result (λ performed. performed ≡ true) }
-{
-    match respond(alloc, status, under, reply) {
-        Ok(response) => Ok(response),
-        Err(_) => Err(true),
-    }
+    refused(alloc, under, status)
 }
 
 /// The response to a SESSION_SETUP that was not refused ([MS-SMB2] 2.2.6).
@@ -91,7 +71,17 @@ fn setup_response(alloc: Global, under: Context, done: &SetupDone) -> Result<Res
     }
 }
 
-impl<A: Authenticator + Drop> Shared<A> {
+/// Closes the opens of a session that ended, where one did.
+fn close_ended<T: Tree + Drop, O: Opens + Drop>(store: &mut Store<T, O>, ended: Option<u64>)
+    ensures store { store.new ≡ closed_for store.old ended }
+    ensures left { store.new.opens ≡ opens_left ended store.old.opens }
+{
+    if let Some(session) = ended {
+        store.close_all(Owner::Session(session));
+    }
+}
+
+impl<A: Authenticator + Drop, T: Tree + Drop, O: Opens + Drop> Shared<A, T, O> {
     /// SESSION_SETUP ([MS-SMB2] 3.3.5.5).
     #[tactic(auto, unfolding(crate::specs::Session::session_set_up))]
     pub(crate) fn set_up(
@@ -108,6 +98,7 @@ impl<A: Authenticator + Drop> Shared<A> {
         ensures known { self.new.sessions.table.connections ≡ self.old.sessions.table.connections }
     {
         let alloc = self.allocator();
+        self.sessions.good();
         let ask = SetupAsk {
             flags: asked.flags.0,
             previous_session: asked.previous_session_id,
@@ -115,8 +106,9 @@ impl<A: Authenticator + Drop> Shared<A> {
         };
         let done = match self.sessions.setup(number, under.session_id, &ask) {
             Ok(done) => done,
-            Err(fault) => return refused(alloc, under, fault),
+            Err(fault) => return refused_by(alloc, under, fault),
         };
+        close_ended(&mut self.store, done.ended);
         let under = Context {
             session_id: done.session,
             ..under
@@ -136,8 +128,11 @@ impl<A: Authenticator + Drop> Shared<A> {
     {
         let alloc = self.allocator();
         match self.sessions.logoff(number, under.session_id) {
-            Ok(()) => performed(alloc, Status::Success, under, &Reply::Logoff),
-            Err(fault) => refused(alloc, under, fault),
+            Ok(()) => {
+                self.store.close_all(Owner::Session(under.session_id));
+                performed(alloc, Status::Success, under, &Reply::Logoff)
+            }
+            Err(fault) => refused_by(alloc, under, fault),
         }
     }
 
@@ -157,13 +152,12 @@ impl<A: Authenticator + Drop> Shared<A> {
         ensures known { self.new.sessions.table.connections ≡ self.old.sessions.table.connections }
     {
         let alloc = self.allocator();
-        match self.sessions.tree_connect(number, under.session_id, path) {
-            Ok(tree_id) => {
-                let under = Context { tree_id, ..under };
-                performed(alloc, Status::Success, under, &Reply::TreeConnect(TREE))
-            }
-            Err(fault) => refused(alloc, under, fault),
-        }
+        let tree_id = match self.sessions.tree_connect(number, under.session_id, path) {
+            Ok(tree_id) => tree_id,
+            Err(fault) => return refused_by(alloc, under, fault),
+        };
+        let under = Context { tree_id, ..under };
+        performed(alloc, Status::Success, under, &Reply::TreeConnect(TREE))
     }
 
     /// TREE_DISCONNECT ([MS-SMB2] 3.3.5.8).
@@ -181,8 +175,12 @@ impl<A: Authenticator + Drop> Shared<A> {
             .sessions
             .tree_disconnect(number, under.session_id, under.tree_id)
         {
-            Ok(()) => performed(alloc, Status::Success, under, &Reply::TreeDisconnect),
-            Err(fault) => refused(alloc, under, fault),
+            Ok(()) => {
+                self.store
+                    .close_all(Owner::Tree(under.session_id, under.tree_id));
+                performed(alloc, Status::Success, under, &Reply::TreeDisconnect)
+            }
+            Err(fault) => refused_by(alloc, under, fault),
         }
     }
 }

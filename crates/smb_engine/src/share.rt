@@ -1,10 +1,11 @@
 //! The share over its connections.
 
-ghost use Rattle.std.specs.Prelude.{◌≡◌, ◌<◌, ◌≤◌, ◌+◌, ◌++◌, true, false, Some, None, OnOk, OnErr, IfOk, IfErr, IsSome, is_some, length, if◌then◌else◌};
+ghost use Rattle.std.specs.Prelude.{◌≡◌, ◌<◌, ◌≤◌, ◌+◌, ◌++◌, [], true, false, Some, None, OnOk, OnErr, IfOk, IfErr, IsSome, is_some, length, if◌then◌else◌};
 ghost use Rattle.std.specs.List.{AllByRecursion, flat_map};
 ghost use Rattle.std.specs.Map.{remove_entry};
 ghost use Rattle.std.specs.BTreeMap.{is_at, insert_entry};
 ghost use Rattle.std.specs.Ordering.{nat_cmp};
+ghost use Rattle.smb_tree.specs.Content.{new_content};
 ghost use Rattle.smb_engine.specs.Settings.{settings_of, is_lawful};
 ghost use Rattle.smb_engine.specs.State.{shared_opened};
 ghost use Rattle.smb_engine.specs.Output.{bytes_of, outputs_of};
@@ -19,7 +20,9 @@ use super::output::{Answer, Sink};
 use super::shared::Shared;
 use super::stream::take_piece;
 use smb_frame::FrameBuffer;
+use smb_opens::Opens;
 use smb_session::{Authenticator, Window};
+use smb_tree::Tree;
 use std::alloc::{AllocError, Global};
 use std::collections::BTreeMap;
 use std::marker::Model;
@@ -27,15 +30,16 @@ use std::marker::Model;
 /// How many connections may be open.
 const CONNECTION_LIMIT: usize = 64;
 
-/// A share and its open connections. Who may come in, its authenticator decides.
+/// A share and its open connections. Who may come in, its authenticator decides; its files and their opens are
+/// kept in a tree and a list of opens of any kind.
 #[derive(Drop)]
-pub struct Share<A: Authenticator + Drop> {
-    shared: Shared<A>,
+pub struct Share<A: Authenticator + Drop, T: Tree + Drop, O: Opens + Drop> {
+    shared: Shared<A, T, O>,
     links: BTreeMap<u64, Link>,
     next: u64,
 }
 
-impl<A: Authenticator + Drop> Model for Share<A> {
+impl<A: Authenticator + Drop, T: Tree + Drop, O: Opens + Drop> Model for Share<A, T, O> {
     ghost use Rattle.smb_engine.specs.State.{ShareState};
     ghost use Rattle.smb_engine.specs.Held.{AreKept};
 
@@ -77,8 +81,8 @@ fn drop_link(links: &mut BTreeMap<u64, Link>, number: u64)
 }
 
 /// Adds a connection, which may begin sessions from now on. An error changes nothing.
-fn add_connection<A: Authenticator + Drop>(
-    shared: &mut Shared<A>,
+fn add_connection<A: Authenticator + Drop, T: Tree + Drop, O: Opens + Drop>(
+    shared: &mut Shared<A, T, O>,
     links: &mut BTreeMap<u64, Link>,
     number: u64,
     link: Link,
@@ -99,13 +103,22 @@ fn add_connection<A: Authenticator + Drop>(
     }
 }
 
-impl<A: Authenticator + Drop> Share<A> {
+impl<A: Authenticator + Drop, T: Tree + Drop, O: Opens + Drop> Share<A, T, O> {
     /// A share of this configuration, without a connection and without a session. Its authenticator decides
-    /// who may come in.
+    /// who may come in. The tree holds the root alone, as newly made with the moment and the room of the
+    /// configuration, and there are no opens.
     ///
     /// A configuration that breaks its rules is [`ServeFault::BadConfig`]; else memory may be wanting,
-    /// [`ServeFault::NoMemory`].
-    pub fn new(alloc: Global, config: Config, authenticator: A) -> Result<Self, ServeFault>
+    /// [`ServeFault::NoMemory`]. Both drop what was handed in.
+    pub fn new(
+        alloc: Global,
+        config: Config,
+        authenticator: A,
+        tree: T,
+        opens: O,
+    ) -> Result<Self, ServeFault>
+        requires tree { T.content tree ≡ new_content config.created config.capacity }
+        requires opens { O.content opens ≡ [] }
         ensures lawful { OnOk result (is_lawful (settings_of config) ≡ true) }
         ensures state { IfOk result (λ share. share ≡ new_share (settings_of config) authenticator) }
         ensures err { IfErr result (MakingRefused (settings_of config)) }
@@ -113,7 +126,7 @@ impl<A: Authenticator + Drop> Share<A> {
         if !config.is_lawful() {
             return Err(ServeFault::BadConfig);
         }
-        let shared = match Shared::new(alloc, config, authenticator) {
+        let shared = match Shared::new(alloc, config, authenticator, tree, opens) {
             Ok(shared) => shared,
             Err(_) => return Err(ServeFault::NoMemory { done: 0 }),
         };

@@ -10,10 +10,13 @@ ghost use Rattle.smb_head.specs.Replies.{joined_replies};
 ghost use Rattle.smb_body.specs.Replies.{reply_value};
 ghost use Rattle.smb_session.specs.Good.{GoodTable};
 ghost use Rattle.smb_session.specs.Sessions.{new_sessions};
+ghost use Rattle.smb_tree.specs.Content.{new_content};
+ghost use Rattle.smb_opens.specs.Good.{GoodStore};
 ghost use Rattle.smb_engine.specs.Settings.{settings_of, is_lawful};
 ghost use Rattle.smb_engine.specs.Negotiate.{negotiate_answer};
 ghost use Rattle.smb_engine.specs.Smb1.{reply_to_smb1};
-ghost use Rattle.smb_engine.specs.State.{hello_of, shared_opened, shared_ended};
+ghost use Rattle.smb_engine.specs.State.{new_shared, hello_of, shared_opened, shared_ended};
+ghost use Rattle.smb_engine.specs.Owners.{AreOwned};
 
 use super::config::Config;
 use super::context::Context;
@@ -22,29 +25,32 @@ use super::status::Status;
 use super::{negotiate, smb1};
 use smb_body::Reply;
 use smb_head::{Header, ReplyChain};
+use smb_opens::{Opens, Owner, Store};
 use smb_session::{Authenticator, Sessions};
+use smb_tree::Tree;
 use smb_wire::{Units, put_u16};
 use std::alloc::{AllocError, Global};
 use std::marker::Model;
 
-/// The configuration, and the sessions with their authenticator.
+/// The configuration, the sessions with their authenticator, and the files with their opens.
 #[derive(Drop)]
-pub(crate) struct Shared<A: Authenticator + Drop> {
+pub(crate) struct Shared<A: Authenticator + Drop, T: Tree + Drop, O: Opens + Drop> {
     config: Config,
     pub(crate) sessions: Sessions<A>,
+    pub(crate) store: Store<T, O>,
     alloc: Global,
 }
 
-impl<A: Authenticator + Drop> Model for Shared<A> {
-    ghost use Rattle.std.specs.Prelude.{◌≡◌, true};
-    ghost use Rattle.smb_engine.specs.Settings.{settings_of, is_lawful};
+impl<A: Authenticator + Drop, T: Tree + Drop, O: Opens + Drop> Model for Shared<A, T, O> {
+    ghost use Rattle.smb_engine.specs.Settings.{settings_of};
     ghost use Rattle.smb_engine.specs.State.{SharedState};
+    ghost use Rattle.smb_engine.specs.Held.{IsSharedKept};
 
     ghost Value = { SharedState A };
 
-    ghost view = { λ s. record { settings = settings_of s.config; sessions = s.sessions } };
+    ghost view = { λ s. record { settings = settings_of s.config; sessions = s.sessions; store = s.store } };
 
-    ghost invariant = { λ s. is_lawful (settings_of s.config) ≡ true };
+    ghost invariant = { λ s. IsSharedKept (settings_of s.config) s.sessions.table s.store.opens };
 }
 
 /// Adds the bytes of a unit.
@@ -100,16 +106,26 @@ fn single_reply(alloc: Global, header: &Header, body: &[u8]) -> Result<Vec<u8>, 
     }
 }
 
-impl<A: Authenticator + Drop> Shared<A> {
-    /// What connections share at first: no session.
-    pub(crate) fn new(alloc: Global, config: Config, authenticator: A) -> Result<Self, AllocError>
-        requires { is_lawful (settings_of config) ≡ true }
-        ensures { IfOk result (λ shared. shared ≡ record { settings = settings_of config; sessions = new_sessions authenticator (settings_of config).share }) }
+impl<A: Authenticator + Drop, T: Tree + Drop, O: Opens + Drop> Shared<A, T, O> {
+    /// What connections share at first: no session, and the root alone.
+    #[tactic(auto, using(smb_opens::proofs::OnePath::new_tree))]
+    pub(crate) fn new(
+        alloc: Global,
+        config: Config,
+        authenticator: A,
+        tree: T,
+        opens: O,
+    ) -> Result<Self, AllocError>
+        requires lawful { is_lawful (settings_of config) ≡ true }
+        requires tree { T.content tree ≡ new_content config.created config.capacity }
+        requires opens { O.content opens ≡ [] }
+        ensures { IfOk result (λ shared. shared ≡ new_shared (settings_of config) authenticator) }
     {
         let sessions = sessions_of(alloc, authenticator, config.share.as_bytes())?;
         Ok(Shared {
             config,
             sessions,
+            store: Store::new(tree, opens),
             alloc,
         })
     }
@@ -138,12 +154,13 @@ impl<A: Authenticator + Drop> Shared<A> {
         ensures err { OnErr result (self.new ≡ self.old) }
     {
         match self.sessions.connect(number) {
-            Ok(()) => Ok(()),
-            Err(_) => Err(AllocError),
+            Ok(()) => {}
+            Err(_) => return Err(AllocError),
         }
+        Ok(())
     }
 
-    /// Ends the least session of a connection; false where it has none and is forgotten.
+    /// Ends the least session of a connection, with its opens; false where it has none and is forgotten.
     #[tactic(auto, unfolding(crate::specs::State::shared_ended))]
     fn end_one(&mut self, number: u64) -> bool
         ensures ended { OnTrue result (shared_ended self.new number ≡ shared_ended self.old number) }
@@ -151,9 +168,10 @@ impl<A: Authenticator + Drop> Shared<A> {
         ensures none { OnFalse result (self.new ≡ shared_ended self.old number) }
     {
         self.sessions.good();
-        let Some(_session) = self.sessions.end_connection(number) else {
+        let Some(session) = self.sessions.end_connection(number) else {
             return false;
         };
+        self.store.close_all(Owner::Session(session));
         true
     }
 
@@ -187,12 +205,16 @@ impl<A: Authenticator + Drop> Shared<A> {
         Ok(bytes)
     }
 
-    /// The configuration keeps its rules, and the sessions are good. (The body does nothing.)
+    /// The configuration keeps its rules, the sessions and the files are good, and each open is owned. (The body
+    /// does nothing.)
     pub(crate) fn good(&self)
         ensures lawful { is_lawful self.now.settings ≡ true }
         ensures sessions { GoodTable self.now.sessions.table }
+        ensures store { GoodStore self.now.store }
+        ensures owned { AreOwned self.now.sessions.table self.now.store.opens }
     {
         let _ = &self.config;
         self.sessions.good();
+        self.store.good();
     }
 }

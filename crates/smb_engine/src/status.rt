@@ -14,7 +14,10 @@ pub enum Status {
     NetworkNameDeleted,
     BadNetworkName,
     RequestNotAccepted,
+    FileClosed,
     UserSessionDeleted,
+    /// The status by which the store refuses.
+    Store(u32),
 }
 
 impl Status {
@@ -31,7 +34,9 @@ impl Status {
             Status::NetworkNameDeleted => 0xC000_00C9,
             Status::BadNetworkName => 0xC000_00CC,
             Status::RequestNotAccepted => 0xC000_00D0,
+            Status::FileClosed => 0xC000_0128,
             Status::UserSessionDeleted => 0xC000_0203,
+            Status::Store(code) => code,
         }
     }
 }

@@ -10,12 +10,14 @@ use super::connection::{Connection, Link};
 use super::output::Sink;
 use super::shared::Shared;
 use smb_frame::FrameBuffer;
+use smb_opens::Opens;
 use smb_session::Authenticator;
+use smb_tree::Tree;
 
 /// Performs the payloads of the whole frames that are held, in order, and puts out their replies. Ok tells
 /// whether the connection stays open and how many requests were performed; an error, the latter.
-fn take_payloads<A: Authenticator + Drop, K: Sink>(
-    shared: &mut Shared<A>,
+fn take_payloads<A: Authenticator + Drop, T: Tree + Drop, O: Opens + Drop, K: Sink>(
+    shared: &mut Shared<A, T, O>,
     buffer: &mut FrameBuffer,
     connection: &mut Connection,
     number: u64,
@@ -66,8 +68,8 @@ fn stays_open(open_still: bool, buffer: &FrameBuffer) -> bool
 /// stays open; an error, how many requests were performed.
 ///
 /// After an error nothing was put out. The connection is to be given up then, and where it doesn't stay open.
-pub(crate) fn take_piece<A: Authenticator + Drop, K: Sink>(
-    shared: &mut Shared<A>,
+pub(crate) fn take_piece<A: Authenticator + Drop, T: Tree + Drop, O: Opens + Drop, K: Sink>(
+    shared: &mut Shared<A, T, O>,
     link: &mut Link,
     number: u64,
     moment: u64,

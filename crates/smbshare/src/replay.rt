@@ -4,6 +4,9 @@ use super::config::Configuration;
 use super::input::{CommandFault, read_input};
 use super::script::Script;
 use smb_engine::{Answer, RunFault, ServeFault, Share};
+use smb_opens::PlainOpens;
+use smb_session::Tokens;
+use smb_tree::PlainTree;
 use std::alloc::Global;
 use std::io;
 use std::io::{Read, Write};
@@ -54,6 +57,24 @@ fn fault_at(places: &[u64], fault: RunFault) -> CommandFault {
     }
 }
 
+/// A new share of a configuration: the root alone, and nothing is open.
+pub(crate) fn new_share(
+    alloc: Global,
+    configuration: Configuration,
+) -> Result<Share<Tokens, PlainTree, PlainOpens>, CommandFault> {
+    let config = configuration.config;
+    let tree = match PlainTree::new(alloc, config.created, config.capacity) {
+        Ok(tree) => tree,
+        Err(_) => return Err(CommandFault::NoMemory),
+    };
+    let opens = PlainOpens::new(alloc);
+    match Share::new(alloc, config, configuration.authenticator, tree, opens) {
+        Ok(share) => Ok(share),
+        Err(ServeFault::NoMemory { done: _ }) => Err(CommandFault::NoMemory),
+        Err(_) => Err(CommandFault::ConfigRefused),
+    }
+}
+
 /// Replays a text on a new share, and writes what the share answers.
 fn replay<R: Read + Drop, W: Write>(
     alloc: Global,
@@ -64,11 +85,7 @@ fn replay<R: Read + Drop, W: Write>(
     let configuration = Configuration::read(alloc, config)?;
     let text = read_input(alloc, input)?;
     let script = Script::read(alloc, &text)?;
-    let mut share = match Share::new(alloc, configuration.config, configuration.authenticator) {
-        Ok(share) => share,
-        Err(ServeFault::NoMemory { done: _ }) => return Err(CommandFault::NoMemory),
-        Err(_) => return Err(CommandFault::ConfigRefused),
-    };
+    let mut share = new_share(alloc, configuration)?;
     let mut answers = Vec::new(alloc);
     let ran = share.run(&script.events, &mut answers);
     write_answers(&answers, output)?;

@@ -2,6 +2,7 @@
 
 mod configs;
 mod faults;
+mod files;
 mod lines;
 mod rows;
 mod sessions;

@@ -1,20 +1,23 @@
 //! Rows through `replay_text` and through the calls of `Share`.
 
 use super::super::config::Configuration;
+use super::super::replay::new_share;
 use super::{ECHO, ECHOED, MOMENT, NEGOTIATE, NEGOTIATED, answers, brings, expand, replays};
 use smb_engine::{Answer, Event, Fate, RunFault, ServeFault, Share};
+use smb_opens::PlainOpens;
 use smb_session::Tokens;
+use smb_tree::PlainTree;
 use std::alloc::{AllocError, Global};
 use std::test::Fail;
 
 /// A share of the built-in configuration.
-fn share(alloc: Global) -> Result<Share<Tokens>, Fail> {
-    let read = Configuration::read(alloc, super::BUILT_IN)?;
-    Ok(Share::new(alloc, read.config, read.authenticator)?)
+pub(super) fn share(alloc: Global) -> Result<Share<Tokens, PlainTree, PlainOpens>, Fail> {
+    let configuration = Configuration::read(alloc, super::BUILT_IN)?;
+    Ok(new_share(alloc, configuration)?)
 }
 
 /// The bytes that words spell.
-fn bytes(alloc: Global, words: &str) -> Result<Vec<u8>, Fail> {
+pub(super) fn bytes(alloc: Global, words: &str) -> Result<Vec<u8>, Fail> {
     Ok(hex::decode(alloc, expand(alloc, words)?.as_str())?)
 }
 

@@ -11,25 +11,27 @@ use super::{
     BUILT_IN, ECHO, ECHOED, MOMENT, NEGOTIATE, NEGOTIATED, answers, brings, expand, replays,
 };
 use smb_engine::{Fate, Share};
+use smb_opens::PlainOpens;
 use smb_session::{Answer, Scripted};
+use smb_tree::PlainTree;
 use std::alloc::{AllocError, Global};
 use std::process::Abort;
 use std::test::Fail;
 
 /// A SESSION_SETUP with MessageId 1, SessionId 0 and the token `61`, which is ann's.
-const SETUP: &str =
+pub(super) const SETUP: &str =
     "00000059 fe534d42 4000 z6 0100 0100 z8 0100000000000000 z32 1900 00 01 z8 5800 0100 z8 61";
 
 /// Its reply: session 1.
-const SET_UP: &str =
+pub(super) const SET_UP: &str =
     "00000048 fe534d42 4000 z6 0100 0100 01000000 z4 0100000000000000 z8 0100000000000000 z16 0900 0000 4800 0000";
 
 /// A TREE_CONNECT with MessageId 2 in session 1 to `\\s\data`.
-const CONNECT: &str =
+pub(super) const CONNECT: &str =
     "00000058 fe534d42 4000 z6 0300 0100 z8 0200000000000000 z8 0100000000000000 z16 0900 0000 4800 1000 5c005c0073005c006400610074006100";
 
 /// Its reply: tree 1.
-const CONNECTED: &str =
+pub(super) const CONNECTED: &str =
     "00000050 fe534d42 4000 z6 0300 0100 01000000 z4 0200000000000000 z4 01000000 0100000000000000 z16 1000 01 00 z8 ff011f00";
 
 /// Replays a connection that negotiates and then sends these requests; each is answered, or ends it.
@@ -150,16 +152,18 @@ fn script(alloc: Global) -> Result<Vec<Answer>, AllocError>
 }
 
 /// A share of the built-in configuration with this script.
-fn scripted_share(alloc: Global) -> Result<Share<Scripted>, Fail> {
-    let read = Configuration::read(alloc, BUILT_IN)?;
+fn scripted_share(alloc: Global) -> Result<Share<Scripted, PlainTree, PlainOpens>, Fail> {
+    let config = Configuration::read(alloc, BUILT_IN)?.config;
     let authenticator = Scripted::new(alloc, &[], script(alloc)?)?;
-    Ok(Share::new(alloc, read.config, authenticator)?)
+    let tree = PlainTree::new(alloc, config.created, config.capacity)?;
+    let opens = PlainOpens::new(alloc);
+    Ok(Share::new(alloc, config, authenticator, tree, opens)?)
 }
 
 /// Whether a share answers a piece on connection 1 with these bytes, and keeps it open.
 fn answers_by(
     alloc: Global,
-    share: &mut Share<Scripted>,
+    share: &mut Share<Scripted, PlainTree, PlainOpens>,
     request: &str,
     reply: &str,
 ) -> Result<bool, Fail> {

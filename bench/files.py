@@ -1,0 +1,42 @@
+#!/usr/bin/env python3
+"""Times the proved program on pairs of CREATE and CLOSE, and prints the rows of docs/TESTING.md.
+
+    (cd crates/smbshare && rt run < stdin > /dev/null)     builds crates/smbshare/out/smbshare
+    python3 bench/files.py
+
+The files are made first, and then opened and closed in turn. The plain tree goes through its entries for each
+look-up, so a pair may cost more where there are more files.
+"""
+from frames import close, create, negotiate, session_setup, tree_connect
+from runs import piece, replayed, succeeds
+
+READ_DATA, OPEN, CREATE = 1, 1, 2
+
+
+def write_replay(path, files, pairs):
+    """A replay that makes so many files, closes each, and then opens and closes them so often."""
+    with open(path, 'w') as text:
+        text.write('+ 1\n')
+        for frame in (negotiate(), session_setup(1), tree_connect(2, 1)):
+            piece(text, 1, frame)
+        for i in range(files + pairs):
+            disposition = CREATE if i < files else OPEN
+            piece(text, 1, create(3 + 2 * i, f'file{i % files}', READ_DATA, disposition, 0, 1, 1))
+            piece(text, 1, close(4 + 2 * i, 1 + i, 1, 1))
+
+
+def measure(files, pairs):
+    seconds, peak, _ = replayed(write_replay, (files, pairs), succeeds, 3 + 2 * (files + pairs))
+    print(f'| {files:,} | {pairs:,} | {seconds:.2f} | {1e6 * seconds / (files + pairs):.0f} | {peak:.0f} |')
+
+
+def main():
+    print('| files | pairs | seconds | microseconds a pair | peak MiB |')
+    print('|---|---|---|---|---|')
+    for files in (10, 1_000):
+        for pairs in (10_000, 40_000):
+            measure(files, pairs)
+
+
+if __name__ == '__main__':
+    main()

@@ -1,0 +1,10 @@
+pub mod Keyed
+pub mod Rows
+pub mod Trees
+pub mod Counts
+pub mod Changes
+pub mod Overwrites
+pub mod Made
+pub mod Passing
+pub mod OnePath
+pub mod Kept

@@ -1,0 +1,151 @@
+-- A store in which an entry was added or opened, and one in which that was undone.
+use Rattle.std.proofs.Common.{◌≡◌, ◌<◌, ℕ, ◌+◌, List, [], ◌∷◌, ◌++◌, length, true, false, cond, Option, None, Some, is_some, refl, sym, ap, arith, ◌∙◌, length-append}
+use Rattle.std.proofs.lemmas.Grind.{common_steps}
+use Rattle.std.proofs.lemmas.Bool.Decides.{nat_tests}
+use Rattle.std.specs.Option.{option_map}
+use Rattle.smb_wire.specs.Paths.{path_spelled, folded_path}
+use Rattle.smb_tree.specs.declared.entry.Kind.{Kind}
+use Rattle.smb_tree.specs.Entries.{Entry, new_entry}
+use Rattle.smb_tree.specs.Content.{Path, Row, Content, entry_at, numbered, added, next_number}
+use Rattle.smb_tree.specs.Faults.{add_fault}
+use Rattle.smb_tree.specs.Laws.{AreApart}
+use Rattle.smb_tree.proofs.Apart.{numbered-from_at, numbered-changed}
+use Rattle.smb_opens.specs.declared.open_row.OpenRow.{OpenRow}
+use Rattle.smb_opens.specs.declared.found.Target.{Target}
+use Rattle.smb_opens.specs.declared.view.View.{View}
+use Rattle.smb_opens.specs.declared.view.CreateAction.{CreateAction}
+use Rattle.smb_opens.specs.declared.view.CreateAction.TheVariants.{Created}
+use Rattle.smb_opens.specs.declared.view.Created.{Created as CreatedOpen}
+use Rattle.smb_opens.specs.Asked.{CreateAsked, kind_asked, attributes_asked, overwrites_by}
+use Rattle.smb_opens.specs.Effect.{overwritten, overwritten_tree, standing_tree, entry_after, told_by, created_by, opened_by, action_on}
+use Rattle.smb_opens.specs.Found.{target_of, has_all_opens}
+use Rattle.smb_opens.specs.Good.{GoodTree, GoodStore, IsKept, ArePresent}
+use Rattle.smb_opens.specs.Opens.{without, AreAllBelow}
+use Rattle.smb_opens.specs.State.{StoreState}
+use Rattle.smb_opens.specs.Views.{view_of, view_at}
+use Rattle.smb_opens.proofs.Rows.{all_push, rising_push, below_push, without_last}
+use Rattle.smb_opens.proofs.Changes.{free_path, good_push, present_push, numbered-last, good_changed, present_changed, length-changed}
+use Rattle.smb_opens.proofs.Overwrites.{empties}
+
+-- an open that was added last is taken out again
+pub undone : (before with_one after : List OpenRow) (next : ℕ) (row : OpenRow) → AreAllBelow next before → row.number ≡ next → with_one ≡ before ++ row ∷ [] → after ≡ without next with_one → after ≡ before
+undone before with_one after next row b e f h = h ∙ ap (without next) f ∙ without_last next before row b e
+
+pub kept_undone : (tree tree' : Content) (before after : List OpenRow) (next opens_count entries_count : ℕ) → tree' ≡ tree → after ≡ before → IsKept tree before next opens_count entries_count → IsKept tree' after next opens_count entries_count
+kept_undone tree tree' before after next opens_count entries_count e f kept = rw (e, f) kept
+
+room_left : (state : StoreState) → has_all_opens state ≡ false → length state.opens < 1024
+room_left state e = grind (arith, nat_tests, common_steps, e)
+
+-- one more open, of an entry that stands
+pub good_opened : (state : StoreState) (tree : Content) (row : OpenRow) → GoodStore state → GoodTree tree → ArePresent tree.rows state.opens → is_some (numbered tree.rows row.entry) ≡ true → row.number ≡ state.next → has_all_opens state ≡ false → GoodStore (record { tree = tree; opens = state.opens ++ row ∷ []; next = state.next + 1 })
+good_opened state tree row good fine present stands number room = record {
+  tree = fine;
+  present = all_push (λ (o : OpenRow). is_some (numbered tree.rows o.entry) ≡ true) state.opens row present stands;
+  rising = rising_push state.opens row good.rising (rw number good.below);
+  below = below_push state.next state.opens row good.below number;
+  few = omega (arith, room_left state room, length-append state.opens (row ∷ []));
+}
+
+-- the tree to which an entry was added is good
+pub good_added : (tree : Content) (parts : List (List ℕ)) (kind : Kind) (attributes moment : ℕ) → GoodTree tree → add_fault tree (folded_path parts) ≡ None → GoodTree (added tree parts kind attributes moment)
+good_added tree parts kind attributes moment good free =
+    good_push tree (folded_path parts) (new_entry tree.next parts kind attributes moment) (free_path tree (folded_path parts) free) refl refl good
+
+pub kept_added : (state : StoreState) (opens_count entries_count : ℕ) (parts : List (List ℕ)) (kind : Kind) (attributes moment : ℕ) (row : OpenRow) → IsKept state.tree state.opens state.next opens_count entries_count → add_fault state.tree (folded_path parts) ≡ None → has_all_opens state ≡ false → row.number ≡ state.next → row.entry ≡ state.tree.next → IsKept (added state.tree parts kind attributes moment) (state.opens ++ row ∷ []) (state.next + 1) (opens_count + 1) (entries_count + 1)
+kept_added state opens_count entries_count parts kind attributes moment row kept free room number entry =
+    let new : Row = (folded_path parts, new_entry state.tree.next parts kind attributes moment) in
+    let last : is_some (numbered (state.tree.rows ++ new ∷ []) row.entry) ≡ true = rw (entry, numbered-last state.tree new kept.good.tree refl) refl in
+    record {
+      good = good_opened state (added state.tree parts kind attributes moment) row kept.good (good_added state.tree parts kind attributes moment kept.good.tree free) (present_push state.tree.rows new state.opens kept.good.present) last number room;
+      opens_counted = omega (arith, kept.opens_counted, length-append state.opens (row ∷ []));
+      entries_counted = omega (arith, kept.entries_counted, length-append state.tree.rows (new ∷ []));
+    }
+
+-- the entry that was added shows itself
+pub shown_added : (tree after : Content) (parts : List (List ℕ)) (kind : Kind) (attributes moment number access : ℕ) → GoodTree tree → after ≡ added tree parts kind attributes moment → number ≡ tree.next → view_at after.rows number access ≡ Some (view_of access (new_entry tree.next parts kind attributes moment))
+shown_added tree after parts kind attributes moment number access good t e =
+    let new : Row = (folded_path parts, new_entry tree.next parts kind attributes moment) in
+    let last : numbered (tree.rows ++ new ∷ []) number ≡ Some new = rw e (numbered-last tree new good refl) in
+    ap (λ (x : Content). view_at x.rows number access) t ∙ ap (option_map (λ (row : Row). view_of access row.1)) last
+
+-- what shows itself is there
+pub no_view : (o : Option View) (view : View) → None ≡ o → o ≡ Some view → ⊥
+no_view o view e f = cc
+
+-- where an entry may be added a number is left
+pub no_number : (content : Content) (path : Path) → add_fault content path ≡ None → None ≡ next_number content → ⊥
+no_number content path e f = let free = free_path content path e in grind (arith, nat_tests, common_steps, f, free.next)
+
+pub told_added : (state : StoreState) (ask : CreateAsked) (moment access given : ℕ) (parts : List (List ℕ)) (kind : Kind) (attributes : ℕ) (view : View) (o : Option View) → parts ≡ path_spelled ask.name → kind ≡ kind_asked ask → attributes ≡ attributes_asked kind ask → given ≡ access → Some view ≡ o → o ≡ Some (view_of given (new_entry state.tree.next parts kind attributes moment)) → (let told : CreatedOpen = record { number = state.next; action = Created; view = view } in told) ≡ told_by state ask moment access None
+told_added state ask moment access given parts kind attributes view o p k a g e f =
+    let seen : view ≡ view_of given (new_entry state.tree.next parts kind attributes moment) = cc in
+    let attrs : attributes ≡ attributes_asked (kind_asked ask) ask = a ∙ ap (λ (x : Kind). attributes_asked x ask) k in
+    let whole : view_of given (new_entry state.tree.next parts kind attributes moment) ≡ view_of access (entry_after state.tree ask moment None) = λ i. view_of (g i) (new_entry state.tree.next (p i) (k i) (attrs i) moment) in
+    let same : view ≡ view_of access (entry_after state.tree ask moment None) = seen ∙ whole in
+    λ i. record { number = state.next; action = Created; view = same i }
+
+-- a target that stands at a path stands under its number
+pub target_entry : (rows : List Row) (path : Path) (target : Target) → AreApart rows → option_map target_of (entry_at rows path) ≡ Some target → (entry : Entry) × (entry_at rows path ≡ Some entry) × (target_of entry ≡ target) × (numbered rows target.number ≡ Some (path, entry))
+target_entry rows path target a e =
+    elim (entry_at rows path) as (λ o. entry_at rows path ≡ o → option_map target_of o ≡ Some target → (entry : Entry) × (o ≡ Some entry) × (target_of entry ≡ target) × (numbered rows target.number ≡ Some (path, entry))) [
+      | None ↦ λ _ f. absurd (cc)
+      | Some entry ↦ λ at f. (let k : numbered rows entry.number ≡ Some (path, entry) = numbered-from_at rows path entry a at in let same : target_of entry ≡ target = cc in let number : target.number ≡ entry.number = ap (λ (t : Target). t.number) (sym same) in (entry, refl, same, ap (numbered rows) number ∙ k))
+    ] refl e
+
+pub target_numbered : (rows : List Row) (path : Path) (target : Target) → AreApart rows → option_map target_of (entry_at rows path) ≡ Some target → option_map (λ row. target_of row.1) (numbered rows target.number) ≡ Some target
+target_numbered rows path target a e =
+    let t = target_entry rows path target a e in
+    ap (option_map (λ (row : Row). target_of row.1)) t.3 ∙ ap (λ (x : Target). Some x) t.2
+
+-- a tree in which a standing entry was dealt with is good, and its entries stand as before
+pub good_standing : (tree : Content) (ask : CreateAsked) (moment number : ℕ) (row : Row) → numbered tree.rows number ≡ Some row → GoodTree tree → GoodTree (standing_tree tree ask moment number)
+good_standing tree ask moment number row h good =
+    elim (overwrites_by ask.disposition) as (λ b. GoodTree (cond b (overwritten_tree tree ask moment number) tree)) [ true ↦ good_changed (overwritten ask moment) tree number row (empties ask moment) h good | false ↦ good ]
+
+pub present_standing : (tree : Content) (ask : CreateAsked) (moment number : ℕ) (opens : List OpenRow) → ArePresent tree.rows opens → ArePresent (standing_tree tree ask moment number).rows opens
+present_standing tree ask moment number opens h =
+    elim (overwrites_by ask.disposition) as (λ b. ArePresent (let x : Content = cond b (overwritten_tree tree ask moment number) tree in x).rows opens) [ true ↦ present_changed (overwritten ask moment) tree.rows number opens (empties ask moment) h | false ↦ h ]
+
+numbered_standing : (tree : Content) (ask : CreateAsked) (moment number : ℕ) (path : Path) (entry : Entry) → numbered tree.rows number ≡ Some (path, entry) → numbered (standing_tree tree ask moment number).rows number ≡ Some (path, entry_after tree ask moment (Some entry))
+numbered_standing tree ask moment number path entry h =
+    elim (overwrites_by ask.disposition) as (λ b. numbered (let x : Content = cond b (overwritten_tree tree ask moment number) tree in x).rows number ≡ Some (path, cond b (overwritten ask moment entry) entry)) [
+      | true ↦ (let here = numbered-changed (overwritten ask moment) tree.rows number number (λ _. refl) in grind (arith, nat_tests, common_steps, here, h))
+      | false ↦ h
+    ]
+
+-- the entry shows itself
+pub shown_standing : (tree after : Content) (ask : CreateAsked) (moment number access : ℕ) (path : Path) (entry : Entry) → after ≡ standing_tree tree ask moment number → numbered tree.rows number ≡ Some (path, entry) → view_at after.rows number access ≡ Some (view_of access (entry_after tree ask moment (Some entry)))
+shown_standing tree after ask moment number access path entry t h =
+    ap (λ (x : Content). view_at x.rows number access) t ∙ ap (option_map (λ (row : Row). view_of access row.1)) (numbered_standing tree ask moment number path entry h)
+
+length-standing : (tree : Content) (ask : CreateAsked) (moment number : ℕ) → length (standing_tree tree ask moment number).rows ≡ length tree.rows
+length-standing tree ask moment number =
+    elim (overwrites_by ask.disposition) as (λ b. length (let x : Content = cond b (overwritten_tree tree ask moment number) tree in x).rows ≡ length tree.rows) [ true ↦ length-changed (overwritten ask moment) tree.rows number | false ↦ refl ]
+
+pub kept_standing : (state : StoreState) (ask : CreateAsked) (moment opens_count entries_count : ℕ) (row : OpenRow) (number : ℕ) (path : Path) (entry : Entry) → IsKept state.tree state.opens state.next opens_count entries_count → numbered state.tree.rows number ≡ Some (path, entry) → has_all_opens state ≡ false → row.number ≡ state.next → row.entry ≡ number → IsKept (standing_tree state.tree ask moment number) (state.opens ++ row ∷ []) (state.next + 1) (opens_count + 1) entries_count
+kept_standing state ask moment opens_count entries_count row number path entry kept h room n e =
+    let tree : Content = standing_tree state.tree ask moment number in
+    let stands : is_some (numbered tree.rows row.entry) ≡ true = rw (e, numbered_standing state.tree ask moment number path entry h) refl in
+    record {
+      good = good_opened state tree row kept.good (good_standing state.tree ask moment number (path, entry) h kept.good.tree) (present_standing state.tree ask moment number state.opens kept.good.present) stands n room;
+      opens_counted = omega (arith, kept.opens_counted, length-append state.opens (row ∷ []));
+      entries_counted = kept.entries_counted ∙ sym (length-standing state.tree ask moment number);
+    }
+
+pub told_standing : (state : StoreState) (ask : CreateAsked) (moment access given : ℕ) (stood : Option Entry) (entry : Entry) (action : CreateAction) (view : View) (o : Option View) → stood ≡ Some entry → action ≡ action_on ask.disposition → given ≡ access → Some view ≡ o → o ≡ Some (view_of given (entry_after state.tree ask moment (Some entry))) → (let told : CreatedOpen = record { number = state.next; action = action; view = view } in told) ≡ told_by state ask moment access stood
+told_standing state ask moment access given stood entry action view o s a g e f =
+    let seen : view ≡ view_of given (entry_after state.tree ask moment (Some entry)) = cc in
+    let whole : view ≡ view_of access (entry_after state.tree ask moment (Some entry)) = seen ∙ ap (λ n. view_of n (entry_after state.tree ask moment (Some entry))) g in
+    let told : (let t : CreatedOpen = record { number = state.next; action = action; view = view } in t) ≡ told_by state ask moment access (Some entry) = λ i. record { number = state.next; action = a i; view = whole i } in
+    told ∙ ap (told_by state ask moment access) (sym s)
+
+-- the store afterwards, where the entry stood
+pub made_standing : (state : StoreState) (ask : CreateAsked) (moment access given : ℕ) (stood : Option Entry) (entry : Entry) (number : ℕ) (tree : Content) (opens : List OpenRow) (row : OpenRow) → stood ≡ Some entry → entry.number ≡ number → given ≡ access → tree ≡ standing_tree state.tree ask moment number → opens ≡ state.opens ++ row ∷ [] → row ≡ opened_by ask state.next number given → (let after : StoreState = record { tree = tree; opens = opens; next = state.next + 1 } in after) ≡ created_by state ask moment access stood
+made_standing state ask moment access given stood entry number tree opens row s n g t o r =
+    let same : (entry_after state.tree ask moment (Some entry)).number ≡ number = elim (overwrites_by ask.disposition) as (λ b. (let x : Entry = cond b (overwritten ask moment entry) entry in x).number ≡ number) [ true ↦ n | false ↦ n ] in
+    let rows : opens ≡ state.opens ++ opened_by ask state.next (entry_after state.tree ask moment (Some entry)).number access ∷ [] =
+    o ∙ ap (λ (x : OpenRow). state.opens ++ x ∷ []) (r ∙ (λ i. opened_by ask state.next (sym same i) (g i))) in
+    let trees : tree ≡ standing_tree state.tree ask moment entry.number = t ∙ ap (standing_tree state.tree ask moment) (sym n) in
+    let after : (let x : StoreState = record { tree = tree; opens = opens; next = state.next + 1 } in x) ≡ created_by state ask moment access (Some entry) = λ i. record { tree = trees i; opens = rows i; next = state.next + 1 } in
+    after ∙ ap (created_by state ask moment access) (sym s)

@@ -1,0 +1,81 @@
+-- What is known where a request passes the table.
+use Rattle.std.proofs.Common.{◌≡◌, ◌≢◌, ◌≤◌, ℕ, List, [], ◌∷◌, ◌++◌, length, Bool, true, false, cond, ◌&&◌, Option, None, Some, refl, sym, ap, subst, arith, ◌∙◌}
+use Rattle.std.proofs.lemmas.Grind.{common_steps}
+use Rattle.std.proofs.lemmas.List.{length-map}
+use Rattle.std.proofs.lemmas.Bool.Decides.{nat_tests}
+use Rattle.std.specs.List.{AllByRecursion}
+use Rattle.std.specs.Option.{option_map, is_none}
+use Rattle.std.specs.Prelude.{Result, Ok, Err, IfErr, OnOk}
+use Rattle.smb_wire.specs.Names.{folded}
+use Rattle.smb_wire.specs.Paths.{path_spelled, path_fault, folded_path}
+use Rattle.smb_tree.specs.Entries.{Entry, is_folder}
+use Rattle.smb_tree.specs.Content.{Path, entry_at, parent}
+use Rattle.smb_tree.specs.Faults.{add_fault}
+use Rattle.smb_opens.specs.declared.fault.StoreFault.{StoreFault}
+use Rattle.smb_opens.specs.declared.fault.StoreFault.TheVariants.{NoMemory}
+use Rattle.smb_opens.specs.declared.found.Found.{Found}
+use Rattle.smb_opens.specs.Asked.{CreateAsked}
+use Rattle.smb_opens.specs.Create.{StatusRow, first_status, asked_rows, found_rows, create_status}
+use Rattle.smb_opens.specs.Faults.{IsRefusal}
+use Rattle.smb_opens.specs.Found.{target_of, found_at, found_by, path_asked, is_reached, has_all_opens, has_all_entries}
+use Rattle.smb_opens.specs.Good.{GoodStore}
+use Rattle.smb_opens.specs.State.{StoreState}
+use Rattle.smb_opens.specs.Statuses.{success}
+use Rattle.smb_opens.proofs.Trees.{reached_folder}
+
+-- where no row decides, none holds
+pass_at : (b : Bool) (status code : ℕ) → status ≢ success → (cond b status code) ≡ success → (b ≡ false) × (code ≡ success)
+pass_at true status code n e = absurd (n e)
+pass_at false status code n e = (refl, e)
+
+pass_all : (rows : List StatusRow) → AllByRecursion (λ row. row.1 ≢ success) rows → first_status rows ≡ success → AllByRecursion (λ row. row.0 ≡ false) rows
+pass_all [] n e = tt
+pass_all (row ∷ rows) n e =
+    let p = pass_at row.0 row.1 (first_status rows) n.0 e in
+    (p.0, pass_all rows n.1 p.1)
+
+pub record Passed (found : Found) : Type 0 where
+  pub reached : found.reached ≡ true
+  pub opens : found.opens_full ≡ false
+  pub entries : (is_none found.target && found.entries_full) ≡ false
+
+pub passed : (ask : CreateAsked) (found : Found) → first_status (found_rows ask found) ≡ success → Passed found
+passed ask found e =
+    let refuses : AllByRecursion (λ row. row.1 ≢ success) (found_rows ask found) =
+    ((λ q. omega (arith, q)), ((λ q. omega (arith, q)), ((λ q. omega (arith, q)), ((λ q. omega (arith, q)), ((λ q. omega (arith, q)), ((λ q. omega (arith, q)), ((λ q. omega (arith, q)), ((λ q. omega (arith, q)), ((λ q. omega (arith, q)), tt))))))))) in
+    let none = pass_all (found_rows ask found) refuses e in
+    record { reached = grind (arith, none.1.0); opens = none.1.1.1.1.1.1.1.0; entries = none.1.1.1.1.1.1.1.1.0 }
+
+-- the status is that of what was found
+pub status_told : (state : StoreState) (ask : CreateAsked) (path : Path) (found : Found) (code : ℕ) → found ≡ found_at state path → path ≡ path_asked ask → code ≡ first_status (found_rows ask found) → ((rows : List StatusRow) → first_status (asked_rows ask ++ rows) ≡ first_status rows) → code ≡ create_status state ask
+status_told state ask path found code f p e l =
+    e ∙ ap (λ (x : Found). first_status (found_rows ask x)) (f ∙ ap (found_at state) p) ∙ sym (l (found_rows ask (found_by state ask)))
+
+pub refused_memory : {X : Type 0} (r : Result X StoreFault) (status : ℕ) → status ≡ success → IfErr r (λ fault. fault ≡ NoMemory) → IfErr r (λ fault. IsRefusal status fault)
+refused_memory (Ok x) status e h = tt
+refused_memory (Err fault) status e h = subst (IsRefusal status) (sym h) e
+
+pub lawful_ok : {X E P : Type 0} (r : Result X E) → P → OnOk r P
+lawful_ok (Ok x) p = p
+lawful_ok (Err e) p = tt
+
+short : (name : List ℕ) → path_fault name ≡ None → length (path_spelled name) ≤ 32
+short name e = grind (arith, nat_tests, common_steps, e)
+
+absent_target : (o : Option Entry) → option_map target_of o ≡ None → o ≡ None
+absent_target None e = refl
+absent_target (Some entry) e = cc
+
+-- an entry may be added where none was found
+pub free_found : (state : StoreState) (ask : CreateAsked) (parts : List (List ℕ)) (found : Found) → GoodStore state → found ≡ found_at state (folded_path parts) → parts ≡ path_spelled ask.name → path_fault ask.name ≡ None → first_status (found_rows ask found) ≡ success → found.target ≡ None → add_fault state.tree (folded_path parts) ≡ None
+free_found state ask parts found good f p n e t =
+    let fine = passed ask found e in
+    let absent : entry_at state.tree.rows (folded_path parts) ≡ None = absent_target _ (ap (λ (x : Found). x.target) (sym f) ∙ t) in
+    let reached : is_reached state.tree.rows (folded_path parts) ≡ true = ap (λ (x : Found). x.reached) (sym f) ∙ fine.reached in
+    let above : is_folder (entry_at state.tree.rows (parent (folded_path parts))) ≡ true = reached_folder state.tree good.tree (folded_path parts) reached absent in
+    let deep : length (folded_path parts) ≤ 32 = rw (length-map parts folded, p) (short ask.name n) in
+    let room : has_all_entries state ≡ false = (let same = ap (λ (x : Found). x.entries_full) f in grind (arith, fine.entries, t, same)) in
+    grind (arith, nat_tests, common_steps, absent, above, deep, room)
+
+pub room_found : (state : StoreState) (ask : CreateAsked) (path : Path) (found : Found) → found ≡ found_at state path → first_status (found_rows ask found) ≡ success → has_all_opens state ≡ false
+room_found state ask path found f e = ap (λ (x : Found). x.opens_full) (sym f) ∙ (passed ask found e).opens

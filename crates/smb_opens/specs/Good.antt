@@ -1,0 +1,44 @@
+-- Good stores: what holds between any two requests.
+use Rattle.std.specs.Prelude.{◌≡◌, ℕ, ◌<◌, ◌≤◌, ◌^◌, true, List, [], length, is_some}
+use Rattle.std.specs.List.{AllByRecursion}
+use Rattle.smb_tree.specs.Entries.{is_folder, is_folder_kind}
+use Rattle.smb_tree.specs.Content.{Row, Content, entry_at, numbered, parent, used_space}
+use Rattle.smb_tree.specs.Laws.{AreApart, AreBelow}
+use Rattle.smb_opens.specs.declared.open_row.OpenRow.{OpenRow}
+use Rattle.smb_opens.specs.Numbers.{AreRising}
+use Rattle.smb_opens.specs.Opens.{open_numbers, AreAllBelow}
+use Rattle.smb_opens.specs.State.{StoreState}
+
+-- a good tree: the root is a folder, and the parent of each entry stands and is a folder; nothing stands
+-- twice; the numbers are below the next; at most 4,096 entries besides the root, of at most 32 components;
+-- files of at most 16,777,216 bytes, folders of none; and the space used is there
+pub record GoodTree (content : Content) : Type 0 where
+  pub root : is_folder (entry_at content.rows []) ≡ true
+  pub parents : AllByRecursion (λ row. is_folder (entry_at content.rows (parent row.0)) ≡ true) content.rows
+  pub apart : AreApart content.rows
+  pub below : AreBelow content.rows content.next
+  pub counted : content.next < 2 ^ 64
+  pub few : length content.rows ≤ 4097
+  pub shallow : AllByRecursion (λ row. length row.0 ≤ 32) content.rows
+  pub small : AllByRecursion (λ row. length row.1.bytes ≤ 16777216) content.rows
+  pub bare : AllByRecursion (λ row. is_folder_kind row.1.kind ≡ true → length row.1.bytes ≡ 0) content.rows
+  pub fits : used_space content.rows ≤ content.capacity
+
+-- each open's entry stands
+abbrev pub ArePresent : List Row → List OpenRow → Type 0
+ArePresent rows = AllByRecursion (λ row. is_some (numbered rows row.entry) ≡ true)
+
+-- a good store: its tree is good, and its opens are at most 1,024, of entries that stand, in rising number
+-- below the next
+pub record GoodStore (state : StoreState) : Type 0 where
+  pub tree : GoodTree state.tree
+  pub present : ArePresent state.tree.rows state.opens
+  pub rising : AreRising (open_numbers state.opens)
+  pub below : AreAllBelow state.next state.opens
+  pub few : length state.opens ≤ 1024
+
+-- a good store, kept with the numbers of its opens and its entries
+pub record IsKept (content : Content) (rows : List OpenRow) (number opens_count entries_count : ℕ) : Type 0 where
+  pub good : GoodStore (record { tree = content; opens = rows; next = number })
+  pub opens_counted : opens_count ≡ length rows
+  pub entries_counted : entries_count ≡ length content.rows

@@ -1,0 +1,16 @@
+pub mod Numbers
+pub mod Opens
+pub mod Plain
+pub mod State
+pub mod Statuses
+pub mod Access
+pub mod Dispositions
+pub mod Asked
+pub mod Found
+pub mod Create
+pub mod Views
+pub mod Effect
+pub mod Close
+pub mod Good
+pub mod Faults
+pub mod Laws

@@ -1,0 +1,16 @@
+-- Numbers that are given one after the other, each once.
+use Rattle.std.specs.Prelude.{ℕ, ◌<◌, ◌-◌, ◌^◌, Bool, nat_le, List, [], ◌∷◌}
+use Rattle.std.specs.List.{AllByRecursion}
+
+-- each is below all that follow it
+abbrev pub AreRising : List ℕ → Type 0
+AreRising [] = Unit {0}
+AreRising (number ∷ numbers) = AllByRecursion (λ later. number < later) numbers × AreRising numbers
+
+-- each is below this one
+abbrev pub AreBelow : ℕ → List ℕ → Type 0
+AreBelow limit = AllByRecursion (λ number. number < limit)
+
+-- a counter gives no more once it gave the greatest number but one of 64 bits
+abbrev pub is_spent : ℕ → Bool
+is_spent next = nat_le (2 ^ 64 - 1) next

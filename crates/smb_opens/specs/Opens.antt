@@ -1,0 +1,48 @@
+-- The opens that stand, in rising number.
+use Rattle.std.specs.Prelude.{ℕ, ◌==◌, ◌&&◌, not, Bool, List, map, filter, find, Option, slice_get}
+use Rattle.smb_opens.specs.Numbers.{AreBelow}
+use Rattle.std.specs.Option.{option_map}
+use Rattle.smb_opens.specs.declared.open_row.OpenRow.{OpenRow}
+use Rattle.smb_opens.specs.declared.open_row.Owner.{Owner}
+use Rattle.smb_opens.specs.declared.open_row.Owner.TheVariants.{Session, Tree}
+
+-- an open has this number
+abbrev pub has_number : ℕ → OpenRow → Bool
+has_number number row = row.number == number
+
+-- an open is one of this entry
+abbrev pub is_on_entry : ℕ → OpenRow → Bool
+is_on_entry entry row = row.entry == entry
+
+-- an open is one of this session, or of this tree connect of it ([MS-SMB2] 3.3.1.10)
+abbrev pub is_held_by : Owner → OpenRow → Bool
+is_held_by (Session session) row = row.session == session
+is_held_by (Tree session tree) row = row.session == session && row.tree == tree
+
+-- an open's number, where there is one
+abbrev pub number_of : Option OpenRow → Option ℕ
+number_of = option_map (λ row. row.number)
+
+-- the open of a number
+abbrev pub open_of : List OpenRow → ℕ → Option OpenRow
+open_of rows number = find (has_number number) rows
+
+-- the opens but that of a number
+abbrev pub without : ℕ → List OpenRow → List OpenRow
+without number = filter (λ row. not (has_number number row))
+
+-- the number of an entry's open at a place among its opens
+abbrev pub open_on_entry : List OpenRow → ℕ → ℕ → Option ℕ
+open_on_entry rows entry i = number_of (slice_get (filter (is_on_entry entry) rows) i)
+
+-- the least number of an owner's opens
+abbrev pub first_held_by : Owner → List OpenRow → Option ℕ
+first_held_by owner rows = number_of (find (is_held_by owner) rows)
+
+-- the opens' numbers
+abbrev pub open_numbers : List OpenRow → List ℕ
+open_numbers = map (λ row. row.number)
+
+-- each open's number is below this one
+abbrev pub AreAllBelow : ℕ → List OpenRow → Type 0
+AreAllBelow number rows = AreBelow number (open_numbers rows)

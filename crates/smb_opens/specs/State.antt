@@ -1,0 +1,10 @@
+-- What a store contains.
+use Rattle.std.specs.Prelude.{ℕ, List}
+use Rattle.smb_tree.specs.Content.{Content}
+use Rattle.smb_opens.specs.declared.open_row.OpenRow.{OpenRow}
+
+-- the tree, the opens in rising number, and the number of the next open
+pub record StoreState : Type 0 where
+  pub tree : Content
+  pub opens : List OpenRow
+  pub next : ℕ

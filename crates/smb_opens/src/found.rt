@@ -1,0 +1,24 @@
+//! What stands where a CREATE request looks.
+
+use smb_tree::{Basic, EntryNo, Kind};
+
+/// Of the entry that a request names, what decides.
+#[derive(Clone, Copy, Debug)]
+pub(crate) struct Target {
+    pub number: EntryNo,
+    pub kind: Kind,
+    pub basic: Basic,
+}
+
+/// What stands where a request looks.
+#[derive(Clone, Copy, Debug)]
+pub(crate) struct Found {
+    /// The entry that it names, if it stands.
+    pub target: Option<Target>,
+    /// Each entry above it is a folder.
+    pub reached: bool,
+    /// No open can be added.
+    pub opens_full: bool,
+    /// No entry can be added.
+    pub entries_full: bool,
+}

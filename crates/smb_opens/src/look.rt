@@ -1,0 +1,107 @@
+//! What stands in a tree.
+
+ghost use Rattle.std.specs.Prelude.{◌≡◌, ◌≤◌, length};
+ghost use Rattle.std.specs.Option.{option_map};
+ghost use Rattle.smb_wire.specs.Paths.{folded_path};
+ghost use Rattle.smb_wire.specs.PathViews.{parts_of};
+ghost use Rattle.smb_tree.specs.Content.{entry_at};
+ghost use Rattle.smb_tree.specs.Views.{shown};
+ghost use Rattle.smb_opens.specs.Found.{target_of, is_reached};
+ghost use Rattle.smb_opens.specs.Good.{GoodTree};
+ghost use Rattle.smb_opens.specs.Views.{view_shown, view_at, shown_attributes};
+
+use super::checks::is_folder_target;
+use super::found::Target;
+use super::view::View;
+use smb_tree::{EntryNo, EntryView, Kind, Tree};
+use smb_wire::PathView;
+
+const CLUSTER: u64 = 4096;
+
+const DIRECTORY: u32 = 0x10;
+
+const NORMAL: u32 = 0x80;
+
+/// Of the entry at a path, what decides, or None.
+pub(crate) fn find_target<T: Tree>(tree: &T, path: &PathView<'_>) -> Option<Target>
+    requires { GoodTree (T.content tree.now) }
+    ensures { result ≡ option_map target_of (entry_at (T.content tree.now).rows (folded_path (parts_of path.now))) }
+{
+    let number = tree.find(path)?;
+    let entry = tree.entry(number)?;
+    Some(Target {
+        number: entry.number,
+        kind: entry.kind,
+        basic: entry.basic,
+    })
+}
+
+/// Whether each entry above a path is a folder. In a good tree the nearest decides.
+pub(crate) fn is_reached<T: Tree>(tree: &T, path: &PathView<'_>) -> bool
+    requires { GoodTree (T.content tree.now) }
+    ensures { result ≡ is_reached (T.content tree.now).rows (folded_path (parts_of path.now)) }
+{
+    let depth = path.len();
+    if depth == 0 {
+        return true;
+    }
+    let above = find_target(tree, &path.front(depth - 1));
+    is_folder_target(&above)
+}
+
+// The attributes that are shown of an entry that keeps these.
+fn shown_attributes(kind: Kind, attributes: u32) -> u32
+    ensures { result ≡ shown_attributes kind attributes }
+{
+    match kind {
+        Kind::Folder => attributes | DIRECTORY,
+        Kind::File => { if attributes == 0 { NORMAL } else { attributes } }
+    }
+}
+
+// An entry through an open with this access.
+fn view_of(entry: &EntryView<'_>, access: u32) -> View
+    requires { entry.now.size ≤ 16777216 }
+    ensures { result ≡ view_shown access (shown entry.now) }
+{
+    View {
+        entry: entry.number,
+        kind: entry.kind,
+        creation_time: entry.basic.creation_time,
+        last_access_time: entry.basic.last_access_time,
+        last_write_time: entry.basic.last_write_time,
+        change_time: entry.basic.change_time,
+        size: entry.size,
+        allocation_size: entry.size.div_ceil(CLUSTER) * CLUSTER,
+        attributes: shown_attributes(entry.kind, entry.basic.attributes),
+        mark: entry.mark,
+        access,
+    }
+}
+
+/// The entry of a number through an open with this access, or None.
+pub(crate) fn entry_view<T: Tree>(tree: &T, number: EntryNo, access: u32) -> Option<View>
+    requires { GoodTree (T.content tree.now) }
+    ensures { result ≡ view_at (T.content tree.now).rows number access }
+{
+    let entry = tree.entry(number)?;
+    Some(view_of(&entry, access))
+}
+
+/// How many entries there are.
+pub(crate) fn count_entries<T: Tree>(tree: &T) -> usize
+    requires { GoodTree (T.content tree.now) }
+    ensures { result ≡ length (T.content tree.now).rows }
+{
+    let end = match tree.next_no() {
+        Some(number) => number,
+        None => EntryNo::MAX,
+    };
+    let mut count = 0;
+    for number in 0..end {
+        if tree.entry(number).is_some() {
+            count += 1;
+        }
+    }
+    count
+}

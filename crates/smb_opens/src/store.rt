@@ -1,0 +1,261 @@
+//! The store: a tree and its opens, joined.
+
+ghost use Rattle.std.specs.Prelude.{◌≡◌, ◌≢◌, ◌∷◌, [], None, Some, true, false, IsSome, IfOk, IfErr, OnOk, OnErr, is_some, filter, not};
+ghost use Rattle.std.specs.Option.{option_map};
+ghost use Rattle.smb_wire.specs.Paths.{path_spelled, folded_path};
+ghost use Rattle.smb_wire.specs.PathViews.{parts_of};
+ghost use Rattle.smb_wire.specs.Units.{units_of};
+ghost use Rattle.smb_tree.specs.Entries.{is_folder_kind};
+ghost use Rattle.smb_tree.specs.Faults.{add_fault};
+ghost use Rattle.smb_opens.specs.Access.{granted};
+ghost use Rattle.smb_opens.specs.Asked.{asked, overwrites_by};
+ghost use Rattle.smb_opens.specs.Close.{closed, closed_all};
+ghost use Rattle.smb_opens.specs.Create.{create_status};
+ghost use Rattle.smb_opens.specs.Dispositions.{disposition_code};
+ghost use Rattle.smb_opens.specs.Effect.{created, created_by, told, told_by};
+ghost use Rattle.smb_opens.specs.Faults.{IsRefusal};
+ghost use Rattle.smb_opens.specs.Found.{entry_asked, found_at, has_all_opens, is_read_only_target, target_of};
+ghost use Rattle.smb_opens.specs.Good.{GoodTree, GoodStore};
+ghost use Rattle.smb_opens.specs.Opens.{open_of, is_held_by};
+ghost use Rattle.smb_opens.specs.Statuses.{success};
+ghost use Rattle.smb_opens.specs.Views.{open_view};
+ghost use Rattle.smb_opens.specs.declared.fault.StoreFault.TheVariants.{NoMemory};
+
+use super::access::granted;
+use super::ask::CreateAsk;
+use super::checks::{asked_path, found_status, is_read_only_target};
+use super::disposition::Disposition;
+use super::effect::{action_on, affect, attributes_asked, kind_asked, opened_by};
+use super::fault::StoreFault;
+use super::found::{Found, Target};
+use super::look::{count_entries, entry_view, find_target, is_reached};
+use super::open_row::{OpenNo, Owner};
+use super::opens::Opens;
+use super::status::SUCCESS;
+use super::view::{Closed, CreateAction, Created, View};
+use smb_tree::{EntryNo, Tree};
+use smb_wire::PathView;
+use std::marker::Model;
+
+const MOST_OPENS: usize = 1024;
+
+const MOST_ENTRIES: usize = 4096;
+
+/// A tree and the opens of its entries. Its state is the tree's content, the list of the opens in rising
+/// number, and the number of the next open.
+#[derive(Drop)]
+pub struct Store<T: Tree + Drop, O: Opens + Drop> {
+    tree: T,
+    opens: O,
+    next: OpenNo,
+    opens_count: usize,
+    entries_count: usize,
+}
+
+impl<T: Tree + Drop, O: Opens + Drop> Model for Store<T, O> {
+    ghost use Rattle.smb_opens.specs.State.{StoreState};
+
+    ghost Value = { StoreState };
+
+    ghost use Rattle.smb_opens.specs.Good.{IsKept};
+
+    ghost view = { λ s. record { tree = T.content s.tree; opens = O.content s.opens; next = s.next } };
+
+    ghost invariant = { λ s. IsKept (T.content s.tree) (O.content s.opens) s.next s.opens_count s.entries_count };
+}
+
+impl<T: Tree + Drop, O: Opens + Drop> Store<T, O> {
+    /// Joins a good tree and opens, of which none stands yet.
+    pub fn new(tree: T, opens: O) -> Self
+        requires tree { GoodTree (T.content tree) }
+        requires opens { O.content opens ≡ [] }
+        ensures { result ≡ record { tree = T.content tree; opens = []; next = 1 } }
+    {
+        let entries_count = count_entries(&tree);
+        Store {
+            tree,
+            opens,
+            next: 1,
+            opens_count: 0,
+            entries_count,
+        }
+    }
+
+    /// The tree.
+    pub fn tree(&self) -> &T
+        ensures { T.content result.now ≡ self.now.tree }
+    {
+        &self.tree
+    }
+
+    /// The opens.
+    pub fn opens(&self) -> &O
+        ensures { O.content result.now ≡ self.now.opens }
+    {
+        &self.opens
+    }
+
+    /// What the open of a number shows, or None where none has it.
+    pub fn view(&self, number: OpenNo) -> Option<View>
+        ensures value { result ≡ open_view self.now number }
+        ensures stands { is_some result ≡ is_some (open_of self.now.opens number) }
+    {
+        let row = self.opens.get(number)?;
+        entry_view(&self.tree, row.entry, row.access)
+    }
+
+    /// A store is good, always: the contract is the statement, and the body does nothing.
+    pub fn good(&self)
+        ensures { GoodStore self.now }
+    {
+        let _ = &self.next;
+    }
+
+    /// Answers a CREATE at a moment (in units of 100 ns since 1601): opens the entry at a path, which is
+    /// added, overwritten or left as it stands ([MS-SMB2] 3.3.5.9).
+    ///
+    /// [`Status`](StoreFault::Status) tells the first row of the table that holds, and
+    /// [`NoMemory`](StoreFault::NoMemory) that an allocation was refused where none does.
+    pub fn create(&mut self, ask: &CreateAsk<'_>, moment: u64) -> Result<Created, StoreFault>
+        ensures store { OnOk result (self.new ≡ created self.old (asked ask.now) moment) }
+        ensures told { IfOk result (λ done. done ≡ told self.old (asked ask.now) moment) }
+        ensures lawful { OnOk result (create_status self.old (asked ask.now) ≡ success) }
+        ensures err { OnErr result (self.new ≡ self.old) }
+        ensures why { IfErr result (λ fault. IsRefusal (create_status self.old (asked ask.now)) fault) }
+    {
+        self.good();
+        let (disposition, path) = match asked_path(ask) {
+            Ok(asked) => asked,
+            Err(status) => return Err(StoreFault::Status(status)),
+        };
+        let found = self.find(&path);
+        let status = found_status(ask, disposition, &found);
+        if status != SUCCESS {
+            return Err(StoreFault::Status(status));
+        }
+        match found.target {
+            None => self.create_new(ask, &path, moment),
+            Some(target) => self.open_standing(ask, disposition, target, moment),
+        }
+    }
+
+    // What stands at a path.
+    fn find(&self, path: &PathView<'_>) -> Found
+        ensures { result ≡ found_at self.now (folded_path (parts_of path.now)) }
+    {
+        Found {
+            target: find_target(&self.tree, path),
+            reached: is_reached(&self.tree, path),
+            opens_full: self.opens_count >= MOST_OPENS || self.next == OpenNo::MAX,
+            entries_full: self.entries_count - 1 >= MOST_ENTRIES || self.tree.next_no().is_none(),
+        }
+    }
+
+    // Adds an entry at a path where none stands, and opens it.
+    fn create_new(
+        &mut self,
+        ask: &CreateAsk<'_>,
+        path: &PathView<'_>,
+        moment: u64,
+    ) -> Result<Created, StoreFault>
+        requires path { parts_of path.now ≡ path_spelled (units_of ask.now.name) }
+        requires free { add_fault self.old.tree (folded_path (parts_of path.now)) ≡ None }
+        requires room { has_all_opens self.old ≡ false }
+        ensures store { OnOk result (self.new ≡ created_by self.old (asked ask.now) moment (granted ask.now.access false) None) }
+        ensures told { IfOk result (λ done. done ≡ told_by self.old (asked ask.now) moment (granted ask.now.access false) None) }
+        ensures err { OnErr result (self.new ≡ self.old) }
+        ensures memory { IfErr result (λ fault. fault ≡ NoMemory) }
+    {
+        let number = self.next;
+        let access = granted(ask.access, false);
+        let kind = kind_asked(ask);
+        let Some(entry) = self.tree.next_no() else {
+            unreachable!();
+        };
+        self.opens.add(opened_by(ask, number, entry, access))?;
+        if let Err(fault) = self
+            .tree
+            .add(path, kind, attributes_asked(kind, ask), moment)
+        {
+            self.opens.remove(number);
+            return Err(StoreFault::from(fault));
+        }
+        self.next = number + 1;
+        self.opens_count += 1;
+        self.entries_count += 1;
+        let Some(view) = entry_view(&self.tree, entry, access) else {
+            unreachable!();
+        };
+        Ok(Created {
+            number,
+            action: CreateAction::Created,
+            view,
+        })
+    }
+
+    // Opens the entry that stands where a request looks.
+    fn open_standing(
+        &mut self,
+        ask: &CreateAsk<'_>,
+        disposition: Disposition,
+        target: Target,
+        moment: u64,
+    ) -> Result<Created, StoreFault>
+        requires disposition { disposition_code disposition ≡ ask.now.disposition }
+        requires target { option_map target_of (entry_asked self.old (asked ask.now)) ≡ Some target }
+        requires file { overwrites_by ask.now.disposition ≡ true → is_folder_kind target.kind ≡ false }
+        requires room { has_all_opens self.old ≡ false }
+        ensures store { OnOk result (self.new ≡ created_by self.old (asked ask.now) moment (granted ask.now.access (is_read_only_target (Some target))) (entry_asked self.old (asked ask.now))) }
+        ensures told { IfOk result (λ done. done ≡ told_by self.old (asked ask.now) moment (granted ask.now.access (is_read_only_target (Some target))) (entry_asked self.old (asked ask.now))) }
+        ensures err { OnErr result (self.new ≡ self.old) }
+        ensures memory { IfErr result (λ fault. fault ≡ NoMemory) }
+    {
+        let number = self.next;
+        let access = granted(ask.access, is_read_only_target(&Some(target)));
+        self.opens
+            .add(opened_by(ask, number, target.number, access))?;
+        if let Err(fault) = affect(&mut self.tree, ask, disposition, target, moment) {
+            self.opens.remove(number);
+            return Err(fault);
+        }
+        self.next = number + 1;
+        self.opens_count += 1;
+        let Some(view) = entry_view(&self.tree, target.number, access) else {
+            unreachable!();
+        };
+        Ok(Created {
+            number,
+            action: action_on(disposition),
+            view,
+        })
+    }
+
+    /// Closes the open of a number, which stands ([MS-SMB2] 3.3.5.10), and tells what it showed before.
+    pub fn close(&mut self, number: OpenNo) -> Closed
+        requires { IsSome (open_of self.old.opens number) }
+        ensures store { self.new ≡ closed self.old number }
+        ensures view { Some result.view ≡ open_view self.old number }
+        ensures removed { result.removed ≡ false }
+    {
+        let Some(view) = self.view(number) else {
+            unreachable!();
+        };
+        self.opens.remove(number);
+        self.opens_count -= 1;
+        Closed {
+            view,
+            removed: false,
+        }
+    }
+
+    /// Closes all opens of an owner, in rising number.
+    pub fn close_all(&mut self, owner: Owner)
+        ensures store { self.new ≡ closed_all self.old owner }
+        ensures left { self.new.opens ≡ filter (λ row. not (is_held_by owner row)) self.old.opens }
+    {
+        self.good();
+        while let Some(number) = self.opens.of_owner(owner) {
+            let _ = self.close(number);
+        }
+    }
+}
