@@ -58,10 +58,10 @@ fn asked<'a>(name: &'a str, disposition: &'a str, options: &'a str) -> Wanted<'a
 
 /// The frame of a CREATE.
 fn create(alloc: Global, message_id: u64, asked: Wanted<'_>) -> Result<String, AllocError> {
-    let units = asked.name.len() as u64 / 2;
-    let length = hex::encode(alloc, (120 + units as u32).to_be_bytes())?;
+    let name_length = (asked.name.len() / 2).min(512) as u16;
+    let length = hex::encode(alloc, (120 + u32::from(name_length)).to_be_bytes())?;
     let header = header(alloc, "z4", "0500", "z4", message_id)?;
-    let name_length = hex::encode(alloc, (units as u16).to_le_bytes())?;
+    let name_length = hex::encode(alloc, name_length.to_le_bytes())?;
     format!(in alloc;
         "{} {} 3900 00 00 02000000 z16 {} z4 07000000 {} {} 7800 {} z8 {}",
         length.as_str(),
@@ -243,10 +243,10 @@ fn refuses_a_name_past_the_end(rt: HostRuntime) -> Result<(), Fail> {
 }
 
 #[test]
-fn answers_by_disposition(rt: HostRuntime) -> Result<(), Fail> {
+fn answers_an_absent_name_by_disposition(rt: HostRuntime) -> Result<(), Fail> {
     let mut talk = Talk::begin(rt.alloc())?;
-    // An absent name: `b` to `g`, one for each disposition.
-    for (name, disposition, stands) in [
+    // `b` to `g`, one for each disposition.
+    for (name, disposition, is_made) in [
         ("6200", "00000000", true),
         ("6300", "01000000", false),
         ("6400", "02000000", true),
@@ -255,13 +255,19 @@ fn answers_by_disposition(rt: HostRuntime) -> Result<(), Fail> {
         ("6700", "05000000", true),
     ] {
         let asked = asked(name, disposition, "00000000");
-        if stands {
+        if is_made {
             talk.creates(asked, "02000000", "20000000")?;
         } else {
             talk.refuses(asked, OBJECT_NAME_NOT_FOUND)?;
         }
     }
-    // A file `a`.
+    talk.is_so(&rt);
+    Ok(())
+}
+
+#[test]
+fn answers_a_file_by_disposition(rt: HostRuntime) -> Result<(), Fail> {
+    let mut talk = Talk::begin(rt.alloc())?;
     talk.creates(
         asked("6100", "02000000", "00000000"),
         "02000000",
@@ -282,7 +288,13 @@ fn answers_by_disposition(rt: HostRuntime) -> Result<(), Fail> {
             talk.creates(asked, action, "20000000")?;
         }
     }
-    // A folder `h`.
+    talk.is_so(&rt);
+    Ok(())
+}
+
+#[test]
+fn answers_a_folder_by_disposition(rt: HostRuntime) -> Result<(), Fail> {
+    let mut talk = Talk::begin(rt.alloc())?;
     talk.creates(
         asked("6800", "02000000", "01000000"),
         "02000000",
