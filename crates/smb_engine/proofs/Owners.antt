@@ -1,5 +1,5 @@
 -- Whose opens stand, after what is done to the sessions and to the opens.
-use Rattle.std.proofs.Common.{◌≡◌, ℕ, ◌<◌, eqb, bit_and, Bool, true, false, not, ◌&&◌, List, [], ◌∷◌, ◌++◌, filter, Option, None, Some, is_some, refl, ◌∙◌, if◌then◌else◌, arith}
+use Rattle.std.proofs.Common.{◌≡◌, ℕ, ◌<◌, eqb, bit_and, Bool, true, false, not, List, [], ◌∷◌, ◌++◌, filter, Option, None, Some, is_some, refl, ◌∙◌, if◌then◌else◌, arith}
 use Rattle.std.proofs.lemmas.Bool.{eqb-true, ne_eqb, and_parts}
 use Rattle.std.specs.List.{AllByRecursion}
 use Rattle.std.specs.Option.{option_map_or}
@@ -10,26 +10,17 @@ use Rattle.smb_session.specs.declared.fault.SessionFault.TheVariants.{UnknownSes
 use Rattle.smb_session.specs.Authenticator.{Answered, continues, accepts, denies, Meaning}
 use Rattle.smb_session.specs.Numbers.{contains}
 use Rattle.smb_session.specs.Session.{SessionState, fresh_session, finished_by, with_tree, without_tree}
-use Rattle.smb_session.specs.Table.{TableState, session_at, changed_at, connected, begun, ended, knows_session, knows_tree, tree_connected, tree_disconnected}
+use Rattle.smb_session.specs.Table.{TableState, session_at, changed_at, connected, begun, ended, tree_connected, tree_disconnected}
 use Rattle.smb_session.specs.Setup.{standing_refusal, setup_refusal, setup_number, setup_table, previous_ended, answered, told}
 use Rattle.smb_session.specs.Good.{GoodTable}
 use Rattle.smb_session.proofs.Numbers.{equal_back, contains-without}
 use Rattle.smb_session.specs.Sessions.{SessionsState, setup_step}
-use Rattle.smb_body.specs.declared.close.CloseRequest.{CloseRequest}
-use Rattle.smb_body.specs.Create.{CreateAsked}
-use Rattle.smb_body.specs.Requests.{asks_create, asks_close}
 use Rattle.smb_opens.specs.declared.open_row.OpenRow.{OpenRow}
 use Rattle.smb_opens.specs.declared.open_row.Owner.{Owner}
 use Rattle.smb_opens.specs.declared.open_row.Owner.TheVariants.{Session, Tree}
-use Rattle.smb_opens.specs.Opens.{is_held_by, open_of}
-use Rattle.smb_body.specs.declared.types.FileId.{FileId}
+use Rattle.smb_opens.specs.Opens.{is_held_by}
 use Rattle.smb_engine.specs.Owners.{has_tree, stands, is_owned, AreOwned}
 use Rattle.smb_engine.specs.Held.{opens_left}
-use Rattle.smb_engine.specs.declared.status.Status.TheVariants.{NetworkNameDeleted, FileClosed, UserSessionDeleted}
-use Rattle.smb_engine.specs.declared.context.Context.{Context}
-use Rattle.smb_engine.specs.State.{SharedState}
-use Rattle.smb_engine.specs.Files.{names_open}
-use Rattle.smb_engine.specs.Request.{standing_refusal as request_refusal}
 use Rattle.smb_engine.proofs.Numbered.{at_is, at_same}
 
 module _ {X : Type 0} (test : X → Bool) (k : ℕ) where
@@ -118,11 +109,6 @@ some_at table test row rows false t h ih = rw t ih
 pub owned_some : (table : TableState) (test : OpenRow → Bool) (rows : List OpenRow) → AreOwned table rows → AreOwned table (filter test rows)
 owned_some table test [] a = tt
 owned_some table test (row ∷ rows) a = some_at table test row rows (test row) refl a.0 (owned_some table test rows a.1)
-
--- an open more
-pub owned_more : (table : TableState) (rows : List OpenRow) (row : OpenRow) → is_owned table row ≡ true → AreOwned table rows → AreOwned table (rows ++ row ∷ [])
-owned_more table [] row h a = (h, tt)
-owned_more table (other ∷ rows) row h a = (a.0, owned_more table rows row h a.1)
 
 -- a connection more
 pub owned_connected : (table : TableState) (c : ℕ) (rows : List OpenRow) → AreOwned table rows → AreOwned (connected table c) rows
@@ -229,41 +215,3 @@ pub owned_setup : {S : Type 0} (m : Meaning S) (s : SessionsState S) (c number p
 owned_setup m s c number previous flags token rows good h a =
     owned_answered (setup_table s.table c number) (setup_number s.table number) previous (m.answer s.authenticator (setup_number s.table number) token) rows
     (none_stands s.table c number flags good h) (begun_owned s.table c number flags good h rows a)
-
--- a session and a tree that are known stand
-known_at : (c tree : ℕ) (o : Option SessionState) → option_map_or (λ session. eqb session.connection c && is_some session.user) o false ≡ true →
-    option_map_or (λ session. contains session.trees tree) o false ≡ true → option_map_or (has_tree tree) o false ≡ true
-known_at c tree None h i = cc
-known_at c tree (Some s) h i = rw ((and_parts (eqb s.connection c) (is_some s.user) h).1, i) refl
-
-both_known : (a b : Bool) → (if not a then Some UserSessionDeleted else if not b then Some NetworkNameDeleted else None) ≡ None → (a ≡ true) × (b ≡ true)
-both_known true true h = (refl, refl)
-both_known true false h = cc
-both_known false b h = cc
-
-all_known : (a b d : Bool) → (if not a then Some UserSessionDeleted else if not b then Some NetworkNameDeleted else if not d then Some FileClosed else None) ≡ None → d ≡ true
-all_known true true true h = refl
-all_known true true false h = cc
-all_known true false d h = cc
-all_known false b d h = cc
-
--- where a CREATE is not refused beforehand its session and tree stand
-pub create_stands : {S : Type 0} (shared : SharedState S) (number : ℕ) (under : Context) (asked : CreateAsked) → request_refusal shared number under (asks_create asked) ≡ None →
-    stands shared.sessions.table under.session_id under.tree_id ≡ true
-create_stands shared number under asked h =
-    let known = both_known (knows_session shared.sessions.table number under.session_id) (knows_tree shared.sessions.table under.session_id under.tree_id) h in
-    known_at number under.tree_id (session_at shared.sessions.table under.session_id) known.0 known.1
-
--- and where a CLOSE is not, its open
-pub close_named : {S : Type 0} (shared : SharedState S) (number : ℕ) (under : Context) (asked : CloseRequest) → request_refusal shared number under (asks_close asked) ≡ None →
-    names_open shared.store.opens under asked.file_id ≡ true
-close_named shared number under asked h =
-    all_known (knows_session shared.sessions.table number under.session_id) (knows_tree shared.sessions.table under.session_id under.tree_id) (names_open shared.store.opens under asked.file_id) h
-
--- what a FileId names stands
-pub named_stands : (opens : List OpenRow) (under : Context) (id : FileId) → names_open opens under id ≡ true → is_some (open_of opens id.persistent) ≡ true
-named_stands opens under id h = at (open_of opens id.persistent) (and_parts (eqb id.persistent id.volatile) _ h).1
-  where
-    at : (o : Option OpenRow) → option_map_or (is_held_by (Tree under.session_id under.tree_id)) o false ≡ true → is_some o ≡ true
-    at None i = i
-    at (Some row) i = refl
