@@ -1,7 +1,7 @@
 //! Replies of all commands.
 
 ghost use Rattle.std.specs.Prelude.{◌≡◌, ◌++◌, ◌+◌, length, take, OnOk, OnErr, IfErr, false};
-ghost use Rattle.smb_wire.specs.Fields.{AllFit};
+ghost use Rattle.smb_wire.specs.Fields.{AllFit, AllStand};
 ghost use Rattle.smb_body.specs.Refusals.{refusal};
 ghost use Rattle.smb_body.specs.Replies.{reply_value, reply_fields, reply_spelling, reply_length, is_reply_too_long};
 
@@ -77,6 +77,8 @@ fn put_reply(reply: &Reply<'_>, out: &mut Vec<u8>) -> Result<(), BodyFault>
 pub fn write_reply(reply: &Reply<'_>, out: &mut Vec<u8>) -> Result<(), BodyFault>
     ensures ok { OnOk result (out.new.items ≡
         out.old.items ++ reply_spelling (reply_value reply.now)) }
+    ensures stand { OnOk result
+        (AllStand (reply_spelling (reply_value reply.now)) (reply_fields (reply_value reply.now))) }
     ensures len { OnOk result
         (length out.new.items ≡ length out.old.items + reply_length (reply_value reply.now)) }
     ensures short { OnOk result (is_reply_too_long (reply_value reply.now) ≡ false) }

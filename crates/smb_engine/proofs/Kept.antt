@@ -29,7 +29,7 @@ set_at : (test : ℕ → Bool) (e : ℕ × LinkState) (es : List (ℕ × LinkSta
 set_at test e es new true t ih = rw t refl
 set_at test e es new false t ih = rw t (ap (λ ns. e.0 ∷ ns) ih)
 
-numbers-set : (test : ℕ → Bool) (es : List (ℕ × LinkState)) (new : LinkState) → numbers_of (set_value test es new) ≡ numbers_of es
+pub numbers-set : (test : ℕ → Bool) (es : List (ℕ × LinkState)) (new : LinkState) → numbers_of (set_value test es new) ≡ numbers_of es
 numbers-set test [] new = refl
 numbers-set test (e ∷ es) new = set_at test e es new (test e.0) refl (numbers-set test es new)
 
@@ -48,16 +48,16 @@ remove_at n e es true t a ih =
     rw (at_is n e.0, t) (sym (filter_below n (numbers_of es) (subst (λ (k : ℕ). AllByRecursion (λ m. k < m) (numbers_of es)) same a)))
 remove_at n e es false t a ih = rw (at_is n e.0, t) (ap (λ ns. e.0 ∷ ns) ih)
 
-numbers-remove : (n : ℕ) (es : List (ℕ × LinkState)) → IsRising (numbers_of es) → numbers_of (remove_entry (is_at (nat_cmp n)) es) ≡ without_number (numbers_of es) n
+pub numbers-remove : (n : ℕ) (es : List (ℕ × LinkState)) → IsRising (numbers_of es) → numbers_of (remove_entry (is_at (nat_cmp n)) es) ≡ without_number (numbers_of es) n
 numbers-remove n [] r = refl
 numbers-remove n (e ∷ es) r = remove_at n e es (eqb e.0 n) refl r.0 (numbers-remove n es r.1)
 
 -- a number above all is not among them, and goes behind them
-not_among : (n : ℕ) (es : List (ℕ × LinkState)) → AllByRecursion (λ e. e.0 < n) es → contains (numbers_of es) n ≡ false
+pub not_among : (n : ℕ) (es : List (ℕ × LinkState)) → AllByRecursion (λ e. e.0 < n) es → contains (numbers_of es) n ≡ false
 not_among n [] a = refl
 not_among n (e ∷ es) a = let t : eqb e.0 n ≡ false = ne_eqb e.0 n (λ x. omega (arith, a.0, x)) in rw t (not_among n es a.1)
 
-numbers-insert : (n : ℕ) (new : LinkState) (es : List (ℕ × LinkState)) → AllByRecursion (λ e. e.0 < n) es → with_number (numbers_of es) n ≡ numbers_of (insert_entry nat_cmp es n new)
+pub numbers-insert : (n : ℕ) (new : LinkState) (es : List (ℕ × LinkState)) → AllByRecursion (λ e. e.0 < n) es → with_number (numbers_of es) n ≡ numbers_of (insert_entry nat_cmp es n new)
 numbers-insert n new [] a = refl
 numbers-insert n new (e ∷ es) a =
     let t : ltb n e.0 ≡ false = le-ltb _ _ (omega (arith, a.0)) in
@@ -94,7 +94,7 @@ kept_remove number connections links next r k = record {
   known = ap (λ ns. without_number ns number) k.known ∙ sym (numbers-remove number links (subst IsRising k.known r));
 }
 
-given_more : (links : List (ℕ × LinkState)) (next : ℕ) → AllByRecursion (λ e. e.0 < next) links → AllByRecursion (λ e. e.0 < next + 1) links
+pub given_more : (links : List (ℕ × LinkState)) (next : ℕ) → AllByRecursion (λ e. e.0 < next) links → AllByRecursion (λ e. e.0 < next + 1) links
 given_more [] next h = tt
 given_more (e ∷ links) next h = (omega (arith, h.0), given_more links next h.1)
 

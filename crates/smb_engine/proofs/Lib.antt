@@ -9,4 +9,7 @@ pub mod Steps
 pub mod Pieces
 pub mod Links
 pub mod Kept
+pub mod Order
+pub mod Ends
 pub mod Runs
+pub mod Cuts

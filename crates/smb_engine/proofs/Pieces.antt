@@ -54,7 +54,7 @@ module _ {S : Type 0} (m : Meaning S) (number moment : ℕ) where
   count-held shared link piece held w h = rw (added-waits link piece w, h) refl
 
   -- what the added payloads come to
-  steps_by : SharedState S → LinkState → List ℕ → PayloadSteps S
+  unfoldable pub steps_by : SharedState S → LinkState → List ℕ → PayloadSteps S
   steps_by shared link piece = payload_steps m number moment shared link.connection (added_payloads link.stream piece)
 
   steps-held : (shared : SharedState S) (link : LinkState) (piece held : List ℕ) → Waits link → held ≡ link.stream ++ piece →
@@ -62,7 +62,7 @@ module _ {S : Type 0} (m : Meaning S) (number moment : ℕ) where
   unfolding steps_by
   steps-held shared link piece held w h = rw (added-waits link piece w, h) refl
 
-  step-open : (shared : SharedState S) (link : LinkState) (piece : List ℕ) → ((steps_by shared link piece).stays_open && is_none (fault_of longest_payload (rest longest_payload (link.stream ++ piece)))) ≡ true →
+  pub step-open : (shared : SharedState S) (link : LinkState) (piece : List ℕ) → ((steps_by shared link piece).stays_open && is_none (fault_of longest_payload (rest longest_payload (link.stream ++ piece)))) ≡ true →
       piece_step m number moment shared link piece ≡ record {
         shared = (steps_by shared link piece).shared;
         link = record { stream = link.stream ++ piece; connection = (steps_by shared link piece).connection };
@@ -72,7 +72,7 @@ module _ {S : Type 0} (m : Meaning S) (number moment : ℕ) where
   unfolding piece_step steps_by
   step-open shared link piece t = rw t refl
 
-  step-over : (shared : SharedState S) (link : LinkState) (piece : List ℕ) → ((steps_by shared link piece).stays_open && is_none (fault_of longest_payload (rest longest_payload (link.stream ++ piece)))) ≡ false →
+  pub step-over : (shared : SharedState S) (link : LinkState) (piece : List ℕ) → ((steps_by shared link piece).stays_open && is_none (fault_of longest_payload (rest longest_payload (link.stream ++ piece)))) ≡ false →
       piece_step m number moment shared link piece ≡ record { shared = (steps_by shared link piece).shared; link = link; outputs = (steps_by shared link piece).outputs ++ end_of number ∷ []; stays_open = false }
   unfolding piece_step steps_by
   step-over shared link piece t = rw t refl

@@ -1,23 +1,23 @@
 -- A run over whole streams and one over their rests leave and put out the same.
-use Rattle.std.proofs.Common.{◌≡◌, ℕ, zero, suc, ◌+◌, ◌<◌, ◌≤◌, ◌&&◌, Bool, true, false, get_or, List, [], ◌∷◌, ◌++◌, length, take, drop, map, Option, None, Some, is_none, refl, sym, ap, ◌∙◌, append_assoc, arith}
+use Rattle.std.proofs.Common.{◌≡◌, ℕ, zero, suc, ◌+◌, ◌<◌, ◌≤◌, ◌&&◌, Bool, true, false, get_or, List, [], ◌∷◌, ◌++◌, length, take, drop, map, Option, None, Some, is_some, is_none, refl, sym, ap, ◌∙◌, append_assoc, arith}
 use Rattle.std.specs.Option.{option_map, option_map_or}
-use Rattle.std.proofs.lemmas.List.{append-nil, drop_more, take_all, length-map}
+use Rattle.std.proofs.lemmas.List.{append-nil, drop-map, drop_more, take_all, length-map}
 use Rattle.std.proofs.lemmas.Bool.{eq-eqb}
 use Rattle.std.specs.BTreeMap.{is_at, insert_entry}
 use Rattle.std.specs.Ordering.{nat_cmp}
 use Rattle.smb_frame.specs.Reading.{rest, fault_of, payloads}
 use Rattle.smb_frame.proofs.Streams.{rest-more}
 use Rattle.smb_engine.specs.declared.event.Event.{Event}
-use Rattle.smb_engine.specs.declared.event.Event.TheVariants.{Opened, Bytes, Ended}
 use Rattle.smb_engine.specs.declared.fault.RunFault.{RunFault}
 use Rattle.smb_engine.specs.declared.fault.ServeFault.{ServeFault}
 use Rattle.smb_engine.specs.declared.fault.ServeFault.TheVariants.{TooManyConnections, NoMemory, BadEvent, BadConfig}
 use Rattle.smb_session.specs.Authenticator.{Meaning}
 use Rattle.smb_engine.specs.State.{SharedState, LinkState, ShareState, shared_opened}
+use Rattle.smb_engine.specs.Event.{EventText, opens, brings, ends, text_of, events_of}
 use Rattle.smb_engine.specs.Output.{Output}
 use Rattle.smb_engine.specs.Stream.{longest_payload, PayloadSteps, payload_steps, added_payloads, PieceStep, closed_by, piece_step, shared_after_piece, count_in_piece}
 use Rattle.smb_engine.specs.Share.{EventStep, settled, bytes_step, stopped, count_on, ended, opened, new_link, opening_refusal, OpeningRefused, unread, unread_link, unread_entry, link_of}
-use Rattle.smb_engine.specs.Run.{Ran, run, run_behind, then_ran, later, refused_at_once, refusal, event_step, count_of, stopped_event, EventStopped, RunStopped}
+use Rattle.smb_engine.specs.Run.{Ran, run, run_behind, then_ran, later, refused_at_once, refusal, event_step, count_of, stopped_event, can_want_memory, EventStopped, RunStopped}
 use Rattle.smb_engine.proofs.Pieces.{added_is}
 use Rattle.smb_engine.proofs.Links.{unread-with, unread-without, unread-insert, link_of-unread}
 
@@ -74,15 +74,15 @@ module _ {S : Type 0} (m : Meaning S) where
   bytes_step-unread s n moment piece = rw (link_of-unread (is_at (nat_cmp n)) s.links) (bytes_at s n moment piece (link_of n s.links))
 
   -- an event over rests leaves and puts out what it does over whole streams
-  pub event_step-unread : (s : ShareState S) (event : Event) → unread_step (event_step m (unread s) event) ≡ unread_step (event_step m s event)
-  event_step-unread s (Opened n) = rw (unread-insert s.next new_link (map unread_entry s.links), unread-insert s.next new_link s.links, unread_entries s.links) refl
-  event_step-unread s (Bytes n moment piece) = bytes_step-unread s n moment piece.items
-  event_step-unread s (Ended n) = rw (unread-without (is_at (nat_cmp n)) (map unread_entry s.links), unread_entries s.links, unread-without (is_at (nat_cmp n)) s.links) refl
+  pub event_step-unread : (s : ShareState S) (event : EventText) → unread_step (event_step m (unread s) event) ≡ unread_step (event_step m s event)
+  event_step-unread s (opens n) = rw (unread-insert s.next new_link (map unread_entry s.links), unread-insert s.next new_link s.links, unread_entries s.links) refl
+  event_step-unread s (brings n moment piece) = bytes_step-unread s n moment piece
+  event_step-unread s (ends n) = rw (unread-without (is_at (nat_cmp n)) (map unread_entry s.links), unread_entries s.links, unread-without (is_at (nat_cmp n)) s.links) refl
 
-  refusal-unread : (s : ShareState S) (event : Event) → refusal (unread s) event ≡ refusal s event
-  refusal-unread s (Opened n) = rw length-map refl
-  refusal-unread s (Bytes n moment piece) = refl
-  refusal-unread s (Ended n) = refl
+  pub refusal-unread : (s : ShareState S) (event : EventText) → refusal (unread s) event ≡ refusal s event
+  refusal-unread s (opens n) = rw length-map refl
+  refusal-unread s (brings n moment piece) = refl
+  refusal-unread s (ends n) = refl
 
   later-none : (o : Option RunFault) → option_map later o ≡ None → o ≡ None
   later-none None h = refl
@@ -92,11 +92,11 @@ module _ {S : Type 0} (m : Meaning S) where
   goes_at s d r None h = (refl, later-none r.stop h)
   goes_at s d r (Some why) h = cc
 
-  run-goes : (s : ShareState S) (event : Event) (events : List Event) → (run m s (event ∷ events)).stop ≡ None →
+  run-goes : (s : ShareState S) (event : EventText) (events : List EventText) → (run m s (event ∷ events)).stop ≡ None →
       (refusal s event ≡ None) × ((run m (event_step m s event).state events).stop ≡ None)
   run-goes s event events h = goes_at s (event_step m s event) (run m (event_step m s event).state events) (refusal s event) h
 
-  run-cons : (s : ShareState S) (event : Event) (events : List Event) → refusal s event ≡ None →
+  run-cons : (s : ShareState S) (event : EventText) (events : List EventText) → refusal s event ≡ None →
       run m s (event ∷ events) ≡ then_ran (event_step m s event) (run m (event_step m s event).state events)
   run-cons s event events h = rw h refl
 
@@ -104,7 +104,7 @@ module _ {S : Type 0} (m : Meaning S) where
   and_then r d = record { state = d.state; outputs = r.outputs ++ d.outputs; stop = None }
 
   -- one more event at the end, which is not refused
-  pub run-more : (s : ShareState S) (events others : List Event) (event : Event) (i : ℕ) → drop i events ≡ event ∷ others →
+  pub run-more : (s : ShareState S) (events others : List EventText) (event : EventText) (i : ℕ) → drop i events ≡ event ∷ others →
       (run m s (take i events)).stop ≡ None → refusal (run m s (take i events)).state event ≡ None →
       run m s (take (i + 1) events) ≡ and_then (run m s (take i events)) (event_step m (run m s (take i events)).state event)
   run-more s [] others event zero h g r = cc
@@ -124,7 +124,7 @@ module _ {S : Type 0} (m : Meaning S) where
       (ap (λ t. record { state = last.state; outputs = t; stop = None }) (sym (append_assoc first.outputs before.outputs last.outputs)))
 
   -- the run stops at an event that is refused
-  pub run-refused : (s : ShareState S) (events others : List Event) (event : Event) (i : ℕ) (why : ServeFault) → drop i events ≡ event ∷ others →
+  pub run-refused : (s : ShareState S) (events others : List EventText) (event : EventText) (i : ℕ) (why : ServeFault) → drop i events ≡ event ∷ others →
       (run m s (take i events)).stop ≡ None → refusal (run m s (take i events)).state event ≡ Some why →
       run m s events ≡ record { state = (run m s (take i events)).state; outputs = (run m s (take i events)).outputs; stop = Some (record { place = i; fault = why }) }
   run-refused s [] others event zero why h g r = cc
@@ -149,10 +149,10 @@ module _ {S : Type 0} (m : Meaning S) where
   unfolding stopped
   stopped-unread s n moment k piece = rw (link_of-unread (is_at (nat_cmp n)) s.links) (stopped_at s n moment k piece (link_of n s.links))
 
-  stopped_event-unread : (s : ShareState S) (event : Event) (k : ℕ) → unread (stopped_event m (unread s) event k) ≡ unread (stopped_event m s event k)
-  stopped_event-unread s (Opened n) k = unread-unread s
-  stopped_event-unread s (Bytes n moment piece) k = stopped-unread s n moment k piece.items
-  stopped_event-unread s (Ended n) k = unread-unread s
+  stopped_event-unread : (s : ShareState S) (event : EventText) (k : ℕ) → unread (stopped_event m (unread s) event k) ≡ unread (stopped_event m s event k)
+  stopped_event-unread s (opens n) k = unread-unread s
+  stopped_event-unread s (brings n moment piece) k = stopped-unread s n moment k piece
+  stopped_event-unread s (ends n) k = unread-unread s
 
   count_at : (s : ShareState S) (n moment : ℕ) (piece : List ℕ) (o : Option LinkState) →
       option_map_or (λ link. count_in_piece m n moment s.shared link piece) (option_map unread_link o) 0 ≡ option_map_or (λ link. count_in_piece m n moment s.shared link piece) o 0
@@ -164,64 +164,79 @@ module _ {S : Type 0} (m : Meaning S) where
   unfolding count_on
   count_on-unread s n moment piece = rw (link_of-unread (is_at (nat_cmp n)) s.links) (count_at s n moment piece (link_of n s.links))
 
-  count_of-unread : (s : ShareState S) (event : Event) → count_of m (unread s) event ≡ count_of m s event
-  count_of-unread s (Opened n) = refl
-  count_of-unread s (Bytes n moment piece) = count_on-unread s n moment piece.items
-  count_of-unread s (Ended n) = refl
+  count_of-unread : (s : ShareState S) (event : EventText) → count_of m (unread s) event ≡ count_of m s event
+  count_of-unread s (opens n) = refl
+  count_of-unread s (brings n moment piece) = count_on-unread s n moment piece
+  count_of-unread s (ends n) = refl
+
+  is_open-unread : (o : Option LinkState) → is_some (option_map unread_link o) ≡ is_some o
+  is_open-unread None = refl
+  is_open-unread (Some link) = refl
+
+  can_want_memory-unread : (s : ShareState S) (event : EventText) → can_want_memory (unread s) event ≡ can_want_memory s event
+  can_want_memory-unread s (opens n) = refl
+  can_want_memory-unread s (brings n moment piece) = ap is_some (link_of-unread (is_at (nat_cmp n)) s.links) ∙ is_open-unread (link_of n s.links)
+  can_want_memory-unread s (ends n) = refl
 
   -- the first i events of a run are done, and none was refused
-  pub record RunSoFar (start now : ShareState S) (front outputs : List Output) (events : List Event) (i : ℕ) : Type 0 where
+  pub record RunSoFar (start now : ShareState S) (front outputs : List Output) (events : List EventText) (i : ℕ) : Type 0 where
     pub goes : (run m start (take i events)).stop ≡ None
     pub state : now ≡ unread (run m start (take i events)).state
     pub says : outputs ≡ front ++ (run m start (take i events)).outputs
 
-  pub run_none : (start : ShareState S) (front : List Output) (events : List Event) → start ≡ unread start → RunSoFar start start front front events 0
+  pub run_none : (start : ShareState S) (front : List Output) (events : List EventText) → start ≡ unread start → RunSoFar start start front front events 0
   run_none start front events h = record { goes = refl; state = h; says = sym (append-nil front) }
 
-  at_place : (events : List Event) (event : Event) (i : ℕ) → i < length events → event ≡ get_or events i event → drop i events ≡ event ∷ drop (i + 1) events
-  at_place events event i p e = drop_more events i event p ∙ ap (λ x. x ∷ drop (i + 1) events) (sym e)
+  at_place : (events : List Event) (event : Event) (i : ℕ) → i < length events → event ≡ get_or events i event → drop i (events_of events) ≡ text_of event ∷ events_of (drop (i + 1) events)
+  at_place events event i p e = drop-map text_of i events ∙ ap events_of (drop_more events i event p) ∙ ap (λ x. text_of x ∷ events_of (drop (i + 1) events)) (sym e)
 
-  not_refused : (start now : ShareState S) (events : List Event) (event : Event) (i : ℕ) (o : Option ServeFault) → now ≡ unread (run m start (take i events)).state → refusal now event ≡ o →
+  not_refused : (start now : ShareState S) (events : List EventText) (event : EventText) (i : ℕ) (o : Option ServeFault) → now ≡ unread (run m start (take i events)).state → refusal now event ≡ o →
       refusal (run m start (take i events)).state event ≡ o
   not_refused start now events event i o h r = sym (refusal-unread (run m start (take i events)).state event) ∙ ap (λ t. refusal t event) (sym h) ∙ r
 
-  pub run_more : (start now new : ShareState S) (front outputs outputs' : List Output) (events : List Event) (event : Event) (i : ℕ) → RunSoFar start now front outputs events i →
-      i < length events → event ≡ get_or events i event → refusal now event ≡ None → new ≡ unread (event_step m now event).state → outputs' ≡ outputs ++ (event_step m now event).outputs →
-      RunSoFar start new front outputs' events (i + 1)
+  pub run_more : (start now new : ShareState S) (front outputs outputs' : List Output) (events : List Event) (event : Event) (i : ℕ) → RunSoFar start now front outputs (events_of events) i →
+      i < length events → event ≡ get_or events i event → refusal now (text_of event) ≡ None → new ≡ unread (event_step m now (text_of event)).state →
+      outputs' ≡ outputs ++ (event_step m now (text_of event)).outputs → RunSoFar start new front outputs' (events_of events) (i + 1)
   run_more start now new front outputs outputs' events event i h p e r s t =
-      let before = run m start (take i events) in
-      let same : unread_step (event_step m now event) ≡ unread_step (event_step m before.state event) = ap (λ x. unread_step (event_step m x event)) h.state ∙ event_step-unread before.state event in
-      let more = run-more start events (drop (i + 1) events) event i (at_place events event i p e) h.goes (not_refused start now events event i None h.state r) in
+      let text = text_of event in
+      let before = run m start (take i (events_of events)) in
+      let same : unread_step (event_step m now text) ≡ unread_step (event_step m before.state text) = ap (λ x. unread_step (event_step m x text)) h.state ∙ event_step-unread before.state text in
+      let more = run-more start (events_of events) (events_of (drop (i + 1) events)) text i (at_place events event i p e) h.goes (not_refused start now (events_of events) text i None h.state r) in
       record {
         goes = ap (λ d. d.stop) more;
         state = s ∙ ap (λ d. d.state) same ∙ ap (λ d. unread d.state) (sym more);
-        says = t ∙ ap (λ x. outputs ++ x) (ap (λ d. d.outputs) same) ∙ ap (λ x. x ++ (event_step m before.state event).outputs) h.says
-            ∙ append_assoc front before.outputs (event_step m before.state event).outputs ∙ ap (λ d. front ++ d.outputs) (sym more);
+        says = t ∙ ap (λ x. outputs ++ x) (ap (λ d. d.outputs) same) ∙ ap (λ x. x ++ (event_step m before.state text).outputs) h.says
+            ∙ append_assoc front before.outputs (event_step m before.state text).outputs ∙ ap (λ d. front ++ d.outputs) (sym more);
       }
 
-  pub run_all : (start now : ShareState S) (front outputs : List Output) (events : List Event) (i : ℕ) → RunSoFar start now front outputs events i → length events ≤ i →
-      record { state = now; outputs = outputs; stop = None } ≡ run_behind front (run m start events)
+  pub run_all : (start now : ShareState S) (front outputs : List Output) (events : List Event) (i : ℕ) → RunSoFar start now front outputs (events_of events) i → length events ≤ i →
+      record { state = now; outputs = outputs; stop = None } ≡ run_behind front (run m start (events_of events))
   run_all start now front outputs events i h p =
-      rw (h.state, h.says, ← h.goes) (ap (λ es. run_behind front (run m start es)) (take_all i events p))
+      let q : length (events_of events) ≤ i = rw length-map p in
+      rw (h.state, h.says, ← h.goes) (ap (λ es. run_behind front (run m start es)) (take_all i (events_of events) q))
 
-  run_refused : (start now new : ShareState S) (front outputs : List Output) (events : List Event) (event : Event) (i : ℕ) (why : ServeFault) → RunSoFar start now front outputs events i →
-      i < length events → event ≡ get_or events i event → refusal now event ≡ Some why → new ≡ now →
-      record { state = new; outputs = outputs; stop = Some (record { place = i; fault = why }) } ≡ run_behind front (run m start events)
+  run_refused : (start now new : ShareState S) (front outputs : List Output) (events : List Event) (event : Event) (i : ℕ) (why : ServeFault) → RunSoFar start now front outputs (events_of events) i →
+      i < length events → event ≡ get_or events i event → refusal now (text_of event) ≡ Some why → new ≡ now →
+      record { state = new; outputs = outputs; stop = Some (record { place = i; fault = why }) } ≡ run_behind front (run m start (events_of events))
   run_refused start now new front outputs events event i why h p e r s =
-      rw (s, h.state, h.says, run-refused start events (drop (i + 1) events) event i why (at_place events event i p e) h.goes (not_refused start now events event i (Some why) h.state r)) refl
+      rw (s, h.state, h.says, run-refused start (events_of events) (events_of (drop (i + 1) events)) (text_of event) i why (at_place events event i p e) h.goes (not_refused start now (events_of events) (text_of event) i (Some why) h.state r)) refl
 
   -- an event at which the run stops, whatever the fault
-  pub run_stops : (start now new : ShareState S) (front outputs outputs' : List Output) (events : List Event) (event : Event) (place : ℕ) (fault : ServeFault) (i : ℕ) → RunSoFar start now front outputs events i →
-      place ≡ i → i < length events → event ≡ get_or events i event → EventStopped m now event fault new → outputs' ≡ outputs → RunStopped m start events place fault new front outputs'
+  pub run_stops : (start now new : ShareState S) (front outputs outputs' : List Output) (events : List Event) (event : Event) (place : ℕ) (fault : ServeFault) (i : ℕ) → RunSoFar start now front outputs (events_of events) i →
+      place ≡ i → i < length events → event ≡ get_or events i event → EventStopped m now (text_of event) fault new → outputs' ≡ outputs →
+      RunStopped m start (events_of events) place fault new front outputs'
   run_stops start now new front outputs outputs' events event place (NoMemory done) i h q p e s t =
+      let text = text_of event in
+      let before = run m start (take i (events_of events)) in
       rw (q, t) (record {
-        event = event;
-        others = drop (i + 1) events;
+        event = text;
+        others = events_of (drop (i + 1) events);
         at = at_place events event i p e;
         unrefused = h.goes;
-        sound = not_refused start now events event i None h.state s.0;
-        within = let same = ap (λ x. count_of m x event) h.state ∙ count_of-unread (run m start (take i events)).state event in rw (← same) s.1;
-        state = s.2 ∙ ap (λ x. unread (stopped_event m x event done)) h.state ∙ stopped_event-unread (run m start (take i events)).state event done;
+        sound = not_refused start now (events_of events) text i None h.state s.0;
+        wanting = sym (ap (λ x. can_want_memory x text) h.state ∙ can_want_memory-unread before.state text) ∙ s.1;
+        within = let same = ap (λ x. count_of m x text) h.state ∙ count_of-unread before.state text in rw (← same) s.2;
+        state = s.3 ∙ ap (λ x. unread (stopped_event m x text done)) h.state ∙ stopped_event-unread before.state text done;
         outputs = h.says;
       })
   run_stops start now new front outputs outputs' events event place TooManyConnections i h q p e s t = rw (q, t) (run_refused start now new front outputs events event i TooManyConnections h p e s.0 s.1)
@@ -232,11 +247,11 @@ module _ {S : Type 0} (m : Meaning S) where
   unfolding rest
   opened-unread s h = rw (unread-insert s.next new_link s.links) (ap (λ t. record { shared = shared_opened s.shared s.next; links = insert_entry nat_cmp t.links s.next new_link; next = s.next + 1 }) h)
 
-  open_refused : (s : ShareState S) (n : ℕ) (o : Option ServeFault) → n ≡ s.next → opening_refusal s ≡ o → refusal s (Opened n) ≡ o
+  open_refused : (s : ShareState S) (n : ℕ) (o : Option ServeFault) → n ≡ s.next → opening_refusal s ≡ o → refusal s (opens n) ≡ o
   open_refused s n o e h = rw (eq-eqb n s.next e) h
 
-  pub open_stops : (s new : ShareState S) (n : ℕ) (fault : ServeFault) → s ≡ unread s → n ≡ s.next → OpeningRefused s fault → new ≡ s → EventStopped m s (Opened n) fault new
-  open_stops s new n (NoMemory done) w e h k = (open_refused s n None e h.0, omega (arith, h.1), k ∙ w)
+  pub open_stops : (s new : ShareState S) (n : ℕ) (fault : ServeFault) → s ≡ unread s → n ≡ s.next → OpeningRefused s fault → new ≡ s → EventStopped m s (opens n) fault new
+  open_stops s new n (NoMemory done) w e h k = (open_refused s n None e h.0, refl, omega (arith, h.1), k ∙ w)
   open_stops s new n TooManyConnections w e h k = (open_refused s n (Some TooManyConnections) e h, k)
   open_stops s new n BadEvent w e h k = absurd h
   open_stops s new n BadConfig w e h k = absurd h

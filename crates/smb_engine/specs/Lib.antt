@@ -13,5 +13,7 @@ pub mod Output
 pub mod Sink
 pub mod Stream
 pub mod Share
+pub mod Event
 pub mod Run
+pub mod Laws
 pub mod Held

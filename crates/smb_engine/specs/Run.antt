@@ -1,43 +1,48 @@
 -- A run of events.
-use Rattle.std.specs.Prelude.{◌≡◌, ℕ, suc, ◌≤◌, ◌&&◌, ◌==◌, nat_lt, List, [], ◌∷◌, ◌++◌, drop, take, Option, None, Some, if◌then◌else◌}
+use Rattle.std.specs.Prelude.{◌≡◌, ℕ, suc, ◌≤◌, Bool, true, false, ◌&&◌, ◌==◌, nat_lt, List, [], ◌∷◌, ◌++◌, drop, take, Option, None, Some, is_some, if◌then◌else◌}
 use Rattle.std.specs.Option.{option_map, option_map_or}
-use Rattle.smb_engine.specs.declared.event.Event.{Event}
-use Rattle.smb_engine.specs.declared.event.Event.TheVariants.{Opened, Bytes, Ended}
 use Rattle.smb_engine.specs.declared.fault.ServeFault.{ServeFault}
 use Rattle.smb_engine.specs.declared.fault.ServeFault.TheVariants.{TooManyConnections, NoMemory, BadEvent, BadConfig}
 use Rattle.smb_engine.specs.declared.fault.RunFault.{RunFault}
 use Rattle.smb_session.specs.Authenticator.{Meaning}
 use Rattle.smb_engine.specs.State.{ShareState}
+use Rattle.smb_engine.specs.Event.{EventText, opens, brings, ends}
 use Rattle.smb_engine.specs.Output.{Output}
-use Rattle.smb_engine.specs.Share.{EventStep, opened, ended, opening_refusal, bytes_step, stopped, count_on, unread}
+use Rattle.smb_engine.specs.Share.{EventStep, link_of, opened, ended, opening_refusal, bytes_step, stopped, count_on, unread}
 
 -- an event on a number that was never opened is refused
 abbrev pub unknown_refusal : {S : Type 0} → ShareState S → ℕ → Option ServeFault
 unknown_refusal s number = if nat_lt 0 number && nat_lt number s.next then None else Some BadEvent
 
 -- why an event is refused: an opening has to bear the next number, and then there has to be room for it
-abbrev pub refusal : {S : Type 0} → ShareState S → Event → Option ServeFault
-refusal s (Opened number) = if number == s.next then opening_refusal s else Some BadEvent
-refusal s (Bytes number moment piece) = unknown_refusal s number
-refusal s (Ended number) = unknown_refusal s number
+abbrev pub refusal : {S : Type 0} → ShareState S → EventText → Option ServeFault
+refusal s (opens number) = if number == s.next then opening_refusal s else Some BadEvent
+refusal s (brings number moment piece) = unknown_refusal s number
+refusal s (ends number) = unknown_refusal s number
 
 -- one event that is not refused
-abbrev pub event_step : {S : Type 0} → Meaning S → ShareState S → Event → EventStep S
-event_step m s (Opened number) = record { state = opened s; outputs = [] }
-event_step m s (Bytes number moment piece) = bytes_step m s number moment piece.items
-event_step m s (Ended number) = record { state = ended s number; outputs = [] }
+abbrev pub event_step : {S : Type 0} → Meaning S → ShareState S → EventText → EventStep S
+event_step m s (opens number) = record { state = opened s; outputs = [] }
+event_step m s (brings number moment piece) = bytes_step m s number moment piece
+event_step m s (ends number) = record { state = ended s number; outputs = [] }
 
 -- how many requests an event performs
-abbrev pub count_of : {S : Type 0} → Meaning S → ShareState S → Event → ℕ
-count_of m s (Opened number) = 0
-count_of m s (Bytes number moment piece) = count_on m s number moment piece.items
-count_of m s (Ended number) = 0
+abbrev pub count_of : {S : Type 0} → Meaning S → ShareState S → EventText → ℕ
+count_of m s (opens number) = 0
+count_of m s (brings number moment piece) = count_on m s number moment piece
+count_of m s (ends number) = 0
+
+-- whether memory can be wanting at an event: at no end, and at a piece only where its connection is open
+abbrev pub can_want_memory : {S : Type 0} → ShareState S → EventText → Bool
+can_want_memory s (opens number) = true
+can_want_memory s (brings number moment piece) = is_some (link_of number s.links)
+can_want_memory s (ends number) = false
 
 -- where memory ran out after k requests of an event; an opening changes nothing
-abbrev pub stopped_event : {S : Type 0} → Meaning S → ShareState S → Event → ℕ → ShareState S
-stopped_event m s (Opened number) k = s
-stopped_event m s (Bytes number moment piece) k = stopped m s number moment piece.items k
-stopped_event m s (Ended number) k = s
+abbrev pub stopped_event : {S : Type 0} → Meaning S → ShareState S → EventText → ℕ → ShareState S
+stopped_event m s (opens number) k = s
+stopped_event m s (brings number moment piece) k = stopped m s number moment piece k
+stopped_event m s (ends number) k = s
 
 -- what a run leaves and puts out, and the refused event that it stopped at
 pub record Ran (S : Type 0) : Type 0 where
@@ -56,7 +61,7 @@ abbrev pub refused_at_once : {S : Type 0} → ShareState S → ServeFault → Ra
 refused_at_once s fault = record { state = s; outputs = []; stop = Some (record { place = 0; fault = fault }) }
 
 -- a run of events in order, up to one that is refused, which changes nothing. Each connection's stream is kept whole.
-abbrev pub run : {S : Type 0} → Meaning S → ShareState S → List Event → Ran S
+abbrev pub run : {S : Type 0} → Meaning S → ShareState S → List EventText → Ran S
 run m s [] = record { state = s; outputs = []; stop = None }
 run m s (event ∷ events) =
     option_map_or (refused_at_once s) (refusal s event) (then_ran (event_step m s event) (run m (event_step m s event).state events))
@@ -66,27 +71,28 @@ abbrev pub run_behind : {S : Type 0} → List Output → Ran S → Ran S
 run_behind before ran = record { state = unread ran.state; outputs = before ++ ran.outputs; stop = ran.stop }
 
 -- where one event stops: it is refused and changes nothing, or memory ran out after some of its requests
-abbrev pub EventStopped : {S : Type 0} → Meaning S → ShareState S → Event → ServeFault → ShareState S → Type 0
+abbrev pub EventStopped : {S : Type 0} → Meaning S → ShareState S → EventText → ServeFault → ShareState S → Type 0
 EventStopped m s event (NoMemory done) left =
-    (refusal s event ≡ None) × (done ≤ count_of m s event) × (left ≡ unread (stopped_event m s event done))
+    (refusal s event ≡ None) × (can_want_memory s event ≡ true) × (done ≤ count_of m s event) × (left ≡ unread (stopped_event m s event done))
 EventStopped m s event TooManyConnections left = (refusal s event ≡ Some TooManyConnections) × (left ≡ s)
 EventStopped m s event BadEvent left = (refusal s event ≡ Some BadEvent) × (left ≡ s)
 EventStopped m s event BadConfig left = ⊥
 
 -- where memory ran out in a run: the events before the place were performed whole, none of them refused, and of that
--- event the first `done` requests
-pub record OutOfMemory {S : Type 0} (m : Meaning S) (start : ShareState S) (events : List Event) (place done : ℕ) (left : ShareState S) (before after : List Output) : Type 0 where
-  pub event : Event
-  pub others : List Event
+-- event, at which memory can be wanting, the first `done` requests
+pub record OutOfMemory {S : Type 0} (m : Meaning S) (start : ShareState S) (events : List EventText) (place done : ℕ) (left : ShareState S) (before after : List Output) : Type 0 where
+  pub event : EventText
+  pub others : List EventText
   pub at : drop place events ≡ event ∷ others
   pub unrefused : (run m start (take place events)).stop ≡ None
   pub sound : refusal (run m start (take place events)).state event ≡ None
+  pub wanting : can_want_memory (run m start (take place events)).state event ≡ true
   pub within : done ≤ count_of m (run m start (take place events)).state event
   pub state : left ≡ unread (stopped_event m (run m start (take place events)).state event done)
   pub outputs : after ≡ before ++ (run m start (take place events)).outputs
 
 -- what an error of a run says: the definition stops there, or memory ran out
-abbrev pub RunStopped : {S : Type 0} → Meaning S → ShareState S → List Event → ℕ → ServeFault → ShareState S → List Output → List Output → Type 0
+abbrev pub RunStopped : {S : Type 0} → Meaning S → ShareState S → List EventText → ℕ → ServeFault → ShareState S → List Output → List Output → Type 0
 RunStopped m start events place (NoMemory done) left before after = OutOfMemory m start events place done left before after
 RunStopped m start events place TooManyConnections left before after =
     record { state = left; outputs = after; stop = Some (record { place = place; fault = TooManyConnections }) } ≡ run_behind before (run m start events)

@@ -1,5 +1,5 @@
 -- The share over its connections, and each call on it.
-use Rattle.std.specs.Prelude.{◌≡◌, ℕ, ◌+◌, ◌≤◌, ◌<◌, Bool, true, false, ◌||◌, ◌==◌, nat_le, List, [], length, map, Option, None, Some, if◌then◌else◌}
+use Rattle.std.specs.Prelude.{◌≡◌, ℕ, ◌+◌, ◌≤◌, ◌<◌, Bool, true, false, ◌||◌, ◌==◌, nat_le, List, [], length, map, Option, None, Some, is_some, if◌then◌else◌}
 use Rattle.std.specs.Option.{option_map_or}
 use Rattle.std.specs.List.{AllByRecursion}
 use Rattle.std.specs.Map.{lookup, set_value, remove_entry}
@@ -105,10 +105,10 @@ OpeningRefused s TooManyConnections = opening_refusal s ≡ Some TooManyConnecti
 OpeningRefused s BadEvent = ⊥
 OpeningRefused s BadConfig = ⊥
 
--- where a piece stops: only memory can run out, after at most as many requests as the piece has
+-- where a piece stops: only memory can run out, on an open connection, after at most as many requests as the piece has
 abbrev pub PieceStopped : {S : Type 0} → Meaning S → ShareState S → ℕ → ℕ → List ℕ → ServeFault → ShareState S → Type 0
 PieceStopped m s number moment piece (NoMemory done) left =
-    (done ≤ count_on m s number moment piece) × (left ≡ unread (stopped m s number moment piece done))
+    (is_some (link_of number s.links) ≡ true) × (done ≤ count_on m s number moment piece) × (left ≡ unread (stopped m s number moment piece done))
 PieceStopped m s number moment piece TooManyConnections left = ⊥
 PieceStopped m s number moment piece BadEvent left = ⊥
 PieceStopped m s number moment piece BadConfig left = ⊥

@@ -3,10 +3,10 @@
 //! A [`Share`] is made of a [`Config`]. Connections are [`opened`](Share::opened), bring pieces of their
 //! streams, which are [`feed`](Share::feed), and [end](Share::ended); [`run`](Share::run) takes a list of such
 //! [`Event`]s and gives the [`Answer`]s. What it gives is a definition, to be read in this order:
-//! `specs/Run.antt` (a list of events), `Share.antt` (one event), `Stream.antt` (a piece, payload by payload),
-//! `Chain.antt` (a payload, request by request), `Request.antt` (the commands). The definition reads each
-//! stream from its first byte; the share holds what is unread alone, which is why it does not matter how the
-//! bytes were cut.
+//! `specs/Event.antt` and `Run.antt` (a list of events), `Share.antt` (one event), `Stream.antt` (a piece, payload
+//! by payload), `Chain.antt` (a payload, request by request), `Request.antt` (the commands). The definition reads
+//! each stream from its first byte; the share holds what is unread alone. That it does not matter how the bytes were
+//! cut is a law of the definition, with others of `specs/Laws.antt`: [`laws_of_shares`].
 //!
 //! Refusals are [`ServeFault`]s, S1 to S4. A piece takes time in proportion to its bytes and to those of its
 //! replies; a connection is found in logarithmic time.
@@ -19,6 +19,7 @@ mod context;
 mod event;
 mod fault;
 mod files;
+mod laws;
 mod negotiate;
 mod output;
 mod request;
@@ -33,5 +34,6 @@ mod stream;
 pub use config::Config;
 pub use event::{Event, Fate};
 pub use fault::{RunFault, ServeFault};
+pub use laws::laws_of_shares;
 pub use output::Answer;
 pub use share::Share;

@@ -8,6 +8,7 @@ ghost use Rattle.std.specs.Ordering.{nat_cmp};
 ghost use Rattle.smb_tree.specs.Content.{new_content};
 ghost use Rattle.smb_engine.specs.Settings.{settings_of, is_lawful};
 ghost use Rattle.smb_engine.specs.State.{shared_opened};
+ghost use Rattle.smb_engine.specs.Event.{text_of, events_of};
 ghost use Rattle.smb_engine.specs.Output.{bytes_of, outputs_of};
 ghost use Rattle.smb_engine.specs.Share.{MakingRefused, new_share, link_of, new_link, opened, ended, opening_refusal, bytes_step, is_open_after, stopped, count_on, unread, OpeningRefused, PieceStopped, GoodState};
 ghost use Rattle.smb_engine.specs.Run.{unknown_refusal, refusal, event_step, run, run_behind, EventStopped, RunStopped};
@@ -169,8 +170,8 @@ impl<A: Authenticator + Drop, T: Tree + Drop, O: Opens + Drop> Share<A, T, O> {
     }
 
     /// Takes a piece of a connection's stream, and puts out what answers it. On a connection that is not
-    /// open it is passed over. An error tells how many requests were performed; the connection has ended
-    /// after them.
+    /// open it is passed over, and there is no error. An error tells how many requests were performed; the
+    /// connection has ended after them.
     #[tactic(auto, unfolding(crate::specs::Share::bytes_step, crate::specs::Share::stopped))]
     fn take<K: Sink>(
         &mut self,
@@ -184,6 +185,7 @@ impl<A: Authenticator + Drop, T: Tree + Drop, O: Opens + Drop> Share<A, T, O> {
         ensures fate { IfOk result (λ fate. fate ≡ (if is_open_after A.meaning self.old connection moment piece.now then Fate.Open else Fate.Ended)) }
         ensures err { IfErr result (λ k. self.new ≡ unread (stopped A.meaning self.old connection moment piece.now k)) }
         ensures within { IfErr result (λ k. k ≤ count_on A.meaning self.old connection moment piece.now) }
+        ensures open { OnErr result (is_some (link_of connection self.old.links) ≡ true) }
         ensures kept { OnErr result (K.content out.new ≡ K.content out.old) }
     {
         let link = match self.links.get_mut(&connection) {
@@ -255,6 +257,7 @@ impl<A: Authenticator + Drop, T: Tree + Drop, O: Opens + Drop> Share<A, T, O> {
         ensures outputs { OnOk result (outputs_of answers.new.items ≡ outputs_of answers.old.items ++ (bytes_step A.meaning self.old connection moment piece.now).outputs) }
         ensures err { IfErr result (λ k. self.new ≡ unread (stopped A.meaning self.old connection moment piece.now k)) }
         ensures within { IfErr result (λ k. k ≤ count_on A.meaning self.old connection moment piece.now) }
+        ensures open { OnErr result (is_some (link_of connection self.old.links) ≡ true) }
         ensures kept { OnErr result (outputs_of answers.new.items ≡ outputs_of answers.old.items) }
     {
         match self.take(connection, moment, piece, answers) {
@@ -272,10 +275,10 @@ impl<A: Authenticator + Drop, T: Tree + Drop, O: Opens + Drop> Share<A, T, O> {
 
     /// Takes one event.
     fn event(&mut self, event: &Event, answers: &mut Vec<Answer>) -> Result<(), ServeFault>
-        ensures unrefused { OnOk result (refusal self.old event.now ≡ None) }
-        ensures state { OnOk result (self.new ≡ unread (event_step A.meaning self.old event.now).state) }
-        ensures outputs { OnOk result (outputs_of answers.new.items ≡ outputs_of answers.old.items ++ (event_step A.meaning self.old event.now).outputs) }
-        ensures err { IfErr result (λ fault. EventStopped A.meaning self.old event.now fault self.new) }
+        ensures unrefused { OnOk result (refusal self.old (text_of event.now) ≡ None) }
+        ensures state { OnOk result (self.new ≡ unread (event_step A.meaning self.old (text_of event.now)).state) }
+        ensures outputs { OnOk result (outputs_of answers.new.items ≡ outputs_of answers.old.items ++ (event_step A.meaning self.old (text_of event.now)).outputs) }
+        ensures err { IfErr result (λ fault. EventStopped A.meaning self.old (text_of event.now) fault self.new) }
         ensures kept { OnErr result (outputs_of answers.new.items ≡ outputs_of answers.old.items) }
     {
         let _ = &self.shared;
@@ -315,8 +318,8 @@ impl<A: Authenticator + Drop, T: Tree + Drop, O: Opens + Drop> Share<A, T, O> {
     /// Takes events in order, up to one that is refused.
     fn run_events(&mut self, events: &[Event], answers: &mut Vec<Answer>) -> Result<(), RunFault>
         ensures ok { OnOk result (record { state = self.new; outputs = outputs_of answers.new.items; stop = None }
-            ≡ run_behind (outputs_of answers.old.items) (run A.meaning self.old events.now)) }
-        ensures err { IfErr result (λ e. RunStopped A.meaning self.old events.now e.place e.fault self.new (outputs_of answers.old.items) (outputs_of answers.new.items)) }
+            ≡ run_behind (outputs_of answers.old.items) (run A.meaning self.old (events_of events.now))) }
+        ensures err { IfErr result (λ e. RunStopped A.meaning self.old (events_of events.now) e.place e.fault self.new (outputs_of answers.old.items) (outputs_of answers.new.items)) }
     {
         let _ = &self.shared;
         let mut place = 0;
@@ -335,11 +338,12 @@ impl<A: Authenticator + Drop, T: Tree + Drop, O: Opens + Drop> Share<A, T, O> {
     /// A fault tells the place of the event that it stopped at; the events before it stand, with their
     /// answers. A refused event ([`ServeFault::BadEvent`], [`ServeFault::TooManyConnections`]) changes
     /// nothing. After [`ServeFault::NoMemory`] the first `done` requests of the event were performed,
-    /// unanswered, and then its connection has ended; an opening changed nothing.
+    /// unanswered, and then its connection has ended; an opening changed nothing. The end of a connection
+    /// is no event at which memory is wanting, nor is a piece on one that is not open.
     pub fn run(&mut self, events: &[Event], answers: &mut Vec<Answer>) -> Result<(), RunFault>
         ensures ok { OnOk result (record { state = self.new; outputs = outputs_of answers.new.items; stop = None }
-            ≡ run_behind (outputs_of answers.old.items) (run A.meaning self.old events.now)) }
-        ensures err { IfErr result (λ e. RunStopped A.meaning self.old events.now e.place e.fault self.new (outputs_of answers.old.items) (outputs_of answers.new.items)) }
+            ≡ run_behind (outputs_of answers.old.items) (run A.meaning self.old (events_of events.now))) }
+        ensures err { IfErr result (λ e. RunStopped A.meaning self.old (events_of events.now) e.place e.fault self.new (outputs_of answers.old.items) (outputs_of answers.new.items)) }
         ensures good { GoodState self.new }
     {
         let result = self.run_events(events, answers);

@@ -9,7 +9,8 @@ use Rattle.std.specs.Prelude.{map}
 use Rattle.std.proofs.lemmas.List.{append-nil}
 use Rattle.smbshare.specs.declared.script.Script.{Script}
 use Rattle.smbshare.specs.Reading.{script_text, behind}
-use Rattle.smbshare.specs.Script.{lines_of, LineText, text_of, and_then, read_line, script_from, script_of}
+use Rattle.smb_engine.specs.Event.{text_of}
+use Rattle.smbshare.specs.Script.{lines_of, LineText, and_then, read_line, script_from, script_of}
 
 abbrev to_end : List ℕ → ℕ
 to_end text = prefix_len (λ c. not (eqb c 10)) text

@@ -1,6 +1,7 @@
 -- A script that is being read.
 use Rattle.std.specs.Prelude.{◌++◌, map, Bool, if◌then◌else◌}
-use Rattle.smbshare.specs.Script.{ScriptText, text_of}
+use Rattle.smb_engine.specs.Event.{text_of}
+use Rattle.smbshare.specs.Script.{ScriptText}
 use Rattle.smbshare.specs.declared.script.Script.{Script}
 
 -- what a script says, without where its bytes lie

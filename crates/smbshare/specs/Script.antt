@@ -4,22 +4,9 @@ use Rattle.std.specs.List.{list_all}
 use Rattle.std.specs.Option.{option_map, option_map_or, option_and_then}
 use Rattle.std.specs.Result.{result_ok}
 use Rattle.hex.specs.Hex.{decode_of}
-use Rattle.smb_engine.specs.declared.event.Event.{Event}
-use Rattle.smb_engine.specs.declared.event.Event.TheVariants.{Opened, Bytes, Ended}
+use Rattle.smb_engine.specs.Event.{EventText, opens, brings, ends, text_of}
 use Rattle.smbshare.specs.declared.script.Line.{Line}
 use Rattle.smbshare.specs.declared.script.Line.TheVariants.{Skipped, Unreadable, Happens}
-
--- what an event says: a connection's number, and of a piece its moment and its bytes
-pub data EventText : Type 0 where
-  opens : ℕ → EventText
-  brings : ℕ → ℕ → List ℕ → EventText
-  ends : ℕ → EventText
-
--- an event, without where its bytes lie
-abbrev pub text_of : Event → EventText
-text_of (Opened number) = opens number
-text_of (Bytes number moment piece) = brings number moment piece.items
-text_of (Ended number) = ends number
 
 -- a decimal digit, and the number that digits spell behind a number
 abbrev pub is_digit : ℕ → Bool

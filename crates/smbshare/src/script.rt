@@ -3,7 +3,8 @@
 ghost use Rattle.std.specs.Prelude.{ℕ, ◌≡◌, ◌≤◌, ◌<◌, ◌+◌, ◌*◌, ◌-◌, ◌^◌, ◌==◌, ◌&&◌, IsTrue, length, take, drop, map, position, ◌∷◌, [], IfOk, IfSome, Some, None, nat_lt, if◌then◌else◌};
 ghost use Rattle.std.specs.List.{list_all};
 ghost use Rattle.std.specs.Option.{option_map, option_map_or};
-ghost use Rattle.smbshare.specs.Script.{text_of, is_digit, decimal_from, number_of, piece_of, at_blank, line_text, piece_parts, bytes_line, with_part, says, opens, ends, read_line, lines_of, and_then, script_of, script_from};
+ghost use Rattle.smb_engine.specs.Event.{text_of, opens, ends};
+ghost use Rattle.smbshare.specs.Script.{is_digit, decimal_from, number_of, piece_of, at_blank, line_text, piece_parts, bytes_line, with_part, says, read_line, lines_of, and_then, script_of, script_from};
 ghost use Rattle.smbshare.specs.Script.{ScriptText};
 ghost use Rattle.smbshare.specs.Reading.{script_text, behind, so_far};
 

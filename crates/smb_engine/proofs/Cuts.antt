@@ -1,0 +1,374 @@
+-- How streams are cut into pieces, and events into runs, does not matter.
+use Rattle.std.proofs.Common.{◌≡◌, ℕ, suc, ◌+◌, ◌<◌, ◌&&◌, ltb, Bool, true, false, List, [], ◌∷◌, ◌++◌, length, Option, None, Some, is_none, refl, sym, ap, ◌∙◌, append_assoc, arith}
+use Rattle.std.specs.Option.{option_map, option_map_or}
+use Rattle.std.specs.BTreeMap.{is_at}
+use Rattle.std.specs.Ordering.{nat_cmp}
+use Rattle.std.proofs.lemmas.List.{append-nil}
+use Rattle.std.proofs.lemmas.Bool.{ltb-true, ltb-false, lt-ltb, le-ltb}
+use Rattle.smb_frame.specs.declared.fault.FrameFault.{FrameFault}
+use Rattle.smb_frame.specs.Reading.{payloads, rest, fault_of}
+use Rattle.smb_frame.proofs.Streams.{payloads-more, payloads-none, rest-more, rest-none}
+use Rattle.smb_frame.proofs.Rests.{fault_more}
+use Rattle.smb_session.specs.Authenticator.{Meaning}
+use Rattle.smb_engine.specs.declared.connection.Connection.{Connection}
+use Rattle.smb_engine.specs.declared.fault.RunFault.{RunFault}
+use Rattle.smb_engine.specs.declared.fault.ServeFault.{ServeFault}
+use Rattle.smb_engine.specs.Event.{EventText, brings}
+use Rattle.smb_engine.specs.State.{SharedState, LinkState, ShareState}
+use Rattle.smb_engine.specs.Chain.{PayloadStep, payload_step}
+use Rattle.smb_engine.specs.Output.{end_of, reply_frame}
+use Rattle.smb_engine.specs.Stream.{longest_payload, PayloadSteps, after_outputs, and_then, payload_steps, added_payloads}
+use Rattle.smb_engine.specs.Share.{EventStep, settled, bytes_step, ended, unread, link_of, with_link}
+use Rattle.smb_engine.specs.Run.{Ran, run, run_behind, then_ran, later, refused_at_once, refusal, event_step}
+use Rattle.smb_engine.specs.Laws.{InOrder, AreAlike, later_behind, with_one_more_at, moved, run_after, pieces_on, joined}
+use Rattle.smb_engine.proofs.Links.{bytes_step-none, bytes_step-some, remove-set}
+use Rattle.smb_engine.proofs.Pieces.{added_is, steps_by, step-open, step-over}
+use Rattle.smb_engine.proofs.Order.{lookup-set, set-set, link_of-without, bytes_step-next, order_step}
+use Rattle.smb_engine.proofs.Runs.{unread-unread, unread_step, event_step-unread, refusal-unread}
+
+-- a piece in two adds the payloads of the one and then those of the other
+added-cut : (stream a b : List ℕ) → added_payloads stream (a ++ b) ≡ added_payloads stream a ++ added_payloads (stream ++ a) b
+added-cut stream a b =
+    let held = rest longest_payload stream in
+    let left : rest longest_payload (held ++ a) ≡ rest longest_payload (stream ++ a) = sym (rest-more longest_payload a stream) in
+    added_is stream (a ++ b)
+    ∙ ap (payloads longest_payload) (sym (append_assoc held a b))
+    ∙ payloads-more longest_payload b (held ++ a)
+    ∙ ap (λ t. payloads longest_payload (held ++ a) ++ payloads longest_payload (t ++ b)) left
+    ∙ ap (λ t. t ++ payloads longest_payload (rest longest_payload (stream ++ a) ++ b)) (sym (added_is stream a))
+    ∙ ap (λ t. added_payloads stream a ++ t) (sym (added_is (stream ++ a) b))
+
+-- behind a faulty rest nothing is read, and it stays faulty
+abbrev kind_after : List ℕ → Bool
+kind_after stream = is_none (fault_of longest_payload (rest longest_payload stream))
+
+record NothingMore (stream b : List ℕ) : Type 0 where
+  pub added : added_payloads stream b ≡ []
+  pub faulty : kind_after (stream ++ b) ≡ false
+
+nothing_at : (stream b : List ℕ) (o : Option FrameFault) → fault_of longest_payload (rest longest_payload stream) ≡ o → is_none o ≡ false → NothingMore stream b
+nothing_at stream b None e h = cc
+nothing_at stream b (Some fault) e h =
+    let held = rest longest_payload stream in
+    let both = fault_more longest_payload held b fault e in
+    let same : rest longest_payload (stream ++ b) ≡ held ++ b = rest-more longest_payload b stream ∙ rest-none longest_payload (held ++ b) both.1 in
+    record { added = added_is stream b ∙ payloads-none longest_payload (held ++ b) both.1; faulty = rw (same, both.0) refl }
+
+nothing_more : (stream b : List ℕ) → kind_after stream ≡ false → NothingMore stream b
+nothing_more stream b h = nothing_at stream b _ refl h
+
+module _ {S : Type 0} (m : Meaning S) (n moment : ℕ) where
+  abbrev all : SharedState S → Connection → List (List ℕ) → PayloadSteps S
+  all = payload_steps m n moment
+
+  -- payloads after payloads that leave the connection open
+  on_at : (p : PayloadStep S) (xs ys : List (List ℕ)) (o : Option (List ℕ)) → p.replies ≡ o →
+      ((all p.shared p.connection xs).stays_open ≡ true →
+      all p.shared p.connection (xs ++ ys) ≡ after_outputs (all p.shared p.connection xs).outputs (all (all p.shared p.connection xs).shared (all p.shared p.connection xs).connection ys)) →
+      (and_then n (λ s c. all s c xs) p).stays_open ≡ true →
+      and_then n (λ s c. all s c (xs ++ ys)) p
+      ≡ after_outputs (and_then n (λ s c. all s c xs) p).outputs (all (and_then n (λ s c. all s c xs) p).shared (and_then n (λ s c. all s c xs) p).connection ys)
+  on_at p xs ys None e ih h = let h' = rw e at h in cc
+  on_at p xs ys (Some r) e ih h =
+      let before = all p.shared p.connection xs in
+      let others = all before.shared before.connection ys in
+      rw (e, ih (rw e at h)) (ap (λ t. record others { outputs = t }) (sym (append_assoc (reply_frame n r) before.outputs others.outputs)))
+
+  steps-on : (shared : SharedState S) (connection : Connection) (xs ys : List (List ℕ)) → (all shared connection xs).stays_open ≡ true →
+      all shared connection (xs ++ ys) ≡ after_outputs (all shared connection xs).outputs (all (all shared connection xs).shared (all shared connection xs).connection ys)
+  steps-on shared connection [] ys h = refl
+  steps-on shared connection (x ∷ xs) ys h =
+      let p = payload_step m n moment shared connection x in
+      on_at p xs ys p.replies refl (steps-on p.shared p.connection xs ys) h
+
+  -- payloads after payloads that end it
+  over_at : (p : PayloadStep S) (xs ys : List (List ℕ)) (o : Option (List ℕ)) → p.replies ≡ o →
+      ((all p.shared p.connection xs).stays_open ≡ false → all p.shared p.connection (xs ++ ys) ≡ all p.shared p.connection xs) →
+      (and_then n (λ s c. all s c xs) p).stays_open ≡ false → and_then n (λ s c. all s c (xs ++ ys)) p ≡ and_then n (λ s c. all s c xs) p
+  over_at p xs ys None e ih h = rw e refl
+  over_at p xs ys (Some r) e ih h = rw e (ap (after_outputs (reply_frame n r)) (ih (rw e at h)))
+
+  steps-over : (shared : SharedState S) (connection : Connection) (xs ys : List (List ℕ)) → (all shared connection xs).stays_open ≡ false → all shared connection (xs ++ ys) ≡ all shared connection xs
+  steps-over shared connection [] ys h = cc
+  steps-over shared connection (x ∷ xs) ys h =
+      let p = payload_step m n moment shared connection x in
+      over_at p xs ys p.replies refl (steps-over p.shared p.connection xs ys) h
+
+  abbrev by_piece : SharedState S → LinkState → List ℕ → PayloadSteps S
+  by_piece = steps_by m n moment
+
+  -- a piece whose payloads come to these steps
+  bytes-open : (s : ShareState S) (link : LinkState) (piece : List ℕ) (steps : PayloadSteps S) → link_of n s.links ≡ Some link → by_piece s.shared link piece ≡ steps →
+      (steps.stays_open && kind_after (link.stream ++ piece)) ≡ true →
+      bytes_step m s n moment piece ≡ record {
+        state = record s { shared = steps.shared; links = with_link n (record { stream = link.stream ++ piece; connection = steps.connection }) s.links };
+        outputs = steps.outputs;
+      }
+  bytes-open s link piece steps h e t =
+      bytes_step-some m s n moment piece link h ∙ ap (settled s n) (step-open m n moment s.shared link piece (rw e t)) ∙ rw e refl
+
+  bytes-over : (s : ShareState S) (link : LinkState) (piece : List ℕ) (steps : PayloadSteps S) → link_of n s.links ≡ Some link → by_piece s.shared link piece ≡ steps →
+      (steps.stays_open && kind_after (link.stream ++ piece)) ≡ false →
+      bytes_step m s n moment piece ≡ record { state = ended (record s { shared = steps.shared }) n; outputs = steps.outputs ++ end_of n ∷ [] }
+  bytes-over s link piece steps h e t =
+      bytes_step-some m s n moment piece link h ∙ ap (settled s n) (step-over m n moment s.shared link piece (rw e t)) ∙ rw e refl
+
+  by-cut : (shared : SharedState S) (link : LinkState) (a b : List ℕ) → by_piece shared link (a ++ b) ≡ all shared link.connection (added_payloads link.stream a ++ added_payloads (link.stream ++ a) b)
+  unfolding steps_by
+  by-cut shared link a b = rw added-cut refl
+
+  by-is : (shared : SharedState S) (link : LinkState) (a : List ℕ) → by_piece shared link a ≡ all shared link.connection (added_payloads link.stream a)
+  unfolding steps_by
+  by-is shared link a = refl
+
+  abbrev two : ShareState S → List ℕ → List ℕ → EventStep S
+  two s a b = record {
+    state = (bytes_step m (bytes_step m s n moment a).state n moment b).state;
+    outputs = (bytes_step m s n moment a).outputs ++ (bytes_step m (bytes_step m s n moment a).state n moment b).outputs;
+  }
+
+  -- the first piece leaves the connection open
+  cut_open_at : (s : ShareState S) (link : LinkState) (a b : List ℕ) (first_steps more : PayloadSteps S) (c : Bool) → link_of n s.links ≡ Some link →
+      by_piece s.shared link a ≡ first_steps → (first_steps.stays_open && kind_after (link.stream ++ a)) ≡ true →
+      by_piece first_steps.shared (record { stream = link.stream ++ a; connection = first_steps.connection }) b ≡ more →
+      by_piece s.shared link (a ++ b) ≡ after_outputs first_steps.outputs more →
+      (more.stays_open && kind_after ((link.stream ++ a) ++ b)) ≡ c →
+      bytes_step m s n moment (a ++ b) ≡ two s a b
+  cut_open_at s link a b f more true h e t e' e'' t' =
+      let link' : LinkState = record { stream = link.stream ++ a; connection = f.connection } in
+      let s' : ShareState S = record s { shared = f.shared; links = with_link n link' s.links } in
+      let q : (link.stream ++ a) ++ b ≡ link.stream ++ (a ++ b) = append_assoc link.stream a b in
+      let t'' : (more.stays_open && kind_after (link.stream ++ (a ++ b))) ≡ true = rw (← q) t' in
+      rw (
+        bytes-open s link (a ++ b) (after_outputs f.outputs more) h e'' t'',
+        bytes-open s link a f h e t,
+        bytes-open s' link' b more (lookup-set (is_at (nat_cmp n)) s.links link link' h) e' t',
+        set-set,
+        q,
+      ) refl
+  cut_open_at s link a b f more false h e t e' e'' t' =
+      let link' : LinkState = record { stream = link.stream ++ a; connection = f.connection } in
+      let s' : ShareState S = record s { shared = f.shared; links = with_link n link' s.links } in
+      let q : (link.stream ++ a) ++ b ≡ link.stream ++ (a ++ b) = append_assoc link.stream a b in
+      let t'' : (more.stays_open && kind_after (link.stream ++ (a ++ b))) ≡ false = rw (← q) t' in
+      rw (
+        bytes-over s link (a ++ b) (after_outputs f.outputs more) h e'' t'',
+        bytes-open s link a f h e t,
+        bytes-over s' link' b more (lookup-set (is_at (nat_cmp n)) s.links link link' h) e' t',
+        remove-set,
+        append_assoc,
+      ) refl
+
+  open_parts : (x y : Bool) → (x && y) ≡ true → x ≡ true
+  open_parts true y h = refl
+  open_parts false y h = cc
+
+  cut_open : (s : ShareState S) (link : LinkState) (a b : List ℕ) → link_of n s.links ≡ Some link →
+      ((by_piece s.shared link a).stays_open && kind_after (link.stream ++ a)) ≡ true → bytes_step m s n moment (a ++ b) ≡ two s a b
+  cut_open s link a b h t =
+      let f = by_piece s.shared link a in
+      let is = by-is s.shared link a in
+      let link' : LinkState = record { stream = link.stream ++ a; connection = f.connection } in
+      let open_still = ap (λ d. d.stays_open) (sym is) ∙ open_parts f.stays_open _ t in
+      let on = by-cut s.shared link a b ∙ steps-on s.shared link.connection (added_payloads link.stream a) (added_payloads (link.stream ++ a) b) open_still in
+      let on' : by_piece s.shared link (a ++ b) ≡ after_outputs f.outputs (by_piece f.shared link' b) = rw (by-is f.shared link' b, is) on in
+      cut_open_at s link a b f (by_piece f.shared link' b) _ h refl t refl on' refl
+
+  -- the first piece ends it
+  cut_over_by : (s : ShareState S) (link : LinkState) (a b : List ℕ) → InOrder s → link_of n s.links ≡ Some link →
+      ((by_piece s.shared link a).stays_open && kind_after (link.stream ++ a)) ≡ false →
+      by_piece s.shared link (a ++ b) ≡ by_piece s.shared link a → ((by_piece s.shared link a).stays_open && kind_after (link.stream ++ (a ++ b))) ≡ false →
+      bytes_step m s n moment (a ++ b) ≡ two s a b
+  cut_over_by s link a b r h t e t' =
+      let f = by_piece s.shared link a in
+      let gone : ShareState S = ended (record s { shared = f.shared }) n in
+      rw (bytes-over s link (a ++ b) f h e t', bytes-over s link a f h refl t, bytes_step-none m gone n moment b (link_of-without n s.links r.rising))
+      (ap (λ t. record { state = gone; outputs = t }) (sym (append-nil (f.outputs ++ end_of n ∷ []))))
+
+  cut_over_at : (s : ShareState S) (link : LinkState) (a b : List ℕ) (x : Bool) → InOrder s → link_of n s.links ≡ Some link → (by_piece s.shared link a).stays_open ≡ x →
+      (x && kind_after (link.stream ++ a)) ≡ false → bytes_step m s n moment (a ++ b) ≡ two s a b
+  cut_over_at s link a b true r h e t =
+      let f = by_piece s.shared link a in
+      let is = by-is s.shared link a in
+      let more = nothing_more (link.stream ++ a) b t in
+      let open_still = ap (λ d. d.stays_open) (sym is) ∙ e in
+      let on = by-cut s.shared link a b ∙ steps-on s.shared link.connection (added_payloads link.stream a) (added_payloads (link.stream ++ a) b) open_still in
+      let none : after_outputs f.outputs (all f.shared f.connection []) ≡ f =
+      ap (λ t. record { shared = f.shared; connection = f.connection; outputs = t; stays_open = true }) (append-nil f.outputs) ∙ ap (λ y. record f { stays_open = y }) (sym e) in
+      let on' : by_piece s.shared link (a ++ b) ≡ after_outputs f.outputs (all f.shared f.connection []) = rw (more.added, ← is) at on in
+      let t' = rw (append_assoc link.stream a b) at more.faulty in
+      cut_over_by s link a b r h (rw (e, t) refl) (on' ∙ none) (rw (e, t') refl)
+  cut_over_at s link a b false r h e t =
+      let is = by-is s.shared link a in
+      let over = steps-over s.shared link.connection (added_payloads link.stream a) (added_payloads (link.stream ++ a) b) (ap (λ d. d.stays_open) (sym is) ∙ e) in
+      cut_over_by s link a b r h (rw e refl) (by-cut s.shared link a b ∙ over ∙ sym is) (rw e refl)
+
+  cut_link : (s : ShareState S) (link : LinkState) (a b : List ℕ) (c : Bool) → InOrder s → link_of n s.links ≡ Some link →
+      ((by_piece s.shared link a).stays_open && kind_after (link.stream ++ a)) ≡ c → bytes_step m s n moment (a ++ b) ≡ two s a b
+  cut_link s link a b true r h t = cut_open s link a b h t
+  cut_link s link a b false r h t = cut_over_at s link a b _ r h refl t
+
+  cut_at : (s : ShareState S) (a b : List ℕ) (o : Option LinkState) → InOrder s → link_of n s.links ≡ o → bytes_step m s n moment (a ++ b) ≡ two s a b
+  cut_at s a b None r h = rw (bytes_step-none m s n moment (a ++ b) h, bytes_step-none m s n moment a h, bytes_step-none m s n moment b h) refl
+  cut_at s a b (Some link) r h = cut_link s link a b _ r h refl
+
+  -- one event, in two
+  pub bytes_step-cut : (s : ShareState S) (a b : List ℕ) → InOrder s → bytes_step m s n moment (a ++ b) ≡ two s a b
+  bytes_step-cut s a b r = cut_at s a b _ r refl
+
+-- the place of a stop, one event later
+later_head : (o : Option RunFault) → option_map later (option_map later o) ≡ option_map (later_behind 0) (option_map later o)
+later_head None = refl
+later_head (Some f) = let t : ltb 0 (suc f.place) ≡ true = lt-ltb 0 (suc f.place) (omega arith) in rw t refl
+
+later_more_at : (k : ℕ) (f : RunFault) (b : Bool) → ltb k f.place ≡ b → later (later_behind k f) ≡ later_behind (suc k) (later f)
+later_more_at k f true e =
+    let t : ltb (suc k) (suc f.place) ≡ true = lt-ltb (suc k) (suc f.place) (omega (arith, ltb-true k f.place e)) in
+    rw (t, e) refl
+later_more_at k f false e =
+    let t : ltb (suc k) (suc f.place) ≡ false = le-ltb _ _ (omega (arith, ltb-false k f.place e)) in
+    rw (t, e) refl
+
+later_more : (k : ℕ) (o : Option RunFault) → option_map later (option_map (later_behind k) o) ≡ option_map (later_behind (suc k)) (option_map later o)
+later_more k None = refl
+later_more k (Some f) = ap Some (later_more_at k f _ refl)
+
+moved_none : (o : Option RunFault) → o ≡ option_map (moved 0) o
+moved_none None = refl
+moved_none (Some f) = let e : 0 + f.place ≡ f.place = omega arith in rw e refl
+
+moved_more : (k : ℕ) (o : Option RunFault) → option_map later (option_map (moved k) o) ≡ option_map (moved (suc k)) o
+moved_more k None = refl
+moved_more k (Some f) = let e : suc (k + f.place) ≡ suc k + f.place = omega arith in rw e refl
+
+stop_none : (o : Option RunFault) → option_map later o ≡ None → o ≡ None
+stop_none None h = refl
+stop_none (Some f) h = cc
+
+is_none-later : (o : Option RunFault) → is_none (option_map later o) ≡ false → is_none o ≡ false
+is_none-later None h = h
+is_none-later (Some f) h = refl
+
+module _ {S : Type 0} (m : Meaning S) where
+  one_by_two : (a b : EventStep S) (r : Ran S) → then_ran a (then_ran b r) ≡ with_one_more_at 0 (then_ran (record { state = b.state; outputs = a.outputs ++ b.outputs }) r)
+  one_by_two a b r = rw (append_assoc a.outputs b.outputs r.outputs, later_head r.stop) refl
+
+  cut_head_at : (s : ShareState S) (n moment : ℕ) (a b : List ℕ) (after : List EventText) (o : Option ServeFault) → InOrder s → refusal s (brings n moment a) ≡ o →
+      run m s (brings n moment a ∷ brings n moment b ∷ after) ≡ with_one_more_at 0 (run m s (brings n moment (a ++ b) ∷ after))
+  cut_head_at s n moment a b after None h e =
+      let first_step = bytes_step m s n moment a in
+      let second_step = bytes_step m first_step.state n moment b in
+      let e' : refusal first_step.state (brings n moment b) ≡ None = rw (bytes_step-next m s n moment a) e in
+      rw (e, e', bytes_step-cut m n moment s a b h) (one_by_two first_step second_step (run m second_step.state after))
+  cut_head_at s n moment a b after (Some why) h e = rw e refl
+
+  cut_more : (d : EventStep S) (k : ℕ) (s : ShareState S) (r r' : Ran S) (o : Option ServeFault) → r ≡ with_one_more_at k r' →
+      option_map_or (refused_at_once s) o (then_ran d r) ≡ with_one_more_at (suc k) (option_map_or (refused_at_once s) o (then_ran d r'))
+  cut_more d k s r r' None e = rw e (ap (λ t. record { state = r'.state; outputs = d.outputs ++ r'.outputs; stop = t }) (later_more k r'.stop))
+  cut_more d k s r r' (Some why) e = let t : ltb (suc k) 0 ≡ false = le-ltb _ _ (omega arith) in rw t refl
+
+  pub cuts_do_not_matter : (s : ShareState S) → InOrder s → (before after : List EventText) (n moment : ℕ) (a b : List ℕ) →
+      run m s (before ++ brings n moment a ∷ brings n moment b ∷ after) ≡ with_one_more_at (length before) (run m s (before ++ brings n moment (a ++ b) ∷ after))
+  cuts_do_not_matter s h [] after n moment a b = cut_head_at s n moment a b after _ h refl
+  cuts_do_not_matter s h (x ∷ before) after n moment a b =
+      let d = event_step m s x in
+      cut_more d (length before) s _ _ (refusal s x) (cuts_do_not_matter d.state (order_step m s x h) before after n moment a b)
+
+  -- runs one after the other
+  goes_on_at : (s : ShareState S) (d : EventStep S) (k : ℕ) (r whole second : Ran S) (o : Option ServeFault) →
+      (r.stop ≡ None → whole ≡ run_after k r.outputs second) → (option_map_or (refused_at_once s) o (then_ran d r)).stop ≡ None →
+      option_map_or (refused_at_once s) o (then_ran d whole) ≡ run_after (suc k) (option_map_or (refused_at_once s) o (then_ran d r)).outputs second
+  goes_on_at s d k r whole second None ih h =
+      rw (ih (stop_none r.stop h), append_assoc d.outputs r.outputs second.outputs) (ap (λ t. record { state = second.state; outputs = d.outputs ++ (r.outputs ++ second.outputs); stop = t }) (moved_more k second.stop))
+  goes_on_at s d k r whole second (Some why) ih h = cc
+
+  state_at : (s : ShareState S) (d : EventStep S) (r : Ran S) (o : Option ServeFault) → (option_map_or (refused_at_once s) o (then_ran d r)).stop ≡ None →
+      (option_map_or (refused_at_once s) o (then_ran d r)).state ≡ r.state
+  state_at s d r None h = refl
+  state_at s d r (Some why) h = cc
+
+  pub run_goes_on : (s : ShareState S) (events others : List EventText) → (run m s events).stop ≡ None →
+      run m s (events ++ others) ≡ run_after (length events) (run m s events).outputs (run m (run m s events).state others)
+  run_goes_on s [] others h = let r = run m s others in ap (λ t. record { state = r.state; outputs = r.outputs; stop = t }) (moved_none r.stop)
+  run_goes_on s (x ∷ events) others h =
+      let d = event_step m s x in
+      let r = run m d.state events in
+      rw (state_at s d r (refusal s x) h)
+      (goes_on_at s d (length events) r (run m d.state (events ++ others)) (run m r.state others) (refusal s x) (run_goes_on d.state events others) h)
+
+  stays_at : (s : ShareState S) (d : EventStep S) (r whole : Ran S) (o : Option ServeFault) → (is_none r.stop ≡ false → whole ≡ r) →
+      is_none (option_map_or (refused_at_once s) o (then_ran d r)).stop ≡ false → option_map_or (refused_at_once s) o (then_ran d whole) ≡ option_map_or (refused_at_once s) o (then_ran d r)
+  stays_at s d r whole None ih h = ap (then_ran d) (ih (is_none-later r.stop h))
+  stays_at s d r whole (Some why) ih h = refl
+
+  stays_by : (s : ShareState S) (events others : List EventText) → is_none (run m s events).stop ≡ false → run m s (events ++ others) ≡ run m s events
+  stays_by s [] others h = cc
+  stays_by s (x ∷ events) others h =
+      let d = event_step m s x in
+      stays_at s d (run m d.state events) (run m d.state (events ++ others)) (refusal s x) (stays_by d.state events others) h
+
+  pub run_stays : (s : ShareState S) (events others : List EventText) (fault : RunFault) → (run m s events).stop ≡ Some fault → run m s (events ++ others) ≡ run m s events
+  run_stays s events others fault h = stays_by s events others (rw h refl)
+
+  -- a run from what is unread
+  same_at : (s s' : ShareState S) (d d' : EventStep S) (r r' : Ran S) (o : Option ServeFault) → unread s ≡ unread s' → unread_step d ≡ unread_step d' → run_behind [] r ≡ run_behind [] r' →
+      run_behind [] (option_map_or (refused_at_once s) o (then_ran d r)) ≡ run_behind [] (option_map_or (refused_at_once s') o (then_ran d' r'))
+  same_at s s' d d' r r' None h e ih =
+      let outputs = ap (λ t. t.outputs) e in
+      let left = ap (λ t. t.state) ih in
+      let more = ap (λ t. t.outputs) ih in
+      let stop = ap (λ t. t.stop) ih in
+      rw (left, outputs, more, stop) refl
+  same_at s s' d d' r r' (Some why) h e ih = rw h refl
+
+  same_run : (s s' : ShareState S) (events : List EventText) → unread s ≡ unread s' → run_behind [] (run m s events) ≡ run_behind [] (run m s' events)
+  same_run s s' [] h = rw h refl
+  same_run s s' (x ∷ events) h =
+      let d = event_step m s x in
+      let d' = event_step m s' x in
+      let e : unread_step d ≡ unread_step d' = sym (event_step-unread m s x) ∙ ap (λ t. unread_step (event_step m t x)) h ∙ event_step-unread m s' x in
+      let o : refusal s x ≡ refusal s' x = sym (refusal-unread m s x) ∙ ap (λ t. refusal t x) h ∙ refusal-unread m s' x in
+      rw o (same_at s s' d d' (run m d.state events) (run m d'.state events) (refusal s' x) h e (same_run d.state d'.state events (ap (λ t. t.state) e)))
+
+  pub unread_is_enough : (s : ShareState S) (events : List EventText) → run_behind [] (run m (unread s) events) ≡ run_behind [] (run m s events)
+  unread_is_enough s events = same_run (unread s) s events (unread-unread s)
+
+-- runs that are alike
+pub alike_same : {S : Type 0} (r : Ran S) → AreAlike r r
+alike_same r = record { state = refl; outputs = refl; reason = refl }
+
+alike_sym : {S : Type 0} (r r' : Ran S) → AreAlike r r' → AreAlike r' r
+alike_sym r r' h = record { state = sym h.state; outputs = sym h.outputs; reason = sym h.reason }
+
+alike_trans : {S : Type 0} (r r' r'' : Ran S) → AreAlike r r' → AreAlike r' r'' → AreAlike r r''
+alike_trans r r' r'' h k = record { state = h.state ∙ k.state; outputs = h.outputs ∙ k.outputs; reason = h.reason ∙ k.reason }
+
+reason_at : (k : ℕ) (f : RunFault) (b : Bool) → ltb k f.place ≡ b → (later_behind k f).fault ≡ f.fault
+reason_at k f true e = rw e refl
+reason_at k f false e = rw e refl
+
+reason_behind : (k : ℕ) (o : Option RunFault) → option_map (λ f. f.fault) (option_map (later_behind k) o) ≡ option_map (λ f. f.fault) o
+reason_behind k None = refl
+reason_behind k (Some f) = ap Some (reason_at k f _ refl)
+
+alike_more : {S : Type 0} (k : ℕ) (r r' : Ran S) → r ≡ with_one_more_at k r' → AreAlike r r'
+alike_more k r r' e = rw e (record { state = refl; outputs = refl; reason = reason_behind k r'.stop })
+
+module _ {S : Type 0} (m : Meaning S) (n moment : ℕ) where
+  whole : (s : ShareState S) → InOrder s → (before after : List EventText) (piece : List ℕ) (pieces : List (List ℕ)) →
+      AreAlike (run m s (before ++ brings n moment piece ∷ (pieces_on n moment pieces ++ after))) (run m s (before ++ brings n moment (piece ++ joined pieces) ∷ after))
+  whole s h before after piece [] = rw append-nil (alike_same (run m s (before ++ brings n moment piece ∷ after)))
+  whole s h before after piece (next ∷ pieces) =
+      let one = run m s (before ++ brings n moment (piece ++ next) ∷ (pieces_on n moment pieces ++ after)) in
+      let all = alike_trans _ one _
+      (alike_more (length before) _ one (cuts_do_not_matter m s h before (pieces_on n moment pieces ++ after) n moment piece next)) (whole s h before after (piece ++ next) pieces) in
+      rw append_assoc at all
+
+  pub however_cut : (s : ShareState S) → InOrder s → (before after : List EventText) (pieces others : List (List ℕ)) → 0 < length pieces → 0 < length others → joined pieces ≡ joined others →
+      AreAlike (run m s (before ++ (pieces_on n moment pieces ++ after))) (run m s (before ++ (pieces_on n moment others ++ after)))
+  however_cut s h before after [] others p q e = absurd (omega (arith, p))
+  however_cut s h before after (x ∷ pieces) [] p q e = absurd (omega (arith, q))
+  however_cut s h before after (x ∷ pieces) (y ∷ others) p q e =
+      let here = whole s h before after x pieces in
+      let there = alike_sym _ _ (whole s h before after y others) in
+      alike_trans _ (run m s (before ++ brings n moment (joined (y ∷ others)) ∷ after)) _ (rw e at here) there

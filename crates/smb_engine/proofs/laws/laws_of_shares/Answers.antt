@@ -1,0 +1,25 @@
+use Rattle.smb_engine.proofs.Ends.{an_end_is_the_last}
+use Rattle.smb_engine.proofs.Order.{good_in_order, run_in_order, others_left}
+use Rattle.smb_engine.proofs.Cuts.{cuts_do_not_matter, however_cut, run_goes_on, run_stays, unread_is_enough}
+use Rattle.smb_engine.proofs.laws.laws_of_shares.Goals as goal
+
+pub returns-clause-order : goal.returns-clause-order
+returns-clause-order g c = (good_in_order, run_in_order g.A.Authenticator.meaning)
+
+pub returns-clause-cut : goal.returns-clause-cut
+returns-clause-cut g c = cuts_do_not_matter g.A.Authenticator.meaning
+
+pub returns-clause-cuts : goal.returns-clause-cuts
+returns-clause-cuts g c = λ s h before after connection moment. however_cut g.A.Authenticator.meaning connection moment s h before after
+
+pub returns-clause-one : goal.returns-clause-one
+returns-clause-one g c = λ s events others. (run_goes_on g.A.Authenticator.meaning s events others, run_stays g.A.Authenticator.meaning s events others)
+
+pub returns-clause-unread : goal.returns-clause-unread
+returns-clause-unread g c = unread_is_enough g.A.Authenticator.meaning
+
+pub returns-clause-alone : goal.returns-clause-alone
+returns-clause-alone g c = others_left g.A.Authenticator.meaning
+
+pub returns-clause-last : goal.returns-clause-last
+returns-clause-last g c = λ s o events connection. an_end_is_the_last g.A.Authenticator.meaning connection s events o

@@ -1,0 +1,19 @@
+-- What happens to a share.
+use Rattle.std.specs.Prelude.{ℕ, List, map}
+use Rattle.smb_engine.specs.declared.event.Event.{Event}
+use Rattle.smb_engine.specs.declared.event.Event.TheVariants.{Opened, Bytes, Ended}
+
+-- an event: a connection's number, and of a piece its moment and its bytes
+pub data EventText : Type 0 where
+  opens : ℕ → EventText
+  brings : ℕ → ℕ → List ℕ → EventText
+  ends : ℕ → EventText
+
+-- an event of the code, without where its bytes lie
+abbrev pub text_of : Event → EventText
+text_of (Opened number) = opens number
+text_of (Bytes number moment piece) = brings number moment piece.items
+text_of (Ended number) = ends number
+
+abbrev pub events_of : List Event → List EventText
+events_of events = map text_of events

@@ -1,0 +1,102 @@
+-- What follows from the definitions, of every authenticator.
+use Rattle.std.specs.Prelude.{◌≡◌, ℕ, ◌+◌, ◌<◌, false, ◌==◌, nat_lt, List, [], ◌∷◌, ◌++◌, length, map, None, Some, if◌then◌else◌}
+use Rattle.std.specs.Option.{option_map}
+use Rattle.std.specs.List.{AllByRecursion, flat_map}
+use Rattle.smb_session.specs.Numbers.{IsRising}
+use Rattle.smb_session.specs.Authenticator.{Meaning}
+use Rattle.smb_engine.specs.declared.fault.RunFault.{RunFault}
+use Rattle.smb_engine.specs.Event.{EventText, opens, brings, ends}
+use Rattle.smb_engine.specs.State.{ShareState}
+use Rattle.smb_engine.specs.Output.{Output, frame_to, end_of}
+use Rattle.smb_engine.specs.Share.{GoodState, link_of, unread}
+use Rattle.smb_engine.specs.Run.{Ran, later, run, run_behind}
+
+-- the open connections stand in rising number, and each number was given
+pub record InOrder {S : Type 0} (s : ShareState S) : Type 0 where
+  pub rising : IsRising (map (λ entry. entry.0) s.links)
+  pub given : AllByRecursion (λ entry. entry.0 < s.next) s.links
+
+-- a fault behind a place is seen one event later
+abbrev pub later_behind : ℕ → RunFault → RunFault
+later_behind place fault = if nat_lt place fault.place then later fault else fault
+
+abbrev pub with_one_more_at : {S : Type 0} → ℕ → Ran S → Ran S
+with_one_more_at place ran = record ran { stop = option_map (later_behind place) ran.stop }
+
+-- what a second run leaves and puts out, behind the outputs of a first one of so many events
+abbrev pub moved : ℕ → RunFault → RunFault
+moved count fault = record fault { place = count + fault.place }
+
+abbrev pub run_after : {S : Type 0} → ℕ → List Output → Ran S → Ran S
+run_after count before ran = record { state = ran.state; outputs = before ++ ran.outputs; stop = option_map (moved count) ran.stop }
+
+-- the connection of an event, and that to which an output goes
+abbrev pub connection_of : EventText → ℕ
+connection_of (opens number) = number
+connection_of (brings number moment piece) = number
+connection_of (ends number) = number
+
+abbrev pub receiver : Output → ℕ
+receiver (frame_to connection bytes) = connection
+receiver (end_of connection) = connection
+
+-- two runs leave and put out the same, and stop for the same reason, or neither does
+pub record AreAlike {S : Type 0} (one other : Ran S) : Type 0 where
+  pub state : one.state ≡ other.state
+  pub outputs : one.outputs ≡ other.outputs
+  pub reason : option_map (λ fault. fault.fault) one.stop ≡ option_map (λ fault. fault.fault) other.stop
+
+-- pieces that come at one moment, and their bytes
+abbrev pub pieces_on : ℕ → ℕ → List (List ℕ) → List EventText
+pieces_on connection moment pieces = map (brings connection moment) pieces
+
+abbrev pub joined : List (List ℕ) → List ℕ
+joined pieces = flat_map (λ piece. piece) pieces
+
+-- behind a connection's end nothing goes to it
+abbrev pub IsLastEnd : ℕ → List Output → Type 0
+IsLastEnd connection [] = Unit {0}
+IsLastEnd connection (output ∷ outputs) =
+    (output ≡ end_of connection → AllByRecursion (λ output. (receiver output == connection) ≡ false) outputs) × IsLastEnd connection outputs
+
+module _ {S : Type 0} (m : Meaning S) where
+  -- a good state is in order, and so is what a run leaves of one in order
+  abbrev pub StatesAreInOrder : Type 0
+  StatesAreInOrder = ((s : ShareState S) → GoodState s → InOrder s) × ((s : ShareState S) (events : List EventText) → InOrder s → InOrder (run m s events).state)
+
+  -- of one piece, wherever it stands in a run, two can be made, and the run leaves and puts out the same; where it stops
+  -- behind them, that is one event later
+  abbrev pub ACutDoesNotMatter : Type 0
+  ACutDoesNotMatter =
+      (s : ShareState S) → InOrder s → (before after : List EventText) (connection moment : ℕ) (front back : List ℕ) →
+      run m s (before ++ brings connection moment front ∷ brings connection moment back ∷ after)
+      ≡ with_one_more_at (length before) (run m s (before ++ brings connection moment (front ++ back) ∷ after))
+
+  -- it does not matter how bytes that come at one moment are cut into pieces, if there is one at all
+  abbrev pub CutsDoNotMatter : Type 0
+  CutsDoNotMatter =
+      (s : ShareState S) → InOrder s → (before after : List EventText) (connection moment : ℕ) (pieces others : List (List ℕ)) →
+      0 < length pieces → 0 < length others → joined pieces ≡ joined others →
+      AreAlike (run m s (before ++ (pieces_on connection moment pieces ++ after))) (run m s (before ++ (pieces_on connection moment others ++ after)))
+
+  -- several runs are one: the second goes on where the first stopped, unless that was at a refusal
+  abbrev pub RunsAreOne : Type 0
+  RunsAreOne =
+      (s : ShareState S) (events others : List EventText) →
+      ((run m s events).stop ≡ None → run m s (events ++ others) ≡ run_after (length events) (run m s events).outputs (run m (run m s events).state others))
+      × ((fault : RunFault) → (run m s events).stop ≡ Some fault → run m s (events ++ others) ≡ run m s events)
+
+  -- and the second may begin with what is unread alone
+  abbrev pub UnreadIsEnough : Type 0
+  UnreadIsEnough = (s : ShareState S) (events : List EventText) → run_behind [] (run m (unread s) events) ≡ run_behind [] (run m s events)
+
+  -- events on other connections leave a connection as it was, stream, dialect and window, and put nothing out to it
+  abbrev pub OthersAreLeft : Type 0
+  OthersAreLeft =
+      (s : ShareState S) (events : List EventText) (connection : ℕ) → AllByRecursion (λ event. (connection_of event == connection) ≡ false) events →
+      (link_of connection (run m s events).state.links ≡ link_of connection s.links)
+      × AllByRecursion (λ output. (receiver output == connection) ≡ false) (run m s events).outputs
+
+  -- the share ends a connection at most once, and puts nothing out to it afterwards
+  abbrev pub AnEndIsTheLast : Type 0
+  AnEndIsTheLast = (s : ShareState S) → InOrder s → (events : List EventText) (connection : ℕ) → IsLastEnd connection (run m s events).outputs
