@@ -1,6 +1,6 @@
 #!/usr/bin/env bash
 # Every test of the repository: what must hold of its files, and then `rt ci`, which proves every crate
-# and its tests from nothing, tries the must-fail edits, and runs the tests and the programs.
+# from nothing, tries the must-fail edits, and runs the tests, the programs and their rows.
 set -u
 cd "$(dirname "$0")/.." || exit 1
 
@@ -16,5 +16,7 @@ for folder in crates/*/; do
     name=$(basename "$folder")
     grep -qE "^$name( |:)" crates.txt || fail "crates.txt does not list $name."
 done
+python3 tools/edits.py --check || fail 'The list of edits in docs/TESTING.md is not that of the edits.'
+python3 tools/frame.py check crates/smb_rows/stdin || fail 'tools/frame.py does not agree with the rows.'
 
 exec rt ci

@@ -68,6 +68,3 @@ pub use types::{
     InformationClass,
 };
 pub use write::{WriteFlags, WriteRequest, WriteResponse};
-
-#[cfg(test)]
-mod tests;

@@ -14,7 +14,8 @@ use Rattle.smb_engine.specs.declared.connection.Connection.{Connection}
 use Rattle.smb_engine.specs.declared.fault.RunFault.{RunFault}
 use Rattle.smb_engine.specs.declared.fault.ServeFault.{ServeFault}
 use Rattle.smb_engine.specs.Event.{EventText, brings}
-use Rattle.smb_engine.specs.State.{SharedState, LinkState, ShareState}
+use Rattle.smb_request.specs.State.{SharedState}
+use Rattle.smb_engine.specs.State.{LinkState, ShareState}
 use Rattle.smb_engine.specs.Chain.{PayloadStep, payload_step}
 use Rattle.smb_engine.specs.Output.{end_of, reply_frame}
 use Rattle.smb_engine.specs.Stream.{longest_payload, PayloadSteps, after_outputs, and_then, payload_steps, added_payloads}

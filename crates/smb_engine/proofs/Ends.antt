@@ -12,7 +12,8 @@ use Rattle.smb_frame.specs.Reading.{rest, fault_of}
 use Rattle.smb_engine.specs.declared.connection.Connection.{Connection}
 use Rattle.smb_engine.specs.declared.fault.ServeFault.{ServeFault}
 use Rattle.smb_engine.specs.declared.fault.ServeFault.TheVariants.{BadEvent}
-use Rattle.smb_engine.specs.State.{SharedState, LinkState, ShareState}
+use Rattle.smb_request.specs.State.{SharedState}
+use Rattle.smb_engine.specs.State.{LinkState, ShareState}
 use Rattle.smb_engine.specs.Event.{EventText, opens, brings, ends}
 use Rattle.smb_engine.specs.Chain.{PayloadStep, payload_step}
 use Rattle.smb_engine.specs.Output.{Output, frame_to, end_of, reply_frame}

@@ -10,13 +10,14 @@ use Rattle.smb_session.specs.Numbers.{contains, IsRising, with_number, without_n
 use Rattle.smb_session.specs.Table.{TableState, connected}
 use Rattle.smb_session.specs.Good.{GoodTable}
 use Rattle.smb_opens.specs.Good.{GoodStore}
-use Rattle.smb_engine.specs.Settings.{is_lawful}
-use Rattle.smb_engine.specs.Owners.{AreOwned}
-use Rattle.smb_engine.specs.State.{SharedState, LinkState, ShareState, shared_ended}
+use Rattle.smb_request.specs.Settings.{is_lawful}
+use Rattle.smb_request.specs.Owners.{AreOwned}
+use Rattle.smb_request.specs.State.{SharedState, shared_ended}
+use Rattle.smb_engine.specs.State.{LinkState, ShareState}
 use Rattle.smb_engine.specs.Stream.{longest_payload}
 use Rattle.smb_engine.specs.Share.{IsGoodLink, GoodState, new_link}
 use Rattle.smb_engine.specs.Held.{Waits, AllWait, AreKept}
-use Rattle.smb_engine.proofs.Numbered.{at_is, at_same, at_above, greater}
+use Rattle.smb_request.proofs.Numbered.{at_is, at_same, at_above, greater}
 use Rattle.smb_engine.proofs.Links.{all_set, all_remove, all_insert, length-set_value, length-remove_entry, length-insert_entry}
 
 -- the numbers of connections

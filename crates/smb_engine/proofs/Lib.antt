@@ -1,7 +1,3 @@
-pub mod Numbered
-pub mod Owners
-pub mod Endings
-pub mod Sessions
 pub mod Heard
 pub mod Lists
 pub mod Turns

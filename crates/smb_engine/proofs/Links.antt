@@ -10,7 +10,8 @@ use Rattle.std.specs.declared.cmp.Ordering.TheVariants.{Less, Equal, Greater}
 use Rattle.std.proofs.lemmas.List.{append-nil}
 use Rattle.smb_frame.proofs.Streams.{rest-none}
 use Rattle.smb_session.specs.Authenticator.{Meaning}
-use Rattle.smb_engine.specs.State.{SharedState, LinkState, ShareState, shared_ended}
+use Rattle.smb_request.specs.State.{SharedState, shared_ended}
+use Rattle.smb_engine.specs.State.{LinkState, ShareState}
 use Rattle.smb_engine.specs.Output.{Output}
 use Rattle.smb_engine.specs.Sink.{Heard}
 use Rattle.smb_engine.specs.Stream.{longest_payload, PieceStep, piece_step, shared_after_piece, count_in_piece}

@@ -10,7 +10,8 @@ use Rattle.smb_frame.proofs.Streams.{payloads-more, rest-none}
 use Rattle.smb_session.specs.Window.{GoodWindow}
 use Rattle.smb_engine.specs.declared.connection.Connection.{Connection}
 use Rattle.smb_session.specs.Authenticator.{Meaning}
-use Rattle.smb_engine.specs.State.{SharedState, LinkState}
+use Rattle.smb_request.specs.State.{SharedState}
+use Rattle.smb_engine.specs.State.{LinkState}
 use Rattle.smb_engine.specs.Output.{Output, end_of}
 use Rattle.smb_engine.specs.Sink.{Heard}
 use Rattle.smb_engine.specs.Stream.{longest_payload, PayloadSteps, payload_steps, shared_after_some, count_in_all, added_payloads, piece_step, shared_after_piece, count_in_piece}

@@ -12,7 +12,8 @@ use Rattle.smb_engine.specs.declared.fault.RunFault.{RunFault}
 use Rattle.smb_engine.specs.declared.fault.ServeFault.{ServeFault}
 use Rattle.smb_engine.specs.declared.fault.ServeFault.TheVariants.{TooManyConnections, NoMemory, BadEvent, BadConfig}
 use Rattle.smb_session.specs.Authenticator.{Meaning}
-use Rattle.smb_engine.specs.State.{SharedState, LinkState, ShareState, shared_opened}
+use Rattle.smb_request.specs.State.{SharedState, shared_opened}
+use Rattle.smb_engine.specs.State.{LinkState, ShareState}
 use Rattle.smb_engine.specs.Event.{EventText, opens, brings, ends, text_of, events_of}
 use Rattle.smb_engine.specs.Output.{Output}
 use Rattle.smb_engine.specs.Stream.{longest_payload, PayloadSteps, payload_steps, added_payloads, PieceStep, closed_by, piece_step, shared_after_piece, count_in_piece}

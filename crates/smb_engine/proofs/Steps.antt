@@ -9,7 +9,7 @@ use Rattle.smb_frame.proofs.Frames.{first_is}
 use Rattle.smb_frame.proofs.Streams.{payloads-none, payloads-some, rest-none, rest-some}
 use Rattle.smb_engine.specs.declared.connection.Connection.{Connection}
 use Rattle.smb_session.specs.Authenticator.{Meaning}
-use Rattle.smb_engine.specs.State.{SharedState}
+use Rattle.smb_request.specs.State.{SharedState}
 use Rattle.smb_engine.specs.Chain.{PayloadStep, payload_step, shared_after, count_in}
 use Rattle.smb_engine.specs.Output.{Output, reply_frame}
 use Rattle.smb_engine.specs.Sink.{Heard}

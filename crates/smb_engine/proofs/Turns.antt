@@ -11,17 +11,17 @@ use Rattle.smb_session.specs.Window.{may_use}
 use Rattle.std.proofs.lemmas.Bool.{and_parts, leb-true}
 use Rattle.smb_body.specs.Smb1.{smb1_of, is_smb1}
 use Rattle.smb_body.specs.declared.smb1.Smb1Dialects.{Smb1Dialects}
-use Rattle.smb_engine.specs.declared.smb1.Smb1Answer.{Smb1Answer}
-use Rattle.smb_engine.specs.Smb1.{answer_to_smb1}
+use Rattle.smb_request.specs.declared.smb1.Smb1Answer.{Smb1Answer}
+use Rattle.smb_request.specs.Smb1.{answer_to_smb1}
 use Rattle.std.proofs.lemmas.List.{take_all}
 use Rattle.std.proofs.lemmas.Bool.{ne_eqb}
 use Rattle.smb_head.specs.Headers.{header_of}
 use Rattle.smb_head.specs.Replies.{so_far}
 use Rattle.smb_engine.specs.declared.connection.Connection.{Connection}
 use Rattle.smb_session.specs.Authenticator.{Meaning}
-use Rattle.smb_engine.specs.State.{SharedState}
-use Rattle.smb_engine.specs.Response.{Performed}
-use Rattle.smb_engine.specs.Request.{performed}
+use Rattle.smb_request.specs.State.{SharedState}
+use Rattle.smb_request.specs.Response.{Performed}
+use Rattle.smb_request.specs.Request.{performed}
 use Rattle.smb_engine.specs.Chain.{is_cancel, is_negotiate_request, message_ids, keeps_negotiate_rule, Turn, replied, turn_after, turn_after_all, admitted, turn_before, PayloadStep, step_of, refused_step, first_negotiate, first_step, count_in_first, chain_step, shared_after_chain, count_in_chain, payload_step, shared_after, count_in}
 use Rattle.smb_engine.specs.Held.{TurnHeld, turn_held, chain_held}
 use Rattle.smb_engine.proofs.Lists.{drop_found}

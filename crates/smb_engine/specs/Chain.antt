@@ -7,17 +7,17 @@ use Rattle.smb_head.specs.Chains.{chain_of, is_related}
 use Rattle.smb_head.specs.Replies.{Reply, joined_replies}
 use Rattle.smb_body.specs.Smb1.{smb1_of}
 use Rattle.smb_body.specs.declared.smb1.Smb1Dialects.{Smb1Dialects}
-use Rattle.smb_engine.specs.declared.context.Context.{Context}
+use Rattle.smb_request.specs.declared.context.Context.{Context}
 use Rattle.smb_engine.specs.declared.connection.Connection.{Connection}
 use Rattle.smb_session.specs.declared.dialect.Dialect.{Dialect}
-use Rattle.smb_engine.specs.Status.{status_code}
+use Rattle.smb_request.specs.Status.{status_code}
 use Rattle.smb_session.specs.Window.{first_window, may_use, without, granted, with_more}
 use Rattle.smb_session.specs.Authenticator.{Meaning}
-use Rattle.smb_engine.specs.Negotiate.{negotiate_answer}
-use Rattle.smb_engine.specs.Smb1.{answer_to_smb1, reply_to_smb1}
-use Rattle.smb_engine.specs.State.{SharedState, hello_of}
-use Rattle.smb_engine.specs.Response.{ResponseState, Performed}
-use Rattle.smb_engine.specs.Request.{performed}
+use Rattle.smb_request.specs.Negotiate.{negotiate_answer}
+use Rattle.smb_request.specs.Smb1.{answer_to_smb1, reply_to_smb1}
+use Rattle.smb_request.specs.State.{SharedState, hello_of}
+use Rattle.smb_request.specs.Response.{ResponseState, Performed}
+use Rattle.smb_request.specs.Request.{performed}
 
 abbrev pub is_cancel : List ℕ → Bool
 is_cancel request = (header_of request).command.0 == 0x0C

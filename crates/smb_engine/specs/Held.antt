@@ -1,40 +1,19 @@
 -- What the code holds of the definitions' values.
-use Rattle.std.specs.Prelude.{◌≡◌, ℕ, ◌++◌, Bool, true, List, IsTrue}
+use Rattle.std.specs.Prelude.{◌≡◌, ℕ, ◌++◌, Bool, List, IsTrue}
 use Rattle.std.specs.List.{flat_map, AllByRecursion}
 use Rattle.smb_frame.specs.Reading.{first, fault_of}
-use Rattle.std.specs.Prelude.{Option, None, Some, not, ◌≤◌, ◌<◌, length, map, filter}
+use Rattle.std.specs.Prelude.{None, ◌≤◌, ◌<◌, length, map}
 use Rattle.smb_head.specs.Replies.{Held, so_far}
-use Rattle.smb_engine.specs.declared.context.Context.{Context}
+use Rattle.smb_request.specs.declared.context.Context.{Context}
 use Rattle.smb_engine.specs.declared.connection.Connection.{Connection}
-use Rattle.smb_engine.specs.declared.response.Response.{Response}
-use Rattle.smb_engine.specs.State.{SharedState, LinkState}
+use Rattle.smb_request.specs.State.{SharedState}
+use Rattle.smb_engine.specs.State.{LinkState}
 use Rattle.smb_session.specs.Window.{GoodWindow}
-use Rattle.smb_session.specs.Table.{TableState}
-use Rattle.smb_opens.specs.declared.open_row.OpenRow.{OpenRow}
-use Rattle.smb_opens.specs.declared.open_row.Owner.TheVariants.{Session}
-use Rattle.smb_opens.specs.Opens.{is_held_by}
-use Rattle.smb_engine.specs.Settings.{Settings, is_lawful}
-use Rattle.smb_engine.specs.Owners.{AreOwned}
-use Rattle.smb_engine.specs.Response.{ResponseState}
 use Rattle.smb_engine.specs.Chain.{Turn}
 use Rattle.smb_engine.specs.Output.{Output}
 use Rattle.smb_engine.specs.Sink.{Heard}
 use Rattle.smb_engine.specs.Stream.{longest_payload, PayloadSteps, PieceStep}
 use Rattle.smb_engine.specs.Share.{unread_link}
-
--- what is held of what is shared between calls: the configuration keeps its rules, and each open is owned
-pub record IsSharedKept (settings : Settings) (table : TableState) (opens : List OpenRow) : Type 0 where
-  pub lawful : is_lawful settings ≡ true
-  pub owned : AreOwned table opens
-
--- the opens that are left where a session ended, or none
-abbrev pub opens_left : Option ℕ → List OpenRow → List OpenRow
-opens_left None rows = rows
-opens_left (Some session) rows = filter (λ row. not (is_held_by (Session session) row)) rows
-
--- a response, without where its body lies
-abbrev pub response_of : Response → ResponseState
-response_of response = record { status = response.status; under = response.under; body = response.body.items }
 
 -- a turn, with its replies joined
 pub record TurnHeld (S : Type 0) : Type 0 where

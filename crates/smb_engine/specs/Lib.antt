@@ -1,13 +1,4 @@
-pub mod Status
-pub mod Settings
-pub mod Negotiate
 pub mod State
-pub mod Owners
-pub mod Response
-pub mod Smb1
-pub mod Session
-pub mod Files
-pub mod Request
 pub mod Chain
 pub mod Output
 pub mod Sink

@@ -8,13 +8,14 @@ use Rattle.std.specs.Ordering.{nat_cmp}
 use Rattle.smb_frame.specs.Reading.{rest}
 use Rattle.smb_engine.specs.declared.fault.ServeFault.{ServeFault}
 use Rattle.smb_engine.specs.declared.fault.ServeFault.TheVariants.{TooManyConnections, NoMemory, BadEvent, BadConfig}
-use Rattle.smb_engine.specs.Settings.{Settings, is_lawful}
+use Rattle.smb_request.specs.Settings.{Settings, is_lawful}
 use Rattle.smb_session.specs.Window.{first_window, GoodWindow}
 use Rattle.smb_session.specs.Good.{GoodTable}
 use Rattle.smb_session.specs.Authenticator.{Meaning}
 use Rattle.smb_opens.specs.Good.{GoodStore}
-use Rattle.smb_engine.specs.State.{LinkState, ShareState, new_shared, shared_opened, shared_ended}
-use Rattle.smb_engine.specs.Owners.{AreOwned}
+use Rattle.smb_request.specs.State.{new_shared, shared_opened, shared_ended}
+use Rattle.smb_engine.specs.State.{LinkState, ShareState}
+use Rattle.smb_request.specs.Owners.{AreOwned}
 use Rattle.smb_engine.specs.Output.{Output}
 use Rattle.smb_engine.specs.Stream.{longest_payload, PieceStep, piece_step, shared_after_piece, count_in_piece}
 

@@ -4,7 +4,8 @@ use Rattle.std.specs.Option.{option_map_or}
 use Rattle.smb_frame.specs.Reading.{payloads, rest, fault_of}
 use Rattle.smb_engine.specs.declared.connection.Connection.{Connection}
 use Rattle.smb_session.specs.Authenticator.{Meaning}
-use Rattle.smb_engine.specs.State.{SharedState, LinkState}
+use Rattle.smb_request.specs.State.{SharedState}
+use Rattle.smb_engine.specs.State.{LinkState}
 use Rattle.smb_engine.specs.Chain.{PayloadStep, payload_step, shared_after, count_in}
 use Rattle.smb_engine.specs.Output.{Output, end_of, reply_frame}
 

@@ -6,21 +6,19 @@ ghost use Rattle.std.specs.Option.{option_map};
 ghost use Rattle.smb_head.specs.Headers.{header_of};
 ghost use Rattle.smb_head.specs.Replies.{Reply, so_far, rounded_up};
 ghost use Rattle.smb_session.specs.Window.{granted, without};
-ghost use Rattle.smb_engine.specs.Request.{performed};
-ghost use Rattle.smb_engine.specs.Smb1.{reply_to_smb1};
+ghost use Rattle.smb_request.specs.Request.{performed};
+ghost use Rattle.smb_request.specs.Smb1.{reply_to_smb1};
 ghost use Rattle.smb_engine.specs.Chain.{is_negotiate_request, message_ids, keeps_negotiate_rule, admitted, reply_to, turn_after, turn_after_all, first_negotiate, first_step, count_in_first, chain_step, shared_after_chain, count_in_chain, payload_step, shared_after, count_in};
-ghost use Rattle.smb_engine.specs.Held.{response_of, turn_held, chain_held};
+ghost use Rattle.smb_request.specs.Held.{response_of};
+ghost use Rattle.smb_engine.specs.Held.{turn_held, chain_held};
 
 use super::connection::Connection;
-use super::context::Context;
-use super::response::Response;
-use super::shared::Shared;
-use super::smb1;
 use arrayvec::ArrayVec;
 use bitflags::Flags;
 use smb_body::{Smb1Dialects, read_smb1_negotiate};
 use smb_head::{Chain, Header, HeaderFlags, ReplyChain, read_chain};
 use smb_opens::Opens;
+use smb_request::{Context, Response, Shared, smb1};
 use smb_session::{Authenticator, Dialect, Window};
 use smb_tree::Tree;
 use std::alloc::AllocError;
@@ -142,168 +140,167 @@ fn first_negotiate(connection: &Connection, payload: &[u8]) -> Option<Smb1Dialec
     read_smb1_negotiate(payload)
 }
 
-impl<A: Authenticator + Drop, T: Tree + Drop, O: Opens + Drop> Shared<A, T, O> {
-    /// Performs one request of a chain, and joins its reply to the others. An error tells whether the
-    /// request was performed.
-    #[tactic(auto, unfolding(crate::specs::Chain::turn_after))]
-    fn turn(
-        &mut self,
-        number: u64,
-        moment: u64,
-        connection: &mut Connection,
-        context: &mut Context,
-        replies: &mut ReplyChain,
-        header: &Header,
-        request: &[u8],
-    ) -> Result<(), bool>
-        requires header { header.now ≡ header_of request.now }
-        requires room { rounded_up (length replies.old.bytes) + 65616 < 2 ^ 24 }
-        ensures ok { (before : List Reply) → replies.old ≡ so_far before →
-            OnOk result (record { shared = self.new; connection = connection.new; context = context.new; replies = replies.new }
-            ≡ turn_held (turn_after A.meaning number moment (record { shared = self.old; connection = connection.old; context = context.old; replies = before }) request.now)) }
-        ensures len { OnOk result (rounded_up (length replies.new.bytes) ≤ rounded_up (length replies.old.bytes) + 65616) }
-        ensures known { self.new.sessions.table.connections ≡ self.old.sessions.table.connections }
-        ensures err { IfErr result (λ done. self.new ≡ (if done then (performed A.meaning number moment self.old connection.old.dialect context.old request.now).shared else self.old)) }
-    {
-        let response = match self.perform(
+/// Performs one request of a chain, and joins its reply to the others. An error tells whether the
+/// request was performed.
+#[tactic(auto, unfolding(crate::specs::Chain::turn_after))]
+fn turn<A: Authenticator + Drop, T: Tree + Drop, O: Opens + Drop>(
+    shared: &mut Shared<A, T, O>,
+    number: u64,
+    moment: u64,
+    connection: &mut Connection,
+    context: &mut Context,
+    replies: &mut ReplyChain,
+    header: &Header,
+    request: &[u8],
+) -> Result<(), bool>
+    requires header { header.now ≡ header_of request.now }
+    requires room { rounded_up (length replies.old.bytes) + 65616 < 2 ^ 24 }
+    ensures ok { (before : List Reply) → replies.old ≡ so_far before →
+        OnOk result (record { shared = shared.new; connection = connection.new; context = context.new; replies = replies.new }
+        ≡ turn_held (turn_after A.meaning number moment (record { shared = shared.old; connection = connection.old; context = context.old; replies = before }) request.now)) }
+    ensures len { OnOk result (rounded_up (length replies.new.bytes) ≤ rounded_up (length replies.old.bytes) + 65616) }
+    ensures known { shared.new.sessions.table.connections ≡ shared.old.sessions.table.connections }
+    ensures err { IfErr result (λ done. shared.new ≡ (if done then (performed A.meaning number moment shared.old connection.old.dialect context.old request.now).shared else shared.old)) }
+{
+    let response = match shared.perform(
+        number,
+        moment,
+        &mut connection.dialect,
+        context,
+        header,
+        request,
+    ) {
+        Ok(response) => response,
+        Err(performed) => return Err(performed),
+    };
+    let Some(response) = response else {
+        return Ok(());
+    };
+    let credits = connection.window.grant(header.credits);
+    let header = reply_header(header, &response, credits);
+    match replies.push(&header, &response.body) {
+        Ok(()) => Ok(()),
+        Err(_) => Err(true),
+    }
+}
+
+/// Performs the requests of a chain in order. An error tells how many were performed.
+fn perform_chain<A: Authenticator + Drop, T: Tree + Drop, O: Opens + Drop>(
+    shared: &mut Shared<A, T, O>,
+    number: u64,
+    moment: u64,
+    connection: &mut Connection,
+    replies: &mut ReplyChain,
+    chain: &Chain<'_>,
+) -> Result<(), usize>
+    requires few { length chain.now ≤ 16 }
+    requires none { replies.old ≡ so_far [] }
+    ensures ok { OnOk result (record { shared = shared.new; connection = connection.new; replies = replies.new }
+        ≡ chain_held (turn_after_all A.meaning number moment (record { shared = shared.old; connection = connection.old; context = record { session_id = 0; tree_id = 0 }; replies = [] }) chain.now)) }
+    ensures len { OnOk result (length replies.new.bytes ≤ 1049856) }
+    ensures known { shared.new.sessions.table.connections ≡ shared.old.sessions.table.connections }
+    ensures err { IfErr result (λ done. (done ≤ length chain.now) × (shared.new
+        ≡ (turn_after_all A.meaning number moment (record { shared = shared.old; connection = connection.old; context = record { session_id = 0; tree_id = 0 }; replies = [] }) (take done chain.now)).shared)) }
+{
+    let mut context = Context {
+        session_id: 0,
+        tree_id: 0,
+    };
+    for i in 0..chain.len() {
+        let (header, request) = request_at(chain, i);
+        match turn(
+            shared,
             number,
             moment,
-            &mut connection.dialect,
-            context,
-            header,
+            connection,
+            &mut context,
+            replies,
+            &header,
             request,
         ) {
-            Ok(response) => response,
-            Err(performed) => return Err(performed),
-        };
-        let Some(response) = response else {
-            return Ok(());
-        };
-        let credits = connection.window.grant(header.credits);
-        let header = reply_header(header, &response, credits);
-        match replies.push(&header, &response.body) {
-            Ok(()) => Ok(()),
-            Err(_) => Err(true),
+            Ok(()) => {}
+            Err(performed) => return Err(if performed { i + 1 } else { i }),
         }
     }
+    Ok(())
+}
 
-    /// Performs the requests of a chain in order. An error tells how many were performed.
-    fn chain(
-        &mut self,
-        number: u64,
-        moment: u64,
-        connection: &mut Connection,
-        replies: &mut ReplyChain,
-        chain: &Chain<'_>,
-    ) -> Result<(), usize>
-        requires few { length chain.now ≤ 16 }
-        requires none { replies.old ≡ so_far [] }
-        ensures ok { OnOk result (record { shared = self.new; connection = connection.new; replies = replies.new }
-            ≡ chain_held (turn_after_all A.meaning number moment (record { shared = self.old; connection = connection.old; context = record { session_id = 0; tree_id = 0 }; replies = [] }) chain.now)) }
-        ensures len { OnOk result (length replies.new.bytes ≤ 1049856) }
-        ensures known { self.new.sessions.table.connections ≡ self.old.sessions.table.connections }
-        ensures err { IfErr result (λ done. (done ≤ length chain.now) × (self.new
-            ≡ (turn_after_all A.meaning number moment (record { shared = self.old; connection = connection.old; context = record { session_id = 0; tree_id = 0 }; replies = [] }) (take done chain.now)).shared)) }
-    {
-        let mut context = Context {
-            session_id: 0,
-            tree_id: 0,
-        };
-        for i in 0..chain.len() {
-            let (header, request) = request_at(chain, i);
-            match self.turn(
-                number,
-                moment,
-                connection,
-                &mut context,
-                replies,
-                &header,
-                request,
-            ) {
-                Ok(()) => {}
-                Err(performed) => return Err(if performed { i + 1 } else { i }),
-            }
-        }
-        Ok(())
-    }
+/// Performs a payload that is a chain, and gives the payload of its replies with the number of requests;
+/// None where it ends the connection. An error tells how many requests were performed.
+#[tactic(auto, unfolding(crate::specs::Chain::chain_step, crate::specs::Chain::shared_after_chain, crate::specs::Chain::count_in_chain))]
+fn chain_payload<A: Authenticator + Drop, T: Tree + Drop, O: Opens + Drop>(
+    shared: &mut Shared<A, T, O>,
+    number: u64,
+    moment: u64,
+    connection: &mut Connection,
+    payload: &[u8],
+) -> Result<Option<Replies>, usize>
+    ensures ok { IfOk result (λ replies. record { shared = shared.new; connection = connection.new; replies = option_map (λ r. r.bytes.items) replies }
+        ≡ chain_step A.meaning number moment shared.old connection.old payload.now) }
+    ensures len { IfOk result (λ replies. IfSome replies (λ r. length r.bytes.items ≤ 1049856)) }
+    ensures count { IfOk result (λ replies. IfSome replies (λ r. count_in_chain A.meaning number moment shared.old connection.old payload.now ≡ r.count)) }
+    ensures err { IfErr result (λ done. (done ≤ count_in_chain A.meaning number moment shared.old connection.old payload.now)
+        × (shared.new ≡ shared_after_chain A.meaning number moment shared.old connection.old payload.now done)) }
+    ensures known { shared.new.sessions.table.connections ≡ shared.old.sessions.table.connections }
+{
+    let Some(chain) = admit(connection, payload) else {
+        return Ok(None);
+    };
+    let mut replies = ReplyChain::begin(shared.allocator());
+    perform_chain(shared, number, moment, connection, &mut replies, &chain)?;
+    Ok(Some(Replies {
+        bytes: replies.finish(),
+        count: chain.len(),
+    }))
+}
 
-    /// Performs a payload that is a chain, and gives the payload of its replies with the number of requests;
-    /// None where it ends the connection. An error tells how many requests were performed.
-    #[tactic(auto, unfolding(crate::specs::Chain::chain_step, crate::specs::Chain::shared_after_chain, crate::specs::Chain::count_in_chain))]
-    fn chain_payload(
-        &mut self,
-        number: u64,
-        moment: u64,
-        connection: &mut Connection,
-        payload: &[u8],
-    ) -> Result<Option<Replies>, usize>
-        ensures ok { IfOk result (λ replies. record { shared = self.new; connection = connection.new; replies = option_map (λ r. r.bytes.items) replies }
-            ≡ chain_step A.meaning number moment self.old connection.old payload.now) }
-        ensures len { IfOk result (λ replies. IfSome replies (λ r. length r.bytes.items ≤ 1049856)) }
-        ensures count { IfOk result (λ replies. IfSome replies (λ r. count_in_chain A.meaning number moment self.old connection.old payload.now ≡ r.count)) }
-        ensures err { IfErr result (λ done. (done ≤ count_in_chain A.meaning number moment self.old connection.old payload.now)
-            × (self.new ≡ shared_after_chain A.meaning number moment self.old connection.old payload.now done)) }
-        ensures known { self.new.sessions.table.connections ≡ self.old.sessions.table.connections }
-    {
-        let Some(chain) = admit(connection, payload) else {
-            return Ok(None);
-        };
-        let mut replies = ReplyChain::begin(self.allocator());
-        self.chain(number, moment, connection, &mut replies, &chain)?;
-        Ok(Some(Replies {
-            bytes: replies.finish(),
-            count: chain.len(),
-        }))
-    }
+/// Answers an SMB_COM_NEGOTIATE that lists these dialects; None where it ends the connection.
+#[tactic(auto, unfolding(crate::specs::Chain::first_step))]
+fn first_payload<A: Authenticator + Drop, T: Tree + Drop, O: Opens + Drop>(
+    shared: &Shared<A, T, O>,
+    moment: u64,
+    connection: &mut Connection,
+    dialects: Smb1Dialects,
+) -> Result<Option<Replies>, AllocError>
+    ensures ok { IfOk result (λ replies. record { shared = shared.now; connection = connection.new; replies = option_map (λ r. r.bytes.items) replies }
+        ≡ first_step A.meaning moment shared.now connection.old dialects) }
+    ensures len { IfOk result (λ replies. IfSome replies (λ r. length r.bytes.items ≤ 1049856)) }
+    ensures count { IfOk result (λ replies. IfSome replies (λ r. count_in_first dialects ≡ r.count)) }
+{
+    let Some(answer) = smb1::answer(dialects) else {
+        return Ok(None);
+    };
+    let bytes = shared.smb1_reply(moment, answer.dialect_revision)?;
+    connection.payload_came = true;
+    connection.dialect = answer.dialect;
+    connection.window = Window::new(1);
+    Ok(Some(Replies { bytes, count: 1 }))
+}
 
-    /// Answers an SMB_COM_NEGOTIATE that lists these dialects; None where it ends the connection.
-    #[tactic(auto, unfolding(crate::specs::Chain::first_step))]
-    fn first_payload(
-        &self,
-        moment: u64,
-        connection: &mut Connection,
-        dialects: Smb1Dialects,
-    ) -> Result<Option<Replies>, AllocError>
-        ensures ok { IfOk result (λ replies. record { shared = self.now; connection = connection.new; replies = option_map (λ r. r.bytes.items) replies }
-            ≡ first_step A.meaning moment self.now connection.old dialects) }
-        ensures len { IfOk result (λ replies. IfSome replies (λ r. length r.bytes.items ≤ 1049856)) }
-        ensures count { IfOk result (λ replies. IfSome replies (λ r. count_in_first dialects ≡ r.count)) }
-    {
-        let Some(answer) = smb1::answer(dialects) else {
-            return Ok(None);
-        };
-        let bytes = self.smb1_reply(moment, answer.dialect_revision)?;
-        connection.payload_came = true;
-        connection.dialect = answer.dialect;
-        connection.window = Window::new(1);
-        Ok(Some(Replies { bytes, count: 1 }))
-    }
-
-    /// Performs a payload, and gives the payload of its replies with the number of requests; None where it
-    /// ends the connection. An error tells how many requests were performed.
-    #[tactic(auto, unfolding(crate::specs::Chain::payload_step, crate::specs::Chain::shared_after, crate::specs::Chain::count_in))]
-    pub(crate) fn payload(
-        &mut self,
-        number: u64,
-        moment: u64,
-        connection: &mut Connection,
-        payload: &[u8],
-    ) -> Result<Option<Replies>, usize>
-        ensures ok { IfOk result (λ replies. record { shared = self.new; connection = connection.new; replies = option_map (λ r. r.bytes.items) replies }
-            ≡ payload_step A.meaning number moment self.old connection.old payload.now) }
-        ensures len { IfOk result (λ replies. IfSome replies (λ r. length r.bytes.items ≤ 1049856)) }
-        ensures few { count_in A.meaning number moment self.old connection.old payload.now ≤ length payload.now }
-        ensures count { IfOk result (λ replies. IfSome replies (λ r. count_in A.meaning number moment self.old connection.old payload.now ≡ r.count)) }
-        ensures err { IfErr result (λ done. (done ≤ count_in A.meaning number moment self.old connection.old payload.now)
-            × (self.new ≡ shared_after A.meaning number moment self.old connection.old payload.now done)) }
-        ensures known { self.new.sessions.table.connections ≡ self.old.sessions.table.connections }
-    {
-        let Some(dialects) = first_negotiate(connection, payload) else {
-            return self.chain_payload(number, moment, connection, payload);
-        };
-        match self.first_payload(moment, connection, dialects) {
-            Ok(replies) => Ok(replies),
-            Err(_) => Err(0),
-        }
+/// Performs a payload, and gives the payload of its replies with the number of requests; None where it
+/// ends the connection. An error tells how many requests were performed.
+#[tactic(auto, unfolding(crate::specs::Chain::payload_step, crate::specs::Chain::shared_after, crate::specs::Chain::count_in))]
+pub(crate) fn perform_payload<A: Authenticator + Drop, T: Tree + Drop, O: Opens + Drop>(
+    shared: &mut Shared<A, T, O>,
+    number: u64,
+    moment: u64,
+    connection: &mut Connection,
+    payload: &[u8],
+) -> Result<Option<Replies>, usize>
+    ensures ok { IfOk result (λ replies. record { shared = shared.new; connection = connection.new; replies = option_map (λ r. r.bytes.items) replies }
+        ≡ payload_step A.meaning number moment shared.old connection.old payload.now) }
+    ensures len { IfOk result (λ replies. IfSome replies (λ r. length r.bytes.items ≤ 1049856)) }
+    ensures few { count_in A.meaning number moment shared.old connection.old payload.now ≤ length payload.now }
+    ensures count { IfOk result (λ replies. IfSome replies (λ r. count_in A.meaning number moment shared.old connection.old payload.now ≡ r.count)) }
+    ensures err { IfErr result (λ done. (done ≤ count_in A.meaning number moment shared.old connection.old payload.now)
+        × (shared.new ≡ shared_after A.meaning number moment shared.old connection.old payload.now done)) }
+    ensures known { shared.new.sessions.table.connections ≡ shared.old.sessions.table.connections }
+{
+    let Some(dialects) = first_negotiate(connection, payload) else {
+        return chain_payload(shared, number, moment, connection, payload);
+    };
+    match first_payload(shared, moment, connection, dialects) {
+        Ok(replies) => Ok(replies),
+        Err(_) => Err(0),
     }
 }

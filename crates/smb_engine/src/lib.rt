@@ -1,11 +1,11 @@
 //! The share: connections, their streams of requests, and what answers them ([MS-SMB2] 3.3).
 //!
-//! A [`Share`] is made of a [`Config`]. Connections are [`opened`](Share::opened), bring pieces of their
+//! A [`Share`] is made of a [`Config`](smb_request::Config). Connections are [`opened`](Share::opened), bring pieces of their
 //! streams, which are [`feed`](Share::feed), and [end](Share::ended); [`run`](Share::run) takes a list of such
 //! [`Event`]s and gives the [`Answer`]s. What it gives is a definition, to be read in this order:
 //! `specs/Event.antt` and `Run.antt` (a list of events), `Share.antt` (one event), `Stream.antt` (a piece, payload
-//! by payload), `Chain.antt` (a payload, request by request), `Request.antt` (the commands). The definition reads
-//! each stream from its first byte; the share holds what is unread alone. That it does not matter how the bytes were
+//! by payload), `Chain.antt` (a payload, request by request), and of the crate smb_request `Request.antt` (one
+//! request). The definition reads each stream from its first byte; the share holds what is unread alone. That it does not matter how the bytes were
 //! cut is a law of the definition, with others of `specs/Laws.antt`: [`laws_of_shares`].
 //!
 //! Refusals are [`ServeFault`]s, S1 to S4. A piece takes time in proportion to its bytes and to those of its
@@ -13,25 +13,14 @@
 #![tactic(auto)]
 
 mod chain;
-mod config;
 mod connection;
-mod context;
 mod event;
 mod fault;
-mod files;
 mod laws;
-mod negotiate;
 mod output;
-mod request;
-mod response;
-mod session;
 mod share;
-mod shared;
-mod smb1;
-mod status;
 mod stream;
 
-pub use config::Config;
 pub use event::{Event, Fate};
 pub use fault::{RunFault, ServeFault};
 pub use laws::laws_of_shares;

@@ -6,11 +6,12 @@ ghost use Rattle.smb_frame.specs.Reading.{first, fault_of, payloads, rest};
 ghost use Rattle.smb_engine.specs.Stream.{longest_payload, payload_steps, shared_after_some, count_in_all, piece_step, shared_after_piece, count_in_piece};
 ghost use Rattle.smb_engine.specs.Held.{steps_heard, Waits, IsPieceHeld};
 
+use super::chain::perform_payload;
 use super::connection::{Connection, Link};
 use super::output::Sink;
-use super::shared::Shared;
 use smb_frame::FrameBuffer;
 use smb_opens::Opens;
+use smb_request::Shared;
 use smb_session::Authenticator;
 use smb_tree::Tree;
 
@@ -40,7 +41,7 @@ fn take_payloads<A: Authenticator + Drop, T: Tree + Drop, O: Opens + Drop, K: Si
     let alloc = shared.allocator();
     let mut done = 0;
     while let Some(payload) = buffer.next() {
-        match shared.payload(number, moment, connection, payload) {
+        match perform_payload(shared, number, moment, connection, payload) {
             Err(k) => return Err(done + k),
             Ok(None) => return Ok((false, done)),
             Ok(Some(replies)) => {

@@ -16,6 +16,3 @@ mod put;
 pub use buffer::{FrameBuffer, laws_of_frames};
 pub use fault::FrameFault;
 pub use put::put_frame;
-
-#[cfg(test)]
-mod tests;

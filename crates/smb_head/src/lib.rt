@@ -17,8 +17,6 @@ mod command;
 mod fault;
 mod header;
 mod reply;
-#[cfg(test)]
-mod tests;
 
 pub use chain::{Chain, laws_of_chains, read_chain};
 pub use command::{Command, CommandCode, laws_of_commands};

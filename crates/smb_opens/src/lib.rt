@@ -38,6 +38,3 @@ pub use opens::Opens;
 pub use plain::PlainOpens;
 pub use store::Store;
 pub use view::{Closed, CreateAction, Created, View};
-
-#[cfg(test)]
-mod tests;

@@ -36,6 +36,3 @@ pub use sessions::Sessions;
 pub use setup::{SetupAsk, SetupDone, SetupStatus};
 pub use tokens::{Tokens, User};
 pub use window::{WINDOW_LIMIT, Window};
-
-#[cfg(test)]
-mod tests;

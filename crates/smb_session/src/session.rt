@@ -111,15 +111,4 @@ impl Session {
     {
         take_out(&mut self.trees, tree);
     }
-
-    /// A session that has begun, whose first tree will have this number.
-    #[cfg(test)]
-    pub(crate) fn starting_at(next_tree: u32) -> Self {
-        Session {
-            connection: 1,
-            user: None,
-            trees: ArrayVec::new(),
-            next_tree,
-        }
-    }
 }

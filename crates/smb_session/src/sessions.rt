@@ -60,19 +60,6 @@ impl<A: Authenticator + Drop> Sessions<A> {
         })
     }
 
-    /// The same, where the first session will have this number.
-    #[cfg(test)]
-    pub(crate) fn starting_at(alloc: Global, authenticator: A, next: u64) -> Self
-        requires { 1 ≤ next }
-    {
-        Sessions {
-            alloc,
-            authenticator,
-            share: Vec::new(alloc),
-            table: Table::starting_at(alloc, next),
-        }
-    }
-
     /// Makes a connection known; one that is known already stays as it is.
     ///
     /// [`SessionFault::NoMemory`], which changes nothing, is the only refusal.

@@ -320,20 +320,6 @@ impl Table {
         }
     }
 
-    /// No connection and no session, and the first session will have this number.
-    #[cfg(test)]
-    #[tactic(auto, using(crate::proofs::Tables::held_none))]
-    pub(crate) fn starting_at(alloc: Global, next: u64) -> Self
-        requires { 0 < next }
-        ensures { result ≡ record no_sessions { next = next } }
-    {
-        Table {
-            index: BTreeMap::new(alloc),
-            sessions: BTreeMap::new(alloc),
-            next,
-        }
-    }
-
     /// What holds of every table between calls. (The body does nothing.)
     pub(crate) fn good(&self)
         ensures { GoodTable self.now }

@@ -25,6 +25,3 @@ pub use fault::TreeFault;
 pub use laws::laws_of_contents;
 pub use plain::{MOST_BYTES, PlainTree};
 pub use tree::Tree;
-
-#[cfg(test)]
-mod tests;

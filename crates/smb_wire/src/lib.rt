@@ -36,6 +36,3 @@ pub use number::{laws_of_numbers, put_u16, put_u32, put_u64, u16_at, u32_at, u64
 pub use paths::PathView;
 pub use split::{laws_of_components, split_path};
 pub use units::{Units, laws_of_units};
-
-#[cfg(test)]
-mod tests;

@@ -38,6 +38,3 @@ pub fn same_name(left: Units<'_>, right: Units<'_>) -> bool
 {
     compare_folded(left, right).is_eq()
 }
-
-#[cfg(test)]
-mod tests;

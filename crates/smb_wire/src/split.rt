@@ -38,6 +38,3 @@ pub fn laws_of_components()
     ensures joined { ATextIsItsComponents }
     ensures read { ComponentsAreReadAgain }
 {}
-
-#[cfg(test)]
-mod tests;

@@ -71,6 +71,3 @@ pub fn laws_of_units()
     ensures read { UnitsAreRead }
     ensures kept { BytesAreKept }
 {}
-
-#[cfg(test)]
-mod tests;

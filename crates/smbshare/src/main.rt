@@ -1,17 +1,8 @@
 //! The command `smbshare`: a proved SMB2 file share.
 #![tactic(auto)]
 
-mod config;
-mod input;
-mod replay;
-mod script;
-mod show;
-
 use clap::{Arg, Command};
-use config::BUILT_IN;
-use input::CommandFault;
-use replay::replay_text;
-use show::show_text;
+use smb_replay::{BUILT_IN, CommandFault, replay_text, show_text};
 use std::alloc::{AllocError, Global};
 use std::fs;
 use std::io::{BufWriter, ErrorKind};

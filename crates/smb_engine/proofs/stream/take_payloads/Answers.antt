@@ -30,7 +30,7 @@ returns-in-Err-put_replies-clause-err g c =
     (at_limit c.loop-payload.buffer.limit c.loop-payload.buffer.bytes _ c.loop-payload.invariant.limit c.in-Some.ensures.first)
     (rw c.in-Ok-Some.field-0-is at c.in-Ok-Some.ensures.ok) (rw c.in-Ok-Some.field-0-is at c.in-Ok-Some.ensures.count)
     (ap (λ b. b.bytes) (c.done.ensures _ (sym c.in-Some.ensures.first))) refl
-    (let n = rw c.in-Ok-Some.field-0-is at c.in-Ok-Some.ensures.count in omega (arith, n, c.payload.ensures.few)))
+    (let n = rw c.in-Ok-Some.field-0-is at c.in-Ok-Some.ensures.count in omega (arith, n, c.perform_payload.ensures.few)))
 
 pub returns-in-Err-put_replies-clause-within : goal.returns-in-Err-put_replies-clause-within
 returns-in-Err-put_replies-clause-within g c =
@@ -44,9 +44,9 @@ loop-payload-preserved g c = record {
       (at_limit c.loop-payload.buffer.limit c.loop-payload.buffer.bytes _ c.loop-payload.invariant.limit c.in-Some.ensures.first)
       (rw c.in-Ok-Some.field-0-is at c.in-Ok-Some.ensures.ok) (rw c.in-Ok-Some.field-0-is at c.in-Ok-Some.ensures.count)
       (ap (λ b. b.bytes) (c.done.ensures _ (sym c.in-Some.ensures.first))) (search rules)
-      (let n = rw c.in-Ok-Some.field-0-is at c.in-Ok-Some.ensures.count in omega (arith, n, c.payload.ensures.few));
+      (let n = rw c.in-Ok-Some.field-0-is at c.in-Ok-Some.ensures.count in omega (arith, n, c.perform_payload.ensures.few));
   kept = kept_more _ _ _ c.loop-payload.invariant.kept c.put_replies.ensures.kept;
-  known = c.payload.ensures.known ∙ c.loop-payload.invariant.known;
+  known = c.perform_payload.ensures.known ∙ c.loop-payload.invariant.known;
   limit = ap (λ b. b.limit) (c.done.ensures _ (sym c.in-Some.ensures.first)) ∙ c.loop-payload.invariant.limit;
 }
 

@@ -1,0 +1,18 @@
+//! The replay of a text of events on a new share, and the listing of a client's stream: all that the program
+//! `smbshare` does, but for its command line and its files.
+//!
+//! [`replay_text`] reads a configuration and a script, runs the script's events on a [`Share`](smb_engine::Share) and
+//! writes a line for each answer. [`show_text`] lists the requests of a stream. Both are over any reader and writers,
+//! and tell an exit status. [`Configuration::read`] reads a configuration file's text; [`BUILT_IN`] is one.
+#![tactic(auto)]
+
+mod config;
+mod input;
+mod replay;
+mod script;
+mod show;
+
+pub use config::{BUILT_IN, ConfigFault, Configuration};
+pub use input::{CommandFault, INPUT_LIMIT};
+pub use replay::{new_share, replay_text};
+pub use show::show_text;

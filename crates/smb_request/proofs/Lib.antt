@@ -1,0 +1,4 @@
+pub mod Numbered
+pub mod Owners
+pub mod Endings
+pub mod Sessions

@@ -1,0 +1,217 @@
+-- Whose opens stand, after what is done to the sessions and to the opens.
+use Rattle.std.proofs.Common.{◌≡◌, ℕ, ◌<◌, eqb, bit_and, Bool, true, false, not, List, [], ◌∷◌, ◌++◌, filter, Option, None, Some, is_some, refl, ◌∙◌, if◌then◌else◌, arith}
+use Rattle.std.proofs.lemmas.Bool.{eqb-true, ne_eqb, and_parts}
+use Rattle.std.specs.List.{AllByRecursion}
+use Rattle.std.specs.Option.{option_map_or}
+use Rattle.std.specs.Map.{lookup, remove_entry}
+use Rattle.std.specs.BTreeMap.{is_at}
+use Rattle.std.specs.Ordering.{nat_cmp}
+use Rattle.smb_session.specs.declared.fault.SessionFault.TheVariants.{UnknownSession, NotAccepted}
+use Rattle.smb_session.specs.Authenticator.{Answered, continues, accepts, denies, Meaning}
+use Rattle.smb_session.specs.Numbers.{contains}
+use Rattle.smb_session.specs.Session.{SessionState, fresh_session, finished_by, with_tree, without_tree}
+use Rattle.smb_session.specs.Table.{TableState, session_at, changed_at, connected, begun, ended, tree_connected, tree_disconnected}
+use Rattle.smb_session.specs.Setup.{standing_refusal, setup_refusal, setup_number, setup_table, previous_ended, answered, told}
+use Rattle.smb_session.specs.Good.{GoodTable}
+use Rattle.smb_session.proofs.Numbers.{equal_back, contains-without}
+use Rattle.smb_session.specs.Sessions.{SessionsState, setup_step}
+use Rattle.smb_opens.specs.declared.open_row.OpenRow.{OpenRow}
+use Rattle.smb_opens.specs.declared.open_row.Owner.{Owner}
+use Rattle.smb_opens.specs.declared.open_row.Owner.TheVariants.{Session, Tree}
+use Rattle.smb_opens.specs.Opens.{is_held_by}
+use Rattle.smb_request.specs.Owners.{has_tree, stands, is_owned, AreOwned}
+use Rattle.smb_request.specs.Held.{opens_left}
+use Rattle.smb_request.proofs.Numbered.{at_is, at_same}
+
+module _ {X : Type 0} (test : X → Bool) (k : ℕ) where
+  -- something passes at a number
+  abbrev passes : List (ℕ × X) → Bool
+  passes es = option_map_or test (lookup (is_at (nat_cmp k)) es) false
+
+  removed_at : (n : ℕ) (e : ℕ × X) (es : List (ℕ × X)) (b : Bool) → eqb e.0 n ≡ b → eqb k n ≡ false → passes (remove_entry (is_at (nat_cmp n)) es) ≡ passes es →
+      passes (remove_entry (is_at (nat_cmp n)) (e ∷ es)) ≡ passes (e ∷ es)
+  removed_at n e es true t d ih =
+      let same : e.0 ≡ n = eqb-true e.0 n t in
+      let other : eqb e.0 k ≡ false = rw same (equal_back k n false d) in
+      rw (at_is n e.0, t, at_is k e.0, other) refl
+  removed_at n e es false t d ih = rw (at_is n e.0, t) (rw (at_is k e.0) (first (eqb e.0 k)))
+    where
+      first : (b : Bool) → option_map_or test (if b then Some e.1 else lookup (is_at (nat_cmp k)) (remove_entry (is_at (nat_cmp n)) es)) false
+          ≡ option_map_or test (if b then Some e.1 else lookup (is_at (nat_cmp k)) es) false
+      first true = refl
+      first false = ih
+
+  -- what is removed elsewhere changes nothing of it
+  passes-removed : (n : ℕ) (es : List (ℕ × X)) → eqb k n ≡ false → passes (remove_entry (is_at (nat_cmp n)) es) ≡ passes es
+  passes-removed n [] d = refl
+  passes-removed n (e ∷ es) d = removed_at n e es (eqb e.0 n) refl d (passes-removed n es d)
+
+  changed_here : (f : X → X) (n : ℕ) (e : ℕ × X) (es : List (ℕ × X)) (b c : Bool) → eqb n e.0 ≡ b → eqb e.0 k ≡ c →
+      (eqb k n ≡ true → (x : X) → test x ≡ true → test (f x) ≡ true) → (passes es ≡ true → passes (changed_at f n es) ≡ true) →
+      passes (e ∷ es) ≡ true → passes (changed_at f n (e ∷ es)) ≡ true
+  changed_here f n e es true true t u step ih h =
+      let same : eqb k n ≡ true = rw (eqb-true n e.0 t) (equal_back e.0 k true u) in
+      let at : is_at (nat_cmp k) e.0 ≡ true = at_is k e.0 ∙ u in
+      let here : test e.1 ≡ true = rw at at h in
+      rw (t, at) (step same e.1 here)
+  changed_here f n e es true false t u step ih h =
+      let at : is_at (nat_cmp k) e.0 ≡ false = at_is k e.0 ∙ u in
+      rw (t, at) (rw at at h)
+  changed_here f n e es false true t u step ih h =
+      let at : is_at (nat_cmp k) e.0 ≡ true = at_is k e.0 ∙ u in
+      rw (t, at) (rw at at h)
+  changed_here f n e es false false t u step ih h =
+      let at : is_at (nat_cmp k) e.0 ≡ false = at_is k e.0 ∙ u in
+      rw (t, at) (ih (rw at at h))
+
+  -- nor a change that lets it pass
+  passes-changed : (f : X → X) (n : ℕ) (es : List (ℕ × X)) → (eqb k n ≡ true → (x : X) → test x ≡ true → test (f x) ≡ true) → passes es ≡ true → passes (changed_at f n es) ≡ true
+  passes-changed f n [] step h = h
+  passes-changed f n (e ∷ es) step h = changed_here f n e es (eqb n e.0) (eqb e.0 k) refl refl step (passes-changed f n es step) h
+
+  more_at : (e : ℕ × X) (es others : List (ℕ × X)) (b : Bool) → is_at (nat_cmp k) e.0 ≡ b → (passes es ≡ true → passes (es ++ others) ≡ true) → passes (e ∷ es) ≡ true → passes (e ∷ es ++ others) ≡ true
+  more_at e es others true t ih h = rw t (rw t at h)
+  more_at e es others false t ih h = rw t (ih (rw t at h))
+
+  -- nor what comes behind
+  passes-more : (es others : List (ℕ × X)) → passes es ≡ true → passes (es ++ others) ≡ true
+  passes-more [] others h = cc
+  passes-more (e ∷ es) others h = more_at e es others (is_at (nat_cmp k) e.0) refl (passes-more es others) h
+
+  -- nothing passes at a number above all where one stands there that does not
+  last_at : (e : ℕ × X) (es : List (ℕ × X)) (x : X) → (0 < e.0) × (e.0 < k) → passes (es ++ (k, x) ∷ []) ≡ false → passes (e ∷ es ++ (k, x) ∷ []) ≡ false
+  last_at e es x a ih = let l = a.1 in let t : eqb e.0 k ≡ false = ne_eqb e.0 k (λ e. omega (arith, l, e)) in rw (at_is k e.0, t) ih
+
+  passes-last : (es : List (ℕ × X)) (x : X) → AllByRecursion (λ e. (0 < e.0) × (e.0 < k)) es → test x ≡ false → passes (es ++ (k, x) ∷ []) ≡ false
+  passes-last [] x a h = rw (at_same k k refl) h
+  passes-last (e ∷ es) x a h = last_at e es x a.0 (passes-last es x a.1 h)
+
+-- each open is owned still, by what is kept of each
+owned_all : (table table' : TableState) (rows : List OpenRow) → ((row : OpenRow) → is_owned table row ≡ true → is_owned table' row ≡ true) → AreOwned table rows → AreOwned table' rows
+owned_all table table' [] step a = tt
+owned_all table table' (row ∷ rows) step a = (step row a.0, owned_all table table' rows step a.1)
+
+rest_at : (table' : TableState) (owner : Owner) (row : OpenRow) (rows : List OpenRow) (b : Bool) → is_held_by owner row ≡ b → (is_held_by owner row ≡ false → is_owned table' row ≡ true) →
+    AreOwned table' (filter (λ row. not (is_held_by owner row)) rows) → AreOwned table' (filter (λ row. not (is_held_by owner row)) (row ∷ rows))
+rest_at table' owner row rows true t step ih = rw t ih
+rest_at table' owner row rows false t step ih = rw t (step t, ih)
+
+-- and those but an owner's
+owned_rest : (table table' : TableState) (owner : Owner) (rows : List OpenRow) → ((row : OpenRow) → is_held_by owner row ≡ false → is_owned table row ≡ true → is_owned table' row ≡ true) → AreOwned table rows →
+    AreOwned table' (filter (λ row. not (is_held_by owner row)) rows)
+owned_rest table table' owner [] step a = tt
+owned_rest table table' owner (row ∷ rows) step a = rest_at table' owner row rows (is_held_by owner row) refl (λ h. step row h a.0) (owned_rest table table' owner rows step a.1)
+
+some_at : (table : TableState) (test : OpenRow → Bool) (row : OpenRow) (rows : List OpenRow) (b : Bool) → test row ≡ b → is_owned table row ≡ true → AreOwned table (filter test rows) → AreOwned table (filter test (row ∷ rows))
+some_at table test row rows true t h ih = rw t (h, ih)
+some_at table test row rows false t h ih = rw t ih
+
+pub owned_some : (table : TableState) (test : OpenRow → Bool) (rows : List OpenRow) → AreOwned table rows → AreOwned table (filter test rows)
+owned_some table test [] a = tt
+owned_some table test (row ∷ rows) a = some_at table test row rows (test row) refl a.0 (owned_some table test rows a.1)
+
+-- a connection more
+pub owned_connected : (table : TableState) (c : ℕ) (rows : List OpenRow) → AreOwned table rows → AreOwned (connected table c) rows
+owned_connected table c rows a = owned_all table (connected table c) rows (λ row h. same row h (contains table.connections c) refl) a
+  where
+    same : (row : OpenRow) → is_owned table row ≡ true → (b : Bool) → contains table.connections c ≡ b → is_owned (connected table c) row ≡ true
+    same row h true t = rw t h
+    same row h false t = rw t h
+
+owned_begun : (table : TableState) (c : ℕ) (rows : List OpenRow) → AreOwned table rows → AreOwned (begun table c) rows
+owned_begun table c rows a = owned_all table (begun table c) rows (λ row h. passes-more (has_tree row.tree) row.session table.sessions _ h) a
+
+-- the sessions are as they were
+pub owned_same : (table table' : TableState) (rows : List OpenRow) → table'.sessions ≡ table.sessions → AreOwned table rows → AreOwned table' rows
+owned_same table table' rows e a = owned_all table table' rows (λ row h. rw e h) a
+
+-- a session less, and its opens
+pub owned_ended : (table : TableState) (n : ℕ) (rows : List OpenRow) → AreOwned table rows → AreOwned (ended table n) (filter (λ row. not (is_held_by (Session n) row)) rows)
+owned_ended table n rows a = owned_rest table (ended table n) (Session n) rows (λ row d h. passes-removed (has_tree row.tree) row.session n table.sessions d ∙ h) a
+
+any_at : (m n k : ℕ) (ns : List ℕ) (b : Bool) → eqb m k ≡ b → (contains ns k ≡ true → contains (ns ++ n ∷ []) k ≡ true) → contains (m ∷ ns) k ≡ true → contains (m ∷ ns ++ n ∷ []) k ≡ true
+any_at m n k ns true t ih h = rw t refl
+any_at m n k ns false t ih h = rw t (ih (rw t at h))
+
+any-more : (ns : List ℕ) (n k : ℕ) → contains ns k ≡ true → contains (ns ++ n ∷ []) k ≡ true
+any-more [] n k h = cc
+any-more (m ∷ ns) n k h = any_at m n k ns (eqb m k) refl (any-more ns n k) h
+
+-- a tree more
+pub owned_tree : (table : TableState) (n : ℕ) (rows : List OpenRow) → AreOwned table rows → AreOwned (tree_connected table n) rows
+owned_tree table n rows a =
+    owned_all table (tree_connected table n) rows
+    (λ row h. passes-changed (has_tree row.tree) row.session with_tree n table.sessions (λ e s u. let p = and_parts (is_some s.user) (contains s.trees row.tree) u in rw (p.0, any-more s.trees s.next_tree row.tree p.1) refl) h) a
+
+-- a tree less, and its opens
+pub owned_untree : (table : TableState) (n tree : ℕ) (rows : List OpenRow) → AreOwned table rows → AreOwned (tree_disconnected table n tree) (filter (λ row. not (is_held_by (Tree n tree) row)) rows)
+owned_untree table n tree rows a =
+    owned_rest table (tree_disconnected table n tree) (Tree n tree) rows
+    (λ row d h. passes-changed (has_tree row.tree) row.session (without_tree tree) n table.sessions
+    (λ e s u. let p = and_parts (is_some s.user) (contains s.trees row.tree) u in let other : eqb row.tree tree ≡ false = rw e at d in rw (p.0, contains-without s.trees tree row.tree other p.1) refl) h) a
+
+-- a session is finished
+owned_finished : (table : TableState) (user : List ℕ) (n : ℕ) (rows : List OpenRow) → AreOwned table rows → AreOwned (Rattle.smb_session.specs.Table.changed (finished_by user) table n) rows
+owned_finished table user n rows a =
+    owned_all table (Rattle.smb_session.specs.Table.changed (finished_by user) table n) rows
+    (λ row h. passes-changed (has_tree row.tree) row.session (finished_by user) n table.sessions (λ e s u. let p = and_parts (is_some s.user) (contains s.trees row.tree) u in p.1) h) a
+
+-- a session that stands nowhere ends
+owned_denied : (table : TableState) (n : ℕ) (rows : List OpenRow) → ((tree : ℕ) → stands table n tree ≡ false) → AreOwned table rows → AreOwned (ended table n) rows
+owned_denied table n rows none a = owned_all table (ended table n) rows (λ row h. at row h (eqb row.session n) refl) a
+  where
+    at : (row : OpenRow) → is_owned table row ≡ true → (b : Bool) → eqb row.session n ≡ b → is_owned (ended table n) row ≡ true
+    at row h true t = let same : row.session ≡ n = eqb-true row.session n t in let no = none row.tree in let yes : stands table n row.tree ≡ true = rw (← same) h in cc
+    at row h false t = passes-removed (has_tree row.tree) row.session n table.sessions t ∙ h
+
+-- an answer about a session
+owned_accepted : (table : TableState) (user : List ℕ) (n : ℕ) (previous : Option ℕ) (rows : List OpenRow) → AreOwned table rows →
+    AreOwned (Rattle.smb_session.specs.Table.changed (finished_by user) (option_map_or (ended table) previous table) n) (opens_left previous rows)
+owned_accepted table user n None rows a = owned_finished table user n rows a
+owned_accepted table user n (Some previous) rows a = owned_finished (ended table previous) user n _ (owned_ended table previous rows a)
+
+owned_answered : (table : TableState) (n previous : ℕ) (answer : Answered) (rows : List OpenRow) → ((tree : ℕ) → stands table n tree ≡ false) → AreOwned table rows →
+    AreOwned (answered table n previous answer) (opens_left (told table n previous answer).ended rows)
+owned_answered table n previous (continues token) rows none a = a
+owned_answered table n previous (accepts user flags token) rows none a = owned_accepted table user n (previous_ended table user previous) rows a
+owned_answered table n previous denies rows none a = owned_denied table n rows none a
+
+-- a refusal that is none passes its first row
+past : {F : Type 0} (b : Bool) (fault : F) (others : Option F) → (if b then Some fault else others) ≡ None → others ≡ None
+past true fault others h = cc
+past false fault others h = h
+
+-- a session that is set up is not finished
+unfinished : (c tree : ℕ) (s : SessionState) → standing_refusal c s ≡ None → has_tree tree s ≡ false
+unfinished c tree s h = at (is_some s.user) refl (past (not (eqb s.connection c)) UnknownSession _ h)
+  where
+    at : (b : Bool) → is_some s.user ≡ b → (if is_some s.user then Some NotAccepted else None) ≡ None → has_tree tree s ≡ false
+    at true t i = let n = rw t at i in cc
+    at false t i = rw t refl
+
+unfinished_at : (c tree : ℕ) (o : Option SessionState) → option_map_or (standing_refusal c) o (Some UnknownSession) ≡ None → option_map_or (has_tree tree) o false ≡ false
+unfinished_at c tree None h = cc
+unfinished_at c tree (Some s) h = unfinished c tree s h
+
+module _ (table : TableState) (c number flags : ℕ) (good : GoodTable table) (h : setup_refusal table c number flags ≡ None) where
+  none_stands : (tree : ℕ) → stands (setup_table table c number) (setup_number table number) tree ≡ false
+  none_stands tree = at (eqb number 0) refl
+    where
+      at : (b : Bool) → eqb number 0 ≡ b → stands (setup_table table c number) (setup_number table number) tree ≡ false
+      at true t = rw t (passes-last (has_tree tree) table.next table.sessions (fresh_session c) good.given refl)
+      at false t = let i = rw t at h in rw t (unfinished_at c tree (session_at table number) (past (not (eqb (bit_and flags 1) 0)) NotAccepted _ i))
+
+  begun_owned : (rows : List OpenRow) → AreOwned table rows → AreOwned (setup_table table c number) rows
+  begun_owned rows a = at (eqb number 0) refl
+    where
+      at : (b : Bool) → eqb number 0 ≡ b → AreOwned (setup_table table c number) rows
+      at true t = rw t (owned_begun table c rows a)
+      at false t = rw t a
+
+-- a SESSION_SETUP leaves the opens but those of the session that it ends, and they are owned
+pub owned_setup : {S : Type 0} (m : Meaning S) (s : SessionsState S) (c number previous flags : ℕ) (token : List ℕ) (rows : List OpenRow) → GoodTable s.table →
+    setup_refusal s.table c number flags ≡ None → AreOwned s.table rows →
+    AreOwned (setup_step m s c number previous token).state.table (opens_left (setup_step m s c number previous token).told.ended rows)
+owned_setup m s c number previous flags token rows good h a =
+    owned_answered (setup_table s.table c number) (setup_number s.table number) previous (m.answer s.authenticator (setup_number s.table number) token) rows
+    (none_stands s.table c number flags good h) (begun_owned s.table c number flags good h rows a)

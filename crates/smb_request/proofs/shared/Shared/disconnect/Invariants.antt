@@ -1,0 +1,10 @@
+use Rattle.std.proofs.Common.{◌≡◌, length}
+use Rattle.smb_session.specs.Table.{numbers_on}
+use Rattle.smb_request.specs.State.{shared_ended}
+use Rattle.smb_request.proofs.shared.Shared.disconnect.Given as goal
+
+abbrev pub invariant-loop : goal.invariant-loop
+invariant-loop g l = shared_ended l.self l.number ≡ shared_ended l.fn.self l.number
+
+abbrev pub decreases-loop : goal.decreases-loop
+decreases-loop g l = length (numbers_on l.self.sessions.table.sessions l.number)

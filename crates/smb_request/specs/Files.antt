@@ -1,0 +1,110 @@
+-- CREATE and CLOSE ([MS-SMB2] 3.3.5.9, 3.3.5.10).
+use Rattle.std.specs.Prelude.{ℕ, Bool, false, ◌&&◌, ◌==◌, bit_and, List, Option, None, Some, if◌then◌else◌}
+use Rattle.std.specs.Option.{option_map_or}
+use Rattle.smb_body.specs.declared.types.FileId.{FileId}
+use Rattle.smb_body.specs.declared.create.CreateResponse.{CreateResponse}
+use Rattle.smb_body.specs.declared.close.CloseFlags.{CloseFlags}
+use Rattle.smb_body.specs.declared.close.CloseRequest.{CloseRequest}
+use Rattle.smb_body.specs.declared.close.CloseResponse.{CloseResponse}
+use Rattle.smb_body.specs.Create.{CreateAsked}
+use Rattle.smb_body.specs.Replies.{answers_create, answers_close}
+use Rattle.smb_opens.specs.declared.open_row.OpenRow.{OpenRow}
+use Rattle.smb_opens.specs.declared.open_row.Owner.TheVariants.{Tree}
+use Rattle.smb_opens.specs.declared.view.View.{View}
+use Rattle.smb_opens.specs.declared.view.Created.{Created}
+use Rattle.smb_opens.specs.Opens.{open_of, is_held_by}
+use Rattle.smb_opens.specs.Asked.{CreateAsked as FileAsked}
+use Rattle.smb_opens.specs.Create.{create_status}
+use Rattle.smb_opens.specs.Effect.{created, told}
+use Rattle.smb_opens.specs.Views.{open_view, action_code}
+use Rattle.smb_opens.specs.Close.{closed}
+use Rattle.smb_request.specs.declared.status.Status.TheVariants.{Store}
+use Rattle.smb_request.specs.declared.context.Context.{Context}
+use Rattle.smb_request.specs.State.{SharedState, with_store}
+use Rattle.smb_request.specs.Response.{CommandStep, success, refused}
+
+-- what a CREATE asks of the files, under a session and a tree
+abbrev pub file_asked : Context → CreateAsked → FileAsked
+file_asked under asked = record {
+  name = asked.name;
+  access = asked.desired_access.0;
+  attributes = asked.file_attributes.0;
+  share = asked.share_access.0;
+  disposition = asked.create_disposition.0;
+  options = asked.create_options.0;
+  session = under.session_id;
+  tree = under.tree_id;
+}
+
+-- what a CREATE that succeeds is answered: no oplock, what was done, the entry as it stands afterwards, and as FileId
+-- the open's number twice (2.2.14)
+abbrev pub create_response : Created → CreateResponse
+create_response done = record {
+  oplock_level = record { 0 = 0 };
+  create_action = record { 0 = action_code done.action };
+  creation_time = done.view.creation_time;
+  last_access_time = done.view.last_access_time;
+  last_write_time = done.view.last_write_time;
+  change_time = done.view.change_time;
+  allocation_size = done.view.allocation_size;
+  end_of_file = done.view.size;
+  file_attributes = record { 0 = done.view.attributes };
+  file_id = record { persistent = done.number; volatile = done.number };
+}
+
+-- CREATE (3.3.5.9), by the status that the store gives it
+abbrev pub created_by_status : {S : Type 0} → ℕ → SharedState S → Context → FileAsked → ℕ → CommandStep S
+created_by_status moment shared under asked status =
+    if status == 0
+    then record {
+      shared = with_store shared (created shared.store asked moment);
+      response = success under (answers_create (create_response (told shared.store asked moment)));
+    }
+    else refused shared under (Store status)
+
+unfoldable pub file_created : {S : Type 0} → ℕ → SharedState S → Context → CreateAsked → CommandStep S
+file_created moment shared under asked =
+    created_by_status moment shared under (file_asked under asked) (create_status shared.store (file_asked under asked))
+
+-- a FileId names an open of this session and tree: both its halves are the open's number (3.3.5.10)
+abbrev pub names_open : List OpenRow → Context → FileId → Bool
+names_open opens under id =
+    id.persistent == id.volatile
+    && option_map_or (is_held_by (Tree under.session_id under.tree_id)) (open_of opens id.persistent) false
+
+-- what a CLOSE shows of the entry, and what where it shows nothing (2.2.16)
+abbrev pub close_shows : View → CloseResponse
+close_shows view = record {
+  flags = record { 0 = 1 };
+  creation_time = view.creation_time;
+  last_access_time = view.last_access_time;
+  last_write_time = view.last_write_time;
+  change_time = view.change_time;
+  allocation_size = view.allocation_size;
+  end_of_file = view.size;
+  file_attributes = record { 0 = view.attributes };
+}
+
+abbrev pub close_shows_nothing : CloseResponse
+close_shows_nothing = record {
+  flags = record { 0 = 0 };
+  creation_time = 0;
+  last_access_time = 0;
+  last_write_time = 0;
+  change_time = 0;
+  allocation_size = 0;
+  end_of_file = 0;
+  file_attributes = record { 0 = 0 };
+}
+
+-- what a CLOSE is answered: with POSTQUERY_ATTRIB (1) set, what the open showed before (2.2.16)
+abbrev pub close_response : CloseFlags → Option View → CloseResponse
+close_response flags None = close_shows_nothing
+close_response flags (Some view) = if bit_and flags.0 1 == 0 then close_shows_nothing else close_shows view
+
+-- CLOSE (3.3.5.10) of an open that the FileId names
+unfoldable pub file_closed : {S : Type 0} → SharedState S → Context → CloseRequest → CommandStep S
+file_closed shared under asked = record {
+  shared = with_store shared (closed shared.store asked.file_id.persistent);
+  response = success under (answers_close (close_response asked.flags (open_view shared.store asked.file_id.persistent)));
+}

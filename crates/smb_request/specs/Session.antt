@@ -1,0 +1,105 @@
+-- SESSION_SETUP, LOGOFF, TREE_CONNECT and TREE_DISCONNECT ([MS-SMB2] 3.3.5.5 to 3.3.5.8).
+use Rattle.std.specs.Prelude.{ℕ, List, Option, Some, None}
+use Rattle.std.specs.Option.{option_map_or}
+use Rattle.smb_body.specs.Replies.{ReplyValue, answers_session_setup, answers_logoff, answers_tree_connect, answers_tree_disconnect}
+use Rattle.smb_body.specs.SessionSetup.{SessionSetupAsked}
+use Rattle.smb_body.specs.declared.tree_connect.TreeConnectResponse.{TreeConnectResponse}
+use Rattle.smb_session.specs.Authenticator.{Meaning}
+use Rattle.smb_session.specs.Setup.{Told, setup_refusal}
+use Rattle.smb_session.specs.Table.{ended, logoff_refusal, tree_connected, next_tree_of, tree_disconnect_refusal, tree_disconnected}
+use Rattle.smb_session.specs.Sessions.{SetupStep, setup_step, tree_connect_refusal}
+use Rattle.smb_session.specs.declared.fault.SessionFault.{SessionFault}
+use Rattle.smb_session.specs.declared.fault.SessionFault.TheVariants.{UnknownSession, UnknownTree, NoShare, NotAccepted, NoDialect, NoMemory}
+use Rattle.smb_session.specs.declared.setup.SetupStatus.{SetupStatus}
+use Rattle.smb_session.specs.declared.setup.SetupStatus.TheVariants.{Success, MoreProcessingRequired, LogonFailure}
+use Rattle.smb_opens.specs.declared.open_row.Owner.{Owner}
+use Rattle.smb_opens.specs.declared.open_row.Owner.TheVariants.{Session, Tree}
+use Rattle.smb_opens.specs.Close.{closed_all}
+use Rattle.smb_opens.specs.State.{StoreState}
+use Rattle.smb_request.specs.declared.status.Status.{Status}
+use Rattle.smb_request.specs.declared.status.Status.TheVariants.{NotSupported, NetworkNameDeleted, BadNetworkName, RequestNotAccepted, UserSessionDeleted}
+use Rattle.smb_request.specs.declared.context.Context.{Context}
+use Rattle.smb_request.specs.State.{SharedState, with_table, with_store}
+use Rattle.smb_request.specs.Response.{ResponseState, CommandStep, with_body, success, failure, refused}
+
+-- the status of a refusal (want of memory is none: no definition refuses for it)
+abbrev pub status_of_refusal : SessionFault → Status
+status_of_refusal UnknownSession = UserSessionDeleted
+status_of_refusal UnknownTree = NetworkNameDeleted
+status_of_refusal NoShare = BadNetworkName
+status_of_refusal NotAccepted = RequestNotAccepted
+status_of_refusal NoDialect = NotSupported
+status_of_refusal NoMemory = RequestNotAccepted
+
+-- what a SESSION_SETUP is answered: flags and a token where the client goes on or is in, else a failure; either tells the
+-- session's number (2.2.6)
+abbrev pub setup_body : Told → ReplyValue
+setup_body told = answers_session_setup (record { session_flags = record { 0 = told.flags }; security_buffer = told.token })
+
+abbrev pub setup_response : Context → Told → SetupStatus → ResponseState
+setup_response under told Success = success under (setup_body told)
+setup_response under told MoreProcessingRequired = with_body under Status.MoreProcessingRequired (setup_body told)
+setup_response under told LogonFailure = failure under Status.LogonFailure
+
+-- where a session ended, its opens are closed
+abbrev pub closed_for : StoreState → Option ℕ → StoreState
+closed_for store None = store
+closed_for store (Some session) = closed_all store (Session session)
+
+-- SESSION_SETUP (3.3.5.5): the previous session ends with its opens
+abbrev pub setup_answered : {S : Type 0} → SharedState S → Context → SetupStep S → CommandStep S
+setup_answered shared under step = record {
+  shared = record shared { sessions = step.state; store = closed_for shared.store step.told.ended };
+  response = setup_response (record under { session_id = step.told.session }) step.told step.told.status;
+}
+
+unfoldable pub session_set_up : {S : Type 0} → Meaning S → ℕ → SharedState S → Context → SessionSetupAsked → CommandStep S
+session_set_up m number shared under asked = option_map_or
+    (λ fault. refused shared under (status_of_refusal fault))
+    (setup_refusal shared.sessions.table number under.session_id asked.flags.0)
+    (setup_answered shared under (setup_step m shared.sessions number under.session_id asked.previous_session_id asked.security_buffer))
+
+-- what is shared where the opens of an owner are closed
+abbrev pub with_closed : {S : Type 0} → SharedState S → Owner → SharedState S
+with_closed shared owner = with_store shared (closed_all shared.store owner)
+
+-- LOGOFF (3.3.5.6): the session ends with its trees, and their opens
+unfoldable pub session_logged_off : {S : Type 0} → ℕ → SharedState S → Context → CommandStep S
+session_logged_off number shared under = option_map_or
+    (λ fault. refused shared under (status_of_refusal fault))
+    (logoff_refusal shared.sessions.table number under.session_id)
+    (record {
+      shared = with_closed (with_table shared (ended shared.sessions.table under.session_id)) (Session under.session_id);
+      response = success under answers_logoff;
+    })
+
+-- what a tree is: a disk, without flags and capabilities, and with all access (2.2.10)
+abbrev pub tree_response : TreeConnectResponse
+tree_response = record {
+  share_type = record { 0 = 1 };
+  share_flags = record { 0 = 0 };
+  capabilities = record { 0 = 0 };
+  maximal_access = record { 0 = 0x1F01FF };
+}
+
+-- TREE_CONNECT (3.3.5.7): the answer tells the new tree's number
+unfoldable pub tree_joined : {S : Type 0} → ℕ → SharedState S → Context → List ℕ → CommandStep S
+tree_joined number shared under path = option_map_or
+    (λ fault. refused shared under (status_of_refusal fault))
+    (tree_connect_refusal shared.sessions number under.session_id path)
+    (record {
+      shared = with_table shared (tree_connected shared.sessions.table under.session_id);
+      response = success (record under { tree_id = next_tree_of shared.sessions.table under.session_id }) (answers_tree_connect tree_response);
+    })
+
+-- TREE_DISCONNECT (3.3.5.8): the tree is gone, with its opens
+unfoldable pub tree_left : {S : Type 0} → ℕ → SharedState S → Context → CommandStep S
+tree_left number shared under = option_map_or
+    (λ fault. refused shared under (status_of_refusal fault))
+    (tree_disconnect_refusal shared.sessions.table number under.session_id under.tree_id)
+    (record {
+      shared = with_closed
+          (with_table shared (tree_disconnected shared.sessions.table under.session_id under.tree_id))
+          (Tree under.session_id under.tree_id);
+      response = success under answers_tree_disconnect;
+    })

@@ -1,0 +1,58 @@
+-- The state of a share ([MS-SMB2] 3.3.1).
+use Rattle.std.specs.Prelude.{ℕ, ◌==◌, not, List, [], ◌∷◌, filter}
+use Rattle.smb_session.specs.Authenticator.{Meaning}
+use Rattle.smb_session.specs.Numbers.{without_number}
+use Rattle.smb_session.specs.Table.{TableState, connected, numbers_on}
+use Rattle.smb_session.specs.Sessions.{SessionsState, new_sessions}
+use Rattle.smb_tree.specs.Content.{new_content}
+use Rattle.smb_opens.specs.declared.open_row.Owner.TheVariants.{Session}
+use Rattle.smb_opens.specs.Close.{closed_all}
+use Rattle.smb_opens.specs.State.{StoreState}
+use Rattle.smb_request.specs.Settings.{Settings}
+
+-- what all connections share: the configuration, the sessions with their authenticator, and the files with their
+-- opens (3.3.1.5)
+pub record SharedState (S : Type 0) : Type 0 where
+  pub settings : Settings
+  pub sessions : SessionsState S
+  pub store : StoreState
+
+-- what is shared at first: no session, and of files the root alone; the first open will be 1
+abbrev pub new_shared : {S : Type 0} → Settings → S → SharedState S
+new_shared settings authenticator = record {
+  settings = settings;
+  sessions = new_sessions authenticator settings.share;
+  store = record { tree = new_content settings.created settings.capacity; opens = []; next = 1 };
+}
+
+-- the token that the authenticator offers first
+abbrev pub hello_of : {S : Type 0} → Meaning S → SharedState S → List ℕ
+hello_of m shared = m.hello shared.sessions.authenticator
+
+abbrev pub with_table : {S : Type 0} → SharedState S → TableState → SharedState S
+with_table shared table = record shared { sessions = record shared.sessions { table = table } }
+
+abbrev pub with_store : {S : Type 0} → SharedState S → StoreState → SharedState S
+with_store shared store = record shared { store = store }
+
+-- a connection may begin sessions from now on
+abbrev pub shared_opened : {S : Type 0} → SharedState S → ℕ → SharedState S
+shared_opened shared number = with_table shared (connected shared.sessions.table number)
+
+-- sessions end one after the other: each one's opens are closed (3.3.7.1)
+abbrev pub closed_with : StoreState → List ℕ → StoreState
+closed_with store [] = store
+closed_with store (session ∷ sessions) = closed_with (closed_all store (Session session)) sessions
+
+-- a connection is gone, and its sessions with their trees (3.3.7.1)
+abbrev pub without_connection : TableState → ℕ → TableState
+without_connection table number = record table {
+  connections = without_number table.connections number;
+  sessions = filter (λ e. not (e.1.connection == number)) table.sessions;
+}
+
+-- and with them their opens, session by session in rising number
+unfoldable pub shared_ended : {S : Type 0} → SharedState S → ℕ → SharedState S
+shared_ended shared number = record (with_table shared (without_connection shared.sessions.table number)) {
+  store = closed_with shared.store (numbers_on shared.sessions.table.sessions number);
+}

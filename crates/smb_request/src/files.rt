@@ -1,0 +1,156 @@
+//! CREATE and CLOSE ([MS-SMB2] 3.3.5.9, 3.3.5.10).
+
+ghost use Rattle.std.specs.Prelude.{◌≡◌, ◌≤◌, true, Some, IfOk, IfErr, length, if◌then◌else◌};
+ghost use Rattle.smb_body.specs.Create.{create_asked};
+ghost use Rattle.smb_opens.specs.Asked.{asked};
+ghost use Rattle.smb_request.specs.Owners.{stands};
+ghost use Rattle.smb_request.specs.Files.{file_asked, create_response, file_created, names_open, close_response, file_closed};
+ghost use Rattle.smb_request.specs.Held.{response_of};
+
+use super::context::Context;
+use super::response::{Response, performed, refused};
+use super::shared::Shared;
+use super::status::Status;
+use smb_body::{
+    CloseFlags, CloseRequest, CloseResponse, CreateAction, CreateRequest, CreateResponse,
+    FileAttributes, FileId, OplockLevel, Reply,
+};
+use smb_opens::{CreateAsk, Created, Opens, Owner, StoreFault, View};
+use smb_session::Authenticator;
+use smb_tree::Tree;
+
+/// POSTQUERY_ATTRIB: a CLOSE is to show what the open showed.
+const POSTQUERY_ATTRIB: u16 = 1;
+
+/// What a CREATE asks of the files, under a session and a tree.
+fn file_asked<'a>(under: Context, request: &CreateRequest<'a>) -> CreateAsk<'a>
+    ensures { asked result ≡ file_asked under (create_asked request.now) }
+{
+    CreateAsk {
+        name: request.name,
+        access: request.desired_access.0,
+        attributes: request.file_attributes.0,
+        share: request.share_access.0,
+        disposition: request.create_disposition.0,
+        options: request.create_options.0,
+        session: under.session_id,
+        tree: under.tree_id,
+    }
+}
+
+/// The response to a CREATE that succeeded ([MS-SMB2] 2.2.14).
+fn create_response(done: &Created) -> CreateResponse
+    ensures { result ≡ create_response done.now }
+{
+    CreateResponse {
+        oplock_level: OplockLevel(0),
+        create_action: CreateAction(done.action.code()),
+        creation_time: done.view.creation_time,
+        last_access_time: done.view.last_access_time,
+        last_write_time: done.view.last_write_time,
+        change_time: done.view.change_time,
+        allocation_size: done.view.allocation_size,
+        end_of_file: done.view.size,
+        file_attributes: FileAttributes(done.view.attributes),
+        file_id: FileId {
+            persistent: done.number,
+            volatile: done.number,
+        },
+    }
+}
+
+/// A response that shows nothing.
+const CLOSE_SHOWS_NOTHING: CloseResponse = CloseResponse {
+    flags: CloseFlags(0),
+    creation_time: 0,
+    last_access_time: 0,
+    last_write_time: 0,
+    change_time: 0,
+    allocation_size: 0,
+    end_of_file: 0,
+    file_attributes: FileAttributes(0),
+};
+
+/// The response to a CLOSE of an open that showed this ([MS-SMB2] 2.2.16).
+fn close_response(flags: CloseFlags, view: &View) -> CloseResponse
+    ensures { result ≡ close_response flags (Some view.now) }
+{
+    if flags.0 & POSTQUERY_ATTRIB == 0 {
+        return CLOSE_SHOWS_NOTHING;
+    }
+    CloseResponse {
+        flags: CloseFlags(POSTQUERY_ATTRIB),
+        creation_time: view.creation_time,
+        last_access_time: view.last_access_time,
+        last_write_time: view.last_write_time,
+        change_time: view.change_time,
+        allocation_size: view.allocation_size,
+        end_of_file: view.size,
+        file_attributes: FileAttributes(view.attributes),
+    }
+}
+
+impl<A: Authenticator + Drop, T: Tree + Drop, O: Opens + Drop> Shared<A, T, O> {
+    /// Whether a FileId names an open of this session and tree.
+    pub(crate) fn names_open(&self, under: Context, id: FileId) -> bool
+        ensures { result ≡ names_open self.now.store.opens under id }
+    {
+        if id.persistent != id.volatile {
+            return false;
+        }
+        match self.store.opens().get(id.persistent) {
+            Some(row) => Owner::Tree(under.session_id, under.tree_id).holds(row),
+            None => false,
+        }
+    }
+
+    /// CREATE ([MS-SMB2] 3.3.5.9), under a session and a tree that stand.
+    #[tactic(auto, unfolding(crate::specs::Files::file_created))]
+    pub(crate) fn create_file(
+        &mut self,
+        moment: u64,
+        under: Context,
+        request: &CreateRequest<'_>,
+    ) -> Result<Response, bool>
+        requires { stands self.old.sessions.table under.session_id under.tree_id ≡ true }
+        ensures ok { IfOk result (λ response. record { shared = self.new; response = response_of response }
+            ≡ file_created moment self.old under (create_asked request.now)) }
+        ensures len { IfOk result (λ response. length response.body.items ≤ 65552) }
+        ensures err { IfErr result (λ performed. self.new
+            ≡ (if performed then (file_created moment self.old under (create_asked request.now)).shared else self.old)) }
+        ensures known { self.new.sessions.table.connections ≡ self.old.sessions.table.connections }
+    {
+        let alloc = self.allocator();
+        let done = match self.store.create(&file_asked(under, request), moment) {
+            Ok(done) => done,
+            Err(StoreFault::Status(status)) => {
+                let response = refused(alloc, under, Status::Store(status))?;
+                return Ok(response);
+            }
+            Err(StoreFault::NoMemory) => return Err(false),
+        };
+        let reply = Reply::Create(create_response(&done));
+        performed(alloc, Status::Success, under, &reply)
+    }
+
+    /// CLOSE ([MS-SMB2] 3.3.5.10) of an open that its FileId names.
+    #[tactic(auto, unfolding(crate::specs::Files::file_closed))]
+    pub(crate) fn close_file(
+        &mut self,
+        under: Context,
+        request: &CloseRequest,
+    ) -> Result<Response, bool>
+        requires { names_open self.old.store.opens under request.now.file_id ≡ true }
+        ensures ok { IfOk result (λ response. record { shared = self.new; response = response_of response }
+            ≡ file_closed self.old under request.now) }
+        ensures len { IfOk result (λ response. length response.body.items ≤ 65552) }
+        ensures err { IfErr result (λ performed. self.new
+            ≡ (if performed then (file_closed self.old under request.now).shared else self.old)) }
+        ensures known { self.new.sessions.table.connections ≡ self.old.sessions.table.connections }
+    {
+        let alloc = self.allocator();
+        let closed = self.store.close(request.file_id.persistent);
+        let reply = Reply::Close(close_response(request.flags, &closed.view));
+        performed(alloc, Status::Success, under, &reply)
+    }
+}

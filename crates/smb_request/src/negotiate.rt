@@ -1,0 +1,30 @@
+//! The response to a NEGOTIATE ([MS-SMB2] 3.3.5.4).
+
+ghost use Rattle.std.specs.Prelude.{◌≡◌};
+ghost use Rattle.smb_body.specs.Replies.{reply_value};
+ghost use Rattle.smb_request.specs.Negotiate.{negotiate_answer};
+
+use smb_body::{Capabilities, Dialect, Guid, NegotiateResponse, Reply, SecurityMode};
+
+/// The response that tells a dialect's revision, with the authenticator's hello.
+pub(crate) fn response<'a>(
+    guid: [u8; 16],
+    hello: &'a [u8],
+    moment: u64,
+    dialect_revision: u16,
+) -> Reply<'a>
+    ensures { reply_value result ≡ negotiate_answer guid hello.now moment dialect_revision }
+{
+    Reply::Negotiate(NegotiateResponse {
+        security_mode: SecurityMode(1),
+        dialect_revision: Dialect(dialect_revision),
+        server_guid: Guid(guid),
+        capabilities: Capabilities(0),
+        max_transact_size: 65_536,
+        max_read_size: 65_536,
+        max_write_size: 65_536,
+        system_time: moment,
+        server_start_time: 0,
+        security_buffer: hello,
+    })
+}

@@ -1,0 +1,216 @@
+//! What all connections share ([MS-SMB2] 3.3.1.5).
+
+ghost use Rattle.std.specs.Prelude.{◌≡◌, ◌<◌, ◌≤◌, ◌∷◌, [], ◌++◌, true, OnOk, OnErr, IfOk, length};
+ghost use Rattle.std.specs.Bool.{OnTrue, OnFalse};
+ghost use Rattle.smb_wire.specs.Number.{spelling};
+ghost use Rattle.smb_wire.specs.Pairs.{unit_bytes, AreUnits};
+ghost use Rattle.smb_session.specs.Numbers.{IsRising};
+ghost use Rattle.smb_session.specs.Table.{numbers_on};
+ghost use Rattle.smb_head.specs.Replies.{joined_replies};
+ghost use Rattle.smb_body.specs.Replies.{reply_value};
+ghost use Rattle.smb_session.specs.Good.{GoodTable};
+ghost use Rattle.smb_session.specs.Sessions.{new_sessions};
+ghost use Rattle.smb_tree.specs.Content.{new_content};
+ghost use Rattle.smb_opens.specs.Good.{GoodStore};
+ghost use Rattle.smb_request.specs.Settings.{settings_of, is_lawful};
+ghost use Rattle.smb_request.specs.Negotiate.{negotiate_answer};
+ghost use Rattle.smb_request.specs.Smb1.{reply_to_smb1};
+ghost use Rattle.smb_request.specs.State.{new_shared, hello_of, shared_opened, shared_ended};
+ghost use Rattle.smb_request.specs.Owners.{AreOwned};
+
+use super::config::Config;
+use super::context::Context;
+use super::response::respond;
+use super::status::Status;
+use super::{negotiate, smb1};
+use smb_body::Reply;
+use smb_head::{Header, ReplyChain};
+use smb_opens::{Opens, Owner, Store};
+use smb_session::{Authenticator, Sessions};
+use smb_tree::Tree;
+use smb_wire::{Units, put_u16};
+use std::alloc::{AllocError, Global};
+use std::marker::Model;
+
+/// The configuration, the sessions with their authenticator, and the files with their opens.
+#[derive(Drop)]
+pub struct Shared<A: Authenticator + Drop, T: Tree + Drop, O: Opens + Drop> {
+    config: Config,
+    pub(crate) sessions: Sessions<A>,
+    pub(crate) store: Store<T, O>,
+    alloc: Global,
+}
+
+impl<A: Authenticator + Drop, T: Tree + Drop, O: Opens + Drop> Model for Shared<A, T, O> {
+    ghost use Rattle.smb_request.specs.Settings.{settings_of};
+    ghost use Rattle.smb_request.specs.State.{SharedState};
+    ghost use Rattle.smb_request.specs.Held.{IsSharedKept};
+
+    ghost Value = { SharedState A };
+
+    ghost view = { λ s. record { settings = settings_of s.config; sessions = s.sessions; store = s.store } };
+
+    ghost invariant = { λ s. IsSharedKept (settings_of s.config) s.sessions.table s.store.opens };
+}
+
+/// Adds the bytes of a unit.
+fn put_unit(bytes: &mut Vec<u8>, unit: u16) -> Result<(), AllocError>
+    ensures { OnOk result (bytes.new.items ≡ bytes.old.items ++ spelling 2 unit) }
+{
+    match put_u16(bytes, unit) {
+        Ok(()) => Ok(()),
+        Err(_) => Err(AllocError),
+    }
+}
+
+/// The bytes of units, each of which is a character of ASCII.
+fn wide(alloc: Global, characters: &[u8]) -> Result<Vec<u8>, AllocError>
+    ensures bytes { IfOk result (λ bytes. bytes.items ≡ unit_bytes characters.now) }
+    ensures fits { AreUnits characters.now }
+{
+    let mut bytes = Vec::new(alloc);
+    for character in characters {
+        put_unit(&mut bytes, u16::from(*character))?;
+    }
+    Ok(bytes)
+}
+
+/// No session, for the share of a name in ASCII.
+fn sessions_of<A: Authenticator + Drop>(
+    alloc: Global,
+    authenticator: A,
+    name: &[u8],
+) -> Result<Sessions<A>, AllocError>
+    ensures { IfOk result (λ sessions. sessions ≡ new_sessions authenticator name.now) }
+{
+    let bytes = wide(alloc, name)?;
+    let Some(share) = Units::of(&bytes) else {
+        return Err(AllocError);
+    };
+    match Sessions::new(alloc, authenticator, share) {
+        Ok(sessions) => Ok(sessions),
+        Err(_) => Err(AllocError),
+    }
+}
+
+/// A payload of one reply.
+fn single_reply(alloc: Global, header: &Header, body: &[u8]) -> Result<Vec<u8>, AllocError>
+    requires { length body.now ≤ 65552 }
+    ensures bytes { IfOk result (λ bytes. bytes.items ≡ joined_replies (record { header = header.now; body = body.now } ∷ [])) }
+    ensures len { IfOk result (λ bytes. length bytes.items ≤ 1049856) }
+{
+    let mut replies = ReplyChain::begin(alloc);
+    match replies.push(header, body) {
+        Ok(()) => Ok(replies.finish()),
+        Err(_) => Err(AllocError),
+    }
+}
+
+impl<A: Authenticator + Drop, T: Tree + Drop, O: Opens + Drop> Shared<A, T, O> {
+    /// What connections share at first: no session, and the root alone.
+    #[tactic(auto, using(smb_opens::proofs::OnePath::new_tree))]
+    pub fn new(
+        alloc: Global,
+        config: Config,
+        authenticator: A,
+        tree: T,
+        opens: O,
+    ) -> Result<Self, AllocError>
+        requires lawful { is_lawful (settings_of config) ≡ true }
+        requires tree { T.content tree ≡ new_content config.created config.capacity }
+        requires opens { O.content opens ≡ [] }
+        ensures { IfOk result (λ shared. shared ≡ new_shared (settings_of config) authenticator) }
+    {
+        let sessions = sessions_of(alloc, authenticator, config.share.as_bytes())?;
+        Ok(Shared {
+            config,
+            sessions,
+            store: Store::new(tree, opens),
+            alloc,
+        })
+    }
+
+    /// The allocator of what the share makes.
+    pub fn allocator(&self) -> Global {
+        self.alloc
+    }
+
+    /// A NEGOTIATE response that tells a dialect's revision.
+    pub(crate) fn negotiate_response(&self, moment: u64, dialect_revision: u16) -> Reply<'_>
+        ensures response { reply_value result ≡ negotiate_answer self.now.settings.guid (hello_of A.meaning self.now) moment dialect_revision }
+        ensures short { length (hello_of A.meaning self.now) ≤ 4096 }
+    {
+        negotiate::response(
+            self.config.guid,
+            self.sessions.hello(),
+            moment,
+            dialect_revision,
+        )
+    }
+
+    /// Lets a connection begin sessions from now on. An error changes nothing.
+    pub fn connect(&mut self, number: u64) -> Result<(), AllocError>
+        ensures ok { OnOk result (self.new ≡ shared_opened self.old number) }
+        ensures err { OnErr result (self.new ≡ self.old) }
+    {
+        match self.sessions.connect(number) {
+            Ok(()) => {}
+            Err(_) => return Err(AllocError),
+        }
+        Ok(())
+    }
+
+    /// Ends the least session of a connection, with its opens; false where it has none and is forgotten.
+    #[tactic(auto, unfolding(crate::specs::State::shared_ended))]
+    fn end_one(&mut self, number: u64) -> bool
+        ensures ended { OnTrue result (shared_ended self.new number ≡ shared_ended self.old number) }
+        ensures fewer { OnTrue result (length (numbers_on self.new.sessions.table.sessions number) < length (numbers_on self.old.sessions.table.sessions number)) }
+        ensures none { OnFalse result (self.new ≡ shared_ended self.old number) }
+    {
+        self.sessions.good();
+        let Some(session) = self.sessions.end_connection(number) else {
+            return false;
+        };
+        self.store.close_all(Owner::Session(session));
+        true
+    }
+
+    /// Ends a connection's sessions in rising number, and forgets it. It takes no memory.
+    pub fn disconnect(&mut self, number: u64)
+        ensures ended { self.new ≡ shared_ended self.old number }
+        ensures rising { IsRising self.old.sessions.table.connections }
+    {
+        self.sessions.good();
+        while self.end_one(number) {}
+    }
+
+    /// A reply to an SMB_COM_NEGOTIATE, as a payload: an SMB2 NEGOTIATE response to MessageId 0, which tells
+    /// one credit.
+    pub fn smb1_reply(&self, moment: u64, dialect_revision: u16) -> Result<Vec<u8>, AllocError>
+        ensures bytes { IfOk result (λ bytes. bytes.items
+            ≡ joined_replies (reply_to_smb1 (negotiate_answer self.now.settings.guid (hello_of A.meaning self.now) moment dialect_revision) ∷ [])) }
+        ensures len { IfOk result (λ bytes. length bytes.items ≤ 1049856) }
+    {
+        let under = Context {
+            session_id: 0,
+            tree_id: 0,
+        };
+        let reply = self.negotiate_response(moment, dialect_revision);
+        let response = respond(self.alloc, Status::Success, under, &reply)?;
+        let bytes = single_reply(self.alloc, &smb1::reply_header(), &response.body)?;
+        Ok(bytes)
+    }
+
+    /// The configuration keeps its rules, the sessions and the files are good, and each open is owned. (The body
+    /// does nothing.)
+    pub fn good(&self)
+        ensures lawful { is_lawful self.now.settings ≡ true }
+        ensures sessions { GoodTable self.now.sessions.table }
+        ensures store { GoodStore self.now.store }
+        ensures owned { AreOwned self.now.sessions.table self.now.store.opens }
+    {
+        let _ = &self.config;
+        self.sessions.good();
+        self.store.good();
+    }
+}

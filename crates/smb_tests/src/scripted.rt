@@ -1,0 +1,84 @@
+//! A share whose authenticator follows a script.
+
+ghost use Rattle.std.specs.Prelude.{IfSome};
+ghost use Rattle.std.specs.List.{AllByRecursion};
+ghost use Rattle.smb_session.specs.Authenticator.{IsLawful};
+ghost use Rattle.smb_session.specs.Answers.{answered_by};
+
+use super::calls::{opens, takes};
+use super::words::{NEGOTIATE, NEGOTIATED, frames};
+use smb_engine::{Fate, Share};
+use smb_opens::PlainOpens;
+use smb_replay::{BUILT_IN, Configuration};
+use smb_session::{Answer, Scripted};
+use smb_tree::PlainTree;
+use std::alloc::Global;
+
+type Told = Share<Scripted, PlainTree, PlainOpens>;
+
+/// A SESSION_SETUP with MessageId 1, SessionId 0 and the token `61`.
+const SETUP: &str =
+    "00000059 fe534d42 4000 z6 0100 0100 z8 0100000000000000 z32 1900 00 01 z8 5800 0100 z8 61";
+
+/// STATUS_MORE_PROCESSING_REQUIRED, session 1 and the token `aabb`.
+const MORE: &str =
+    "0000004a fe534d42 4000 z2 160000c0 0100 0100 01000000 z4 0100000000000000 z8 0100000000000000 z16 0900 0000 4800 0200 aabb";
+
+/// A SESSION_SETUP with MessageId 2 in session 1, with the token `63`.
+const NEXT: &str =
+    "00000059 fe534d42 4000 z6 0100 0100 z8 0200000000000000 z8 0100000000000000 z16 1900 00 01 z8 5800 0100 z8 63";
+
+/// STATUS_LOGON_FAILURE.
+const DENIED: &str =
+    "00000049 fe534d42 4000 z2 6d0000c0 0100 0100 01000000 z4 0200000000000000 z8 0100000000000000 z16 0900 z7";
+
+/// Two answers: a token, and no.
+fn script(alloc: Global) -> Option<Vec<Answer>>
+    ensures { IfSome result (λ answers. AllByRecursion (λ answer. IsLawful (answered_by answer)) answers.items) }
+{
+    let token = Vec::from_slice(alloc, &[0xaa, 0xbb]).ok()?;
+    let mut answers = Vec::new(alloc);
+    answers.push(Answer::Continue(token)).ok()?;
+    answers.push(Answer::Deny).ok()?;
+    Some(answers)
+}
+
+/// A share of a configuration, but for its authenticator.
+fn share_of(alloc: Global, configuration: Configuration, authenticator: Scripted) -> Option<Told> {
+    let config = configuration.config;
+    let tree = PlainTree::new(alloc, config.created, config.capacity).ok()?;
+    Share::new(alloc, config, authenticator, tree, PlainOpens::new(alloc)).ok()
+}
+
+/// A share with the script: more is wanted, and then a denial.
+fn told_share(alloc: Global) -> Option<Told> {
+    let authenticator = Scripted::new(alloc, &[], script(alloc)?).ok()?;
+    match Configuration::read(alloc, BUILT_IN) {
+        Ok(configuration) => share_of(alloc, configuration, authenticator),
+        Err(_) => None,
+    }
+}
+
+/// Whether a frame on connection 1 is answered by a frame.
+fn answers(share: &mut Told, alloc: Global, request: &str, reply: &str) -> bool {
+    let Some(piece) = frames(alloc, &[request]) else {
+        return false;
+    };
+    let mut out = Vec::new(alloc);
+    takes(share, 1, &piece, &mut out, Fate::Open) && frames(alloc, &[reply]) == Some(out)
+}
+
+#[test]
+fn a_script_is_followed(rt: HostRuntime) {
+    let alloc = rt.alloc();
+    let is_so = match told_share(alloc) {
+        Some(mut share) => {
+            opens(&mut share, 1, 1)
+                && answers(&mut share, alloc, NEGOTIATE, NEGOTIATED)
+                && answers(&mut share, alloc, SETUP, MORE)
+                && answers(&mut share, alloc, NEXT, DENIED)
+        }
+        None => false,
+    };
+    assert!(rt; is_so);
+}

@@ -1,0 +1,102 @@
+//! A plain tree, through the bound that every layer above has, with answers set by hand.
+
+use smb_tree::{Basic, EntryNo, Kind, PlainTree, Tree, TreeFault, laws_of_contents};
+use smb_wire::{PathView, Units, split_path};
+
+const CREATED: u64 = 116_444_736_000_000_000;
+
+/// The path of a name.
+fn path(name: &[u8]) -> Option<PathView<'_>> {
+    split_path(Units::of(name)?).ok()
+}
+
+/// Adds an entry with all attributes.
+fn add<T: Tree>(tree: &mut T, name: &[u8], kind: Kind) -> Option<Result<EntryNo, TreeFault>> {
+    let path = path(name)?;
+    Some(tree.add(&path, kind, 0xffff_ffff, CREATED + 1))
+}
+
+/// The entry at a name's path.
+fn find<T: Tree>(tree: &T, name: &[u8]) -> Option<EntryNo> {
+    tree.find(&path(name)?)
+}
+
+/// Whether the root is shown as a new tree has it.
+fn shows_the_root<T: Tree>(tree: &T) -> bool {
+    let Some(root) = tree.entry(1) else {
+        return false;
+    };
+    root.number == 1
+        && root.parent == 1
+        && root.kind == Kind::Folder
+        && root.basic == Basic::of(0, CREATED)
+        && root.size == 0
+        && !root.mark
+        && root.spelling.len() == 0
+}
+
+/// Adds the folder `Doc` and the file `me` in it, once.
+fn grows<T: Tree>(tree: &mut T) -> bool {
+    add(tree, b"D\0o\0c\0", Kind::Folder) == Some(Ok(2))
+        && add(tree, b"d\0O\0C\0\\\0m\0e\0", Kind::File) == Some(Ok(3))
+        && add(tree, b"D\0O\0C\0", Kind::File) == Some(Err(TreeFault::Exists))
+        && tree.next_no() == Some(4)
+}
+
+/// Whether the file is found folded, and shown as it was spelled.
+fn shows_the_file<T: Tree>(tree: &T) -> bool {
+    if find(tree, b"D\0O\0C\0\\\0M\0E\0\\\0") != Some(3) {
+        return false;
+    }
+    let Some(file) = tree.entry(3) else {
+        return false;
+    };
+    file.parent == 2
+        && file.kind == Kind::File
+        && file.basic == Basic::of(0x27, CREATED + 1)
+        && file.spelling.bytes() == b"m\0e\0".as_slice()
+}
+
+/// Gives the file as much room as there is, and no more.
+fn fills<T: Tree>(tree: &mut T) -> bool {
+    tree.set_size(3, 4_097) == Ok(())
+        && tree.set_size(3, 8_193) == Err(TreeFault::Full)
+        && tree.set_size(2, 0) == Err(TreeFault::Absent)
+        && tree.used() == 8_192
+        && tree.capacity() == 8_192
+}
+
+/// Gives the root other times, and attributes of which some are kept.
+fn dates<T: Tree>(tree: &mut T) -> bool {
+    let basic = Basic {
+        creation_time: 1,
+        last_access_time: 2,
+        last_write_time: 3,
+        change_time: 4,
+        attributes: 0xb1,
+    };
+    if tree.set_basic(1, basic) != Ok(()) {
+        return false;
+    }
+    let kept = Basic {
+        attributes: 0x21,
+        ..basic
+    };
+    tree.entry(1).is_some_and(|root| root.basic == kept)
+}
+
+#[test]
+fn a_plain_tree(rt: HostRuntime) {
+    let is_so = match PlainTree::new(rt.alloc(), CREATED, 8_192) {
+        Ok(mut tree) => {
+            shows_the_root(&tree)
+                && grows(&mut tree)
+                && shows_the_file(&tree)
+                && fills(&mut tree)
+                && dates(&mut tree)
+        }
+        Err(_) => false,
+    };
+    assert!(rt; is_so);
+    laws_of_contents();
+}

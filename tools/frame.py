@@ -1,0 +1,380 @@
+#!/usr/bin/env python3
+"""frame.py: writes frames of SMB2 from named fields, and reads them back, by the names of [MS-SMB2] 2.2.
+
+    frame.py write 'CREATE MessageId=3 SessionId=1 TreeId=1 DesiredAccess=READ_DATA CreateDisposition=OPEN Name=x\\y'
+    frame.py read '00000044 fe534d42 4000 z6 0d00 0100 z8 0100000000000000 z32 0400 0000'
+    frame.py check ROWS..
+
+`write` prints the words of a row of smb_rows. A response begins with `response` before its command. ` ; ` joins the
+requests, or the responses, of a chain. A field that is not named has the value that most messages give it. Numbers are
+decimal or begin with 0x; names of flags are joined by `|`; a buffer of bytes is hex, a text is ASCII without a blank.
+`read` prints what `write` takes, without the fields of usual values. `check` reads each whole frame of rows and writes it
+again: the bytes must be the same. This tool is for people who write rows; nothing that is proved rests on it.
+"""
+import pathlib
+import re
+import sys
+
+COMMANDS = """NEGOTIATE SESSION_SETUP LOGOFF TREE_CONNECT TREE_DISCONNECT CREATE CLOSE FLUSH READ WRITE LOCK IOCTL CANCEL ECHO
+QUERY_DIRECTORY CHANGE_NOTIFY QUERY_INFO SET_INFO OPLOCK_BREAK""".split()
+
+# A field: NAME:WIDTH, =DEFAULT, @BUFFER for the offset of a buffer and #BUFFER for its length or count. Behind `|` the buffers:
+# `bytes`, `text` (UTF-16), `numbers` (of 2 bytes) or `locks` (elements of 24 bytes); +8 where it begins at a multiple of 8.
+# (A field of the header whose name a body has too begins with `Header`.)
+HEADER = """ProtocolId:4=0x424d53fe HeaderStructureSize:2=64 CreditCharge:2 Status:4 Command:2 Credits:2=1 HeaderFlags:4 NextCommand:4 MessageId:8
+HeaderReserved:4 TreeId:4 SessionId:8 Signature:16"""
+REQUESTS = {
+    "NEGOTIATE": "StructureSize:2=36 DialectCount:2#Dialects SecurityMode:2=1 Reserved:2 Capabilities:4 ClientGuid:16 ClientStartTime:8 | Dialects:numbers",
+    "SESSION_SETUP": "StructureSize:2=25 Flags:1 SecurityMode:1=1 Capabilities:4 Channel:4 SecurityBufferOffset:2@Buffer SecurityBufferLength:2#Buffer PreviousSessionId:8 | Buffer:bytes",
+    "LOGOFF": "StructureSize:2=4 Reserved:2",
+    "TREE_CONNECT": "StructureSize:2=9 Reserved:2 PathOffset:2@Path PathLength:2#Path | Path:text",
+    "TREE_DISCONNECT": "StructureSize:2=4 Reserved:2",
+    "CREATE": """StructureSize:2=57 SecurityFlags:1 RequestedOplockLevel:1 ImpersonationLevel:4=2 SmbCreateFlags:8 Reserved:8 DesiredAccess:4 FileAttributes:4
+        ShareAccess:4=7 CreateDisposition:4 CreateOptions:4 NameOffset:2@Name NameLength:2#Name CreateContextsOffset:4@Contexts CreateContextsLength:4#Contexts
+        | Name:text Contexts:bytes+8""",
+    "CLOSE": "StructureSize:2=24 Flags:2 Reserved:4 FileId:16",
+    "FLUSH": "StructureSize:2=24 Reserved1:2 Reserved2:4 FileId:16",
+    "READ": """StructureSize:2=49 Padding:1 Flags:1 Length:4 Offset:8 FileId:16 MinimumCount:4 Channel:4 RemainingBytes:4 ReadChannelInfoOffset:2 ReadChannelInfoLength:2
+        | Buffer:bytes""",
+    "WRITE": """StructureSize:2=49 DataOffset:2@Buffer Length:4#Buffer Offset:8 FileId:16 Channel:4 RemainingBytes:4 WriteChannelInfoOffset:2 WriteChannelInfoLength:2
+        Flags:4 | Buffer:bytes""",
+    "LOCK": "StructureSize:2=48 LockCount:2#Locks LockSequence:4 FileId:16 | Locks:locks",
+    "CANCEL": "StructureSize:2=4 Reserved:2",
+    "ECHO": "StructureSize:2=4 Reserved:2",
+    "QUERY_DIRECTORY": "StructureSize:2=33 FileInformationClass:1 Flags:1 FileIndex:4 FileId:16 FileNameOffset:2@FileName FileNameLength:2#FileName OutputBufferLength:4=65536 | FileName:text",
+    "QUERY_INFO": """StructureSize:2=41 InfoType:1=1 FileInfoClass:1 OutputBufferLength:4=65536 InputBufferOffset:2 Reserved:2 InputBufferLength:4#Buffer AdditionalInformation:4
+        Flags:4 FileId:16 | Buffer:bytes""",
+    "SET_INFO": "StructureSize:2=33 InfoType:1=1 FileInfoClass:1 BufferLength:4#Buffer BufferOffset:2@Buffer Reserved:2 AdditionalInformation:4 FileId:16 | Buffer:bytes",
+}
+RESPONSES = {
+    "NEGOTIATE": """StructureSize:2=65 SecurityMode:2=1 DialectRevision:2 Reserved:2 ServerGuid:16=000102030405060708090a0b0c0d0e0f Capabilities:4 MaxTransactSize:4=65536
+        MaxReadSize:4=65536 MaxWriteSize:4=65536 SystemTime:8=116444736000000000 ServerStartTime:8 SecurityBufferOffset:2@Buffer SecurityBufferLength:2#Buffer Reserved2:4
+        | Buffer:bytes""",
+    "SESSION_SETUP": "StructureSize:2=9 SessionFlags:2 SecurityBufferOffset:2@Buffer SecurityBufferLength:2#Buffer | Buffer:bytes",
+    "LOGOFF": "StructureSize:2=4 Reserved:2",
+    "TREE_CONNECT": "StructureSize:2=16 ShareType:1=1 Reserved:1 ShareFlags:4 Capabilities:4 MaximalAccess:4=0x001f01ff",
+    "TREE_DISCONNECT": "StructureSize:2=4 Reserved:2",
+    "CREATE": """StructureSize:2=89 OplockLevel:1 Flags:1 CreateAction:4=1 CreationTime:8=116444736000000000 LastAccessTime:8=116444736000000000
+        LastWriteTime:8=116444736000000000 ChangeTime:8=116444736000000000 AllocationSize:8 EndOfFile:8 FileAttributes:4=ARCHIVE Reserved2:4 FileId:16
+        CreateContextsOffset:4@Contexts CreateContextsLength:4#Contexts | Contexts:bytes+8""",
+    "CLOSE": """StructureSize:2=60 Flags:2 Reserved:4 CreationTime:8 LastAccessTime:8 LastWriteTime:8 ChangeTime:8 AllocationSize:8 EndOfFile:8
+        FileAttributes:4""",
+    "FLUSH": "StructureSize:2=4 Reserved:2",
+    "READ": "StructureSize:2=17 DataOffset:1@Buffer Reserved:1 DataLength:4#Buffer DataRemaining:4 Reserved2:4 | Buffer:bytes",
+    "WRITE": "StructureSize:2=17 Reserved:2 Count:4 Remaining:4 WriteChannelInfoOffset:2 WriteChannelInfoLength:2",
+    "LOCK": "StructureSize:2=4 Reserved:2",
+    "ECHO": "StructureSize:2=4 Reserved:2",
+    "QUERY_DIRECTORY": "StructureSize:2=9 OutputBufferOffset:2@Buffer OutputBufferLength:4#Buffer | Buffer:bytes",
+    "QUERY_INFO": "StructureSize:2=9 OutputBufferOffset:2@Buffer OutputBufferLength:4#Buffer | Buffer:bytes",
+    "SET_INFO": "StructureSize:2=2",
+}
+ERROR = "StructureSize:2=9 ErrorContextCount:1 Reserved:1 ByteCount:4 ErrorData:1"
+# The offsets of buffers that stand also where the buffer is empty.
+STANDING = {"SESSION_SETUP SecurityBufferOffset", "CREATE NameOffset", "NEGOTIATE SecurityBufferOffset", "READ DataOffset", "TREE_CONNECT PathOffset", "WRITE DataOffset"}
+
+STATUSES = {
+    "SUCCESS": 0, "BUFFER_OVERFLOW": 0x80000005, "NO_MORE_FILES": 0x80000006, "INVALID_INFO_CLASS": 0xC0000003, "INFO_LENGTH_MISMATCH": 0xC0000004,
+    "INVALID_PARAMETER": 0xC000000D, "NO_SUCH_FILE": 0xC000000F, "INVALID_DEVICE_REQUEST": 0xC0000010, "END_OF_FILE": 0xC0000011,
+    "MORE_PROCESSING_REQUIRED": 0xC0000016, "ACCESS_DENIED": 0xC0000022, "BUFFER_TOO_SMALL": 0xC0000023, "OBJECT_NAME_INVALID": 0xC0000033,
+    "OBJECT_NAME_NOT_FOUND": 0xC0000034, "OBJECT_NAME_COLLISION": 0xC0000035, "OBJECT_PATH_NOT_FOUND": 0xC000003A, "SHARING_VIOLATION": 0xC0000043,
+    "FILE_LOCK_CONFLICT": 0xC0000054, "LOCK_NOT_GRANTED": 0xC0000055, "DELETE_PENDING": 0xC0000056, "LOGON_FAILURE": 0xC000006D, "RANGE_NOT_LOCKED": 0xC000007E,
+    "DISK_FULL": 0xC000007F, "INSUFFICIENT_RESOURCES": 0xC000009A, "FILE_IS_A_DIRECTORY": 0xC00000BA, "NOT_SUPPORTED": 0xC00000BB,
+    "NETWORK_NAME_DELETED": 0xC00000C9, "BAD_NETWORK_NAME": 0xC00000CC, "REQUEST_NOT_ACCEPTED": 0xC00000D0, "DIRECTORY_NOT_EMPTY": 0xC0000101,
+    "NOT_A_DIRECTORY": 0xC0000103, "TOO_MANY_OPENED_FILES": 0xC000011F, "CANNOT_DELETE": 0xC0000121, "FILE_CLOSED": 0xC0000128,
+    "USER_SESSION_DELETED": 0xC0000203,
+}
+ACCESS = {
+    "READ_DATA": 1, "WRITE_DATA": 2, "APPEND_DATA": 4, "READ_EA": 8, "WRITE_EA": 0x10, "EXECUTE": 0x20, "DELETE_CHILD": 0x40, "READ_ATTRIBUTES": 0x80,
+    "WRITE_ATTRIBUTES": 0x100, "DELETE": 0x10000, "READ_CONTROL": 0x20000, "WRITE_DAC": 0x40000, "WRITE_OWNER": 0x80000, "SYNCHRONIZE": 0x100000,
+    "MAXIMUM_ALLOWED": 0x02000000, "GENERIC_ALL": 0x10000000, "GENERIC_EXECUTE": 0x20000000, "GENERIC_WRITE": 0x40000000, "GENERIC_READ": 0x80000000,
+}
+NAMES = {
+    "Status": STATUSES,
+    "DesiredAccess": ACCESS,
+    "ShareAccess": {"SHARE_READ": 1, "SHARE_WRITE": 2, "SHARE_DELETE": 4},
+    "CreateOptions": {"DIRECTORY_FILE": 1, "WRITE_THROUGH": 2, "NON_DIRECTORY_FILE": 0x40, "DELETE_ON_CLOSE": 0x1000, "OPEN_BY_FILE_ID": 0x2000},
+    "FileAttributes": {"READONLY": 1, "HIDDEN": 2, "SYSTEM": 4, "DIRECTORY": 0x10, "ARCHIVE": 0x20, "NORMAL": 0x80},
+    "CreateDisposition": {"SUPERSEDE": 0, "OPEN": 1, "CREATE": 2, "OPEN_IF": 3, "OVERWRITE": 4, "OVERWRITE_IF": 5},
+    "DialectRevision": {"SMB_2_0_2": 0x202, "SMB_2_1": 0x210, "SMB_2_WILDCARD": 0x2FF},
+    "CreateAction": {"SUPERSEDED": 0, "OPENED": 1, "CREATED": 2, "OVERWRITTEN": 3},
+}
+CHOICES = ("Status", "CreateDisposition", "CreateAction", "DialectRevision")
+LOCK_FLAGS = {"SHARED": 1, "EXCLUSIVE": 2, "UNLOCK": 4, "FAIL_IMMEDIATELY": 16}
+
+
+class Unread(Exception):
+    """The bytes are no message that this tool knows, or the words name none."""
+
+
+def table(text):
+    """The fields and the buffers of a table: (name, width, default, offset of, length of), (name, kind, step)."""
+    fixed, _, behind = text.partition("|")
+    fields = [re.fullmatch(r"(\w+):(\d+)(?:=(\w+))?(?:@(\w+))?(?:#(\w+))?", it).groups() for it in fixed.split()]
+    buffers = [re.fullmatch(r"(\w+):(\w+?)(?:\+(\d))?", it).groups() for it in behind.split()]
+    return [(name, int(width), default, at, length) for name, width, default, at, length in fields], [(name, kind, int(step or 1)) for name, kind, step in buffers]
+
+
+def number(name, width, text):
+    """The number of a field's text; a field of 16 bytes is hex, but a FileId, which is a number twice."""
+    if width == 16:
+        if name == "FileId" and not re.fullmatch(r"[0-9a-f]{32}", text):
+            return 2 * int(text, 0).to_bytes(8, "little")
+        return bytes.fromhex(text) if text != "0" else bytes(16)
+    known = NAMES.get(name, {})
+    value = 0
+    for part in text.split("|"):
+        value |= known[part] if part in known else int(part, 0)
+    return value.to_bytes(width, "little")
+
+
+def told(name, width, raw):
+    """The text of a field's bytes."""
+    if width == 16:
+        both = raw[:8] == raw[8:]
+        return str(int.from_bytes(raw[:8], "little")) if name == "FileId" and both else raw.hex()
+    value, known = int.from_bytes(raw, "little"), NAMES.get(name, {})
+    if name in CHOICES:
+        return next((it for it, code in known.items() if code == value), hex(value))
+    parts = [it for it, bit in known.items() if value & bit == bit and bit]
+    rest = value - sum(known[it] for it in parts)
+    return "|".join(parts + [hex(rest)] * bool(rest)) if parts else str(value)
+
+
+def usual(field):
+    name, width, default, _, _ = field
+    return number(name, width, default or "0")
+
+
+def buffer_bytes(kind, text):
+    if kind == "bytes":
+        return bytes.fromhex(text)
+    if kind == "text":
+        return text.encode("utf-16-le")
+    if kind == "numbers":
+        return b"".join(int(it, 0).to_bytes(2, "little") for it in text.split(","))
+    locks = (it.split(":") for it in text.split(","))
+    flags = lambda it: sum(LOCK_FLAGS[part] if part in LOCK_FLAGS else int(part, 0) for part in it.split("|"))
+    return b"".join(int(at, 0).to_bytes(8, "little") + int(length, 0).to_bytes(8, "little") + flags(kinds).to_bytes(8, "little") for at, length, kinds in locks)
+
+
+def buffer_text(kind, raw):
+    if kind == "bytes":
+        return raw.hex()
+    if kind == "text":
+        text = raw.decode("utf-16-le")
+        if not text.isascii() or " " in text:
+            raise Unread("a text that a word cannot hold")
+        return text
+    if kind == "numbers":
+        return ",".join(hex(int.from_bytes(raw[i:i + 2], "little")) for i in range(0, len(raw), 2))
+    parts = [[int.from_bytes(raw[i + j:i + j + 8], "little") for j in (0, 8, 16)] for i in range(0, len(raw), 24)]
+    return ",".join(f"{at}:{length}:{flags}" for at, length, flags in parts)
+
+
+def layout(command, is_response, status):
+    if is_response and status not in (0, STATUSES["MORE_PROCESSING_REQUIRED"], STATUSES["BUFFER_OVERFLOW"]):
+        return table(ERROR)
+    tables = RESPONSES if is_response else REQUESTS
+    if command not in tables:
+        raise Unread(f"no table of {command}")
+    return table(tables[command])
+
+
+def unit(kind):
+    return {"numbers": 2, "locks": 24}.get(kind, 1)
+
+
+def put_body(command, values, fields, buffers):
+    """The fields' bytes of a body, one by one, and then its buffers."""
+    size, contents, places = sum(it[1] for it in fields), {}, {}
+    behind = []
+    for name, kind, step in buffers:
+        contents[name] = buffer_bytes(kind, values.pop(name)) if values.get(name) else b""
+        at = 64 + size + sum(map(len, behind))
+        if contents[name] and at % step:
+            behind.append(bytes(step - at % step))
+            at += step - at % step
+        places[name] = at
+        behind.append(contents[name])
+    out = []
+    for name, width, default, at, length in fields:
+        value = number(name, width, values.pop(name, default or "0"))
+        if at and not any(value) and (contents[at] or f"{command} {name}" in STANDING):
+            value = places[at].to_bytes(width, "little")
+        if length and not any(value):
+            kind = next(it[1] for it in buffers if it[0] == length)
+            value = (len(contents[length]) // unit(kind)).to_bytes(width, "little")
+        out.append(value)
+    return out + behind
+
+
+def put_message(words, is_last):
+    """The parts of a message: the header's fields, the body's, its buffers, and zeros up to the next message."""
+    is_response = words[0] == "response"
+    command, words = words[is_response], words[1 + is_response:]
+    values = dict(it.split("=", 1) for it in words)
+    header, _ = table(HEADER)
+    if is_response:
+        values["HeaderFlags"] = hex(int(values.get("HeaderFlags", "0"), 0) | 1)
+    values["Command"] = str(COMMANDS.index(command))
+    status = int.from_bytes(number("Status", 4, values.get("Status", "0")), "little")
+    wanted = {name: values.pop(name) for name, *_ in header if name in values}
+    body = put_body(command, values, *layout(command, is_response, status))
+    if values:
+        raise Unread(f"no field {' '.join(values)}")
+    length = 64 + sum(map(len, body))
+    padding = b"" if is_last else bytes(-length % 8)
+    if not is_last:
+        wanted.setdefault("NextCommand", str(length + len(padding)))
+    return [number(name, width, wanted.get(name, default or "0")) for name, width, default, _, _ in header] + body + [padding]
+
+
+def write(text):
+    """The words of a frame."""
+    messages = [it.split() for it in text.split(" ; ")]
+    parts = [part for i, it in enumerate(messages) for part in put_message(it, i + 1 == len(messages))]
+    return as_words([sum(map(len, parts)).to_bytes(4, "big"), *parts])
+
+
+def as_words(parts):
+    """Hex words; zeros that follow one another are one word."""
+    words, zeros = [], 0
+    for part in parts:
+        if not any(part):
+            zeros += len(part)
+            continue
+        words += [f"z{zeros}"] * bool(zeros) + [part.hex()]
+        zeros = 0
+    return " ".join(words + [f"z{zeros}"] * bool(zeros))
+
+
+def as_bytes(words, named=()):
+    """The bytes of a row's words."""
+    out = b""
+    for word in words.split():
+        if word.startswith("$"):
+            out += dict(named)[word[1:]]
+        elif word.startswith("u:"):
+            out += word[2:].encode("utf-16-le")
+        elif word.startswith("z"):
+            out += bytes(int(word[1:]))
+        elif word.startswith("n"):
+            out += int(word[1:]).to_bytes(8, "little")
+        elif "*" in word:
+            out += int(word.split("*")[0]) * bytes.fromhex(word.split("*")[1])
+        else:
+            out += bytes.fromhex(word)
+    return out
+
+
+def read_fields(raw, fields, start):
+    values = {}
+    for field in fields:
+        name, width, _, at, length = field
+        value = raw[start:start + width]
+        if len(value) < width:
+            raise Unread("its bytes end")
+        values[name] = value
+        start += width
+    return values, start
+
+
+def read_message(raw):
+    """The words of one message."""
+    header, _ = table(HEADER)
+    head, _ = read_fields(raw, header, 0)
+    code = int.from_bytes(head["Command"], "little")
+    if head["ProtocolId"] != b"\xfeSMB" or code >= len(COMMANDS):
+        raise Unread("no header")
+    command, is_response = COMMANDS[code], head["HeaderFlags"][0] & 1 == 1
+    fields, buffers = layout(command, is_response, int.from_bytes(head["Status"], "little"))
+    body, _ = read_fields(raw, fields, 64)
+    words = ["response", command] if is_response else [command]
+    if is_response:
+        head["HeaderFlags"] = bytes([head["HeaderFlags"][0] - 1]) + head["HeaderFlags"][1:]
+    for field in header:
+        if field[0] not in ("Command", "NextCommand") and head[field[0]] != usual(field):
+            words.append(f"{field[0]}={told(field[0], field[1], head[field[0]])}")
+    for field in fields:
+        if not field[3] and not field[4] and body[field[0]] != usual(field):
+            words.append(f"{field[0]}={told(field[0], field[1], body[field[0]])}")
+    at = 64 + sum(it[1] for it in fields)
+    for name, kind, step in buffers:
+        place = next((int.from_bytes(body[it[0]], "little") for it in fields if it[3] == name), 0) or at
+        length = next((int.from_bytes(body[it[0]], "little") for it in fields if it[4] == name), 0) * unit(kind)
+        if length:
+            words.append(f"{name}={buffer_text(kind, raw[place:place + length])}")
+            at = place + length
+    return " ".join(words)
+
+
+def read(raw):
+    """The words of a whole frame."""
+    if len(raw) < 68 or raw[0] or int.from_bytes(raw[:4], "big") != len(raw) - 4:
+        raise Unread("no whole frame")
+    payload, messages = raw[4:], []
+    while payload:
+        step = int.from_bytes(payload[20:24], "little") or len(payload)
+        messages.append(read_message(payload[:step]))
+        payload = payload[step:]
+    return " ; ".join(messages)
+
+
+def frames_of(rows):
+    """The frames of a file of rows, and those that it names."""
+    named = {}
+    for line in pathlib.Path(rows).read_text(encoding="utf-8").splitlines():
+        words = line.removeprefix("times ").split(" ", 1)[1] if line.startswith("times ") else line
+        if words.startswith("let "):
+            name, _, words = words[len("let "):].partition(" = ")
+            named[name] = as_bytes(words, named.items())
+            yield named[name]
+        elif words.startswith(("> ", "< ")) and "|" not in words:
+            yield as_bytes(words.split(" ", 2)[2], named.items())
+
+
+# Words, and the frame that was set by hand for them.
+BY_HAND = {
+    "NEGOTIATE Credits=31 Dialects=0x202": "00000066 fe534d42 4000 z8 1f00 z48 2400 0100 0100 z30 0202",
+    "response NEGOTIATE Credits=31 DialectRevision=SMB_2_0_2": "00000080 fe534d42 4000 z8 1f00 01000000 z44 4100 0100 0202 0000 000102030405060708090a0b0c0d0e0f 00000000 00000100 00000100 00000100 00803ed5deb19d01 z8 8000 0000 z4",
+    "TREE_CONNECT MessageId=2 SessionId=1 Path=\\\\s\\data": "00000058 fe534d42 4000 z6 0300 0100 z8 0200000000000000 z8 0100000000000000 z16 0900 0000 4800 1000 5c005c0073005c006400610074006100",
+    "CREATE MessageId=3 TreeId=1 SessionId=1 DesiredAccess=READ_DATA|WRITE_DATA CreateDisposition=CREATE Name=a": "0000007a fe534d42 4000 z6 0500 0100 z8 0300000000000000 z4 01000000 0100000000000000 z16 3900 00 00 02000000 z16 03000000 00000000 07000000 02000000 00000000 7800 0200 z8 6100",
+    "ECHO MessageId=1 ; ECHO MessageId=2": "0000008c fe534d42 4000 z6 0d00 0100 z4 48000000 0100000000000000 z32 0400 0000 z4 fe534d42 4000 z6 0d00 0100 z8 0200000000000000 z32 0400 0000",
+    "response CREATE Status=OBJECT_NAME_COLLISION MessageId=3 TreeId=1 SessionId=1": "00000049 fe534d42 4000 z2 350000c0 0500 0100 01000000 z4 0300000000000000 z4 01000000 0100000000000000 z16 0900 z7",
+}
+
+
+def check(files):
+    for words, frame in BY_HAND.items():
+        if as_bytes(write(words)) != as_bytes(frame) or read(as_bytes(frame)) != words:
+            sys.exit(f"not as it was set by hand: {words}\n{write(words)}\n{read(as_bytes(frame))}")
+    well, unread = 0, 0
+    for frame in [it for file in files for it in frames_of(file)]:
+        try:
+            words = read(frame)
+            if as_bytes(write(words)) == frame:
+                well += 1
+                continue
+        except (Unread, ValueError):
+            pass
+        unread += 1
+    print(f"frame.py: {well} frames were written as they were read; {unread} are no whole frames, or are none that it writes")
+    sys.exit(None if well > 9 * unread else "frame.py: too many frames are not written as they were read")
+
+
+def main(words):
+    try:
+        if len(words) == 2 and words[0] == "write":
+            print(write(words[1]))
+        elif len(words) == 2 and words[0] == "read":
+            print(read(as_bytes(words[1])))
+        elif len(words) > 1 and words[0] == "check":
+            check(words[1:])
+        else:
+            sys.exit(__doc__)
+    except Unread as why:
+        sys.exit(f"frame.py: {why}")
+
+
+if __name__ == "__main__":
+    main(sys.argv[1:])
