@@ -19,3 +19,4 @@ pub mod RequestLemmas
 pub mod ReplyLemmas
 pub mod Smb1Lemmas
 pub mod Smb1Lists
+pub mod ReadHeads

@@ -14,6 +14,7 @@ use Rattle.smb_body.specs.Lock.{LockAsked, lock_asked, SaysLock, is_lock, lock_o
 use Rattle.smb_body.specs.QueryDirectory.{QueryDirectoryAsked, query_directory_asked, SaysQueryDirectory, is_query_directory, query_directory_of, query_directory_laid, query_directory_spelling, FitsQueryDirectory, is_query_directory_too_long}
 use Rattle.smb_body.specs.QueryInfo.{query_info_fields, SaysQueryInfo, is_query_info, query_info_of, FitsQueryInfo}
 use Rattle.smb_body.specs.SetInfo.{SetInfoAsked, set_info_asked, SaysSetInfo, is_set_info, set_info_of, set_info_laid, set_info_spelling, FitsSetInfo, is_set_info_too_long}
+use Rattle.smb_body.specs.declared.types.FileId.{FileId}
 use Rattle.smb_body.specs.declared.reserved.ReservedRequest.{ReservedRequest}
 use Rattle.smb_body.specs.declared.close.CloseRequest.{CloseRequest}
 use Rattle.smb_body.specs.declared.flush.FlushRequest.{FlushRequest}
@@ -78,6 +79,25 @@ command_of (asks_echo a) = 13
 command_of (asks_query_directory a) = 14
 command_of (asks_query_info a) = 16
 command_of (asks_set_info a) = 17
+
+-- the FileId that it names, where it acts on an open
+abbrev pub file_id_of : RequestValue → Option FileId
+file_id_of (asks_negotiate a) = None
+file_id_of (asks_session_setup a) = None
+file_id_of (asks_logoff a) = None
+file_id_of (asks_tree_connect a) = None
+file_id_of (asks_tree_disconnect a) = None
+file_id_of (asks_create a) = None
+file_id_of (asks_close a) = Some a.file_id
+file_id_of (asks_flush a) = Some a.file_id
+file_id_of (asks_read a) = Some a.file_id
+file_id_of (asks_write a) = Some a.file_id
+file_id_of (asks_lock a) = Some a.file_id
+file_id_of (asks_cancel a) = None
+file_id_of (asks_echo a) = None
+file_id_of (asks_query_directory a) = Some a.file_id
+file_id_of (asks_query_info a) = Some a.file_id
+file_id_of (asks_set_info a) = Some a.file_id
 
 -- the bytes of a request, its header among them, say this in its body
 abbrev pub SaysBody : List ℕ → RequestValue → Type 0

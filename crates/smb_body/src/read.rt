@@ -1,9 +1,10 @@
 //! READ ([MS-SMB2] 2.2.19, 2.2.20).
 
-ghost use Rattle.std.specs.Prelude.{◌≡◌, length, take, is_some, IfSome, OnOk, ◌++◌, ◌≤◌, IfErr, false};
+ghost use Rattle.std.specs.Prelude.{ℕ, List, ◌+◌, OnErr, ◌≡◌, length, take, is_some, IfSome, OnOk, ◌++◌, ◌≤◌, IfErr, false};
 ghost use Rattle.smb_wire.specs.Fields.{AllFit, appended, joined};
 ghost use Rattle.smb_body.specs.Refusals.{refusal};
 ghost use Rattle.smb_body.specs.Read.{read_fields, is_read, read_of, FitsRead, read_response_fields, is_read_response_too_long};
+ghost use Rattle.smb_body.specs.Replies.{reply_spelling, answers_read};
 
 use super::buffer::{body, file_id_in};
 use super::fault::BodyFault;
@@ -116,5 +117,20 @@ pub(crate) fn put_read_response(
     }
     put_response_fixed(&response, out)?;
     put_bytes(out, response.buffer)?;
+    Ok(())
+}
+
+/// Adds the fixed part of a READ response, whose data of this length is added behind it.
+///
+/// [`BodyFault::NoMemory`] is the only refusal; after it `out` is as it was.
+pub fn put_read_head(data_length: u32, out: &mut Vec<u8>) -> Result<(), BodyFault>
+    ensures ok { (buffer : List ℕ) → length buffer ≡ data_length →
+        OnOk result (out.new.items ++ buffer ≡ out.old.items ++ reply_spelling (answers_read buffer)) }
+    ensures len { OnOk result (length out.new.items ≡ length out.old.items + 16) }
+    ensures kept { take (length out.old.items) out.new.items ≡ out.old.items }
+    ensures err { OnErr result (out.new.items ≡ out.old.items) }
+{
+    let [a, b, c, d] = data_length.to_le_bytes();
+    put_bytes(out, &[17, 0, 80, 0, a, b, c, d, 0, 0, 0, 0, 0, 0, 0, 0])?;
     Ok(())
 }

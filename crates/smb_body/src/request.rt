@@ -2,7 +2,7 @@
 
 ghost use Rattle.std.specs.Prelude.{◌≡◌, ◌++◌, length, take, Some, None, IfSome, IfNone, OnOk, OnErr, IfOk, IfErr, false};
 ghost use Rattle.smb_body.specs.Refusals.{refusal};
-ghost use Rattle.smb_body.specs.Requests.{request_value, request_of, request_spelling, FitsRequest, is_too_long, IsReadBack, RequestsAreTold, LaidIsTheSame};
+ghost use Rattle.smb_body.specs.Requests.{request_value, request_of, file_id_of, request_spelling, FitsRequest, is_too_long, IsReadBack, RequestsAreTold, LaidIsTheSame};
 
 use super::close::{CloseRequest, put_close, read_close};
 use super::create::{CreateRequest, put_create, read_create};
@@ -17,6 +17,7 @@ use super::reserved::{ReservedRequest, put_reserved, read_reserved};
 use super::session_setup::{SessionSetupRequest, put_session_setup, read_session_setup};
 use super::set_info::{SetInfoRequest, put_set_info, read_set_info};
 use super::tree_connect::{TreeConnectRequest, put_tree_connect, read_tree_connect};
+use super::types::FileId;
 use super::write::{WriteRequest, put_write, read_write};
 
 /// A request of a command ([MS-SMB2] 2.2).
@@ -38,6 +39,32 @@ pub enum Request<'a> {
     QueryDirectory(QueryDirectoryRequest<'a>),
     QueryInfo(QueryInfoRequest),
     SetInfo(SetInfoRequest<'a>),
+}
+
+impl Request<'_> {
+    /// The FileId that a request names, where it acts on an open.
+    pub fn file_id(&self) -> Option<FileId>
+        ensures { result ≡ file_id_of (request_value self.now) }
+    {
+        match self {
+            Request::Negotiate(_)
+            | Request::SessionSetup(_)
+            | Request::Logoff(_)
+            | Request::TreeConnect(_)
+            | Request::TreeDisconnect(_)
+            | Request::Create(_)
+            | Request::Cancel(_)
+            | Request::Echo(_) => None,
+            Request::Close(asked) => Some(asked.file_id),
+            Request::Flush(asked) => Some(asked.file_id),
+            Request::Read(asked) => Some(asked.file_id),
+            Request::Write(asked) => Some(asked.file_id),
+            Request::Lock(asked) => Some(asked.file_id),
+            Request::QueryDirectory(asked) => Some(asked.file_id),
+            Request::QueryInfo(asked) => Some(asked.file_id),
+            Request::SetInfo(asked) => Some(asked.file_id),
+        }
+    }
 }
 
 /// What a request of a command says, or None where it says nothing.

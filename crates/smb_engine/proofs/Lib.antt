@@ -1,6 +1,7 @@
 pub mod Heard
 pub mod Lists
 pub mod Turns
+pub mod Placing
 pub mod Steps
 pub mod Pieces
 pub mod Links

@@ -1,5 +1,5 @@
 -- A chain, one request further.
-use Rattle.std.proofs.Common.{◌≡◌, ℕ, zero, suc, ◌+◌, ◌≤◌, Bool, true, false, eqb, ◌&&◌, ◌||◌, List, [], ◌∷◌, ◌++◌, length, take, drop, refl, sym, ap, ◌∙◌, Option, None, Some, arith, append_assoc, if◌then◌else◌}
+use Rattle.std.proofs.Common.{◌≡◌, ℕ, zero, suc, ◌+◌, ◌≤◌, Bool, true, false, eqb, ◌&&◌, ◌||◌, List, [], ◌∷◌, ◌++◌, length, take, drop, refl, sym, ap, ◌∙◌, Option, None, Some, arith, append_assoc, append-nil, if◌then◌else◌}
 use Rattle.std.specs.Prelude.{slice_get}
 use Rattle.std.specs.List.{list_any, AllByRecursion, concat}
 use Rattle.std.specs.Option.{option_map_or}
@@ -16,14 +16,18 @@ use Rattle.smb_request.specs.Smb1.{answer_to_smb1}
 use Rattle.std.proofs.lemmas.List.{take_all}
 use Rattle.std.proofs.lemmas.Bool.{ne_eqb}
 use Rattle.smb_head.specs.Headers.{header_of}
-use Rattle.smb_head.specs.Replies.{so_far}
+use Rattle.smb_head.specs.Replies.{joined_replies}
+use Rattle.smb_head.specs.Placed.{placed, written}
 use Rattle.smb_engine.specs.declared.connection.Connection.{Connection}
 use Rattle.smb_session.specs.Authenticator.{Meaning}
 use Rattle.smb_request.specs.State.{SharedState}
 use Rattle.smb_request.specs.Response.{Performed}
 use Rattle.smb_request.specs.Request.{performed}
 use Rattle.smb_engine.specs.Chain.{is_cancel, is_negotiate_request, message_ids, keeps_negotiate_rule, Turn, replied, turn_after, turn_after_all, admitted, turn_before, PayloadStep, step_of, refused_step, first_negotiate, first_step, count_in_first, chain_step, shared_after_chain, count_in_chain, payload_step, shared_after, count_in}
-use Rattle.smb_engine.specs.Held.{TurnHeld, turn_held, chain_held}
+use Rattle.smb_request.specs.declared.response.Unanswered.{Unanswered}
+use Rattle.smb_request.specs.declared.response.Unanswered.TheVariants.{NotPerformed, Performed as WasPerformed}
+use Rattle.smb_request.specs.Held.{is_performed}
+use Rattle.smb_engine.specs.InPlace.{TurnPlaced, turn_behind, chain_behind}
 use Rattle.smb_engine.proofs.Lists.{drop_found}
 
 -- the MessageIds that are left, behind those that were found
@@ -76,33 +80,45 @@ turns-more m number moment turn (suc i) (x ∷ requests) request h =
 abbrev pub first_turn : {S : Type 0} → SharedState S → Connection → Turn S
 first_turn shared connection = record { shared = shared; connection = connection; context = record { session_id = 0; tree_id = 0 }; replies = [] }
 
--- i requests are done, and this is what the code holds
-pub record ChainSoFar {S : Type 0} (m : Meaning S) (number moment : ℕ) (start : Turn S) (now : TurnHeld S) (requests : List (List ℕ)) (i : ℕ) : Type 0 where
-  pub so_far : now ≡ turn_held (turn_after_all m number moment start (take i requests))
+-- i requests are done, and this is what the code holds, behind what stood there
+pub record ChainSoFar {S : Type 0} (m : Meaning S) (number moment : ℕ) (front : List ℕ) (start : Turn S) (now : TurnPlaced S) (requests : List (List ℕ)) (i : ℕ) : Type 0 where
+  pub so_far : now ≡ turn_behind front (turn_after_all m number moment start (take i requests))
 
-turn_of_held : {S : Type 0} (turn : Turn S) (now : TurnHeld S) → now ≡ turn_held turn →
+turn_of_placed : {S : Type 0} (front : List ℕ) (turn : Turn S) (now : TurnPlaced S) → now ≡ turn_behind front turn →
     record { shared = now.shared; connection = now.connection; context = now.context; replies = turn.replies } ≡ turn
-turn_of_held turn now h = rw h refl
+turn_of_placed front turn now h = rw h refl
+
+-- where a chain begins, nothing stands behind the front
+pub chain_begins : {S : Type 0} (m : Meaning S) (number moment : ℕ) (front : List ℕ) (start : Turn S) (now : TurnPlaced S) (requests : List (List ℕ)) → start.replies ≡ [] →
+    now.shared ≡ start.shared → now.connection ≡ start.connection → now.context ≡ start.context → now.writer ≡ placed front [] → now.out ≡ front →
+    ChainSoFar m number moment front start now requests 0
+unfolding joined_replies
+chain_begins m number moment front start now requests none s c x w o =
+    record { so_far = rw (none, s, c, x, w, o) (ap (λ bytes. record { shared = start.shared; connection = start.connection; context = start.context; writer = placed front []; out = bytes }) (sym (append-nil front))) }
 
 -- where a chain stands before its next request
-pub chain_at : {S : Type 0} (m : Meaning S) (number moment : ℕ) (start : Turn S) (now : TurnHeld S) (requests : List (List ℕ)) (i : ℕ) → ChainSoFar m number moment start now requests i →
-    now.replies ≡ so_far (turn_after_all m number moment start (take i requests)).replies
-chain_at m number moment start now requests i h = ap (λ t. t.replies) h.so_far
+pub writer_at : {S : Type 0} (m : Meaning S) (number moment : ℕ) (front : List ℕ) (start : Turn S) (now : TurnPlaced S) (requests : List (List ℕ)) (i : ℕ) → ChainSoFar m number moment front start now requests i →
+    now.writer ≡ placed front (turn_after_all m number moment start (take i requests)).replies
+writer_at m number moment front start now requests i h = ap (λ t. t.writer) h.so_far
 
-pub chain_more : {S : Type 0} (m : Meaning S) (number moment : ℕ) (start : Turn S) (now new : TurnHeld S) (requests : List (List ℕ)) (request : List ℕ) (i : ℕ) →
-    ChainSoFar m number moment start now requests i → slice_get requests i ≡ Some request →
-    new ≡ turn_held (turn_after m number moment (record { shared = now.shared; connection = now.connection; context = now.context; replies = (turn_after_all m number moment start (take i requests)).replies }) request) →
-    ChainSoFar m number moment start new requests (i + 1)
-chain_more m number moment start now new requests request i h at e = record {
-  so_far = e ∙ ap (λ t. turn_held (turn_after m number moment t request)) (turn_of_held (turn_after_all m number moment start (take i requests)) now h.so_far)
-      ∙ ap turn_held (sym (turns-more m number moment start i requests request at));
+pub out_at : {S : Type 0} (m : Meaning S) (number moment : ℕ) (front : List ℕ) (start : Turn S) (now : TurnPlaced S) (requests : List (List ℕ)) (i : ℕ) → ChainSoFar m number moment front start now requests i →
+    now.out ≡ written front (turn_after_all m number moment start (take i requests)).replies
+out_at m number moment front start now requests i h = ap (λ t. t.out) h.so_far
+
+pub chain_more : {S : Type 0} (m : Meaning S) (number moment : ℕ) (front : List ℕ) (start : Turn S) (now new : TurnPlaced S) (requests : List (List ℕ)) (request : List ℕ) (i : ℕ) →
+    ChainSoFar m number moment front start now requests i → slice_get requests i ≡ Some request →
+    new ≡ turn_behind front (turn_after m number moment (record { shared = now.shared; connection = now.connection; context = now.context; replies = (turn_after_all m number moment start (take i requests)).replies }) request) →
+    ChainSoFar m number moment front start new requests (i + 1)
+chain_more m number moment front start now new requests request i h at e = record {
+  so_far = e ∙ ap (λ t. turn_behind front (turn_after m number moment t request)) (turn_of_placed front (turn_after_all m number moment start (take i requests)) now h.so_far)
+      ∙ ap (turn_behind front) (sym (turns-more m number moment start i requests request at));
 }
 
-pub chain_all : {S : Type 0} (m : Meaning S) (number moment : ℕ) (start : Turn S) (now : TurnHeld S) (requests : List (List ℕ)) (i : ℕ) →
-    ChainSoFar m number moment start now requests i → length requests ≤ i →
-    record { shared = now.shared; connection = now.connection; replies = now.replies } ≡ chain_held (turn_after_all m number moment start requests)
-chain_all m number moment start now requests i h p =
-    let e = h.so_far ∙ ap (λ rs. turn_held (turn_after_all m number moment start rs)) (take_all i requests p) in
+pub chain_all : {S : Type 0} (m : Meaning S) (number moment : ℕ) (front : List ℕ) (start : Turn S) (now : TurnPlaced S) (requests : List (List ℕ)) (i : ℕ) →
+    ChainSoFar m number moment front start now requests i → length requests ≤ i →
+    record { shared = now.shared; connection = now.connection; out = now.out } ≡ chain_behind front (turn_after_all m number moment start requests)
+chain_all m number moment front start now requests i h p =
+    let e = h.so_far ∙ ap (λ rs. turn_behind front (turn_after_all m number moment start rs)) (take_all i requests p) in
     rw e refl
 
 shared-replied : {S : Type 0} (now : Turn S) (request : List ℕ) (p : Performed S) → (replied now request p).shared ≡ p.shared
@@ -115,15 +131,15 @@ unfolding turn_after
 shared-turn_after m number moment now request = shared-replied now request (performed m number moment now.shared now.connection.dialect now.context request)
 
 -- where memory ran out, before the request was performed or after
-pub chain_stopped : {S : Type 0} (m : Meaning S) (number moment : ℕ) (start : Turn S) (now : TurnHeld S) (requests : List (List ℕ)) (request : List ℕ) (i : ℕ) (left : SharedState S) (done : Bool) →
-    ChainSoFar m number moment start now requests i → slice_get requests i ≡ Some request →
-    left ≡ (if done then (performed m number moment now.shared now.connection.dialect now.context request).shared else now.shared) →
-    left ≡ (turn_after_all m number moment start (take (if done then i + 1 else i) requests)).shared
-chain_stopped m number moment start now requests request i left true h at e =
+pub chain_stopped : {S : Type 0} (m : Meaning S) (number moment : ℕ) (front : List ℕ) (start : Turn S) (now : TurnPlaced S) (requests : List (List ℕ)) (request : List ℕ) (i : ℕ) (left : SharedState S) (unanswered : Unanswered) →
+    ChainSoFar m number moment front start now requests i → slice_get requests i ≡ Some request →
+    left ≡ (if is_performed unanswered then (performed m number moment now.shared now.connection.dialect now.context request).shared else now.shared) →
+    left ≡ (turn_after_all m number moment start (take (if is_performed unanswered then i + 1 else i) requests)).shared
+chain_stopped m number moment front start now requests request i left WasPerformed h at e =
     e ∙ ap (λ t. (performed m number moment t.shared t.connection.dialect t.context request).shared) h.so_far
     ∙ sym (shared-turn_after m number moment (turn_after_all m number moment start (take i requests)) request)
     ∙ ap (λ t. t.shared) (sym (turns-more m number moment start i requests request at))
-chain_stopped m number moment start now requests request i left false h at e = e ∙ ap (λ t. t.shared) h.so_far
+chain_stopped m number moment front start now requests request i left NotPerformed h at e = e ∙ ap (λ t. t.shared) h.so_far
 
 -- requests take a byte each and more
 requests_short : (requests : List (List ℕ)) → AllByRecursion IsRequest requests → length requests ≤ length (concat requests)
@@ -250,3 +266,12 @@ module _ {S : Type 0} (m : Meaning S) (number moment : ℕ) (shared : SharedStat
   unfolding payload_step
   refused-shared payload shared' connection' h =
       ap (λ s. s.shared) h ∙ refused_at payload (first_negotiate connection payload) (sym (ap (λ s. s.replies) h))
+
+-- at most one request more than the others is done
+pub done_least : (unanswered : Unanswered) (i n : ℕ) → n ≡ (if is_performed unanswered then i + 1 else i) → n ≤ i + 1
+done_least WasPerformed i n h = omega (arith, h)
+done_least NotPerformed i n h = omega (arith, h)
+
+-- a front that each step keeps is kept
+pub kept_on : (base n : ℕ) (front old new : List ℕ) → base ≡ n → take base new ≡ take base old → take n old ≡ front → take n new ≡ front
+kept_on base n front old new b one all = let e : take n new ≡ take n old = rw (← b) one in e ∙ all

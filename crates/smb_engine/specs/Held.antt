@@ -3,36 +3,14 @@ use Rattle.std.specs.Prelude.{◌≡◌, ℕ, ◌++◌, Bool, List, IsTrue}
 use Rattle.std.specs.List.{flat_map, AllByRecursion}
 use Rattle.smb_frame.specs.Reading.{first, fault_of}
 use Rattle.std.specs.Prelude.{None, ◌≤◌, ◌<◌, length, map}
-use Rattle.smb_head.specs.Replies.{Held, so_far}
-use Rattle.smb_request.specs.declared.context.Context.{Context}
 use Rattle.smb_engine.specs.declared.connection.Connection.{Connection}
 use Rattle.smb_request.specs.State.{SharedState}
 use Rattle.smb_engine.specs.State.{LinkState}
 use Rattle.smb_session.specs.Window.{GoodWindow}
-use Rattle.smb_engine.specs.Chain.{Turn}
 use Rattle.smb_engine.specs.Output.{Output}
 use Rattle.smb_engine.specs.Sink.{Heard}
 use Rattle.smb_engine.specs.Stream.{longest_payload, PayloadSteps, PieceStep}
 use Rattle.smb_engine.specs.Share.{unread_link}
-
--- a turn, with its replies joined
-pub record TurnHeld (S : Type 0) : Type 0 where
-  pub shared : SharedState S
-  pub connection : Connection
-  pub context : Context
-  pub replies : Held
-
-abbrev pub turn_held : {S : Type 0} → Turn S → TurnHeld S
-turn_held turn = record { shared = turn.shared; connection = turn.connection; context = turn.context; replies = so_far turn.replies }
-
--- a chain that was performed, with its replies joined
-pub record ChainHeld (S : Type 0) : Type 0 where
-  pub shared : SharedState S
-  pub connection : Connection
-  pub replies : Held
-
-abbrev pub chain_held : {S : Type 0} → Turn S → ChainHeld S
-chain_held turn = record { shared = turn.shared; connection = turn.connection; replies = so_far turn.replies }
 
 -- steps, with their outputs as a place for outputs holds them, behind what stood there
 pub record StepsHeard (S : Type 0) : Type 0 where

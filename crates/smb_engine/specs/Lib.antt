@@ -8,3 +8,4 @@ pub mod Event
 pub mod Run
 pub mod Laws
 pub mod Held
+pub mod InPlace

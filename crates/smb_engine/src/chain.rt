@@ -1,27 +1,32 @@
 //! A payload: its requests in order, and the replies in one payload ([MS-SMB2] 3.3.5.2).
 
-ghost use Rattle.std.specs.Prelude.{ℕ, List, ◌≡◌, ◌≤◌, ◌<◌, ◌+◌, ◌*◌, ◌^◌, [], ◌∷◌, ◌++◌, true, slice_get, Some, None, OnOk, OnErr, IfOk, IfErr, IfSome, IfNone, length, take, if◌then◌else◌};
-ghost use Rattle.std.specs.List.{list_any};
-ghost use Rattle.std.specs.Option.{option_map};
+ghost use Rattle.std.specs.Prelude.{ℕ, List, ◌≡◌, ◌≤◌, ◌<◌, ◌+◌, ◌-◌, ◌^◌, [], ◌∷◌, ◌++◌, true, slice_get, is_some, Some, None, OnOk, OnErr, IfOk, IfErr, IfSome, IfNone, length, take, replicate, if◌then◌else◌};
+ghost use Rattle.std.specs.List.{list_any, flat_map};
 ghost use Rattle.smb_head.specs.Headers.{header_of};
-ghost use Rattle.smb_head.specs.Replies.{Reply, so_far, rounded_up};
+ghost use Rattle.smb_head.specs.Replies.{Reply, rounded_up};
+ghost use Rattle.smb_head.specs.Placed.{placed, written};
 ghost use Rattle.smb_session.specs.Window.{granted, without};
 ghost use Rattle.smb_request.specs.Request.{performed};
+ghost use Rattle.std.specs.Bool.{OnTrue, OnFalse};
+ghost use Rattle.smb_head.specs.Replies.{joined_replies};
+ghost use Rattle.smb_request.specs.Negotiate.{negotiate_answer};
+ghost use Rattle.smb_request.specs.State.{hello_of};
 ghost use Rattle.smb_request.specs.Smb1.{reply_to_smb1};
-ghost use Rattle.smb_engine.specs.Chain.{is_negotiate_request, message_ids, keeps_negotiate_rule, admitted, reply_to, turn_after, turn_after_all, first_negotiate, first_step, count_in_first, chain_step, shared_after_chain, count_in_chain, payload_step, shared_after, count_in};
-ghost use Rattle.smb_request.specs.Held.{response_of};
-ghost use Rattle.smb_engine.specs.Held.{turn_held, chain_held};
+ghost use Rattle.smb_engine.specs.Chain.{is_negotiate_request, message_ids, keeps_negotiate_rule, admitted, reply_to, turn_after, turn_after_all, step_of, first_negotiate, first_step, count_in_first, chain_step, shared_after_chain, count_in_chain, payload_step, shared_after, count_in};
+ghost use Rattle.smb_request.specs.Held.{is_performed};
+ghost use Rattle.smb_engine.specs.Output.{reply_frame, bytes_of};
+ghost use Rattle.smb_engine.specs.InPlace.{turn_behind, chain_behind, payload_behind};
 
 use super::connection::Connection;
 use arrayvec::ArrayVec;
 use bitflags::Flags;
 use smb_body::{Smb1Dialects, read_smb1_negotiate};
-use smb_head::{Chain, Header, HeaderFlags, ReplyChain, read_chain};
+use smb_frame::{close_frame, open_frame};
+use smb_head::{Chain, Header, HeaderFlags, ReplyWriter, read_chain};
 use smb_opens::Opens;
-use smb_request::{Context, Response, Shared, smb1};
+use smb_request::{Answered, Context, Shared, Unanswered, smb1};
 use smb_session::{Authenticator, Dialect, Window};
 use smb_tree::Tree;
-use std::alloc::AllocError;
 
 /// How many requests a chain has at most.
 const CHAIN_LIMIT: usize = 16;
@@ -39,13 +44,6 @@ fn request_at<'a>(chain: &'a Chain<'_>, i: usize) -> (Header, &'a [u8])
     ensures request { slice_get chain.now i ≡ Some result.1.now }
 {
     chain.get(i).unwrap()
-}
-
-/// The replies to a payload, joined, and the number of its requests.
-#[derive(Drop)]
-pub(crate) struct Replies {
-    pub(crate) bytes: Vec<u8>,
-    pub(crate) count: usize,
 }
 
 /// Whether a chain holds a NEGOTIATE.
@@ -109,22 +107,23 @@ fn admit<'a>(connection: &mut Connection, payload: &'a [u8]) -> Option<Chain<'a>
 }
 
 /// The header of the reply to a request of this header.
-fn reply_header(header: &Header, response: &Response, credits: u16) -> Header
+fn reply_header(header: &Header, answered: Answered, credits: u16) -> Header
     requires { credits < 2 ^ 16 }
-    ensures { (request : List ℕ) → header.now ≡ header_of request → result ≡ (reply_to request (response_of response.now) credits).header }
+    ensures { (request body : List ℕ) → header.now ≡ header_of request →
+        result ≡ (reply_to request (record { status = answered.status; under = answered.under; body = body }) credits).header }
 {
     let related = header.flags.contains(HeaderFlags::RELATED);
     Header {
         credit_charge: header.credit_charge,
-        status: response.status.code(),
+        status: answered.status.code(),
         command: header.command,
         credits,
         flags: HeaderFlags(if related { 5 } else { 1 }),
         next_command: 0,
         message_id: header.message_id,
         reserved: header.reserved,
-        tree_id: response.under.tree_id,
-        session_id: response.under.session_id,
+        tree_id: answered.under.tree_id,
+        session_id: answered.under.session_id,
         signature: [0; 16],
     }
 }
@@ -140,7 +139,7 @@ fn first_negotiate(connection: &Connection, payload: &[u8]) -> Option<Smb1Dialec
     read_smb1_negotiate(payload)
 }
 
-/// Performs one request of a chain, and joins its reply to the others. An error tells whether the
+/// Performs one request of a chain, its reply written once, behind the others. An error tells whether the
 /// request was performed.
 #[tactic(auto, unfolding(crate::specs::Chain::turn_after))]
 fn turn<A: Authenticator + Drop, T: Tree + Drop, O: Opens + Drop>(
@@ -149,59 +148,83 @@ fn turn<A: Authenticator + Drop, T: Tree + Drop, O: Opens + Drop>(
     moment: u64,
     connection: &mut Connection,
     context: &mut Context,
-    replies: &mut ReplyChain,
+    writer: &mut ReplyWriter,
     header: &Header,
     request: &[u8],
-) -> Result<(), bool>
+    out: &mut Vec<u8>,
+) -> Result<(), Unanswered>
     requires header { header.now ≡ header_of request.now }
-    requires room { rounded_up (length replies.old.bytes) + 65616 < 2 ^ 24 }
-    ensures ok { (before : List Reply) → replies.old ≡ so_far before →
-        OnOk result (record { shared = shared.new; connection = connection.new; context = context.new; replies = replies.new }
-        ≡ turn_held (turn_after A.meaning number moment (record { shared = shared.old; connection = connection.old; context = context.old; replies = before }) request.now)) }
-    ensures len { OnOk result (rounded_up (length replies.new.bytes) ≤ rounded_up (length replies.old.bytes) + 65616) }
+    requires order { writer.old.base ≤ writer.old.last }
+    requires within { writer.old.last ≤ length out.old.items }
+    requires room { rounded_up (length out.old.items - writer.old.base) + 65616 < 2 ^ 24 }
+    ensures ok { (front : List ℕ) (before : List Reply) → writer.old ≡ placed front before → out.old.items ≡ written front before →
+        OnOk result (record { shared = shared.new; connection = connection.new; context = context.new; writer = writer.new; out = out.new.items }
+        ≡ turn_behind front (turn_after A.meaning number moment (record { shared = shared.old; connection = connection.old; context = context.old; replies = before }) request.now)) }
+    ensures order { writer.new.base ≤ writer.new.last }
+    ensures base { writer.new.base ≡ writer.old.base }
+    ensures within { OnOk result (writer.new.last ≤ length out.new.items) }
+    ensures len { OnOk result (rounded_up (length out.new.items - writer.old.base) ≤ rounded_up (length out.old.items - writer.old.base) + 65616) }
+    ensures kept { take writer.old.base out.new.items ≡ take writer.old.base out.old.items }
     ensures known { shared.new.sessions.table.connections ≡ shared.old.sessions.table.connections }
-    ensures err { IfErr result (λ done. shared.new ≡ (if done then (performed A.meaning number moment shared.old connection.old.dialect context.old request.now).shared else shared.old)) }
+    ensures err { IfErr result (λ unanswered. shared.new
+        ≡ (if is_performed unanswered then (performed A.meaning number moment shared.old connection.old.dialect context.old request.now).shared else shared.old)) }
 {
-    let response = match shared.perform(
+    let Ok(reply) = writer.open_reply(out) else {
+        return Err(Unanswered::NotPerformed);
+    };
+    let answered = match shared.perform(
         number,
         moment,
         &mut connection.dialect,
         context,
         header,
         request,
+        out,
     ) {
-        Ok(response) => response,
-        Err(performed) => return Err(performed),
+        Ok(answered) => answered,
+        Err(unanswered) => return Err(unanswered),
     };
-    let Some(response) = response else {
+    let Some(answered) = answered else {
+        writer.drop_reply(reply, out);
         return Ok(());
     };
     let credits = connection.window.grant(header.credits);
-    let header = reply_header(header, &response, credits);
-    match replies.push(&header, &response.body) {
-        Ok(()) => Ok(()),
-        Err(_) => Err(true),
+    let header = reply_header(header, answered, credits);
+    writer.close_reply(reply, &header, out);
+    Ok(())
+}
+
+/// How many requests of a chain were performed, where memory ran out in the one behind so many others.
+fn done_behind(others: usize, unanswered: Unanswered) -> usize
+    requires { others < 16 }
+    ensures { result ≡ (if is_performed unanswered then others + 1 else others) }
+{
+    match unanswered {
+        Unanswered::NotPerformed => others,
+        Unanswered::Performed => others + 1,
     }
 }
 
-/// Performs the requests of a chain in order. An error tells how many were performed.
+/// Performs the requests of a chain in order, and adds their replies, joined, to `out`. An error tells how many were
+/// performed.
 fn perform_chain<A: Authenticator + Drop, T: Tree + Drop, O: Opens + Drop>(
     shared: &mut Shared<A, T, O>,
     number: u64,
     moment: u64,
     connection: &mut Connection,
-    replies: &mut ReplyChain,
     chain: &Chain<'_>,
+    out: &mut Vec<u8>,
 ) -> Result<(), usize>
     requires few { length chain.now ≤ 16 }
-    requires none { replies.old ≡ so_far [] }
-    ensures ok { OnOk result (record { shared = shared.new; connection = connection.new; replies = replies.new }
-        ≡ chain_held (turn_after_all A.meaning number moment (record { shared = shared.old; connection = connection.old; context = record { session_id = 0; tree_id = 0 }; replies = [] }) chain.now)) }
-    ensures len { OnOk result (length replies.new.bytes ≤ 1049856) }
+    ensures ok { OnOk result (record { shared = shared.new; connection = connection.new; out = out.new.items }
+        ≡ chain_behind out.old.items (turn_after_all A.meaning number moment (record { shared = shared.old; connection = connection.old; context = record { session_id = 0; tree_id = 0 }; replies = [] }) chain.now)) }
+    ensures len { OnOk result (length out.new.items ≤ length out.old.items + 1049856) }
+    ensures kept { take (length out.old.items) out.new.items ≡ out.old.items }
     ensures known { shared.new.sessions.table.connections ≡ shared.old.sessions.table.connections }
     ensures err { IfErr result (λ done. (done ≤ length chain.now) × (shared.new
         ≡ (turn_after_all A.meaning number moment (record { shared = shared.old; connection = connection.old; context = record { session_id = 0; tree_id = 0 }; replies = [] }) (take done chain.now)).shared)) }
 {
+    let mut writer = ReplyWriter::begin(out);
     let mut context = Context {
         session_id: 0,
         tree_id: 0,
@@ -214,19 +237,68 @@ fn perform_chain<A: Authenticator + Drop, T: Tree + Drop, O: Opens + Drop>(
             moment,
             connection,
             &mut context,
-            replies,
+            &mut writer,
             &header,
             request,
+            out,
         ) {
             Ok(()) => {}
-            Err(performed) => return Err(if performed { i + 1 } else { i }),
+            Err(unanswered) => return Err(done_behind(i, unanswered)),
         }
     }
     Ok(())
 }
 
-/// Performs a payload that is a chain, and gives the payload of its replies with the number of requests;
-/// None where it ends the connection. An error tells how many requests were performed.
+/// Ends the frame that begins at `start`: closes it, or takes it off where nothing stands in it.
+fn end_frame(start: usize, out: &mut Vec<u8>)
+    requires within { start + 4 ≤ length out.old.items }
+    requires fits { length out.old.items < start + 4 + 2 ^ 24 }
+    ensures { (before payload : List ℕ) → start ≡ length before → out.old.items ≡ (before ++ replicate 4 0) ++ payload →
+        out.new.items ≡ before ++ flat_map bytes_of (reply_frame 0 payload) }
+{
+    if out.len() == start + 4 {
+        out.truncate(start);
+    } else {
+        close_frame(start, out);
+    }
+}
+
+/// Performs the requests of a chain, and adds the frame of their replies to `out`, where there are any. An error tells
+/// how many were performed, and leaves `out` as it was.
+fn frame_chain<A: Authenticator + Drop, T: Tree + Drop, O: Opens + Drop>(
+    shared: &mut Shared<A, T, O>,
+    number: u64,
+    moment: u64,
+    connection: &mut Connection,
+    chain: &Chain<'_>,
+    out: &mut Vec<u8>,
+) -> Result<(), usize>
+    requires few { length chain.now ≤ 16 }
+    ensures ok { OnOk result (record { shared = shared.new; connection = connection.new; goes_on = true; out = out.new.items }
+        ≡ payload_behind out.old.items (step_of (turn_after_all A.meaning number moment (record { shared = shared.old; connection = connection.old; context = record { session_id = 0; tree_id = 0 }; replies = [] }) chain.now))) }
+    ensures kept { OnErr result (out.new.items ≡ out.old.items) }
+    ensures known { shared.new.sessions.table.connections ≡ shared.old.sessions.table.connections }
+    ensures err { IfErr result (λ done. (done ≤ length chain.now) × (shared.new
+        ≡ (turn_after_all A.meaning number moment (record { shared = shared.old; connection = connection.old; context = record { session_id = 0; tree_id = 0 }; replies = [] }) (take done chain.now)).shared)) }
+{
+    let Ok(start) = open_frame(out) else {
+        return Err(0);
+    };
+    match perform_chain(shared, number, moment, connection, chain, out) {
+        Ok(()) => {
+            end_frame(start, out);
+            Ok(())
+        }
+        Err(done) => {
+            out.truncate(start);
+            Err(done)
+        }
+    }
+}
+
+/// Performs a payload that is a chain, adds the frame of its replies to `out`, and tells the number of its requests;
+/// None where it ends the connection. An error tells how many requests were performed. Where it is not performed whole
+/// `out` is as it was.
 #[tactic(auto, unfolding(crate::specs::Chain::chain_step, crate::specs::Chain::shared_after_chain, crate::specs::Chain::count_in_chain))]
 fn chain_payload<A: Authenticator + Drop, T: Tree + Drop, O: Opens + Drop>(
     shared: &mut Shared<A, T, O>,
@@ -234,11 +306,12 @@ fn chain_payload<A: Authenticator + Drop, T: Tree + Drop, O: Opens + Drop>(
     moment: u64,
     connection: &mut Connection,
     payload: &[u8],
-) -> Result<Option<Replies>, usize>
-    ensures ok { IfOk result (λ replies. record { shared = shared.new; connection = connection.new; replies = option_map (λ r. r.bytes.items) replies }
-        ≡ chain_step A.meaning number moment shared.old connection.old payload.now) }
-    ensures len { IfOk result (λ replies. IfSome replies (λ r. length r.bytes.items ≤ 1049856)) }
-    ensures count { IfOk result (λ replies. IfSome replies (λ r. count_in_chain A.meaning number moment shared.old connection.old payload.now ≡ r.count)) }
+    out: &mut Vec<u8>,
+) -> Result<Option<usize>, usize>
+    ensures ok { IfOk result (λ count. record { shared = shared.new; connection = connection.new; goes_on = is_some count; out = out.new.items }
+        ≡ payload_behind out.old.items (chain_step A.meaning number moment shared.old connection.old payload.now)) }
+    ensures count { IfOk result (λ count. IfSome count (λ n. count_in_chain A.meaning number moment shared.old connection.old payload.now ≡ n)) }
+    ensures kept { OnErr result (out.new.items ≡ out.old.items) }
     ensures err { IfErr result (λ done. (done ≤ count_in_chain A.meaning number moment shared.old connection.old payload.now)
         × (shared.new ≡ shared_after_chain A.meaning number moment shared.old connection.old payload.now done)) }
     ensures known { shared.new.sessions.table.connections ≡ shared.old.sessions.table.connections }
@@ -246,39 +319,70 @@ fn chain_payload<A: Authenticator + Drop, T: Tree + Drop, O: Opens + Drop>(
     let Some(chain) = admit(connection, payload) else {
         return Ok(None);
     };
-    let mut replies = ReplyChain::begin(shared.allocator());
-    perform_chain(shared, number, moment, connection, &mut replies, &chain)?;
-    Ok(Some(Replies {
-        bytes: replies.finish(),
-        count: chain.len(),
-    }))
+    frame_chain(shared, number, moment, connection, &chain, out)?;
+    Ok(Some(chain.len()))
 }
 
-/// Answers an SMB_COM_NEGOTIATE that lists these dialects; None where it ends the connection.
+/// Adds the frame of the response to an SMB_COM_NEGOTIATE to `out`. False says that memory was wanting; `out` is as it
+/// was then.
+fn frame_smb1<A: Authenticator + Drop, T: Tree + Drop, O: Opens + Drop>(
+    shared: &Shared<A, T, O>,
+    moment: u64,
+    dialect_revision: u16,
+    out: &mut Vec<u8>,
+) -> bool
+    ensures ok { OnTrue result (out.new.items ≡ out.old.items
+        ++ flat_map bytes_of (reply_frame 0 (joined_replies (reply_to_smb1 (negotiate_answer shared.now.settings.guid (hello_of A.meaning shared.now) moment dialect_revision) ∷ [])))) }
+    ensures kept { OnFalse result (out.new.items ≡ out.old.items) }
+{
+    let Ok(start) = open_frame(out) else {
+        return false;
+    };
+    let mut writer = ReplyWriter::begin(out);
+    let Ok(reply) = writer.open_reply(out) else {
+        out.truncate(start);
+        return false;
+    };
+    let Ok(()) = shared.put_smb1_body(moment, dialect_revision, out) else {
+        out.truncate(start);
+        return false;
+    };
+    writer.close_reply(reply, &smb1::reply_header(), out);
+    end_frame(start, out);
+    true
+}
+
+/// Answers an SMB_COM_NEGOTIATE that lists these dialects, and tells how many requests it is; None where it ends the
+/// connection. Where it is not answered `out` is as it was.
 #[tactic(auto, unfolding(crate::specs::Chain::first_step))]
 fn first_payload<A: Authenticator + Drop, T: Tree + Drop, O: Opens + Drop>(
     shared: &Shared<A, T, O>,
     moment: u64,
     connection: &mut Connection,
     dialects: Smb1Dialects,
-) -> Result<Option<Replies>, AllocError>
-    ensures ok { IfOk result (λ replies. record { shared = shared.now; connection = connection.new; replies = option_map (λ r. r.bytes.items) replies }
-        ≡ first_step A.meaning moment shared.now connection.old dialects) }
-    ensures len { IfOk result (λ replies. IfSome replies (λ r. length r.bytes.items ≤ 1049856)) }
-    ensures count { IfOk result (λ replies. IfSome replies (λ r. count_in_first dialects ≡ r.count)) }
+    out: &mut Vec<u8>,
+) -> Result<Option<usize>, usize>
+    ensures ok { IfOk result (λ count. record { shared = shared.now; connection = connection.new; goes_on = is_some count; out = out.new.items }
+        ≡ payload_behind out.old.items (first_step A.meaning moment shared.now connection.old dialects)) }
+    ensures count { IfOk result (λ count. IfSome count (λ n. count_in_first dialects ≡ n)) }
+    ensures err { IfErr result (λ done. done ≡ 0) }
+    ensures kept { OnErr result (out.new.items ≡ out.old.items) }
 {
     let Some(answer) = smb1::answer(dialects) else {
         return Ok(None);
     };
-    let bytes = shared.smb1_reply(moment, answer.dialect_revision)?;
+    if !frame_smb1(shared, moment, answer.dialect_revision, out) {
+        return Err(0);
+    }
     connection.payload_came = true;
     connection.dialect = answer.dialect;
     connection.window = Window::new(1);
-    Ok(Some(Replies { bytes, count: 1 }))
+    Ok(Some(1))
 }
 
-/// Performs a payload, and gives the payload of its replies with the number of requests; None where it
-/// ends the connection. An error tells how many requests were performed.
+/// Performs a payload, adds the frame of its replies to `out`, where there are any, and tells the number of its
+/// requests; None where it ends the connection. An error tells how many requests were performed. Where it is not
+/// performed whole `out` is as it was.
 #[tactic(auto, unfolding(crate::specs::Chain::payload_step, crate::specs::Chain::shared_after, crate::specs::Chain::count_in))]
 pub(crate) fn perform_payload<A: Authenticator + Drop, T: Tree + Drop, O: Opens + Drop>(
     shared: &mut Shared<A, T, O>,
@@ -286,21 +390,19 @@ pub(crate) fn perform_payload<A: Authenticator + Drop, T: Tree + Drop, O: Opens 
     moment: u64,
     connection: &mut Connection,
     payload: &[u8],
-) -> Result<Option<Replies>, usize>
-    ensures ok { IfOk result (λ replies. record { shared = shared.new; connection = connection.new; replies = option_map (λ r. r.bytes.items) replies }
-        ≡ payload_step A.meaning number moment shared.old connection.old payload.now) }
-    ensures len { IfOk result (λ replies. IfSome replies (λ r. length r.bytes.items ≤ 1049856)) }
+    out: &mut Vec<u8>,
+) -> Result<Option<usize>, usize>
+    ensures ok { IfOk result (λ count. record { shared = shared.new; connection = connection.new; goes_on = is_some count; out = out.new.items }
+        ≡ payload_behind out.old.items (payload_step A.meaning number moment shared.old connection.old payload.now)) }
     ensures few { count_in A.meaning number moment shared.old connection.old payload.now ≤ length payload.now }
-    ensures count { IfOk result (λ replies. IfSome replies (λ r. count_in A.meaning number moment shared.old connection.old payload.now ≡ r.count)) }
+    ensures count { IfOk result (λ count. IfSome count (λ n. count_in A.meaning number moment shared.old connection.old payload.now ≡ n)) }
+    ensures kept { OnErr result (out.new.items ≡ out.old.items) }
     ensures err { IfErr result (λ done. (done ≤ count_in A.meaning number moment shared.old connection.old payload.now)
         × (shared.new ≡ shared_after A.meaning number moment shared.old connection.old payload.now done)) }
     ensures known { shared.new.sessions.table.connections ≡ shared.old.sessions.table.connections }
 {
-    let Some(dialects) = first_negotiate(connection, payload) else {
-        return chain_payload(shared, number, moment, connection, payload);
-    };
-    match first_payload(shared, moment, connection, dialects) {
-        Ok(replies) => Ok(replies),
-        Err(_) => Err(0),
+    match first_negotiate(connection, payload) {
+        None => chain_payload(shared, number, moment, connection, payload, out),
+        Some(dialects) => first_payload(shared, moment, connection, dialects, out),
     }
 }

@@ -1,12 +1,11 @@
 //! What the share puts out, and where it goes.
 
-ghost use Rattle.std.specs.Prelude.{◌≡◌, ◌<◌, ◌^◌, ◌++◌, ◌∷◌, [], OnOk, OnErr, length, take};
+ghost use Rattle.std.specs.Prelude.{◌≡◌, ◌++◌, ◌∷◌, [], OnOk, OnErr, length, take, List, ℕ};
 ghost use Rattle.std.specs.List.{flat_map};
-ghost use Rattle.smb_frame.specs.Framed.{frame};
-ghost use Rattle.smb_engine.specs.Output.{end_of, reply_frame};
+ghost use Rattle.smb_engine.specs.Output.{bytes_of, end_of, reply_frame};
 
-use smb_frame::put_frame;
 use std::alloc::{AllocError, Global};
+use std::mem;
 
 /// What the share answers.
 #[derive(Debug, Drop)]
@@ -18,8 +17,11 @@ pub enum Answer {
 }
 
 /// Where the outputs of a piece go: answers in order, or the bytes of one connection's frames.
+///
+/// A frame is written into a vector that the sink hands out, behind what it holds, and is given back with it: so the
+/// bytes of one connection are written straight where they are sent from, and an answer's into a vector of its own.
 pub(crate) trait Sink {
-    ghost use Rattle.std.specs.Prelude.{List};
+    ghost use Rattle.std.specs.Prelude.{ℕ, List};
     ghost use Rattle.smb_engine.specs.Output.{Output};
     ghost use Rattle.smb_engine.specs.Sink.{Heard};
 
@@ -27,20 +29,30 @@ pub(crate) trait Sink {
 
     ghost hears: { Output → List Heard };
 
+    /// What stands there, with the vector that was handed out, which holds these bytes.
+    ghost with_bytes: { Self → List ℕ → List Heard };
+
+    /// A vector that was handed out with these bytes.
+    ghost lends: { Self → List ℕ → Type 0 };
+
     /// How much stands there.
     fn mark(&self) -> usize
         ensures { result ≡ length (content self.now) };
 
-    /// Adds the replies to a payload as a frame, where there are any.
-    fn put_replies(
-        &mut self,
-        alloc: Global,
-        connection: u64,
-        replies: &Vec<u8>,
-    ) -> Result<(), AllocError>
-        requires { length replies.now.items < 2 ^ 24 }
-        ensures ok { OnOk result (content self.new ≡ content self.old ++ flat_map hears (reply_frame connection replies.now.items)) }
-        ensures kept { take (length (content self.old)) (content self.new) ≡ content self.old };
+    /// Hands out the vector for a frame, with the bytes that it holds. It takes no memory.
+    fn take_bytes(&mut self, alloc: Global) -> Vec<u8>
+        ensures lent { lends self.new result.items }
+        ensures content { with_bytes self.new result.items ≡ content self.old };
+
+    /// Takes the vector back with the frame of a payload's replies behind what it held, where there are any.
+    fn give_frame(&mut self, connection: u64, bytes: Vec<u8>) -> Result<(), AllocError>
+        ensures ok { (before replies : List ℕ) → lends self.old before → bytes.items ≡ before ++ flat_map bytes_of (reply_frame 0 replies) →
+            OnOk result (content self.new ≡ with_bytes self.old before ++ flat_map hears (reply_frame connection replies)) }
+        ensures err { (before : List ℕ) → lends self.old before → OnErr result (content self.new ≡ with_bytes self.old before) };
+
+    /// Takes the vector back as it was handed out.
+    fn give_back(&mut self, bytes: Vec<u8>)
+        ensures { (before : List ℕ) → lends self.old before → bytes.items ≡ before → content self.new ≡ with_bytes self.old before };
 
     /// Adds the end of a connection.
     fn put_end(&mut self, connection: u64) -> Result<(), AllocError>
@@ -52,17 +64,8 @@ pub(crate) trait Sink {
         ensures { content self.new ≡ take mark (content self.old) };
 }
 
-/// Adds the frame of a payload, or nothing.
-fn add_frame(payload: &[u8], out: &mut Vec<u8>) -> Result<(), AllocError>
-    requires { length payload.now < 2 ^ 24 }
-    ensures ok { OnOk result (out.new.items ≡ out.old.items ++ frame payload.now) }
-    ensures kept { OnErr result (out.new.items ≡ out.old.items) }
-{
-    put_frame(payload, out).map_err(|_| AllocError)
-}
-
 impl Sink for Vec<Answer> {
-    ghost use Rattle.std.specs.Prelude.{map};
+    ghost use Rattle.std.specs.Prelude.{map, ◌≡◌, []};
     ghost use Rattle.smb_engine.specs.Output.{outputs_of};
     ghost use Rattle.smb_engine.specs.Sink.{whole, hears_whole};
 
@@ -70,24 +73,28 @@ impl Sink for Vec<Answer> {
 
     ghost hears = { hears_whole };
 
+    ghost with_bytes = { λ answers bytes. map whole (outputs_of answers.items) };
+
+    ghost lends = { λ answers bytes. bytes ≡ [] };
+
     fn mark(&self) -> usize {
         self.len()
     }
 
-    fn put_replies(
-        &mut self,
-        alloc: Global,
-        connection: u64,
-        replies: &Vec<u8>,
-    ) -> Result<(), AllocError> {
-        if replies.is_empty() {
+    fn take_bytes(&mut self, alloc: Global) -> Vec<u8> {
+        let _ = &self;
+        Vec::new(alloc)
+    }
+
+    fn give_frame(&mut self, connection: u64, bytes: Vec<u8>) -> Result<(), AllocError> {
+        if bytes.is_empty() {
             return Ok(());
         }
-        let mut bytes = Vec::new(alloc);
-        add_frame(replies, &mut bytes)?;
         self.push(Answer::Frame(connection, bytes))?;
         Ok(())
     }
+
+    fn give_back(&mut self, _bytes: Vec<u8>) {}
 
     fn put_end(&mut self, connection: u64) -> Result<(), AllocError> {
         self.push(Answer::End(connection))?;
@@ -100,27 +107,32 @@ impl Sink for Vec<Answer> {
 }
 
 impl Sink for Vec<u8> {
-    ghost use Rattle.std.specs.Prelude.{map};
+    ghost use Rattle.std.specs.Prelude.{map, ⊤};
     ghost use Rattle.smb_engine.specs.Sink.{byte, hears_bytes};
 
     ghost content = { λ bytes. map byte bytes.items };
 
     ghost hears = { hears_bytes };
 
+    ghost with_bytes = { λ rest bytes. map byte bytes };
+
+    ghost lends = { λ rest bytes. ⊤ };
+
     fn mark(&self) -> usize {
         self.len()
     }
 
-    fn put_replies(
-        &mut self,
-        _alloc: Global,
-        _connection: u64,
-        replies: &Vec<u8>,
-    ) -> Result<(), AllocError> {
-        if replies.is_empty() {
-            return Ok(());
-        }
-        add_frame(replies, self)
+    fn take_bytes(&mut self, alloc: Global) -> Vec<u8> {
+        mem::replace(self, Vec::new(alloc))
+    }
+
+    fn give_frame(&mut self, _connection: u64, bytes: Vec<u8>) -> Result<(), AllocError> {
+        *self = bytes;
+        Ok(())
+    }
+
+    fn give_back(&mut self, bytes: Vec<u8>) {
+        *self = bytes;
     }
 
     fn put_end(&mut self, _connection: u64) -> Result<(), AllocError> {

@@ -1,10 +1,12 @@
 //! A piece of a connection's stream, payload by payload.
 
-ghost use Rattle.std.specs.Prelude.{◌≡◌, ◌≤◌, ◌++◌, ◌&&◌, None, OnOk, OnErr, IfOk, IfErr, IsTrue, is_none, length, take};
+ghost use Rattle.std.specs.Prelude.{◌≡◌, ◌≤◌, ◌++◌, ◌&&◌, None, OnOk, OnErr, IfOk, IfErr, IfSome, IsTrue, is_none, is_some, length, take};
 ghost use Rattle.std.specs.List.{flat_map};
 ghost use Rattle.smb_frame.specs.Reading.{first, fault_of, payloads, rest};
 ghost use Rattle.smb_engine.specs.Stream.{longest_payload, payload_steps, shared_after_some, count_in_all, piece_step, shared_after_piece, count_in_piece};
+ghost use Rattle.smb_engine.specs.Chain.{payload_step, shared_after, count_in};
 ghost use Rattle.smb_engine.specs.Held.{steps_heard, Waits, IsPieceHeld};
+ghost use Rattle.smb_engine.specs.InPlace.{payload_heard};
 
 use super::chain::perform_payload;
 use super::connection::{Connection, Link};
@@ -14,6 +16,42 @@ use smb_opens::Opens;
 use smb_request::Shared;
 use smb_session::Authenticator;
 use smb_tree::Tree;
+
+/// Performs a payload, puts out the frame of its replies, where there are any, and tells the number of its requests;
+/// None where it ends the connection. An error tells how many requests were performed, and puts nothing out.
+fn put_payload<A: Authenticator + Drop, T: Tree + Drop, O: Opens + Drop, K: Sink>(
+    shared: &mut Shared<A, T, O>,
+    connection: &mut Connection,
+    number: u64,
+    moment: u64,
+    payload: &[u8],
+    out: &mut K,
+) -> Result<Option<usize>, usize>
+    ensures ok { IfOk result (λ count. record { shared = shared.new; connection = connection.new; goes_on = is_some count; heard = K.content out.new }
+        ≡ payload_heard K.hears (K.content out.old) number (payload_step A.meaning number moment shared.old connection.old payload.now)) }
+    ensures few { count_in A.meaning number moment shared.old connection.old payload.now ≤ length payload.now }
+    ensures count { IfOk result (λ count. IfSome count (λ n. count_in A.meaning number moment shared.old connection.old payload.now ≡ n)) }
+    ensures err { IfErr result (λ done. (done ≤ count_in A.meaning number moment shared.old connection.old payload.now)
+        × (shared.new ≡ shared_after A.meaning number moment shared.old connection.old payload.now done)) }
+    ensures kept { OnErr result (K.content out.new ≡ K.content out.old) }
+    ensures known { shared.new.sessions.table.connections ≡ shared.old.sessions.table.connections }
+{
+    let mut bytes = out.take_bytes(shared.allocator());
+    match perform_payload(shared, number, moment, connection, payload, &mut bytes) {
+        Ok(Some(count)) => match out.give_frame(number, bytes) {
+            Ok(()) => Ok(Some(count)),
+            Err(_) => Err(count),
+        },
+        Ok(None) => {
+            out.give_back(bytes);
+            Ok(None)
+        }
+        Err(done) => {
+            out.give_back(bytes);
+            Err(done)
+        }
+    }
+}
 
 /// Performs the payloads of the whole frames that are held, in order, and puts out their replies. Ok tells
 /// whether the connection stays open and how many requests were performed; an error, the latter.
@@ -38,19 +76,14 @@ fn take_payloads<A: Authenticator + Drop, T: Tree + Drop, O: Opens + Drop, K: Si
     ensures known { shared.new.sessions.table.connections ≡ shared.old.sessions.table.connections }
 {
     let _length = buffer.len();
-    let alloc = shared.allocator();
     let mut done = 0;
     while let Some(payload) = buffer.next() {
-        match perform_payload(shared, number, moment, connection, payload) {
+        match put_payload(shared, connection, number, moment, payload, out) {
             Err(k) => return Err(done + k),
             Ok(None) => return Ok((false, done)),
-            Ok(Some(replies)) => {
-                done += replies.count;
+            Ok(Some(count)) => {
+                done += count;
                 buffer.done();
-                match out.put_replies(alloc, number, &replies.bytes) {
-                    Ok(()) => {}
-                    Err(_) => return Err(done),
-                }
             }
         }
     }

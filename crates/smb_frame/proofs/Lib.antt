@@ -2,3 +2,4 @@ pub mod Frames
 pub mod Rests
 pub mod Streams
 pub mod Bounds
+pub mod Heads

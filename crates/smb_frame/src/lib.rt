@@ -15,4 +15,4 @@ mod put;
 
 pub use buffer::{FrameBuffer, laws_of_frames};
 pub use fault::FrameFault;
-pub use put::put_frame;
+pub use put::{close_frame, open_frame, put_frame};

@@ -61,11 +61,11 @@ rounded_aligned n = omega arith
 rounded_behind : (front n : ℕ) → front % 8 ≡ 0 → rounded_up (front + n) ≡ front + rounded_up n
 rounded_behind front n h = omega arith
 
-length-padded : (bytes : List ℕ) → length (padded bytes) ≡ rounded_up (length bytes)
+pub length-padded : (bytes : List ℕ) → length (padded bytes) ≡ rounded_up (length bytes)
 length-padded bytes = omega (arith, length-append bytes (replicate (rounded_up (length bytes) - length bytes) 0), length-replicate {A = ℕ} (rounded_up (length bytes) - length bytes) 0, rounded_is (length bytes))
 
 -- behind a front
-patched_behind : (next place n : ℕ) (front bytes : List ℕ) → length front ≡ n → patched next (n + place) (front ++ bytes) ≡ front ++ patched next place bytes
+pub patched_behind : (next place n : ℕ) (front bytes : List ℕ) → length front ≡ n → patched next (n + place) (front ++ bytes) ≡ front ++ patched next place bytes
 patched_behind next place n front bytes h =
     let e : n + place + 20 ≡ length front + (place + 20) = omega (arith, h) in
     let f : n + place + 24 ≡ length front + (place + 24) = omega (arith, h) in
@@ -176,3 +176,9 @@ holds_none [] bytes e = ((λ h. refl), (λ h. ap length e))
 holds_none (r ∷ replies) bytes e =
     let g = grows r replies r in
     ((λ h. absurd (omega (arith, g.within, ap length e))), (λ h. cc))
+
+-- where the last reply begins after one more
+pub last_after : (replies : List Reply) (reply : Reply) → last_place (replies ++ reply ∷ []) ≡ rounded_up (length (joined_replies replies))
+unfolding joined_replies last_place
+last_after [] reply = refl
+last_after (r ∷ replies) reply = let g = grows r replies reply in g.last

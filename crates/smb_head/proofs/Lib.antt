@@ -5,3 +5,5 @@ pub mod Faultless
 pub mod Chaining
 pub mod Joining
 pub mod Faults
+pub mod Placing
+pub mod Spelled

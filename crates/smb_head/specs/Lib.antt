@@ -3,3 +3,4 @@ pub mod Faults
 pub mod Headers
 pub mod Chains
 pub mod Replies
+pub mod Placed

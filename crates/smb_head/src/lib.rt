@@ -17,6 +17,7 @@ mod command;
 mod fault;
 mod header;
 mod reply;
+mod writer;
 
 pub use chain::{Chain, laws_of_chains, read_chain};
 pub use command::{Command, CommandCode, laws_of_commands};
@@ -25,3 +26,4 @@ pub use header::{
     Header, HeaderFlags, each_header_fits, laws_of_headers, read_header, write_header,
 };
 pub use reply::ReplyChain;
+pub use writer::{OpenReply, ReplyWriter};

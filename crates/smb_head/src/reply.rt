@@ -32,7 +32,7 @@ impl Model for ReplyChain {
 const ZEROS: [u8; 8] = [0; 8];
 
 /// The next multiple of 8, or the number itself where it is one.
-fn rounded_up(n: usize) -> usize
+pub(crate) fn rounded_up(n: usize) -> usize
     requires { n < 2 ^ 32 }
     ensures { result ≡ rounded_up n }
 {
@@ -44,7 +44,7 @@ const NEXT_COMMAND: usize = 20;
 
 /// Writes a NextCommand into the header that begins at `place`.
 #[tactic(auto, unfolding(smb_wire::specs::Number::spelling))]
-fn set_next(out: &mut Vec<u8>, place: usize, next: u32)
+pub(crate) fn set_next(out: &mut Vec<u8>, place: usize, next: u32)
     requires { place + 24 ≤ length out.old.items }
     ensures next { out.new.items ≡ take (place + 20) out.old.items ++ (spelling 4 next ++ drop (place + 24) out.old.items) }
     ensures len { length out.new.items ≡ length out.old.items }

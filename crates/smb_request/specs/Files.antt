@@ -4,10 +4,9 @@ use Rattle.std.specs.Option.{option_map_or}
 use Rattle.smb_body.specs.declared.types.FileId.{FileId}
 use Rattle.smb_body.specs.declared.create.CreateResponse.{CreateResponse}
 use Rattle.smb_body.specs.declared.close.CloseFlags.{CloseFlags}
-use Rattle.smb_body.specs.declared.close.CloseRequest.{CloseRequest}
 use Rattle.smb_body.specs.declared.close.CloseResponse.{CloseResponse}
 use Rattle.smb_body.specs.Create.{CreateAsked}
-use Rattle.smb_body.specs.Replies.{answers_create, answers_close}
+use Rattle.smb_body.specs.Replies.{answers_create, answers_close, answers_flush}
 use Rattle.smb_opens.specs.declared.open_row.OpenRow.{OpenRow}
 use Rattle.smb_opens.specs.declared.open_row.Owner.TheVariants.{Tree}
 use Rattle.smb_opens.specs.declared.view.View.{View}
@@ -102,9 +101,13 @@ abbrev pub close_response : CloseFlags → Option View → CloseResponse
 close_response flags None = close_shows_nothing
 close_response flags (Some view) = if bit_and flags.0 1 == 0 then close_shows_nothing else close_shows view
 
--- CLOSE (3.3.5.10) of an open that the FileId names
-unfoldable pub file_closed : {S : Type 0} → SharedState S → Context → CloseRequest → CommandStep S
-file_closed shared under asked = record {
-  shared = with_store shared (closed shared.store asked.file_id.persistent);
-  response = success under (answers_close (close_response asked.flags (open_view shared.store asked.file_id.persistent)));
+-- CLOSE (3.3.5.10) of the open of a number
+unfoldable pub file_closed : {S : Type 0} → SharedState S → Context → ℕ → CloseFlags → CommandStep S
+file_closed shared under open_number flags = record {
+  shared = with_store shared (closed shared.store open_number);
+  response = success under (answers_close (close_response flags (open_view shared.store open_number)));
 }
+
+-- FLUSH (3.3.5.11) of an open: what was written is in the store already
+abbrev pub file_flushed : {S : Type 0} → SharedState S → Context → CommandStep S
+file_flushed shared under = record { shared = shared; response = success under answers_flush }

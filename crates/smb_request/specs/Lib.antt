@@ -9,3 +9,6 @@ pub mod Session
 pub mod Files
 pub mod Request
 pub mod Held
+pub mod InPlace
+pub mod Outcome
+pub mod Commands

@@ -5,14 +5,14 @@ use Rattle.smb_head.specs.Headers.{header_of}
 use Rattle.smb_head.specs.Chains.{is_related}
 use Rattle.smb_head.specs.Commands.{code_of, known_command}
 use Rattle.smb_head.specs.declared.command.Command.{Command}
-use Rattle.smb_head.specs.declared.command.Command.TheVariants.{Negotiate, SessionSetup, Logoff, TreeConnect, TreeDisconnect, Create, Close, Cancel, Echo}
+use Rattle.smb_request.specs.declared.command_row.Handling.{Handling}
+use Rattle.smb_request.specs.declared.command_row.Handling.TheVariants.{Built, NotBuilt, Passed}
 use Rattle.smb_session.specs.Authenticator.{Meaning}
 use Rattle.smb_session.specs.Negotiate.{best_of, revision_of}
 use Rattle.smb_session.specs.Table.{knows_session, knows_tree}
 use Rattle.smb_session.specs.declared.dialect.Dialect.{Dialect}
-use Rattle.smb_body.specs.Requests.{RequestValue, asks_negotiate, asks_session_setup, asks_logoff, asks_tree_connect, asks_tree_disconnect, asks_create, asks_close, asks_echo, request_of}
+use Rattle.smb_body.specs.Requests.{RequestValue, asks_negotiate, asks_session_setup, asks_logoff, asks_tree_connect, asks_tree_disconnect, asks_create, asks_close, asks_flush, asks_echo, file_id_of, request_of}
 use Rattle.smb_body.specs.Replies.{answers_echo}
-use Rattle.smb_body.specs.declared.types.FileId.{FileId}
 use Rattle.smb_request.specs.declared.status.Status.{Status}
 use Rattle.smb_request.specs.declared.status.Status.TheVariants.{InvalidParameter, NotSupported, NetworkNameDeleted, FileClosed, UserSessionDeleted}
 use Rattle.smb_request.specs.declared.context.Context.{Context}
@@ -20,7 +20,8 @@ use Rattle.smb_request.specs.Negotiate.{negotiate_answer}
 use Rattle.smb_request.specs.State.{SharedState, hello_of}
 use Rattle.smb_request.specs.Response.{Performed, success, answered, refused}
 use Rattle.smb_request.specs.Session.{session_set_up, session_logged_off, tree_joined, tree_left}
-use Rattle.smb_request.specs.Files.{file_created, file_closed, names_open}
+use Rattle.smb_request.specs.Files.{file_created, file_closed, file_flushed, names_open}
+use Rattle.smb_request.specs.Commands.{row_of, needs_of, needs_session, needs_tree}
 
 -- the session and the tree that a request acts under: its own, or for a related one those of the request before it
 -- (3.3.5.2.7.2)
@@ -29,45 +30,12 @@ acts_under context request =
     if is_related request then context
     else record { session_id = (header_of request).session_id; tree_id = (header_of request).tree_id }
 
--- the commands that are built. The others are NOT_SUPPORTED, whatever their body
-abbrev pub is_built : Command → Bool
-is_built Negotiate = true
-is_built SessionSetup = true
-is_built Logoff = true
-is_built TreeConnect = true
-is_built TreeDisconnect = true
-is_built Create = true
-is_built Close = true
-is_built Echo = true
-is_built command = false
-
--- the requests that act under a session (3.3.5.2.9)
-abbrev pub needs_session : RequestValue → Bool
-needs_session (asks_negotiate asked) = false
-needs_session (asks_session_setup asked) = false
-needs_session (asks_echo asked) = false
-needs_session other = true
-
--- those that act under a tree (3.3.5.2.11)
-abbrev pub needs_tree : RequestValue → Bool
-needs_tree (asks_negotiate asked) = false
-needs_tree (asks_session_setup asked) = false
-needs_tree (asks_logoff asked) = false
-needs_tree (asks_tree_connect asked) = false
-needs_tree (asks_echo asked) = false
-needs_tree other = true
-
--- and the FileId of those that act on an open
-abbrev pub file_id_of : RequestValue → Option FileId
-file_id_of (asks_close asked) = Some asked.file_id
-file_id_of other = None
-
 -- what a request acts under has to stand: a finished session of this connection, then a tree of that session, then an
 -- open of that tree
 abbrev pub standing_refusal : {S : Type 0} → SharedState S → ℕ → Context → RequestValue → Option Status
 standing_refusal shared number under asked =
-    if needs_session asked && not (knows_session shared.sessions.table number under.session_id) then Some UserSessionDeleted else
-    if needs_tree asked && not (knows_tree shared.sessions.table under.session_id under.tree_id) then Some NetworkNameDeleted else
+    if needs_session (needs_of asked) && not (knows_session shared.sessions.table number under.session_id) then Some UserSessionDeleted else
+    if needs_tree (needs_of asked) && not (knows_tree shared.sessions.table under.session_id under.tree_id) then Some NetworkNameDeleted else
     if option_map_or (λ id. not (names_open shared.store.opens under id)) (file_id_of asked) false then Some FileClosed else None
 
 -- NEGOTIATE (3.3.5.4), by the dialects that its body lists: the greatest of the share's stands from now on; none is
@@ -90,7 +58,8 @@ module _ {S : Type 0} (m : Meaning S) (number moment : ℕ) (shared : SharedStat
   acted (asks_tree_connect asked) = answered dialect (tree_joined number shared under asked.path)
   acted (asks_tree_disconnect asked) = answered dialect (tree_left number shared under)
   acted (asks_create asked) = answered dialect (file_created moment shared under asked)
-  acted (asks_close asked) = answered dialect (file_closed shared under asked)
+  acted (asks_close asked) = answered dialect (file_closed shared under asked.file_id.persistent asked.flags)
+  acted (asks_flush asked) = answered dialect (file_flushed shared under)
   acted (asks_echo asked) = answered dialect (record { shared = shared; response = success under answers_echo })
   acted other = answered dialect (refused shared under NotSupported)
 
@@ -102,13 +71,16 @@ module _ {S : Type 0} (m : Meaning S) (number moment : ℕ) (shared : SharedStat
       (standing_refusal shared number under asked)
       (acted asked)
 
-  -- a request of a known command, or of none: the order of the checks. CANCEL does nothing and has no answer
+  -- what becomes of it by its command's row: one that is passed over has no answer
+  abbrev pub by_handling : Handling → Option RequestValue → Performed S
+  by_handling Built asked = by_body asked
+  by_handling NotBuilt asked = answered dialect (refused shared under NotSupported)
+  by_handling Passed asked = record { shared = shared; dialect = dialect; context = under; response = None }
+
+  -- a request of a known command, or of none
   abbrev pub by_command : List ℕ → Option Command → Performed S
   by_command request None = answered dialect (refused shared under InvalidParameter)
-  by_command request (Some Cancel) = record { shared = shared; dialect = dialect; context = under; response = None }
-  by_command request (Some command) =
-      if is_built command then by_body (request_of (code_of command) request)
-      else answered dialect (refused shared under NotSupported)
+  by_command request (Some command) = by_handling (row_of command).handling (request_of (code_of command) request)
 
 -- what one request on a connection leaves, and what answers it
 unfoldable pub performed : {S : Type 0} → Meaning S → ℕ → ℕ → SharedState S → Option Dialect → Context → List ℕ → Performed S

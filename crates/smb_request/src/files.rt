@@ -1,23 +1,25 @@
 //! CREATE and CLOSE ([MS-SMB2] 3.3.5.9, 3.3.5.10).
 
-ghost use Rattle.std.specs.Prelude.{◌≡◌, ◌≤◌, true, Some, IfOk, IfErr, length, if◌then◌else◌};
+ghost use Rattle.std.specs.Prelude.{◌≡◌, true, Some, IsSome, IfOk, OnErr};
+ghost use Rattle.smb_opens.specs.Opens.{open_of};
 ghost use Rattle.smb_body.specs.Create.{create_asked};
 ghost use Rattle.smb_opens.specs.Asked.{asked};
 ghost use Rattle.smb_request.specs.Owners.{stands};
 ghost use Rattle.smb_request.specs.Files.{file_asked, create_response, file_created, names_open, close_response, file_closed};
-ghost use Rattle.smb_request.specs.Held.{response_of};
+ghost use Rattle.smb_request.specs.Outcome.{told_response, IsShort};
 
 use super::context::Context;
-use super::response::{Response, performed, refused};
+use super::outcome::{Success, Told};
 use super::shared::Shared;
 use super::status::Status;
 use smb_body::{
-    CloseFlags, CloseRequest, CloseResponse, CreateAction, CreateRequest, CreateResponse,
-    FileAttributes, FileId, OplockLevel, Reply,
+    CloseFlags, CloseResponse, CreateAction, CreateRequest, CreateResponse, FileAttributes, FileId,
+    OplockLevel,
 };
 use smb_opens::{CreateAsk, Created, Opens, Owner, StoreFault, View};
 use smb_session::Authenticator;
 use smb_tree::Tree;
+use std::alloc::AllocError;
 
 /// POSTQUERY_ATTRIB: a CLOSE is to show what the open showed.
 const POSTQUERY_ATTRIB: u16 = 1;
@@ -111,46 +113,34 @@ impl<A: Authenticator + Drop, T: Tree + Drop, O: Opens + Drop> Shared<A, T, O> {
         moment: u64,
         under: Context,
         request: &CreateRequest<'_>,
-    ) -> Result<Response, bool>
+    ) -> Result<Told, AllocError>
         requires { stands self.old.sessions.table under.session_id under.tree_id ≡ true }
-        ensures ok { IfOk result (λ response. record { shared = self.new; response = response_of response }
+        ensures ok { IfOk result (λ told. record { shared = self.new; response = told_response A.meaning self.new told }
             ≡ file_created moment self.old under (create_asked request.now)) }
-        ensures len { IfOk result (λ response. length response.body.items ≤ 65552) }
-        ensures err { IfErr result (λ performed. self.new
-            ≡ (if performed then (file_created moment self.old under (create_asked request.now)).shared else self.old)) }
+        ensures short { IfOk result (λ told. IsShort told.outcome) }
+        ensures err { OnErr result (self.new ≡ self.old) }
         ensures known { self.new.sessions.table.connections ≡ self.old.sessions.table.connections }
     {
-        let alloc = self.allocator();
         let done = match self.store.create(&file_asked(under, request), moment) {
             Ok(done) => done,
             Err(StoreFault::Status(status)) => {
-                let response = refused(alloc, under, Status::Store(status))?;
-                return Ok(response);
+                return Ok(Told::failed(under, Status::Store(status)));
             }
-            Err(StoreFault::NoMemory) => return Err(false),
+            Err(StoreFault::NoMemory) => return Err(AllocError),
         };
-        let reply = Reply::Create(create_response(&done));
-        performed(alloc, Status::Success, under, &reply)
+        Ok(Told::succeeded(under, Success::Create(create_response(&done))))
     }
 
-    /// CLOSE ([MS-SMB2] 3.3.5.10) of an open that its FileId names.
+    /// CLOSE ([MS-SMB2] 3.3.5.10) of the open of a number.
     #[tactic(auto, unfolding(crate::specs::Files::file_closed))]
-    pub(crate) fn close_file(
-        &mut self,
-        under: Context,
-        request: &CloseRequest,
-    ) -> Result<Response, bool>
-        requires { names_open self.old.store.opens under request.now.file_id ≡ true }
-        ensures ok { IfOk result (λ response. record { shared = self.new; response = response_of response }
-            ≡ file_closed self.old under request.now) }
-        ensures len { IfOk result (λ response. length response.body.items ≤ 65552) }
-        ensures err { IfErr result (λ performed. self.new
-            ≡ (if performed then (file_closed self.old under request.now).shared else self.old)) }
+    pub(crate) fn close_file(&mut self, under: Context, open_number: u64, flags: CloseFlags) -> Told
+        requires { IsSome (open_of self.old.store.opens open_number) }
+        ensures closed { record { shared = self.new; response = told_response A.meaning self.new result } ≡ file_closed self.old under open_number flags }
+        ensures short { IsShort result.outcome }
         ensures known { self.new.sessions.table.connections ≡ self.old.sessions.table.connections }
     {
-        let alloc = self.allocator();
-        let closed = self.store.close(request.file_id.persistent);
-        let reply = Reply::Close(close_response(request.flags, &closed.view));
-        performed(alloc, Status::Success, under, &reply)
+        let closed = self.store.close(open_number);
+        let response = close_response(flags, &closed.view);
+        Told::succeeded(under, Success::Close(response))
     }
 }

@@ -1,27 +1,32 @@
 //! One request: the order of checks, and each command ([MS-SMB2] 3.3.5.2).
 
-ghost use Rattle.std.specs.Prelude.{ℕ, List, Option, ◌≡◌, ◌≤◌, false, Some, None, IfOk, IfErr, IfSome, length, if◌then◌else◌};
+ghost use Rattle.std.specs.Prelude.{ℕ, List, Option, ◌≡◌, ◌≤◌, ◌+◌, Some, None, IfOk, IfErr, IfSome, IfNone, OnOk, OnErr, length, take, if◌then◌else◌};
 ghost use Rattle.std.specs.Option.{option_map};
 ghost use Rattle.smb_head.specs.Headers.{header_of};
 ghost use Rattle.smb_head.specs.Commands.{code_of};
 ghost use Rattle.smb_body.specs.Dialects.{dialects_of};
 ghost use Rattle.smb_body.specs.Requests.{request_of, request_value};
-ghost use Rattle.smb_body.specs.Replies.{reply_value, reply_length};
 ghost use Rattle.smb_session.specs.Negotiate.{best_of};
-ghost use Rattle.smb_request.specs.Response.{answered, success, failure};
-ghost use Rattle.smb_request.specs.Request.{acts_under, is_built, needs_session, needs_tree, file_id_of, standing_refusal, negotiated, acted, by_body, performed};
-ghost use Rattle.smb_request.specs.Held.{response_of};
+ghost use Rattle.smb_request.specs.Response.{answered};
+ghost use Rattle.smb_request.specs.Request.{acts_under, standing_refusal, negotiated, acted, by_body, by_command, performed};
+ghost use Rattle.smb_request.specs.Held.{is_performed};
+ghost use Rattle.smb_request.specs.InPlace.{answer_held, performed_behind};
+ghost use Rattle.smb_request.specs.Outcome.{told_response, told_step, IsShort};
+ghost use Rattle.smb_request.specs.Commands.{needs_session, needs_tree};
 
+use super::command_row::{Handling, Needs, needs_of, row_of};
 use super::context::Context;
-use super::response::{Response, refused, told};
+use super::outcome::{Success, Told};
+use super::response::{Answered, Unanswered};
 use super::shared::Shared;
 use super::status::Status;
 use bitflags::Flags;
-use smb_body::{Dialects, FileId, Reply, Request, read_body};
+use smb_body::{Dialects, Request, read_body};
 use smb_head::{Command, Header, HeaderFlags};
 use smb_opens::Opens;
 use smb_session::{Authenticator, Dialect};
 use smb_tree::Tree;
+use std::alloc::AllocError;
 
 /// The session and the tree that a request acts under: its own, or for a related one the context's.
 fn acts_under(context: Context, header: &Header) -> Context
@@ -37,47 +42,23 @@ fn acts_under(context: Context, header: &Header) -> Context
     }
 }
 
-/// Whether a command is built.
-fn is_built(command: Command) -> bool
-    ensures { result ≡ is_built command }
+/// Whether a session is needed.
+fn needs_session(needs: Needs) -> bool
+    ensures { result ≡ needs_session needs }
 {
-    matches!(
-        command,
-        Command::Negotiate
-            | Command::SessionSetup
-            | Command::Logoff
-            | Command::TreeConnect
-            | Command::TreeDisconnect
-            | Command::Create
-            | Command::Close
-            | Command::Echo
-    )
+    match needs {
+        Needs::Nothing => false,
+        Needs::Session | Needs::Tree | Needs::Open => true,
+    }
 }
 
-/// Whether a request acts under a session.
-fn needs_session(request: &Request<'_>) -> bool
-    ensures { result ≡ needs_session (request_value request.now) }
+/// Whether a tree connect is needed.
+fn needs_tree(needs: Needs) -> bool
+    ensures { result ≡ needs_tree needs }
 {
-    !matches!(
-        request,
-        Request::Negotiate(_) | Request::SessionSetup(_) | Request::Echo(_)
-    )
-}
-
-/// Whether a request acts under a tree.
-fn needs_tree(request: &Request<'_>) -> bool
-    ensures { result ≡ needs_tree (request_value request.now) }
-{
-    needs_session(request) && !matches!(request, Request::Logoff(_) | Request::TreeConnect(_))
-}
-
-/// The FileId that a request names, where it acts on an open.
-fn file_id_of(request: &Request<'_>) -> Option<FileId>
-    ensures { result ≡ file_id_of (request_value request.now) }
-{
-    match request {
-        Request::Close(asked) => Some(asked.file_id),
-        _ => None,
+    match needs {
+        Needs::Nothing | Needs::Session => false,
+        Needs::Tree | Needs::Open => true,
     }
 }
 
@@ -86,17 +67,18 @@ impl<A: Authenticator + Drop, T: Tree + Drop, O: Opens + Drop> Shared<A, T, O> {
     fn standing_refusal(&self, number: u64, under: Context, request: &Request<'_>) -> Option<Status>
         ensures { result ≡ standing_refusal self.now number under (request_value request.now) }
     {
-        if needs_session(request) && !self.sessions.knows(number, under.session_id, None) {
+        let needs = needs_of(request);
+        if needs_session(needs) && !self.sessions.knows(number, under.session_id, None) {
             return Some(Status::UserSessionDeleted);
         }
-        if needs_tree(request)
+        if needs_tree(needs)
             && !self
                 .sessions
                 .knows(number, under.session_id, Some(under.tree_id))
         {
             return Some(Status::NetworkNameDeleted);
         }
-        match file_id_of(request) {
+        match request.file_id() {
             Some(id) if !self.names_open(under, id) => Some(Status::FileClosed),
             _ => None,
         }
@@ -121,23 +103,24 @@ impl<A: Authenticator + Drop, T: Tree + Drop, O: Opens + Drop> Shared<A, T, O> {
         dialect: &mut Option<Dialect>,
         under: Context,
         dialects: Dialects<'_>,
-    ) -> Result<Response, bool>
-        ensures ok { IfOk result (λ response. answered dialect.new (record { shared = self.now; response = response_of response })
-            ≡ negotiated A.meaning moment self.now dialect.old under (dialects_of dialects.entry)) }
-        ensures len { IfOk result (λ response. length response.body.items ≤ 65552) }
-        ensures err { IfErr result (λ performed. performed ≡ false) }
+    ) -> Told
+        ensures told { answered dialect.new (record { shared = self.now; response = told_response A.meaning self.now result })
+            ≡ negotiated A.meaning moment self.now dialect.old under (dialects_of dialects.entry) }
+        ensures short { IsShort result.outcome }
     {
-        let alloc = self.allocator();
         let Some(best) = self.best_dialect(number, dialects) else {
-            return refused(alloc, under, Status::NotSupported);
+            return Told::failed(under, Status::NotSupported);
         };
-        let reply = self.negotiate_response(moment, best.revision());
-        let response = told(alloc, under, &reply)?;
         *dialect = Some(best);
-        Ok(response)
+        let success = Success::Negotiate {
+            moment,
+            dialect: best,
+        };
+        Told::succeeded(under, success)
     }
 
-    /// Performs a request whose body is read, and whose session, tree and open stand.
+    /// Performs a request whose body is read, and whose session, tree and open stand. After an error, for want of memory,
+    /// all is as it was.
     fn act(
         &mut self,
         number: u64,
@@ -145,32 +128,33 @@ impl<A: Authenticator + Drop, T: Tree + Drop, O: Opens + Drop> Shared<A, T, O> {
         dialect: &mut Option<Dialect>,
         under: Context,
         request: &Request<'_>,
-    ) -> Result<Response, bool>
+    ) -> Result<Told, AllocError>
         requires { standing_refusal self.old number under (request_value request.now) ≡ None }
-        ensures ok { IfOk result (λ response. answered dialect.new (record { shared = self.new; response = response_of response })
+        ensures ok { IfOk result (λ told. answered dialect.new (record { shared = self.new; response = told_response A.meaning self.new told })
             ≡ acted A.meaning number moment self.old dialect.old under (request_value request.now)) }
-        ensures len { IfOk result (λ response. length response.body.items ≤ 65552) }
-        ensures err { IfErr result (λ performed. self.new
-            ≡ (if performed then (acted A.meaning number moment self.old dialect.old under (request_value request.now)).shared else self.old)) }
+        ensures short { IfOk result (λ told. IsShort told.outcome) }
+        ensures err { OnErr result (self.new ≡ self.old) }
         ensures known { self.new.sessions.table.connections ≡ self.old.sessions.table.connections }
     {
-        let alloc = self.allocator();
         match request {
             Request::Negotiate(asked) => {
-                self.negotiated(number, moment, dialect, under, asked.dialects)
+                Ok(self.negotiated(number, moment, dialect, under, asked.dialects))
             }
             Request::SessionSetup(asked) => self.set_up(number, under, asked),
             Request::Logoff(_) => self.log_off(number, under),
             Request::TreeConnect(asked) => self.connect_tree(number, under, asked.path),
             Request::TreeDisconnect(_) => self.disconnect_tree(number, under),
             Request::Create(asked) => self.create_file(moment, under, asked),
-            Request::Close(asked) => self.close_file(under, asked),
-            Request::Echo(_) => told(alloc, under, &Reply::Echo),
-            _ => refused(alloc, under, Status::NotSupported),
+            Request::Close(asked) => {
+                Ok(self.close_file(under, asked.file_id.persistent, asked.flags))
+            }
+            Request::Flush(_) => Ok(Told::succeeded(under, Success::Flush)),
+            Request::Echo(_) => Ok(Told::succeeded(under, Success::Echo)),
+            _ => Ok(Told::failed(under, Status::NotSupported)),
         }
     }
 
-    /// Performs a request of a command that is built.
+    /// Performs a request of a command that is built. After an error, for want of memory, all is as it was.
     #[tactic(auto, unfolding(crate::specs::Request::by_body))]
     fn by_body(
         &mut self,
@@ -180,28 +164,59 @@ impl<A: Authenticator + Drop, T: Tree + Drop, O: Opens + Drop> Shared<A, T, O> {
         under: Context,
         command: Command,
         request: &[u8],
-    ) -> Result<Response, bool>
-        ensures ok { IfOk result (λ response. answered dialect.new (record { shared = self.new; response = response_of response })
+    ) -> Result<Told, AllocError>
+        ensures ok { IfOk result (λ told. answered dialect.new (record { shared = self.new; response = told_response A.meaning self.new told })
             ≡ by_body A.meaning number moment self.old dialect.old under (request_of (code_of command) request.now)) }
-        ensures len { IfOk result (λ response. length response.body.items ≤ 65552) }
-        ensures err { IfErr result (λ performed. self.new
-            ≡ (if performed then (by_body A.meaning number moment self.old dialect.old under (request_of (code_of command) request.now)).shared else self.old)) }
+        ensures short { IfOk result (λ told. IsShort told.outcome) }
+        ensures err { OnErr result (self.new ≡ self.old) }
         ensures known { self.new.sessions.table.connections ≡ self.old.sessions.table.connections }
     {
-        let alloc = self.allocator();
+        let _ = &self.sessions;
         let request = match read_body(command.code().0, request) {
             Ok(request) => request,
-            Err(_) => return refused(alloc, under, Status::InvalidParameter),
+            Err(_) => return Ok(Told::failed(under, Status::InvalidParameter)),
         };
         match self.standing_refusal(number, under, &request) {
-            Some(status) => refused(alloc, under, status),
+            Some(status) => Ok(Told::failed(under, status)),
             None => self.act(number, moment, dialect, under, &request),
         }
     }
 
-    /// Performs one request of this header, and gives what answers it. CANCEL has no answer.
+    /// Performs a request of a known command, or of none; None where it has no answer. After an error, for want of
+    /// memory, all is as it was.
+    fn by_command(
+        &mut self,
+        number: u64,
+        moment: u64,
+        dialect: &mut Option<Dialect>,
+        under: Context,
+        command: Option<Command>,
+        request: &[u8],
+    ) -> Result<Option<Told>, AllocError>
+        ensures ok { IfOk result (λ told. told_step A.meaning self.new dialect.new under told
+            ≡ by_command A.meaning number moment self.old dialect.old under request.now command) }
+        ensures short { IfOk result (λ told. IfSome told (λ t. IsShort t.outcome)) }
+        ensures err { OnErr result (self.new ≡ self.old) }
+        ensures known { self.new.sessions.table.connections ≡ self.old.sessions.table.connections }
+    {
+        let _ = &self.sessions;
+        let Some(command) = command else {
+            return Ok(Some(Told::failed(under, Status::InvalidParameter)));
+        };
+        match row_of(command).handling {
+            Handling::Built => {
+                let told = self.by_body(number, moment, dialect, under, command, request)?;
+                Ok(Some(told))
+            }
+            Handling::NotBuilt => Ok(Some(Told::failed(under, Status::NotSupported))),
+            Handling::Passed => Ok(None),
+        }
+    }
+
+    /// Performs one request of this header, and adds the body of what answers it to `out`. CANCEL has no answer: None,
+    /// and `out` is as it was.
     ///
-    /// An error says that memory could not be had, and tells whether the request was performed.
+    /// An error says that memory could not be had, and whether the request was performed. What stood in `out` is kept.
     #[tactic(auto, unfolding(crate::specs::Request::performed))]
     pub fn perform(
         &mut self,
@@ -211,29 +226,32 @@ impl<A: Authenticator + Drop, T: Tree + Drop, O: Opens + Drop> Shared<A, T, O> {
         context: &mut Context,
         header: &Header,
         request: &[u8],
-    ) -> Result<Option<Response>, bool>
+        out: &mut Vec<u8>,
+    ) -> Result<Option<Answered>, Unanswered>
         requires { header.now ≡ header_of request.now }
-        ensures ok { IfOk result (λ response. record { shared = self.new; dialect = dialect.new; context = context.new; response = option_map response_of response }
-            ≡ performed A.meaning number moment self.old dialect.old context.old request.now) }
-        ensures len { IfOk result (λ response. IfSome response (λ r. length r.body.items ≤ 65552)) }
-        ensures err { IfErr result (λ done. self.new
-            ≡ (if done then (performed A.meaning number moment self.old dialect.old context.old request.now).shared else self.old)) }
+        ensures ok { IfOk result (λ r. record { shared = self.new; dialect = dialect.new; context = context.new; response = option_map (λ a. answer_held a out.new.items) r }
+            ≡ performed_behind out.old.items (performed A.meaning number moment self.old dialect.old context.old request.now)) }
+        ensures none { IfOk result (λ r. IfNone r (out.new.items ≡ out.old.items)) }
+        ensures len { OnOk result (length out.new.items ≤ length out.old.items + 65552) }
+        ensures err { IfErr result (λ unanswered. self.new
+            ≡ (if is_performed unanswered then (performed A.meaning number moment self.old dialect.old context.old request.now).shared else self.old)) }
+        ensures kept { take (length out.old.items) out.new.items ≡ out.old.items }
         ensures known { self.new.sessions.table.connections ≡ self.old.sessions.table.connections }
     {
-        let alloc = self.allocator();
         let under = acts_under(*context, header);
-        let response = match header.command.known() {
-            None => refused(alloc, under, Status::InvalidParameter)?,
-            Some(Command::Cancel) => {
+        let command = header.command.known();
+        let told = match self.by_command(number, moment, dialect, under, command, request) {
+            Ok(Some(told)) => told,
+            Ok(None) => {
                 *context = under;
                 return Ok(None);
             }
-            Some(command) if is_built(command) => {
-                self.by_body(number, moment, dialect, under, command, request)?
-            }
-            Some(_) => refused(alloc, under, Status::NotSupported)?,
+            Err(_) => return Err(Unanswered::NotPerformed),
         };
-        *context = response.under;
-        Ok(Some(response))
+        *context = told.under;
+        match self.put_told(&told, out) {
+            Ok(answered) => Ok(Some(answered)),
+            Err(_) => Err(Unanswered::Performed),
+        }
     }
 }

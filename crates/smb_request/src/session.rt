@@ -2,43 +2,40 @@
 //!
 //! Where a session or a tree ends, the opens beneath are closed; that takes no memory.
 
-ghost use Rattle.std.specs.Prelude.{◌≡◌, ◌≢◌, ◌≤◌, true, false, IfOk, IfErr, length, if◌then◌else◌};
+ghost use Rattle.std.specs.Prelude.{◌≡◌, ◌≢◌, ◌≤◌, IfOk, OnErr, length};
 ghost use Rattle.smb_wire.specs.Units.{units_of};
-ghost use Rattle.smb_body.specs.Replies.{reply_value, reply_length};
 ghost use Rattle.smb_body.specs.SessionSetup.{session_setup_asked};
-ghost use Rattle.smb_session.specs.Done.{told_by};
-ghost use Rattle.smb_request.specs.Response.{with_body, failure};
-ghost use Rattle.smb_request.specs.Session.{closed_for, status_of_refusal, setup_response, session_set_up, session_logged_off, tree_response, tree_joined, tree_left};
-ghost use Rattle.smb_request.specs.Held.{opens_left, response_of};
+ghost use Rattle.smb_request.specs.Session.{closed_for, status_of_refusal, session_set_up, session_logged_off, tree_response, tree_joined, tree_left};
+ghost use Rattle.smb_request.specs.Held.{opens_left, setup_outcome};
+ghost use Rattle.smb_request.specs.Outcome.{told_response, IsShort};
 
 use super::context::Context;
-use super::response::{Response, performed, refused};
+use super::outcome::{Outcome, SetupTold, Success, Told};
 use super::shared::Shared;
 use super::status::Status;
 use smb_body::{
-    Access, Capabilities, Reply, SessionFlags, SessionSetupRequest, SessionSetupResponse,
-    ShareFlags, ShareType, TreeConnectResponse,
+    Access, Capabilities, SessionFlags, SessionSetupRequest, ShareFlags, ShareType,
+    TreeConnectResponse,
 };
 use smb_opens::{Opens, Owner, Store};
 use smb_session::{Authenticator, SessionFault, SetupAsk, SetupDone, SetupStatus};
 use smb_tree::Tree;
 use smb_wire::Units;
-use std::alloc::Global;
+use std::alloc::AllocError;
 
 /// What a tree is: a disk, without flags and capabilities, and with all access ([MS-SMB2] 2.2.10).
-const TREE: TreeConnectResponse = TreeConnectResponse {
+pub(crate) const TREE: TreeConnectResponse = TreeConnectResponse {
     share_type: ShareType(1),
     share_flags: ShareFlags(0),
     capabilities: Capabilities(0),
     maximal_access: Access(0x001F_01FF),
 };
 
-/// The response to a request that the sessions refuse. Want of memory is no refusal: nothing was performed.
-fn refused_by(alloc: Global, under: Context, fault: SessionFault) -> Result<Response, bool>
-    ensures ok { IfOk result (λ response. response_of response ≡ failure under (status_of_refusal fault)) }
-    ensures memory { IfOk result (λ response. fault ≢ SessionFault.NoMemory) }
-    ensures len { IfOk result (λ response. length response.body.items ≤ 65552) }
-    ensures err { IfErr result (λ performed. performed ≡ false) }
+/// What comes of a request that the sessions refuse. Want of memory is no refusal: nothing was performed.
+fn refused_by(under: Context, fault: SessionFault) -> Result<Told, AllocError>
+    ensures ok { IfOk result (λ told. told ≡ record { under = under; outcome = Outcome.Failed (status_of_refusal fault) }) }
+    ensures memory { IfOk result (λ told. fault ≢ SessionFault.NoMemory) }
+    ensures err { OnErr result (fault ≡ SessionFault.NoMemory) }
 {
     let status = match fault {
         SessionFault::UnknownSession => Status::UserSessionDeleted,
@@ -46,28 +43,23 @@ fn refused_by(alloc: Global, under: Context, fault: SessionFault) -> Result<Resp
         SessionFault::NoShare => Status::BadNetworkName,
         SessionFault::NotAccepted => Status::RequestNotAccepted,
         SessionFault::NoDialect => Status::NotSupported,
-        SessionFault::NoMemory => return Err(false),
+        SessionFault::NoMemory => return Err(AllocError),
     };
-    refused(alloc, under, status)
+    Ok(Told::failed(under, status))
 }
 
-/// The response to a SESSION_SETUP that was not refused ([MS-SMB2] 2.2.6).
-fn setup_response(alloc: Global, under: Context, done: &SetupDone) -> Result<Response, bool>
-    requires { length done.now.token.items ≤ 4096 }
-    ensures ok { IfOk result (λ response. response_of response ≡ setup_response under (told_by done.now) done.now.status) }
-    ensures len { IfOk result (λ response. length response.body.items ≤ 65552) }
-    ensures err { IfErr result (λ performed. performed ≡ true) }
+/// What comes of a SESSION_SETUP that was not refused ([MS-SMB2] 2.2.6).
+fn setup_outcome(done: SetupDone) -> Outcome
+    ensures { result ≡ setup_outcome done }
 {
-    let body = Reply::SessionSetup(SessionSetupResponse {
+    let told = SetupTold {
         session_flags: SessionFlags(done.flags),
-        security_buffer: &done.token,
-    });
+        token: done.token,
+    };
     match done.status {
-        SetupStatus::Success => performed(alloc, Status::Success, under, &body),
-        SetupStatus::MoreProcessingRequired => {
-            performed(alloc, Status::MoreProcessingRequired, under, &body)
-        }
-        SetupStatus::LogonFailure => performed(alloc, Status::LogonFailure, under, &Reply::Error),
+        SetupStatus::Success => Outcome::Succeeded(Success::SessionSetup(told)),
+        SetupStatus::MoreProcessingRequired => Outcome::GoesOn(told),
+        SetupStatus::LogonFailure => Outcome::Failed(Status::LogonFailure),
     }
 }
 
@@ -89,15 +81,13 @@ impl<A: Authenticator + Drop, T: Tree + Drop, O: Opens + Drop> Shared<A, T, O> {
         number: u64,
         under: Context,
         asked: &SessionSetupRequest<'_>,
-    ) -> Result<Response, bool>
-        ensures ok { IfOk result (λ response. record { shared = self.new; response = response_of response }
+    ) -> Result<Told, AllocError>
+        ensures ok { IfOk result (λ told. record { shared = self.new; response = told_response A.meaning self.new told }
             ≡ session_set_up A.meaning number self.old under (session_setup_asked asked.now)) }
-        ensures len { IfOk result (λ response. length response.body.items ≤ 65552) }
-        ensures err { IfErr result (λ performed. self.new
-            ≡ (if performed then (session_set_up A.meaning number self.old under (session_setup_asked asked.now)).shared else self.old)) }
+        ensures short { IfOk result (λ told. IsShort told.outcome) }
+        ensures err { OnErr result (self.new ≡ self.old) }
         ensures known { self.new.sessions.table.connections ≡ self.old.sessions.table.connections }
     {
-        let alloc = self.allocator();
         self.sessions.good();
         let ask = SetupAsk {
             flags: asked.flags.0,
@@ -106,33 +96,32 @@ impl<A: Authenticator + Drop, T: Tree + Drop, O: Opens + Drop> Shared<A, T, O> {
         };
         let done = match self.sessions.setup(number, under.session_id, &ask) {
             Ok(done) => done,
-            Err(fault) => return refused_by(alloc, under, fault),
+            Err(fault) => return refused_by(under, fault),
         };
         close_ended(&mut self.store, done.ended);
         let under = Context {
             session_id: done.session,
             ..under
         };
-        setup_response(alloc, under, &done)
+        let outcome = setup_outcome(done);
+        Ok(Told { under, outcome })
     }
 
     /// LOGOFF ([MS-SMB2] 3.3.5.6).
     #[tactic(auto, unfolding(crate::specs::Session::session_logged_off))]
-    pub(crate) fn log_off(&mut self, number: u64, under: Context) -> Result<Response, bool>
-        ensures ok { IfOk result (λ response. record { shared = self.new; response = response_of response }
+    pub(crate) fn log_off(&mut self, number: u64, under: Context) -> Result<Told, AllocError>
+        ensures ok { IfOk result (λ told. record { shared = self.new; response = told_response A.meaning self.new told }
             ≡ session_logged_off number self.old under) }
-        ensures len { IfOk result (λ response. length response.body.items ≤ 65552) }
-        ensures err { IfErr result (λ performed. self.new
-            ≡ (if performed then (session_logged_off number self.old under).shared else self.old)) }
+        ensures short { IfOk result (λ told. IsShort told.outcome) }
+        ensures err { OnErr result (self.new ≡ self.old) }
         ensures known { self.new.sessions.table.connections ≡ self.old.sessions.table.connections }
     {
-        let alloc = self.allocator();
         match self.sessions.logoff(number, under.session_id) {
             Ok(()) => {
                 self.store.close_all(Owner::Session(under.session_id));
-                performed(alloc, Status::Success, under, &Reply::Logoff)
+                Ok(Told::succeeded(under, Success::Logoff))
             }
-            Err(fault) => refused_by(alloc, under, fault),
+            Err(fault) => refused_by(under, fault),
         }
     }
 
@@ -143,34 +132,34 @@ impl<A: Authenticator + Drop, T: Tree + Drop, O: Opens + Drop> Shared<A, T, O> {
         number: u64,
         under: Context,
         path: Units<'_>,
-    ) -> Result<Response, bool>
-        ensures ok { IfOk result (λ response. record { shared = self.new; response = response_of response }
+    ) -> Result<Told, AllocError>
+        ensures ok { IfOk result (λ told. record { shared = self.new; response = told_response A.meaning self.new told }
             ≡ tree_joined number self.old under (units_of path.entry)) }
-        ensures len { IfOk result (λ response. length response.body.items ≤ 65552) }
-        ensures err { IfErr result (λ performed. self.new
-            ≡ (if performed then (tree_joined number self.old under (units_of path.entry)).shared else self.old)) }
+        ensures short { IfOk result (λ told. IsShort told.outcome) }
+        ensures err { OnErr result (self.new ≡ self.old) }
         ensures known { self.new.sessions.table.connections ≡ self.old.sessions.table.connections }
     {
-        let alloc = self.allocator();
         let tree_id = match self.sessions.tree_connect(number, under.session_id, path) {
             Ok(tree_id) => tree_id,
-            Err(fault) => return refused_by(alloc, under, fault),
+            Err(fault) => return refused_by(under, fault),
         };
         let under = Context { tree_id, ..under };
-        performed(alloc, Status::Success, under, &Reply::TreeConnect(TREE))
+        Ok(Told::succeeded(under, Success::TreeConnect))
     }
 
     /// TREE_DISCONNECT ([MS-SMB2] 3.3.5.8).
     #[tactic(auto, unfolding(crate::specs::Session::tree_left))]
-    pub(crate) fn disconnect_tree(&mut self, number: u64, under: Context) -> Result<Response, bool>
-        ensures ok { IfOk result (λ response. record { shared = self.new; response = response_of response }
+    pub(crate) fn disconnect_tree(
+        &mut self,
+        number: u64,
+        under: Context,
+    ) -> Result<Told, AllocError>
+        ensures ok { IfOk result (λ told. record { shared = self.new; response = told_response A.meaning self.new told }
             ≡ tree_left number self.old under) }
-        ensures len { IfOk result (λ response. length response.body.items ≤ 65552) }
-        ensures err { IfErr result (λ performed. self.new
-            ≡ (if performed then (tree_left number self.old under).shared else self.old)) }
+        ensures short { IfOk result (λ told. IsShort told.outcome) }
+        ensures err { OnErr result (self.new ≡ self.old) }
         ensures known { self.new.sessions.table.connections ≡ self.old.sessions.table.connections }
     {
-        let alloc = self.allocator();
         match self
             .sessions
             .tree_disconnect(number, under.session_id, under.tree_id)
@@ -178,9 +167,9 @@ impl<A: Authenticator + Drop, T: Tree + Drop, O: Opens + Drop> Shared<A, T, O> {
             Ok(()) => {
                 self.store
                     .close_all(Owner::Tree(under.session_id, under.tree_id));
-                performed(alloc, Status::Success, under, &Reply::TreeDisconnect)
+                Ok(Told::succeeded(under, Success::TreeDisconnect))
             }
-            Err(fault) => refused_by(alloc, under, fault),
+            Err(fault) => refused_by(under, fault),
         }
     }
 }

@@ -1,30 +1,24 @@
 //! What all connections share ([MS-SMB2] 3.3.1.5).
 
-ghost use Rattle.std.specs.Prelude.{◌≡◌, ◌<◌, ◌≤◌, ◌∷◌, [], ◌++◌, true, OnOk, OnErr, IfOk, length};
+ghost use Rattle.std.specs.Prelude.{◌≡◌, ◌<◌, ◌≤◌, ◌+◌, [], ◌++◌, true, OnOk, OnErr, IfOk, length, take};
 ghost use Rattle.std.specs.Bool.{OnTrue, OnFalse};
 ghost use Rattle.smb_wire.specs.Number.{spelling};
 ghost use Rattle.smb_wire.specs.Pairs.{unit_bytes, AreUnits};
 ghost use Rattle.smb_session.specs.Numbers.{IsRising};
 ghost use Rattle.smb_session.specs.Table.{numbers_on};
-ghost use Rattle.smb_head.specs.Replies.{joined_replies};
-ghost use Rattle.smb_body.specs.Replies.{reply_value};
+ghost use Rattle.smb_body.specs.Replies.{reply_value, reply_spelling};
 ghost use Rattle.smb_session.specs.Good.{GoodTable};
 ghost use Rattle.smb_session.specs.Sessions.{new_sessions};
 ghost use Rattle.smb_tree.specs.Content.{new_content};
 ghost use Rattle.smb_opens.specs.Good.{GoodStore};
 ghost use Rattle.smb_request.specs.Settings.{settings_of, is_lawful};
 ghost use Rattle.smb_request.specs.Negotiate.{negotiate_answer};
-ghost use Rattle.smb_request.specs.Smb1.{reply_to_smb1};
 ghost use Rattle.smb_request.specs.State.{new_shared, hello_of, shared_opened, shared_ended};
 ghost use Rattle.smb_request.specs.Owners.{AreOwned};
 
 use super::config::Config;
-use super::context::Context;
-use super::response::respond;
-use super::status::Status;
-use super::{negotiate, smb1};
-use smb_body::Reply;
-use smb_head::{Header, ReplyChain};
+use super::negotiate;
+use smb_body::{Reply, write_reply};
 use smb_opens::{Opens, Owner, Store};
 use smb_session::{Authenticator, Sessions};
 use smb_tree::Tree;
@@ -89,19 +83,6 @@ fn sessions_of<A: Authenticator + Drop>(
     };
     match Sessions::new(alloc, authenticator, share) {
         Ok(sessions) => Ok(sessions),
-        Err(_) => Err(AllocError),
-    }
-}
-
-/// A payload of one reply.
-fn single_reply(alloc: Global, header: &Header, body: &[u8]) -> Result<Vec<u8>, AllocError>
-    requires { length body.now ≤ 65552 }
-    ensures bytes { IfOk result (λ bytes. bytes.items ≡ joined_replies (record { header = header.now; body = body.now } ∷ [])) }
-    ensures len { IfOk result (λ bytes. length bytes.items ≤ 1049856) }
-{
-    let mut replies = ReplyChain::begin(alloc);
-    match replies.push(header, body) {
-        Ok(()) => Ok(replies.finish()),
         Err(_) => Err(AllocError),
     }
 }
@@ -184,21 +165,25 @@ impl<A: Authenticator + Drop, T: Tree + Drop, O: Opens + Drop> Shared<A, T, O> {
         while self.end_one(number) {}
     }
 
-    /// A reply to an SMB_COM_NEGOTIATE, as a payload: an SMB2 NEGOTIATE response to MessageId 0, which tells
-    /// one credit.
-    pub fn smb1_reply(&self, moment: u64, dialect_revision: u16) -> Result<Vec<u8>, AllocError>
-        ensures bytes { IfOk result (λ bytes. bytes.items
-            ≡ joined_replies (reply_to_smb1 (negotiate_answer self.now.settings.guid (hello_of A.meaning self.now) moment dialect_revision) ∷ [])) }
-        ensures len { IfOk result (λ bytes. length bytes.items ≤ 1049856) }
+    /// Adds the body of the response to an SMB_COM_NEGOTIATE to `out`: an SMB2 NEGOTIATE response. After an error `out`
+    /// is as it was.
+    pub fn put_smb1_body(
+        &self,
+        moment: u64,
+        dialect_revision: u16,
+        out: &mut Vec<u8>,
+    ) -> Result<(), AllocError>
+        ensures ok { OnOk result (out.new.items
+            ≡ out.old.items ++ reply_spelling (negotiate_answer self.now.settings.guid (hello_of A.meaning self.now) moment dialect_revision)) }
+        ensures len { OnOk result (length out.new.items ≤ length out.old.items + 65552) }
+        ensures err { OnErr result (out.new.items ≡ out.old.items) }
+        ensures kept { take (length out.old.items) out.new.items ≡ out.old.items }
     {
-        let under = Context {
-            session_id: 0,
-            tree_id: 0,
-        };
         let reply = self.negotiate_response(moment, dialect_revision);
-        let response = respond(self.alloc, Status::Success, under, &reply)?;
-        let bytes = single_reply(self.alloc, &smb1::reply_header(), &response.body)?;
-        Ok(bytes)
+        match write_reply(&reply, out) {
+            Ok(()) => Ok(()),
+            Err(_) => Err(AllocError),
+        }
     }
 
     /// The configuration keeps its rules, the sessions and the files are good, and each open is owned. (The body

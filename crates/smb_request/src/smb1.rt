@@ -20,7 +20,7 @@ pub struct Smb1Answer {
 const WILDCARD_REVISION: u16 = 0x02FF;
 
 /// The header of the reply: to MessageId 0, with one credit.
-pub(crate) fn reply_header() -> Header
+pub fn reply_header() -> Header
     ensures { (response : ReplyValue) → result ≡ (reply_to_smb1 response).header }
 {
     Header {

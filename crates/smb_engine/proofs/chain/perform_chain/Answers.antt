@@ -1,20 +1,34 @@
-use Rattle.std.proofs.Common.{refl, true, ◌∙◌, arith}
-use Rattle.smb_head.specs.Replies.{joined_replies}
-use Rattle.smb_engine.proofs.Turns.{chain_at, chain_more, chain_stopped}
+use Rattle.std.proofs.Common.{refl, ap, ◌∙◌, arith}
+use Rattle.std.proofs.lemmas.List.{take_all}
+use Rattle.smb_engine.proofs.Turns.{chain_begins, writer_at, out_at, chain_more, chain_stopped, done_least, kept_on}
 use Rattle.smb_engine.proofs.chain.perform_chain.Goals as goal
 
 pub loop-i-init : goal.loop-i-init
-unfolding joined_replies
-loop-i-init g c = record { so_far = record { so_far = rw c.requires.none refl }; known = refl; room = rw c.requires.none (omega arith) }
+loop-i-init g c = record {
+  so_far = chain_begins g.A.Authenticator.meaning _ _ _ _ _ _ refl refl refl refl c.begin-writer.ensures.placed refl;
+  known = refl;
+  base = c.begin-writer.ensures.base;
+  order = omega (arith, c.begin-writer.ensures.base, c.begin-writer.ensures.last);
+  within = omega (arith, c.begin-writer.ensures.last);
+  kept = take_all _ _ (omega arith);
+  room = omega arith;
+}
 
-pub returns-then-performed-clause-err : goal.returns-then-performed-clause-err
-returns-then-performed-clause-err g c =
-    (omega (arith, c.len-i-end.ensures.len), chain_stopped g.A.Authenticator.meaning _ _ _ _ _ _ _ _ true c.loop-i.invariant.so_far c.request_at.ensures.request (rw c.if-performed.true at c.in-Err.ensures.err))
+pub returns-in-Err-clause-err : goal.returns-in-Err-clause-err
+returns-in-Err-clause-err g c = (
+  omega (arith, c.len-i-end.ensures.len, done_least c.in-Err.unanswered c.loop-i.i c.done_behind.result c.done_behind.ensures, c.loop-i-test.true),
+  rw c.done_behind.ensures
+      (chain_stopped g.A.Authenticator.meaning _ _ _ _ _ _ _ _ _ c.in-Err.unanswered c.loop-i.invariant.so_far c.request_at.ensures.request c.in-Err.ensures.err),
+)
 
 pub loop-i-preserved : goal.loop-i-preserved
 loop-i-preserved g c = record {
-  so_far = chain_more g.A.Authenticator.meaning _ _ _ _ _ _ _ _ c.loop-i.invariant.so_far c.request_at.ensures.request
-      (c.in-Ok.ensures.ok _ (chain_at g.A.Authenticator.meaning _ _ _ _ _ _ c.loop-i.invariant.so_far));
+  so_far = chain_more g.A.Authenticator.meaning _ _ _ _ _ _ _ _ _ c.loop-i.invariant.so_far c.request_at.ensures.request
+      (c.in-Ok.ensures.ok _ _ (writer_at g.A.Authenticator.meaning _ _ _ _ _ _ _ c.loop-i.invariant.so_far) (out_at g.A.Authenticator.meaning _ _ _ _ _ _ _ c.loop-i.invariant.so_far));
   known = c.turn.ensures.known ∙ c.loop-i.invariant.known;
-  room = omega (arith, c.in-Ok.ensures.len, c.loop-i.invariant.room);
+  base = c.turn.ensures.base ∙ c.loop-i.invariant.base;
+  order = c.turn.ensures.order;
+  within = c.in-Ok.ensures.within;
+  kept = kept_on _ _ _ _ _ c.loop-i.invariant.base c.turn.ensures.kept c.loop-i.invariant.kept;
+  room = omega (arith, c.in-Ok.ensures.len, c.loop-i.invariant.room, c.loop-i.invariant.base);
 }

@@ -1,5 +1,6 @@
 use Rattle.std.proofs.Common.{refl, sym, ap, ◌∙◌, arith, rules}
 use Rattle.smb_engine.proofs.Turns.{refused-shared}
+use Rattle.smb_engine.proofs.Placing.{went_on, ended_here, front_kept}
 use Rattle.smb_engine.proofs.Steps.{steps_more, steps_over, steps_all, held_all, steps_stopped, steps_stopped_in, steps_within, kept_more, at_limit}
 use Rattle.smb_engine.proofs.stream.take_payloads.Goals as goal
 
@@ -15,40 +16,29 @@ returns-in-Err-clause-within g c =
 
 pub returns-in-Ok-None-clause-ok : goal.returns-in-Ok-None-clause-ok
 returns-in-Ok-None-clause-ok g c =
-    steps_over g.A.Authenticator.meaning g.K.Sink.hears _ _ _ _ _ _ _ _ _ _ _ _ _ _ c.loop-payload.invariant.so_far
-    (at_limit c.loop-payload.buffer.limit c.loop-payload.buffer.bytes _ c.loop-payload.invariant.limit c.in-Some.ensures.first) (rw c.in-Ok-None.field-0-is at c.in-Ok-None.ensures.ok)
+    let e = ended_here _ _ g.K.Sink.hears _ _ _ _ (rw c.in-Ok-None.field-0-is at c.in-Ok-None.ensures.ok) in
+    rw e.1
+    (steps_over g.A.Authenticator.meaning g.K.Sink.hears _ _ _ _ _ _ _ _ _ _ _ _ _ _ c.loop-payload.invariant.so_far
+    (at_limit c.loop-payload.buffer.limit c.loop-payload.buffer.bytes _ c.loop-payload.invariant.limit c.in-Some.ensures.first) e.0)
 
 pub returns-in-Ok-None-clause-done : goal.returns-in-Ok-None-clause-done
 returns-in-Ok-None-clause-done g c =
-    refused-shared g.A.Authenticator.meaning _ _ _ _ _ _ _ (rw c.in-Ok-None.field-0-is at c.in-Ok-None.ensures.ok)
+    refused-shared g.A.Authenticator.meaning _ _ _ _ _ _ _ (ended_here _ _ g.K.Sink.hears _ _ _ _ (rw c.in-Ok-None.field-0-is at c.in-Ok-None.ensures.ok)).0
     ∙ steps_stopped g.A.Authenticator.meaning g.K.Sink.hears _ _ _ _ _ _ _ _ _ _ _ c.loop-payload.invariant.so_far
 
-pub returns-in-Err-put_replies-clause-err : goal.returns-in-Err-put_replies-clause-err
-returns-in-Err-put_replies-clause-err g c =
-    steps_stopped g.A.Authenticator.meaning g.K.Sink.hears _ _ _ _ _ _ _ _ _ _ _
-    (steps_more g.A.Authenticator.meaning g.K.Sink.hears _ _ _ _ _ _ _ _ _ _ _ _ _ _ _ _ _ _ c.loop-payload.invariant.so_far
-    (at_limit c.loop-payload.buffer.limit c.loop-payload.buffer.bytes _ c.loop-payload.invariant.limit c.in-Some.ensures.first)
-    (rw c.in-Ok-Some.field-0-is at c.in-Ok-Some.ensures.ok) (rw c.in-Ok-Some.field-0-is at c.in-Ok-Some.ensures.count)
-    (ap (λ b. b.bytes) (c.done.ensures _ (sym c.in-Some.ensures.first))) refl
-    (let n = rw c.in-Ok-Some.field-0-is at c.in-Ok-Some.ensures.count in omega (arith, n, c.perform_payload.ensures.few)))
-
-pub returns-in-Err-put_replies-clause-within : goal.returns-in-Err-put_replies-clause-within
-returns-in-Err-put_replies-clause-within g c =
-    let n = rw c.in-Ok-Some.field-0-is at c.in-Ok-Some.ensures.count in
-    steps_within g.A.Authenticator.meaning g.K.Sink.hears _ _ _ _ _ _ _ _ _ _ _ _ _ c.loop-payload.invariant.so_far
-    (at_limit c.loop-payload.buffer.limit c.loop-payload.buffer.bytes _ c.loop-payload.invariant.limit c.in-Some.ensures.first) (omega (arith, n))
-
 pub loop-payload-preserved : goal.loop-payload-preserved
-loop-payload-preserved g c = record {
-  so_far = steps_more g.A.Authenticator.meaning g.K.Sink.hears _ _ _ _ _ _ _ _ _ _ _ _ _ _ _ _ _ _ c.loop-payload.invariant.so_far
-      (at_limit c.loop-payload.buffer.limit c.loop-payload.buffer.bytes _ c.loop-payload.invariant.limit c.in-Some.ensures.first)
-      (rw c.in-Ok-Some.field-0-is at c.in-Ok-Some.ensures.ok) (rw c.in-Ok-Some.field-0-is at c.in-Ok-Some.ensures.count)
-      (ap (λ b. b.bytes) (c.done.ensures _ (sym c.in-Some.ensures.first))) (search rules)
-      (let n = rw c.in-Ok-Some.field-0-is at c.in-Ok-Some.ensures.count in omega (arith, n, c.perform_payload.ensures.few));
-  kept = kept_more _ _ _ c.loop-payload.invariant.kept c.put_replies.ensures.kept;
-  known = c.perform_payload.ensures.known ∙ c.loop-payload.invariant.known;
-  limit = ap (λ b. b.limit) (c.done.ensures _ (sym c.in-Some.ensures.first)) ∙ c.loop-payload.invariant.limit;
-}
+loop-payload-preserved g c =
+    let w = went_on _ _ g.K.Sink.hears _ _ _ _ (rw c.in-Ok-Some.field-0-is at c.in-Ok-Some.ensures.ok) in
+    record {
+      so_far = steps_more g.A.Authenticator.meaning g.K.Sink.hears _ _ _ _ _ _ _ _ _ _ _ _ _ _ _ _ _ _ c.loop-payload.invariant.so_far
+          (at_limit c.loop-payload.buffer.limit c.loop-payload.buffer.bytes _ c.loop-payload.invariant.limit c.in-Some.ensures.first)
+          w.1.0 (rw c.in-Ok-Some.field-0-is at c.in-Ok-Some.ensures.count)
+          (ap (λ b. b.bytes) (c.done.ensures _ (sym c.in-Some.ensures.first))) w.1.1
+          (let n = rw c.in-Ok-Some.field-0-is at c.in-Ok-Some.ensures.count in omega (arith, n, c.put_payload.ensures.few));
+      kept = kept_more _ _ _ c.loop-payload.invariant.kept (front_kept _ _ _ w.1.1);
+      known = c.put_payload.ensures.known ∙ c.loop-payload.invariant.known;
+      limit = ap (λ b. b.limit) (c.done.ensures _ (sym c.in-Some.ensures.first)) ∙ c.loop-payload.invariant.limit;
+    }
 
 pub returns-clause-ok : goal.returns-clause-ok
 returns-clause-ok g c =

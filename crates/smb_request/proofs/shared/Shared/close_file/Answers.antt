@@ -8,5 +8,5 @@ invariant_of-self g c =
     rw c.close-closed.ensures.store
     (record {
       lawful = c.self.invariant.lawful;
-      owned = owned_some c.self.inside.sessions.table (λ row. not (has_number c.args.request.now.file_id.persistent row)) c.self.inside.store.opens c.self.invariant.owned;
+      owned = owned_some c.self.inside.sessions.table (λ row. not (has_number c.args.open_number row)) c.self.inside.store.opens c.self.invariant.owned;
     })

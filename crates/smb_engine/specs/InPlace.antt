@@ -1,0 +1,76 @@
+-- What the code holds of turns, chains and payloads: replies that stand behind what stood where they are sent from.
+use Rattle.std.specs.Prelude.{ℕ, ◌++◌, Bool, List, [], Option, None, Some, is_some}
+use Rattle.std.specs.List.{flat_map}
+use Rattle.smb_head.specs.declared.writer.ReplyWriter.{ReplyWriter}
+use Rattle.smb_head.specs.Placed.{placed, written}
+use Rattle.smb_request.specs.declared.context.Context.{Context}
+use Rattle.smb_request.specs.State.{SharedState}
+use Rattle.smb_engine.specs.declared.connection.Connection.{Connection}
+use Rattle.smb_engine.specs.Output.{Output, reply_frame, bytes_of}
+use Rattle.smb_engine.specs.Sink.{Heard}
+use Rattle.smb_engine.specs.Chain.{Turn, PayloadStep}
+
+-- a turn, with its replies behind a front
+pub record TurnPlaced (S : Type 0) : Type 0 where
+  pub shared : SharedState S
+  pub connection : Connection
+  pub context : Context
+  pub writer : ReplyWriter
+  pub out : List ℕ
+
+abbrev pub turn_behind : {S : Type 0} → List ℕ → Turn S → TurnPlaced S
+turn_behind front turn = record {
+  shared = turn.shared;
+  connection = turn.connection;
+  context = turn.context;
+  writer = placed front turn.replies;
+  out = written front turn.replies;
+}
+
+-- a chain that was performed, with its replies behind a front
+pub record ChainPlaced (S : Type 0) : Type 0 where
+  pub shared : SharedState S
+  pub connection : Connection
+  pub out : List ℕ
+
+abbrev pub chain_behind : {S : Type 0} → List ℕ → Turn S → ChainPlaced S
+chain_behind front turn = record { shared = turn.shared; connection = turn.connection; out = written front turn.replies }
+
+-- the bytes of the frame that a payload's replies are sent in, where there are any
+abbrev pub sent : Option (List ℕ) → List ℕ
+sent None = []
+sent (Some replies) = flat_map bytes_of (reply_frame 0 replies)
+
+-- a payload that was performed, with the frame of its replies behind a front
+pub record PayloadPlaced (S : Type 0) : Type 0 where
+  pub shared : SharedState S
+  pub connection : Connection
+  pub goes_on : Bool
+  pub out : List ℕ
+
+abbrev pub payload_behind : {S : Type 0} → List ℕ → PayloadStep S → PayloadPlaced S
+payload_behind front step = record {
+  shared = step.shared;
+  connection = step.connection;
+  goes_on = is_some step.replies;
+  out = front ++ sent step.replies;
+}
+
+-- a payload that was performed, with what a place for outputs hears of its replies behind what stood there
+pub record PayloadHeard (S : Type 0) : Type 0 where
+  pub shared : SharedState S
+  pub connection : Connection
+  pub goes_on : Bool
+  pub heard : List Heard
+
+abbrev pub heard_of : (Output → List Heard) → ℕ → Option (List ℕ) → List Heard
+heard_of hears number None = []
+heard_of hears number (Some replies) = flat_map hears (reply_frame number replies)
+
+abbrev pub payload_heard : {S : Type 0} → (Output → List Heard) → List Heard → ℕ → PayloadStep S → PayloadHeard S
+payload_heard hears before number step = record {
+  shared = step.shared;
+  connection = step.connection;
+  goes_on = is_some step.replies;
+  heard = before ++ heard_of hears number step.replies;
+}

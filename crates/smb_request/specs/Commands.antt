@@ -1,0 +1,67 @@
+-- A row for each command: what it needs, and what becomes of it ([MS-SMB2] 2.2.1.2, 3.3.5).
+use Rattle.std.specs.Prelude.{Bool, true, false}
+use Rattle.smb_head.specs.declared.command.Command.{Command}
+use Rattle.smb_head.specs.declared.command.Command.TheVariants.{Negotiate, SessionSetup, Logoff, TreeConnect, TreeDisconnect, Create, Close, Flush, Read, Write, Lock, Ioctl, Cancel, Echo, QueryDirectory, ChangeNotify, QueryInfo, SetInfo, OplockBreak}
+use Rattle.smb_body.specs.Requests.{RequestValue, asks_negotiate, asks_session_setup, asks_logoff, asks_tree_connect, asks_tree_disconnect, asks_create, asks_close, asks_flush, asks_read, asks_write, asks_lock, asks_cancel, asks_echo, asks_query_directory, asks_query_info, asks_set_info}
+use Rattle.smb_request.specs.declared.command_row.Needs.{Needs}
+use Rattle.smb_request.specs.declared.command_row.Needs.TheVariants.{Nothing, Session, Tree, Open}
+use Rattle.smb_request.specs.declared.command_row.Handling.TheVariants.{Built, NotBuilt, Passed}
+use Rattle.smb_request.specs.declared.command_row.Row.{Row}
+
+-- each command, from number 0 on: what its requests need, and whether they are performed, not supported yet, or passed over
+abbrev pub row_of : Command → Row
+row_of Negotiate = record { needs = Nothing; handling = Built }
+row_of SessionSetup = record { needs = Nothing; handling = Built }
+row_of Logoff = record { needs = Session; handling = Built }
+row_of TreeConnect = record { needs = Session; handling = Built }
+row_of TreeDisconnect = record { needs = Tree; handling = Built }
+row_of Create = record { needs = Tree; handling = Built }
+row_of Close = record { needs = Open; handling = Built }
+row_of Flush = record { needs = Open; handling = Built }
+row_of Read = record { needs = Open; handling = NotBuilt }
+row_of Write = record { needs = Open; handling = NotBuilt }
+row_of Lock = record { needs = Open; handling = NotBuilt }
+row_of Ioctl = record { needs = Open; handling = NotBuilt }
+row_of Cancel = record { needs = Nothing; handling = Passed }
+row_of Echo = record { needs = Nothing; handling = Built }
+row_of QueryDirectory = record { needs = Open; handling = NotBuilt }
+row_of ChangeNotify = record { needs = Open; handling = NotBuilt }
+row_of QueryInfo = record { needs = Open; handling = NotBuilt }
+row_of SetInfo = record { needs = Open; handling = NotBuilt }
+row_of OplockBreak = record { needs = Open; handling = NotBuilt }
+
+-- the command of a request
+abbrev pub command_asked : RequestValue → Command
+command_asked (asks_negotiate asked) = Negotiate
+command_asked (asks_session_setup asked) = SessionSetup
+command_asked (asks_logoff asked) = Logoff
+command_asked (asks_tree_connect asked) = TreeConnect
+command_asked (asks_tree_disconnect asked) = TreeDisconnect
+command_asked (asks_create asked) = Create
+command_asked (asks_close asked) = Close
+command_asked (asks_flush asked) = Flush
+command_asked (asks_read asked) = Read
+command_asked (asks_write asked) = Write
+command_asked (asks_lock asked) = Lock
+command_asked (asks_cancel asked) = Cancel
+command_asked (asks_echo asked) = Echo
+command_asked (asks_query_directory asked) = QueryDirectory
+command_asked (asks_query_info asked) = QueryInfo
+command_asked (asks_set_info asked) = SetInfo
+
+abbrev pub needs_of : RequestValue → Needs
+needs_of asked = (row_of (command_asked asked)).needs
+
+-- what needs a finished session, also where it needs more (3.3.5.2.9)
+abbrev pub needs_session : Needs → Bool
+needs_session Nothing = false
+needs_session Session = true
+needs_session Tree = true
+needs_session Open = true
+
+-- what needs a tree connect (3.3.5.2.11)
+abbrev pub needs_tree : Needs → Bool
+needs_tree Nothing = false
+needs_tree Session = false
+needs_tree Tree = true
+needs_tree Open = true

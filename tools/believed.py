@@ -1,0 +1,199 @@
+#!/usr/bin/env python3
+"""believed.py: counts, by crate, the definitions that a reader must believe: those that the contracts of public functions name, and those that these name.
+
+--list prints them by file. --check fails where docs/DEFINITIONS.md does not name one beside its file, or names a file or a definition that is not there.
+A row of it whose first cell is "the whole file" or "the whole files", without the quotes, names all definitions of its files.
+
+Public is what lib.rt exports. Of it count the clauses of functions, of types' `pub` methods and of traits' methods, and the ghost members of traits,
+types and impls; of an `impl Model` the Value, the view and the invariant. The files are read by the layout that `rt fmt` gives them, without the parts
+for tests alone. A variable that has the name of a definition counts as the definition.
+"""
+import pathlib
+import re
+import sys
+
+ROOT = pathlib.Path(__file__).resolve().parent.parent
+PAGE = ROOT / "docs" / "DEFINITIONS.md"
+NAME = r"[^\W\d][\w'-]*"
+IMPORT = re.compile(r"^\s*(pub |ghost )?use Rattle\.(\w+)\.specs\.([\w.]+)\.\{(.*)\};?\s*$", re.M)
+BEGIN = re.compile(rf"(?:(?:abbrev|unfoldable) pub|pub data|pub record|pub) (?!(?:use|mod|data|record) )({NAME})")
+ITEM = re.compile(r"^(?=#|(?:pub(?:\([a-z ]+\))? )?(?:unsafe |const )*(?:fn|impl|trait|struct|enum|const|type|mod|use|ghost)\b)", re.M)
+NOISE = re.compile(r"//[^\n]*|\"(?:[^\"\\]|\\.)*\"|b?'(?:[^'\\\n]|\\[^'\n]+|\\')'", re.S)
+CLAUSES = re.compile(r"^    (?:requires|ensures|ghost)\b.*?(?=^\{|\Z)", re.M | re.S)
+CLAUSE_NAME = re.compile(r"^    (?:requires|ensures|ghost)\*?(?: \w+:?)?(?= \{)", re.M)
+
+
+def imports_of(text):
+    """A name here: whether it is handed on, and its crate, file and name there."""
+    imports = {}
+    for kind, crate, file, names in IMPORT.findall(text):
+        for there, _, here in (name.strip().partition(" as ") for name in names.split(",")):
+            imports[here or there] = kind == "pub ", (crate, file.replace(".", "/"), there)
+    return imports
+
+
+def used_in(text):
+    """The names that a text uses, but for those behind a dot and those of fields that are declared or set."""
+    text = re.sub(rf"(?:[{{;]\s*|^\s+pub ){NAME}(?= [=:]\s)", " ; ", text, flags=re.M)
+    return set(re.findall(rf"(?<![\w'.-]){NAME}", text))
+
+
+class Specs:
+    """A file of specs/: what it imports, the text of each definition, and of which definition a constructor is."""
+
+    def __init__(self, path):
+        text = re.sub(r"--.*", "", path.read_text(encoding="utf-8"))
+        self.imports, self.texts, module, name = imports_of(text), {}, "", None
+        for line in text.splitlines(keepends=True):
+            inner = module and line.startswith("  ")
+            begins = BEGIN.match(line[2:] if inner else line)
+            if begins:
+                name, module = begins.group(1), module if inner else ""
+                self.texts[name] = module
+            elif line.startswith("module "):
+                name, module = None, line
+            if name:
+                self.texts[name] += line
+        self.constructors = {maker: name for name, text in self.texts.items() if f"pub data {name}" in text
+                             for maker in re.findall(rf"^ +({NAME}) : ", text, re.M)}
+
+
+def read_specs():
+    """By crate and file, in the order of crates.txt."""
+    crates = re.findall(r"^(\w+)[^:\n]*:", (ROOT / "crates.txt").read_text(encoding="utf-8"), re.M)
+    folders = [(crate, ROOT / "crates" / crate / "specs") for crate in crates]
+    return {(crate, path.relative_to(folder).with_suffix("").as_posix()): Specs(path)
+            for crate, folder in folders for path in sorted(folder.glob("**/*.antt"))}
+
+
+def find(specs, crate, file, name):
+    """The definition that a name means in a file. None outside the crates."""
+    at = specs.get((crate, file))
+    if at and at.imports.get(name, [False])[0]:
+        return find(specs, *at.imports[name][1])
+    return (crate, file, at.constructors.get(name, name)) if at and name in {*at.texts, *at.constructors} else None
+
+
+def followed(specs, roots):
+    """All definitions to which some lead."""
+    reached, waiting = set(), set(roots)
+    while waiting:
+        crate, file, name = one = waiting.pop()
+        reached.add(one)
+        at = specs[crate, file]
+        used = {find(specs, *at.imports.get(it, (False, (crate, file, it)))[1]) for it in used_in(at.texts[name])}
+        waiting |= used - reached - {None}
+    return reached
+
+
+def items_of(text):
+    """The items of a file or a block, but for those that are compiled for tests alone."""
+    items = ITEM.split(text)[1:]
+    return [item for before, item in zip([""] + items, items) if not before.startswith("#[cfg(test)]")]
+
+
+def members_of(item):
+    """The members of an impl, a trait or a type. (A ghost field ends where the next field begins.)"""
+    members = items_of(re.sub(r"^    ", "", item.partition("{\n")[2], flags=re.M))
+    return [re.split(r"\n(?=(?:pub )?\w+: )", member)[0] if "ghost" in member[:9] else member for member in members]
+
+
+def clauses_of(member):
+    """The clauses of a function, without their names, or what a ghost member says."""
+    if re.match(r"(?:pub )?ghost (?!use)", member):
+        return re.sub(r"^(?:pub )?ghost \w+", "", member)
+    return CLAUSE_NAME.sub("", "".join(CLAUSES.findall(member)))
+
+
+def head_of(item):
+    """The words with which an item begins, without type arguments and the paths before names."""
+    head = re.split(r"\{|\bwhere\b", item)[0].replace("->", "")
+    while re.search(r"<[^<>]*>", head):
+        head = re.sub(r"<[^<>]*>", "", head)
+    return [word.rpartition("::")[2] for word in re.findall(r"[\w:]+", head)]
+
+
+class Crate:
+    """A crate's sources by module, and of each type and trait that it declares whether it is public."""
+
+    def __init__(self, name):
+        source = ROOT / "crates" / name / "src"
+        self.files = {"::".join(path.relative_to(source).with_suffix("").parts): NOISE.sub(" ", path.read_text(encoding="utf-8"))
+                      for path in sorted(source.glob("**/*.rt"))}
+        library = "".join(items_of(self.files.get("lib", "")))
+        self.open = set(re.findall(r"^pub mod (\w+);", library, re.M)) | {"lib"}
+        uses = re.findall(r"^pub use ([\w:]+)::(\{[^}]*\}|\w+);", library, re.M)
+        self.exported = {(module, name) for module, names in uses for name in re.findall(r"\w+", names)}
+        declared = re.compile(r"^(pub )?(?:pub\([a-z ]+\) )?(?:struct|enum|trait) (\w+)", re.M)
+        types = [(name, shown != "" and self.is_public(module, name)) for module, text in self.files.items() for shown, name in declared.findall(text)]
+        self.types = dict(sorted(types))
+
+    def is_public(self, module, name):
+        return (module, name) in self.exported or module in self.open
+
+    def public_parts(self, module, item):
+        """The functions and the ghost members of an item that callers see."""
+        head = head_of(item)
+        kind = next((word for word in head if word in ("fn", "impl", "trait", "struct", "enum")), None)
+        name = head[head.index(kind) + 1] if kind else None
+        if kind == "fn":
+            return [item] if item.startswith("pub ") and self.is_public(module, name) else []
+        if kind != "impl":
+            return members_of(item) if self.types.get(name) else []
+        shown = r"ghost (Value|view|invariant)\b" if "Model" in head else "" if "for" in head else r"pub (const )?fn\b"
+        return [it for it in members_of(item) if re.match(shown, it) and all(self.types.get(word, True) for word in head[1:])]
+
+    def roots(self, specs):
+        """The definitions that the public clauses name."""
+        for module, text in self.files.items():
+            imports = imports_of(text)
+            parts = [part for item in items_of(text) for part in self.public_parts(module, item)]
+            yield from (find(specs, *imports[name][1]) for part in parts for name in used_in(clauses_of(part)) & set(imports))
+
+
+def told(specs):
+    """The definitions that the page names, and what it names that is not there."""
+    named, wrong = set(), []
+    for names, files in re.findall(r"^\|(.*)\|(.*)\|.*\|.*\|$", PAGE.read_text(encoding="utf-8"), re.M):
+        crate, there = "", set()
+        for inside, file in re.findall(r"(?:(\w+)/specs/)?([\w/]+)\.antt", files):
+            crate = inside or crate
+            wrong += [] if (crate, file) in specs else [f"{crate}/specs/{file}.antt is not there"]
+            there |= {(crate, file, name) for name in specs[crate, file].texts} if (crate, file) in specs else set()
+        quoted = re.findall(r"`([^`]+)`", names)
+        wrong += [f"`{name}` is not in {files.strip()}" for name in quoted if name not in {it[2] for it in there}]
+        named |= {one for one in there if one[2] in quoted or names.strip() in ("the whole file", "the whole files")}
+    return named, wrong
+
+
+def by_file(specs, some):
+    """Lines: a file, and those of its definitions that are among some."""
+    for (crate, file), at in specs.items():
+        names = " ".join(name for name in at.texts if (crate, file, name) in some)
+        if names:
+            yield f"{crate}/specs/{file}.antt: {names}"
+
+
+def counts(specs, reached):
+    """A table: by crate how many definitions are believed, how many are not, and how many there are."""
+    yield f"{'':14}{'believed':>10}{'not':>10}{'all':>10}"
+    for crate in [*dict.fromkeys(crate for crate, _ in specs), "all"]:
+        some = sum(crate in (it[0], "all") for it in reached)
+        every = sum(len(at.texts) for key, at in specs.items() if crate in (key[0], "all"))
+        yield f"{crate:14}{some:10}{every - some:10}{every:10}"
+
+
+def main(words):
+    specs = read_specs()
+    roots = {root for name in {crate for crate, _ in specs} for root in Crate(name).roots(specs)}
+    reached = followed(specs, roots - {None})
+    if words == ["--check"]:
+        named, wrong = told(specs)
+        wrong += [f"does not name, of {line}" for line in by_file(specs, reached - named)]
+        sys.exit("\n".join(f"{PAGE.relative_to(ROOT)}: {it}" for it in wrong) or None)
+    if words not in ([], ["--list"]):
+        sys.exit(__doc__)
+    print("\n".join(by_file(specs, reached) if words else counts(specs, reached)))
+
+
+main(sys.argv[1:])
