@@ -1,6 +1,14 @@
-//! One request of a share: what all connections share, and what a request does to it ([MS-SMB2] 3.3).
+//! One request of a share: what all connections share, and what a request does to it ([MS-SMB2] 3.3.5).
 //!
-//! What a request leaves and what answers it is one definition, `specs/Request.antt`, over the state of `specs/State.antt`.
+//! [`Shared`] is the state: the configuration, the sessions with their authenticator, and the files with their opens.
+//! [`perform`](Shared::perform) does one request of a chain. It takes the row of its command (`command_row.rt`), reads
+//! the body, looks whether the session, the tree connect and the open exist that the row asks for, and has the command
+//! give an outcome, which is spelled in one place (`outcome.rt`), straight where the response is sent from. What a
+//! request leaves and what answers it is one definition, `specs/Request.antt`, over the state of `specs/State.antt`,
+//! with the commands' own in `specs/Session.antt` and `specs/Files.antt`. It knows no stream, no chain and no frame:
+//! these are smb_engine's, where the definition of the share goes on.
+//!
+//! Want of memory is an [`Unanswered`], which tells whether the request was performed.
 #![tactic(auto)]
 
 mod command_row;

@@ -4,7 +4,7 @@ use smb_body::{
     Access, Capabilities, CloseFlags, CloseResponse, CreateAction, CreateResponse, Dialect,
     FileAttributes, FileId, Guid, NegotiateResponse, OplockLevel, QueryResponse, ReadResponse,
     Reply, SecurityMode, SessionFlags, SessionSetupResponse, ShareFlags, ShareType,
-    TreeConnectResponse, WriteResponse, write_reply,
+    TreeConnectResponse, WriteResponse, put_read_head, write_reply,
 };
 use std::alloc::Global;
 
@@ -158,4 +158,21 @@ fn replies_without_fields(rt: HostRuntime) {
     assert!(rt; is_written(alloc, &Reply::Lock, &reserved));
     assert!(rt; is_written(alloc, &Reply::Echo, &reserved));
     assert!(rt; is_written(alloc, &Reply::SetInfo, &[2, 0]));
+}
+
+/// What a READ's fixed part and its data are, written one behind the other.
+fn read_in_parts(alloc: Global) -> Option<Vec<u8>> {
+    let mut written = Vec::new(alloc);
+    put_read_head(3, &mut written).ok()?;
+    written.extend_from_slice(b"abc").ok()?;
+    Some(written)
+}
+
+#[test]
+fn a_read_head_stands_before_its_data(rt: HostRuntime) {
+    let is_same = match read_in_parts(rt.alloc()) {
+        Some(written) => written.as_slice() == &READ,
+        None => false,
+    };
+    assert!(rt; is_same);
 }
