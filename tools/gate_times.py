@@ -1,11 +1,12 @@
 #!/usr/bin/env python3
 """gate_times.py COMMAND WORD..: runs the command, which calls `rt ci`, and then prints what each of its tasks took.
 
-A task is a crate's proof, the proof of its tests, or its must-fail edits. Twice a second the prover's processes are looked at, and
-each is counted for the crate that it names. The table has, for each task, the seconds after the begin at which it began and
+A task is a crate's proof, the proof of its tests, or its must-fail edits. Twice a second the prover's processes of the command's
+session are looked at, and each is counted for the crate that it names. The table has, for each task, the seconds after the begin at which it began and
 ended, and its processor seconds. The exit status is the command's.
 """
 import os
+import signal
 import subprocess
 import sys
 import threading
@@ -34,16 +35,18 @@ def task_of(pid):
     return crate, "proof"
 
 
-def seconds_of(pid):
+def session_and_seconds_of(pid):
+    """The session that a process belongs to, and its processor seconds."""
     with open(f"/proc/{pid}/stat", encoding="ascii", errors="replace") as it:
         fields = it.read().rpartition(")")[2].split()
-    return (int(fields[11]) + int(fields[12])) / TICKS
+    return int(fields[3]), (int(fields[11]) + int(fields[12])) / TICKS
 
 
 class Watch:
     """What was seen: of each process its task and its processor seconds, of each task when it was seen first and last."""
 
-    def __init__(self):
+    def __init__(self, session):
+        self.session = session
         self.begin = time.monotonic()
         self.processes = {}
         self.spans = {}
@@ -53,9 +56,10 @@ class Watch:
         now = time.monotonic() - self.begin
         for pid in filter(str.isdigit, os.listdir("/proc")):
             try:
-                task = task_of(pid)
+                session, seconds = session_and_seconds_of(pid)
+                task = task_of(pid) if session == self.session else None
                 if task:
-                    self.processes[pid, task] = seconds_of(pid)
+                    self.processes[pid, task] = seconds
                     first, _ = self.spans.get(task, (now, now))
                     self.spans[task] = first, now
             except (OSError, ValueError, IndexError):
@@ -87,11 +91,15 @@ class Watch:
 def main(words):
     if not words:
         sys.exit(__doc__)
-    watch = Watch()
+    command = subprocess.Popen(words, start_new_session=True)
+    watch = Watch(command.pid)
     thread = threading.Thread(target=watch.run)
     thread.start()
     try:
-        status = subprocess.run(words).returncode
+        status = command.wait()
+    except KeyboardInterrupt:
+        os.killpg(command.pid, signal.SIGTERM)
+        status = command.wait()
     finally:
         watch.ended.set()
         thread.join()

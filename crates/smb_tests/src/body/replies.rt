@@ -171,7 +171,7 @@ fn read_in_parts(alloc: Global) -> Option<Vec<u8>> {
 #[test]
 fn a_read_head_stands_before_its_data(rt: HostRuntime) {
     let is_same = match read_in_parts(rt.alloc()) {
-        Some(written) => written.as_slice() == &READ,
+        Some(written) => written.as_slice() == READ.as_slice(),
         None => false,
     };
     assert!(rt; is_same);
