@@ -1,11 +1,12 @@
 #!/usr/bin/env python3
 """believed.py: counts, by crate, the definitions that a reader must believe: those that the contracts of public functions name, and those that these name.
 
---list prints them by file. --check fails where docs/DEFINITIONS.md does not name one beside its file, or names a file or a definition that is not there.
+--list prints them by file. --check fails where docs/DEFINITIONS.md does not name one beside its file, or names a file or a definition that is not there,
+and where a file of which nothing need be believed does not begin by saying so, or another one does.
 A row of it whose first cell is "the whole file" or "the whole files", without the quotes, names all definitions of its files.
 
 Public is what lib.rt exports. Of it count the clauses of functions, of types' `pub` methods and of traits' methods, and the ghost members of traits,
-types and impls; of an `impl Model` the Value, the view and the invariant. The files are read by the layout that `rt fmt` gives them, without the parts
+types and impls; of an `impl Model` the Value and the view. (Its invariant is proved of each value that is made, and no caller is told of it.) The files are read by the layout that `rt fmt` gives them, without the parts
 for tests alone. A variable that has the name of a definition counts as the definition.
 """
 import pathlib
@@ -14,6 +15,7 @@ import sys
 
 ROOT = pathlib.Path(__file__).resolve().parent.parent
 PAGE = ROOT / "docs" / "DEFINITIONS.md"
+MARK = "-- For the proofs; nothing here need be believed."
 NAME = r"[^\W\d][\w'-]*"
 IMPORT = re.compile(r"^\s*(pub |ghost )?use Rattle\.(\w+)\.specs\.([\w.]+)\.\{(.*)\};?\s*$", re.M)
 BEGIN = re.compile(rf"(?:(?:abbrev|unfoldable) pub|pub data|pub record|pub) (?!(?:use|mod|data|record) )({NAME})")
@@ -140,7 +142,7 @@ class Crate:
             return [item] if item.startswith("pub ") and self.is_public(module, name) else []
         if kind != "impl":
             return members_of(item) if self.types.get(name) else []
-        shown = r"ghost (Value|view|invariant)\b" if "Model" in head else "" if "for" in head else r"pub (const )?fn\b"
+        shown = r"ghost (Value|view)\b" if "Model" in head else "" if "for" in head else r"pub (const )?fn\b"
         return [it for it in members_of(item) if re.match(shown, it) and all(self.types.get(word, True) for word in head[1:])]
 
     def roots(self, specs):
@@ -152,8 +154,8 @@ class Crate:
 
 
 def told(specs):
-    """The definitions that the page names, and what it names that is not there."""
-    named, wrong = set(), []
+    """The definitions that the page names, those that it names one by one, and what it names that is not there."""
+    named, quoted_there, wrong = set(), set(), []
     for names, files in re.findall(r"^\|(.*)\|(.*)\|.*\|.*\|$", PAGE.read_text(encoding="utf-8"), re.M):
         crate, there = "", set()
         for inside, file in re.findall(r"(?:(\w+)/specs/)?([\w/]+)\.antt", files):
@@ -162,8 +164,9 @@ def told(specs):
             there |= {(crate, file, name) for name in specs[crate, file].texts} if (crate, file) in specs else set()
         quoted = re.findall(r"`([^`]+)`", names)
         wrong += [f"`{name}` is not in {files.strip()}" for name in quoted if name not in {it[2] for it in there}]
-        named |= {one for one in there if one[2] in quoted or names.strip() in ("the whole file", "the whole files")}
-    return named, wrong
+        quoted_there |= {one for one in there if one[2] in quoted}
+        named |= there if names.strip() in ("the whole file", "the whole files") else {one for one in there if one[2] in quoted}
+    return named, quoted_there, wrong
 
 
 def by_file(specs, some):
@@ -172,6 +175,18 @@ def by_file(specs, some):
         names = " ".join(name for name in at.texts if (crate, file, name) in some)
         if names:
             yield f"{crate}/specs/{file}.antt: {names}"
+
+
+def marks(specs, reached):
+    """What is wrong with the first lines of files: they say whether a file serves the proofs alone."""
+    for crate, file in specs:
+        if file == "Lib":
+            continue
+        path = ROOT / "crates" / crate / "specs" / f"{file}.antt"
+        marked = path.read_text(encoding="utf-8").startswith(MARK)
+        believed = any(it[:2] == (crate, file) for it in reached)
+        if marked == believed:
+            yield f"{crate}/specs/{file}.antt {'begins with' if marked else 'does not begin with'} `{MARK}`"
 
 
 def counts(specs, reached):
@@ -188,9 +203,10 @@ def main(words):
     roots = {root for name in {crate for crate, _ in specs} for root in Crate(name).roots(specs)}
     reached = followed(specs, roots - {None})
     if words == ["--check"]:
-        named, wrong = told(specs)
+        named, quoted, wrong = told(specs)
         wrong += [f"does not name, of {line}" for line in by_file(specs, reached - named)]
-        sys.exit("\n".join(f"{PAGE.relative_to(ROOT)}: {it}" for it in wrong) or None)
+        wrong += [f"names, though it need not be believed, of {line}" for line in by_file(specs, quoted - reached)]
+        sys.exit("\n".join([*(f"{PAGE.relative_to(ROOT)}: {it}" for it in wrong), *marks(specs, reached)]) or None)
     if words not in ([], ["--list"]):
         sys.exit(__doc__)
     print("\n".join(by_file(specs, reached) if words else counts(specs, reached)))

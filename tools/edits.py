@@ -17,7 +17,7 @@ def what_it_turns(edit):
     if not lines or not lines[0].startswith("turns: "):
         sys.exit(f"{edit.relative_to(ROOT)}: its first line does not say what it turns")
     file = next((it[len("file: "):] for it in lines if it.startswith("file: ")), "")
-    stem = pathlib.PurePath(file).stem
+    stem = pathlib.PurePath(file).stem.lower()
     if not re.match(rf"{stem}_[a-z0-9_]+\.edit$", edit.name):
         sys.exit(f"{edit.relative_to(ROOT)}: its name does not begin with {stem}_, the file that it changes")
     return lines[0][len("turns: "):].strip()

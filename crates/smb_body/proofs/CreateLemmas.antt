@@ -1,5 +1,5 @@
 -- CREATE's request: what tells it, and that what was written is read.
-use Rattle.std.proofs.Common.{◌≡◌, ℕ, ◌-◌, ◌*◌, ◌%◌, ◌^◌, ◌<◌, ◌≤◌, List, [], ◌∷◌, ◌++◌, true, length, replicate, refl, subst, arith, rules, eq-eqb, nat_eq, ◌&&◌, ◌∙◌, append-nil, append_assoc, length-append}
+use Rattle.std.proofs.Common.{lit<, ◌≡◌, ℕ, ◌-◌, ◌*◌, ◌%◌, ◌^◌, ◌<◌, ◌≤◌, List, [], ◌∷◌, ◌++◌, true, length, replicate, refl, subst, arith, rules, eq-eqb, nat_eq, ◌&&◌, ◌∙◌, append-nil, append_assoc, length-append}
 use Rattle.std.proofs.lemmas.List.{length-replicate}
 use Rattle.std.specs.Int.{next_multiple_of}
 use Rattle.std.proofs.lemmas.Bool.{eqb-true}
@@ -7,6 +7,9 @@ use Rattle.smb_wire.specs.Fields.{number_in, joined}
 use Rattle.smb_wire.specs.Pairs.{units_in, unit_bytes}
 use Rattle.smb_wire.proofs.FieldTables.{length-joined}
 use Rattle.smb_wire.proofs.Pairing.{length-unit_bytes}
+use Rattle.smb_wire.specs.declared.create_action.CreateAction.{CreateAction}
+use Rattle.smb_wire.specs.declared.create_action.CreateAction.TheVariants.{Superseded, Opened, Created, Overwritten}
+use Rattle.smb_wire.specs.CreateActions.{action_code}
 use Rattle.smb_body.specs.Buffers.{body, slice, is_within, has_fixed_part, Holds, HoldsText}
 use Rattle.smb_body.specs.Create.{CreateAsked, create_fields, SaysCreate, is_create, create_of, create_laid, create_spelling, FitsCreate, contexts_place, contexts_gap, name_end}
 use Rattle.smb_body.proofs.Buffering.{length-slice, holds_slice, holds_text, length-units, holds_between, text_between}
@@ -78,3 +81,10 @@ create_written header a e f =
       name = subst (λ (request : List ℕ). HoldsText 120 120 request a.name) (append_assoc header table (unit_bytes a.name ++ rest)) name_held;
       create_contexts = subst (λ (request : List ℕ). Holds 120 (contexts_place (name_end a) a.create_contexts) request a.create_contexts) same contexts_held;
     }
+
+-- the number of an action fits its field
+pub action_fits : (action : CreateAction) → action_code action < 4294967296
+action_fits Superseded = lit< tt
+action_fits Opened = lit< tt
+action_fits Created = lit< tt
+action_fits Overwritten = lit< tt

@@ -2,7 +2,7 @@
 use Rattle.std.specs.Prelude.{◌≡◌, ℕ, ◌+◌, ◌*◌, List, length, take, drop, Bool, true, nat_eq, nat_le, ◌&&◌, ◌||◌}
 use Rattle.smb_wire.specs.Fields.{number_in}
 use Rattle.smb_wire.specs.Pairs.{units_in}
-use Rattle.smb_body.specs.declared.types.FileId.{FileId}
+use Rattle.smb_wire.specs.declared.file_id.FileId.{FileId}
 
 -- the body of a request, which stands behind the 64 bytes of its header ([MS-SMB2] 2.2.1)
 abbrev pub body : List ℕ → List ℕ

@@ -8,8 +8,12 @@ use Rattle.smb_body.specs.declared.close.CloseResponse.{CloseResponse}
 -- the fixed part of a request ([MS-SMB2] 2.2.15)
 abbrev pub close_fields : CloseRequest → List Field
 close_fields r =
-    num 0 2 24 ∷ num 2 2 r.flags.0 ∷ num 4 4 r.reserved ∷ num 8 8 r.file_id.persistent
-    ∷ num 16 8 r.file_id.volatile ∷ []
+    num 0 2 24  -- StructureSize
+    ∷ num 2 2 r.flags.0  -- Flags
+    ∷ num 4 4 r.reserved  -- Reserved
+    ∷ num 8 8 r.file_id.persistent  -- FileId.Persistent
+    ∷ num 16 8 r.file_id.volatile  -- FileId.Volatile
+    ∷ []
 
 -- a request says this: its fields stand at their places
 pub record SaysClose (request : List ℕ) (r : CloseRequest) : Type 0 where
@@ -34,6 +38,14 @@ pub record FitsClose (r : CloseRequest) : Type 0 where
 -- the fixed part of a response ([MS-SMB2] 2.2.16)
 abbrev pub close_response_fields : CloseResponse → List Field
 close_response_fields r =
-    num 0 2 60 ∷ num 2 2 r.flags.0 ∷ num 4 4 0 ∷ num 8 8 r.creation_time ∷ num 16 8 r.last_access_time
-    ∷ num 24 8 r.last_write_time ∷ num 32 8 r.change_time ∷ num 40 8 r.allocation_size ∷ num 48 8 r.end_of_file
-    ∷ num 56 4 r.file_attributes.0 ∷ []
+    num 0 2 60  -- StructureSize
+    ∷ num 2 2 r.flags.0  -- Flags
+    ∷ num 4 4 0  -- Reserved
+    ∷ num 8 8 r.creation_time  -- CreationTime
+    ∷ num 16 8 r.last_access_time  -- LastAccessTime
+    ∷ num 24 8 r.last_write_time  -- LastWriteTime
+    ∷ num 32 8 r.change_time  -- ChangeTime
+    ∷ num 40 8 r.allocation_size  -- AllocationSize
+    ∷ num 48 8 r.end_of_file  -- EndOfFile
+    ∷ num 56 4 r.file_attributes.0  -- FileAttributes
+    ∷ []

@@ -4,16 +4,17 @@ use Rattle.std.specs.Int.{next_multiple_of}
 use Rattle.smb_wire.specs.Fields.{Field, num, number_in, AllStand, AllFit, joined}
 use Rattle.smb_wire.specs.Pairs.{units_in, unit_bytes, AreUnits}
 use Rattle.smb_wire.specs.Units.{units_of}
+use Rattle.smb_wire.specs.CreateActions.{action_code}
 use Rattle.smb_body.specs.Buffers.{body, has_fixed_part, slice, is_within, Holds, HoldsText}
-use Rattle.smb_body.specs.declared.types.FileAttributes.{FileAttributes}
-use Rattle.smb_body.specs.declared.masks.Access.{Access}
-use Rattle.smb_body.specs.declared.masks.ShareAccess.{ShareAccess}
-use Rattle.smb_body.specs.declared.masks.CreateOptions.{CreateOptions}
+use Rattle.smb_wire.specs.declared.attributes.FileAttributes.{FileAttributes}
+use Rattle.smb_wire.specs.declared.access.Access.{Access}
+use Rattle.smb_wire.specs.declared.access.ShareAccess.{ShareAccess}
+use Rattle.smb_wire.specs.declared.create_options.CreateOptions.{CreateOptions}
 use Rattle.smb_body.specs.declared.create.SecurityFlags.{SecurityFlags}
 use Rattle.smb_body.specs.declared.create.OplockLevel.{OplockLevel}
 use Rattle.smb_body.specs.declared.create.ImpersonationLevel.{ImpersonationLevel}
 use Rattle.smb_body.specs.declared.create.SmbCreateFlags.{SmbCreateFlags}
-use Rattle.smb_body.specs.declared.create.CreateDisposition.{CreateDisposition}
+use Rattle.smb_wire.specs.declared.disposition.CreateDispositionCode.{CreateDispositionCode}
 use Rattle.smb_body.specs.declared.create.CreateRequest.{CreateRequest}
 use Rattle.smb_body.specs.declared.create.CreateResponse.{CreateResponse}
 
@@ -27,7 +28,7 @@ pub record CreateAsked : Type 0 where
   pub desired_access : Access
   pub file_attributes : FileAttributes
   pub share_access : ShareAccess
-  pub create_disposition : CreateDisposition
+  pub create_disposition : CreateDispositionCode
   pub create_options : CreateOptions
   pub name_offset : ℕ
   pub name : List ℕ
@@ -56,12 +57,22 @@ create_asked r = record {
 -- the fixed part of a request ([MS-SMB2] 2.2.13)
 abbrev pub create_fields : CreateAsked → List Field
 create_fields a =
-    num 0 2 57 ∷ num 2 1 a.security_flags.0 ∷ num 3 1 a.requested_oplock_level.0
-    ∷ num 4 4 a.impersonation_level.0 ∷ num 8 8 a.smb_create_flags.0 ∷ num 16 8 a.reserved
-    ∷ num 24 4 a.desired_access.0 ∷ num 28 4 a.file_attributes.0 ∷ num 32 4 a.share_access.0
-    ∷ num 36 4 a.create_disposition.0 ∷ num 40 4 a.create_options.0
-    ∷ num 44 2 a.name_offset ∷ num 46 2 (2 * length a.name)
-    ∷ num 48 4 a.create_contexts_offset ∷ num 52 4 (length a.create_contexts) ∷ []
+    num 0 2 57  -- StructureSize
+    ∷ num 2 1 a.security_flags.0  -- SecurityFlags
+    ∷ num 3 1 a.requested_oplock_level.0  -- RequestedOplockLevel
+    ∷ num 4 4 a.impersonation_level.0  -- ImpersonationLevel
+    ∷ num 8 8 a.smb_create_flags.0  -- SmbCreateFlags
+    ∷ num 16 8 a.reserved  -- Reserved
+    ∷ num 24 4 a.desired_access.0  -- DesiredAccess
+    ∷ num 28 4 a.file_attributes.0  -- FileAttributes
+    ∷ num 32 4 a.share_access.0  -- ShareAccess
+    ∷ num 36 4 a.create_disposition.0  -- CreateDisposition
+    ∷ num 40 4 a.create_options.0  -- CreateOptions
+    ∷ num 44 2 a.name_offset  -- NameOffset
+    ∷ num 46 2 (2 * length a.name)  -- NameLength
+    ∷ num 48 4 a.create_contexts_offset  -- CreateContextsOffset
+    ∷ num 52 4 (length a.create_contexts)  -- CreateContextsLength
+    ∷ []
 
 -- a request says this: its fields stand at their places, and each buffer is what its offset and length name
 pub record SaysCreate (request : List ℕ) (a : CreateAsked) : Type 0 where
@@ -132,7 +143,20 @@ is_create_too_long a = nat_lt 32767 (length a.name) || nat_lt 4294967295 (length
 -- the fixed part of a response ([MS-SMB2] 2.2.14)
 abbrev pub create_response_fields : CreateResponse → List Field
 create_response_fields r =
-    num 0 2 89 ∷ num 2 1 r.oplock_level.0 ∷ num 3 1 0 ∷ num 4 4 r.create_action.0 ∷ num 8 8 r.creation_time
-    ∷ num 16 8 r.last_access_time ∷ num 24 8 r.last_write_time ∷ num 32 8 r.change_time
-    ∷ num 40 8 r.allocation_size ∷ num 48 8 r.end_of_file ∷ num 56 4 r.file_attributes.0 ∷ num 60 4 0
-    ∷ num 64 8 r.file_id.persistent ∷ num 72 8 r.file_id.volatile ∷ num 80 4 0 ∷ num 84 4 0 ∷ []
+    num 0 2 89  -- StructureSize
+    ∷ num 2 1 r.oplock_level.0  -- OplockLevel
+    ∷ num 3 1 0  -- Flags
+    ∷ num 4 4 (action_code r.create_action)  -- CreateAction
+    ∷ num 8 8 r.creation_time  -- CreationTime
+    ∷ num 16 8 r.last_access_time  -- LastAccessTime
+    ∷ num 24 8 r.last_write_time  -- LastWriteTime
+    ∷ num 32 8 r.change_time  -- ChangeTime
+    ∷ num 40 8 r.allocation_size  -- AllocationSize
+    ∷ num 48 8 r.end_of_file  -- EndOfFile
+    ∷ num 56 4 r.file_attributes.0  -- FileAttributes
+    ∷ num 60 4 0  -- Reserved2
+    ∷ num 64 8 r.file_id.persistent  -- FileId.Persistent
+    ∷ num 72 8 r.file_id.volatile  -- FileId.Volatile
+    ∷ num 80 4 0  -- CreateContextsOffset
+    ∷ num 84 4 0  -- CreateContextsLength
+    ∷ []

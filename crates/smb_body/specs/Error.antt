@@ -4,4 +4,10 @@ use Rattle.smb_wire.specs.Fields.{Field, num}
 
 -- its fields, without error data
 abbrev pub error_response_fields : List Field
-error_response_fields = num 0 2 9 ∷ num 2 1 0 ∷ num 3 1 0 ∷ num 4 4 0 ∷ num 8 1 0 ∷ []
+error_response_fields =
+    num 0 2 9  -- StructureSize
+    ∷ num 2 1 0  -- ErrorContextCount
+    ∷ num 3 1 0  -- Reserved
+    ∷ num 4 4 0  -- ByteCount
+    ∷ num 8 1 0  -- ErrorData
+    ∷ []

@@ -7,8 +7,12 @@ use Rattle.smb_body.specs.declared.flush.FlushRequest.{FlushRequest}
 -- the fixed part of a request ([MS-SMB2] 2.2.17)
 abbrev pub flush_fields : FlushRequest → List Field
 flush_fields r =
-    num 0 2 24 ∷ num 2 2 r.reserved1 ∷ num 4 4 r.reserved2 ∷ num 8 8 r.file_id.persistent
-    ∷ num 16 8 r.file_id.volatile ∷ []
+    num 0 2 24  -- StructureSize
+    ∷ num 2 2 r.reserved1  -- Reserved1
+    ∷ num 4 4 r.reserved2  -- Reserved2
+    ∷ num 8 8 r.file_id.persistent  -- FileId.Persistent
+    ∷ num 16 8 r.file_id.volatile  -- FileId.Volatile
+    ∷ []
 
 -- a request says this: its fields stand at their places
 pub record SaysFlush (request : List ℕ) (r : FlushRequest) : Type 0 where

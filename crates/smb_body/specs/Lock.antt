@@ -4,7 +4,7 @@ use Rattle.smb_wire.specs.Fields.{Field, num, number_in, AllStand, AllFit, joine
 use Rattle.smb_body.specs.Buffers.{body, has_fixed_part, file_id_at}
 use Rattle.smb_body.specs.Locks.{locks_in, lock_bytes, AllLocksFit}
 use Rattle.smb_body.specs.LockLists.{locks_of}
-use Rattle.smb_body.specs.declared.types.FileId.{FileId}
+use Rattle.smb_wire.specs.declared.file_id.FileId.{FileId}
 use Rattle.smb_body.specs.declared.lock_element.LockElement.{LockElement}
 use Rattle.smb_body.specs.declared.lock.LockSequence.{LockSequence}
 use Rattle.smb_body.specs.declared.lock.LockRequest.{LockRequest}
@@ -22,8 +22,12 @@ lock_asked r = record { lock_sequence = r.lock_sequence; file_id = r.file_id; lo
 -- the fixed part of a request ([MS-SMB2] 2.2.26)
 abbrev pub lock_request_fields : LockAsked → List Field
 lock_request_fields a =
-    num 0 2 48 ∷ num 2 2 (length a.locks) ∷ num 4 4 a.lock_sequence.0
-    ∷ num 8 8 a.file_id.persistent ∷ num 16 8 a.file_id.volatile ∷ []
+    num 0 2 48  -- StructureSize
+    ∷ num 2 2 (length a.locks)  -- LockCount
+    ∷ num 4 4 a.lock_sequence.0  -- LockSequence
+    ∷ num 8 8 a.file_id.persistent  -- FileId.Persistent
+    ∷ num 16 8 a.file_id.volatile  -- FileId.Volatile
+    ∷ []
 
 -- a request says this: its fields stand at their places, and then its elements, one or more
 pub record SaysLock (request : List ℕ) (a : LockAsked) : Type 0 where

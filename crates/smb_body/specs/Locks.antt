@@ -7,7 +7,12 @@ use Rattle.smb_body.specs.declared.lock_element.LockElement.{LockElement}
 
 -- an element
 abbrev pub lock_fields : LockElement → List Field
-lock_fields e = num 0 8 e.offset ∷ num 8 8 e.length ∷ num 16 4 e.flags.0 ∷ num 20 4 e.reserved ∷ []
+lock_fields e =
+    num 0 8 e.offset  -- Offset
+    ∷ num 8 8 e.length  -- Length
+    ∷ num 16 4 e.flags.0  -- Flags
+    ∷ num 20 4 e.reserved  -- Reserved
+    ∷ []
 
 -- what the 24 bytes of an element say
 abbrev pub lock_at : List ℕ → LockElement

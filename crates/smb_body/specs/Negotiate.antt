@@ -8,7 +8,7 @@ use Rattle.smb_body.specs.declared.types.Guid.{Guid}
 use Rattle.smb_body.specs.declared.types.Capabilities.{Capabilities}
 use Rattle.smb_body.specs.declared.negotiate.SecurityMode.{SecurityMode}
 use Rattle.smb_body.specs.declared.negotiate.NegotiateRequest.{NegotiateRequest}
-use Rattle.smb_body.specs.declared.types.Dialect.{Dialect}
+use Rattle.smb_body.specs.declared.types.DialectRevision.{DialectRevision}
 use Rattle.smb_body.specs.declared.negotiate.NegotiateResponse.{NegotiateResponse}
 
 -- what a request asks
@@ -34,8 +34,14 @@ negotiate_asked r = record {
 -- the fixed part of a request ([MS-SMB2] 2.2.3)
 abbrev pub negotiate_fields : NegotiateAsked → List Field
 negotiate_fields a =
-    num 0 2 36 ∷ num 2 2 (length a.dialects) ∷ num 4 2 a.security_mode.0 ∷ num 6 2 a.reserved
-    ∷ num 8 4 a.capabilities.0 ∷ raw 12 16 a.client_guid.0 ∷ num 28 8 a.client_start_time ∷ []
+    num 0 2 36  -- StructureSize
+    ∷ num 2 2 (length a.dialects)  -- DialectCount
+    ∷ num 4 2 a.security_mode.0  -- SecurityMode
+    ∷ num 6 2 a.reserved  -- Reserved
+    ∷ num 8 4 a.capabilities.0  -- Capabilities
+    ∷ raw 12 16 a.client_guid.0  -- ClientGuid
+    ∷ num 28 8 a.client_start_time  -- ClientStartTime
+    ∷ []
 
 -- a request says this: its fields stand at their places, and then its dialects, one or more
 pub record SaysNegotiate (request : List ℕ) (a : NegotiateAsked) : Type 0 where
@@ -77,7 +83,7 @@ is_negotiate_too_long a = nat_lt 65535 (length a.dialects)
 -- what a response answers
 pub record NegotiateAnswered : Type 0 where
   pub security_mode : SecurityMode
-  pub dialect_revision : Dialect
+  pub dialect_revision : DialectRevision
   pub server_guid : Guid
   pub capabilities : Capabilities
   pub max_transact_size : ℕ
@@ -105,10 +111,21 @@ negotiate_answered r = record {
 -- the fixed part of a response ([MS-SMB2] 2.2.4)
 abbrev pub negotiate_response_fields : NegotiateAnswered → List Field
 negotiate_response_fields a =
-    num 0 2 65 ∷ num 2 2 a.security_mode.0 ∷ num 4 2 a.dialect_revision.0 ∷ num 6 2 0 ∷ raw 8 16 a.server_guid.0
-    ∷ num 24 4 a.capabilities.0 ∷ num 28 4 a.max_transact_size ∷ num 32 4 a.max_read_size
-    ∷ num 36 4 a.max_write_size ∷ num 40 8 a.system_time ∷ num 48 8 a.server_start_time ∷ num 56 2 128
-    ∷ num 58 2 (length a.security_buffer) ∷ num 60 4 0 ∷ []
+    num 0 2 65  -- StructureSize
+    ∷ num 2 2 a.security_mode.0  -- SecurityMode
+    ∷ num 4 2 a.dialect_revision.0  -- DialectRevision
+    ∷ num 6 2 0  -- Reserved
+    ∷ raw 8 16 a.server_guid.0  -- ServerGuid
+    ∷ num 24 4 a.capabilities.0  -- Capabilities
+    ∷ num 28 4 a.max_transact_size  -- MaxTransactSize
+    ∷ num 32 4 a.max_read_size  -- MaxReadSize
+    ∷ num 36 4 a.max_write_size  -- MaxWriteSize
+    ∷ num 40 8 a.system_time  -- SystemTime
+    ∷ num 48 8 a.server_start_time  -- ServerStartTime
+    ∷ num 56 2 128  -- SecurityBufferOffset
+    ∷ num 58 2 (length a.security_buffer)  -- SecurityBufferLength
+    ∷ num 60 4 0  -- Reserved2
+    ∷ []
 
 -- the length of a response's buffer passes its field
 abbrev pub is_negotiate_response_too_long : NegotiateAnswered → Bool

@@ -6,7 +6,7 @@ use Rattle.smb_wire.specs.Units.{units_of}
 use Rattle.smb_body.specs.Buffers.{body, has_fixed_part, file_id_at, slice, is_within, HoldsText}
 use Rattle.smb_body.specs.declared.types.InformationClass.{InformationClass}
 use Rattle.smb_body.specs.declared.query_directory.QueryDirectoryFlags.{QueryDirectoryFlags}
-use Rattle.smb_body.specs.declared.types.FileId.{FileId}
+use Rattle.smb_wire.specs.declared.file_id.FileId.{FileId}
 use Rattle.smb_body.specs.declared.query_directory.QueryDirectoryRequest.{QueryDirectoryRequest}
 
 -- what a request asks
@@ -34,9 +34,16 @@ query_directory_asked r = record {
 -- the fixed part of a request ([MS-SMB2] 2.2.33)
 abbrev pub query_directory_fields : QueryDirectoryAsked → List Field
 query_directory_fields a =
-    num 0 2 33 ∷ num 2 1 a.file_information_class.0 ∷ num 3 1 a.flags.0 ∷ num 4 4 a.file_index
-    ∷ num 8 8 a.file_id.persistent ∷ num 16 8 a.file_id.volatile ∷ num 24 2 a.file_name_offset
-    ∷ num 26 2 (2 * length a.file_name) ∷ num 28 4 a.output_buffer_length ∷ []
+    num 0 2 33  -- StructureSize
+    ∷ num 2 1 a.file_information_class.0  -- FileInformationClass
+    ∷ num 3 1 a.flags.0  -- Flags
+    ∷ num 4 4 a.file_index  -- FileIndex
+    ∷ num 8 8 a.file_id.persistent  -- FileId.Persistent
+    ∷ num 16 8 a.file_id.volatile  -- FileId.Volatile
+    ∷ num 24 2 a.file_name_offset  -- FileNameOffset
+    ∷ num 26 2 (2 * length a.file_name)  -- FileNameLength
+    ∷ num 28 4 a.output_buffer_length  -- OutputBufferLength
+    ∷ []
 
 -- a request says this: its fields stand at their places, and its buffer is what an offset and a length name
 pub record SaysQueryDirectory (request : List ℕ) (a : QueryDirectoryAsked) : Type 0 where

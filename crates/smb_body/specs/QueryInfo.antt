@@ -7,10 +7,18 @@ use Rattle.smb_body.specs.declared.query_info.QueryInfoRequest.{QueryInfoRequest
 -- the fixed part of a request ([MS-SMB2] 2.2.37)
 abbrev pub query_info_fields : QueryInfoRequest → List Field
 query_info_fields r =
-    num 0 2 41 ∷ num 2 1 r.info_type.0 ∷ num 3 1 r.file_info_class.0 ∷ num 4 4 r.output_buffer_length
-    ∷ num 8 2 r.input_buffer_offset ∷ num 10 2 r.reserved ∷ num 12 4 r.input_buffer_length
-    ∷ num 16 4 r.additional_information.0 ∷ num 20 4 r.flags.0 ∷ num 24 8 r.file_id.persistent
-    ∷ num 32 8 r.file_id.volatile ∷ []
+    num 0 2 41  -- StructureSize
+    ∷ num 2 1 r.info_type.0  -- InfoType
+    ∷ num 3 1 r.file_info_class.0  -- FileInfoClass
+    ∷ num 4 4 r.output_buffer_length  -- OutputBufferLength
+    ∷ num 8 2 r.input_buffer_offset  -- InputBufferOffset
+    ∷ num 10 2 r.reserved  -- Reserved
+    ∷ num 12 4 r.input_buffer_length  -- InputBufferLength
+    ∷ num 16 4 r.additional_information.0  -- AdditionalInformation
+    ∷ num 20 4 r.flags.0  -- Flags
+    ∷ num 24 8 r.file_id.persistent  -- FileId.Persistent
+    ∷ num 32 8 r.file_id.volatile  -- FileId.Volatile
+    ∷ []
 
 -- a request says this: its fields stand at their places
 pub record SaysQueryInfo (request : List ℕ) (r : QueryInfoRequest) : Type 0 where

@@ -7,10 +7,19 @@ use Rattle.smb_body.specs.declared.read.ReadRequest.{ReadRequest}
 -- the fixed part of a request ([MS-SMB2] 2.2.19)
 abbrev pub read_fields : ReadRequest → List Field
 read_fields r =
-    num 0 2 49 ∷ num 2 1 r.padding ∷ num 3 1 r.flags.0 ∷ num 4 4 r.length ∷ num 8 8 r.offset
-    ∷ num 16 8 r.file_id.persistent ∷ num 24 8 r.file_id.volatile ∷ num 32 4 r.minimum_count
-    ∷ num 36 4 r.channel.0 ∷ num 40 4 r.remaining_bytes ∷ num 44 2 r.read_channel_info_offset
-    ∷ num 46 2 r.read_channel_info_length ∷ []
+    num 0 2 49  -- StructureSize
+    ∷ num 2 1 r.padding  -- Padding
+    ∷ num 3 1 r.flags.0  -- Flags
+    ∷ num 4 4 r.length  -- Length
+    ∷ num 8 8 r.offset  -- Offset
+    ∷ num 16 8 r.file_id.persistent  -- FileId.Persistent
+    ∷ num 24 8 r.file_id.volatile  -- FileId.Volatile
+    ∷ num 32 4 r.minimum_count  -- MinimumCount
+    ∷ num 36 4 r.channel.0  -- Channel
+    ∷ num 40 4 r.remaining_bytes  -- RemainingBytes
+    ∷ num 44 2 r.read_channel_info_offset  -- ReadChannelInfoOffset
+    ∷ num 46 2 r.read_channel_info_length  -- ReadChannelInfoLength
+    ∷ []
 
 -- a request says this: its fields stand at their places
 pub record SaysRead (request : List ℕ) (r : ReadRequest) : Type 0 where
@@ -42,7 +51,13 @@ pub record FitsRead (r : ReadRequest) : Type 0 where
 -- the fixed part of a response ([MS-SMB2] 2.2.20)
 abbrev pub read_response_fields : List ℕ → List Field
 read_response_fields buffer =
-    num 0 2 17 ∷ num 2 1 80 ∷ num 3 1 0 ∷ num 4 4 (length buffer) ∷ num 8 4 0 ∷ num 12 4 0 ∷ []
+    num 0 2 17  -- StructureSize
+    ∷ num 2 1 80  -- DataOffset
+    ∷ num 3 1 0  -- Reserved
+    ∷ num 4 4 (length buffer)  -- DataLength
+    ∷ num 8 4 0  -- DataRemaining
+    ∷ num 12 4 0  -- Reserved2
+    ∷ []
 
 -- the length of a response's buffer passes its field
 abbrev pub is_read_response_too_long : List ℕ → Bool

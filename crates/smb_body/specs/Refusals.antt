@@ -4,6 +4,6 @@ use Rattle.smb_body.specs.declared.fault.BodyFault.{BodyFault}
 use Rattle.smb_body.specs.declared.fault.BodyFault.TheVariants.{NoMemory, TooLong}
 
 -- the refusal, where a length passes its field (true) and where none does
-abbrev pub refusal : Bool → BodyFault
-refusal true = TooLong
-refusal false = NoMemory
+abbrev pub body_refusal : Bool → BodyFault
+body_refusal true = TooLong
+body_refusal false = NoMemory

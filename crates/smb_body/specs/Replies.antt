@@ -1,6 +1,6 @@
 -- Replies of all commands ([MS-SMB2] 2.2).
-use Rattle.std.specs.Prelude.{ℕ, ◌+◌, List, [], ◌++◌, length, Bool, false}
-use Rattle.smb_wire.specs.Fields.{Field, joined, width_of}
+use Rattle.std.specs.Prelude.{◌≡◌, ℕ, ◌+◌, ◌-◌, List, [], ◌++◌, length, drop, Bool, false, Option, None, Some}
+use Rattle.smb_wire.specs.Fields.{Field, number_in, joined, width_of}
 use Rattle.smb_body.specs.Error.{error_response_fields}
 use Rattle.smb_body.specs.Negotiate.{NegotiateAnswered, negotiate_answered, negotiate_response_fields, is_negotiate_response_too_long}
 use Rattle.smb_body.specs.SessionSetup.{SessionSetupAnswered, session_setup_answered, session_setup_response_fields, is_session_setup_response_too_long}
@@ -88,6 +88,21 @@ reply_buffer _ = []
 -- the one spelling of a body
 abbrev pub reply_spelling : ReplyValue → List ℕ
 reply_spelling v = joined (reply_fields v) ++ reply_buffer v
+
+-- the field that tells where the buffer stands: its width and its offset
+abbrev pub offset_field : ReplyValue → Option (ℕ × ℕ)
+offset_field (answers_negotiate a) = Some (2, 56)
+offset_field (answers_session_setup a) = Some (2, 4)
+offset_field (answers_read a) = Some (1, 2)
+offset_field (answers_query_directory a) = Some (2, 2)
+offset_field (answers_query_info a) = Some (2, 2)
+offset_field _ = None
+
+-- the buffer stands where that field says, counted from the header, whose 64 bytes come before the body
+abbrev pub HasBufferAtItsOffset : ReplyValue → Type 0
+HasBufferAtItsOffset v =
+    (field : ℕ × ℕ) → offset_field v ≡ Some field →
+    drop (number_in field.0 field.1 (reply_spelling v) - 64) (reply_spelling v) ≡ reply_buffer v
 
 -- how many bytes a body has
 abbrev pub reply_length : ReplyValue → ℕ

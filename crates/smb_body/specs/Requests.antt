@@ -14,7 +14,7 @@ use Rattle.smb_body.specs.Lock.{LockAsked, lock_asked, SaysLock, is_lock, lock_o
 use Rattle.smb_body.specs.QueryDirectory.{QueryDirectoryAsked, query_directory_asked, SaysQueryDirectory, is_query_directory, query_directory_of, query_directory_laid, query_directory_spelling, FitsQueryDirectory, is_query_directory_too_long}
 use Rattle.smb_body.specs.QueryInfo.{query_info_fields, SaysQueryInfo, is_query_info, query_info_of, FitsQueryInfo}
 use Rattle.smb_body.specs.SetInfo.{SetInfoAsked, set_info_asked, SaysSetInfo, is_set_info, set_info_of, set_info_laid, set_info_spelling, FitsSetInfo, is_set_info_too_long}
-use Rattle.smb_body.specs.declared.types.FileId.{FileId}
+use Rattle.smb_wire.specs.declared.file_id.FileId.{FileId}
 use Rattle.smb_body.specs.declared.reserved.ReservedRequest.{ReservedRequest}
 use Rattle.smb_body.specs.declared.close.CloseRequest.{CloseRequest}
 use Rattle.smb_body.specs.declared.flush.FlushRequest.{FlushRequest}

@@ -7,7 +7,10 @@ use Rattle.smb_body.specs.declared.reserved.ReservedRequest.{ReservedRequest}
 
 -- the fixed part of a request
 abbrev pub reserved_fields : ReservedRequest → List Field
-reserved_fields r = num 0 2 4 ∷ num 2 2 r.reserved ∷ []
+reserved_fields r =
+    num 0 2 4  -- StructureSize
+    ∷ num 2 2 r.reserved  -- Reserved
+    ∷ []
 
 -- a request says this: its fields stand at their places
 pub record SaysReserved (request : List ℕ) (r : ReservedRequest) : Type 0 where
@@ -27,4 +30,7 @@ pub record FitsReserved (r : ReservedRequest) : Type 0 where
 
 -- the responses of LOGOFF, TREE_DISCONNECT, FLUSH, LOCK and ECHO ([MS-SMB2] 2.2.8, 2.2.12, 2.2.18, 2.2.27, 2.2.29)
 abbrev pub reserved_response_fields : List Field
-reserved_response_fields = num 0 2 4 ∷ num 2 2 0 ∷ []
+reserved_response_fields =
+    num 0 2 4  -- StructureSize
+    ∷ num 2 2 0  -- Reserved
+    ∷ []

@@ -35,8 +35,14 @@ session_setup_asked r = record {
 -- the fixed part of a request ([MS-SMB2] 2.2.5)
 abbrev pub session_setup_fields : SessionSetupAsked → List Field
 session_setup_fields a =
-    num 0 2 25 ∷ num 2 1 a.flags.0 ∷ num 3 1 a.security_mode.0 ∷ num 4 4 a.capabilities.0 ∷ num 8 4 a.channel.0
-    ∷ num 12 2 a.security_buffer_offset ∷ num 14 2 (length a.security_buffer) ∷ num 16 8 a.previous_session_id
+    num 0 2 25  -- StructureSize
+    ∷ num 2 1 a.flags.0  -- Flags
+    ∷ num 3 1 a.security_mode.0  -- SecurityMode
+    ∷ num 4 4 a.capabilities.0  -- Capabilities
+    ∷ num 8 4 a.channel.0  -- Channel
+    ∷ num 12 2 a.security_buffer_offset  -- SecurityBufferOffset
+    ∷ num 14 2 (length a.security_buffer)  -- SecurityBufferLength
+    ∷ num 16 8 a.previous_session_id  -- PreviousSessionId
     ∷ []
 
 -- a request says this: its fields stand at their places, and its buffer is what an offset and a length name
@@ -93,7 +99,11 @@ session_setup_answered r = record {
 -- the fixed part of a response ([MS-SMB2] 2.2.6)
 abbrev pub session_setup_response_fields : SessionSetupAnswered → List Field
 session_setup_response_fields a =
-    num 0 2 9 ∷ num 2 2 a.session_flags.0 ∷ num 4 2 72 ∷ num 6 2 (length a.security_buffer) ∷ []
+    num 0 2 9  -- StructureSize
+    ∷ num 2 2 a.session_flags.0  -- SessionFlags
+    ∷ num 4 2 72  -- SecurityBufferOffset
+    ∷ num 6 2 (length a.security_buffer)  -- SecurityBufferLength
+    ∷ []
 
 -- the length of a response's buffer passes its field
 abbrev pub is_session_setup_response_too_long : SessionSetupAnswered → Bool

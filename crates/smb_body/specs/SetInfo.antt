@@ -5,7 +5,7 @@ use Rattle.smb_body.specs.Buffers.{body, has_fixed_part, file_id_at, slice, is_w
 use Rattle.smb_body.specs.declared.types.InfoType.{InfoType}
 use Rattle.smb_body.specs.declared.types.InformationClass.{InformationClass}
 use Rattle.smb_body.specs.declared.types.AdditionalInformation.{AdditionalInformation}
-use Rattle.smb_body.specs.declared.types.FileId.{FileId}
+use Rattle.smb_wire.specs.declared.file_id.FileId.{FileId}
 use Rattle.smb_body.specs.declared.set_info.SetInfoRequest.{SetInfoRequest}
 
 -- what a request asks
@@ -33,9 +33,16 @@ set_info_asked r = record {
 -- the fixed part of a request ([MS-SMB2] 2.2.39)
 abbrev pub set_info_fields : SetInfoAsked → List Field
 set_info_fields a =
-    num 0 2 33 ∷ num 2 1 a.info_type.0 ∷ num 3 1 a.file_info_class.0 ∷ num 4 4 (length a.buffer)
-    ∷ num 8 2 a.buffer_offset ∷ num 10 2 a.reserved ∷ num 12 4 a.additional_information.0
-    ∷ num 16 8 a.file_id.persistent ∷ num 24 8 a.file_id.volatile ∷ []
+    num 0 2 33  -- StructureSize
+    ∷ num 2 1 a.info_type.0  -- InfoType
+    ∷ num 3 1 a.file_info_class.0  -- FileInfoClass
+    ∷ num 4 4 (length a.buffer)  -- BufferLength
+    ∷ num 8 2 a.buffer_offset  -- BufferOffset
+    ∷ num 10 2 a.reserved  -- Reserved
+    ∷ num 12 4 a.additional_information.0  -- AdditionalInformation
+    ∷ num 16 8 a.file_id.persistent  -- FileId.Persistent
+    ∷ num 24 8 a.file_id.volatile  -- FileId.Volatile
+    ∷ []
 
 -- a request says this: its fields stand at their places, and its buffer is what an offset and a length name
 pub record SaysSetInfo (request : List ℕ) (a : SetInfoAsked) : Type 0 where
@@ -78,4 +85,6 @@ is_set_info_too_long a = nat_lt 4294967295 (length a.buffer)
 
 -- the response ([MS-SMB2] 2.2.40)
 abbrev pub set_info_response_fields : List Field
-set_info_response_fields = num 0 2 2 ∷ []
+set_info_response_fields =
+    num 0 2 2  -- StructureSize
+    ∷ []

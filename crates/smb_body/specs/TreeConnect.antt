@@ -24,7 +24,11 @@ tree_connect_asked r = record {
 -- the fixed part of a request ([MS-SMB2] 2.2.9)
 abbrev pub tree_connect_fields : TreeConnectAsked → List Field
 tree_connect_fields a =
-    num 0 2 9 ∷ num 2 2 a.reserved ∷ num 4 2 a.path_offset ∷ num 6 2 (2 * length a.path) ∷ []
+    num 0 2 9  -- StructureSize
+    ∷ num 2 2 a.reserved  -- Reserved
+    ∷ num 4 2 a.path_offset  -- PathOffset
+    ∷ num 6 2 (2 * length a.path)  -- PathLength
+    ∷ []
 
 -- a request says this: its fields stand at their places, and its buffer is what an offset and a length name
 pub record SaysTreeConnect (request : List ℕ) (a : TreeConnectAsked) : Type 0 where
@@ -66,5 +70,10 @@ is_tree_connect_too_long a = nat_lt 32767 (length a.path)
 -- the fixed part of a response ([MS-SMB2] 2.2.10)
 abbrev pub tree_connect_response_fields : TreeConnectResponse → List Field
 tree_connect_response_fields r =
-    num 0 2 16 ∷ num 2 1 r.share_type.0 ∷ num 3 1 0 ∷ num 4 4 r.share_flags.0 ∷ num 8 4 r.capabilities.0
-    ∷ num 12 4 r.maximal_access.0 ∷ []
+    num 0 2 16  -- StructureSize
+    ∷ num 2 1 r.share_type.0  -- ShareType
+    ∷ num 3 1 0  -- Reserved
+    ∷ num 4 4 r.share_flags.0  -- ShareFlags
+    ∷ num 8 4 r.capabilities.0  -- Capabilities
+    ∷ num 12 4 r.maximal_access.0  -- MaximalAccess
+    ∷ []

@@ -2,7 +2,7 @@
 use Rattle.std.specs.Prelude.{ℕ, List, [], ◌∷◌, ◌++◌, length, Bool, nat_lt, ◌&&◌}
 use Rattle.smb_wire.specs.Fields.{Field, num, number_in, AllStand, AllFit, joined}
 use Rattle.smb_body.specs.Buffers.{body, has_fixed_part, file_id_at, slice, is_within, Holds}
-use Rattle.smb_body.specs.declared.types.FileId.{FileId}
+use Rattle.smb_wire.specs.declared.file_id.FileId.{FileId}
 use Rattle.smb_body.specs.declared.types.Channel.{Channel}
 use Rattle.smb_body.specs.declared.write.WriteFlags.{WriteFlags}
 use Rattle.smb_body.specs.declared.write.WriteRequest.{WriteRequest}
@@ -37,10 +37,18 @@ write_asked r = record {
 -- the fixed part of a request ([MS-SMB2] 2.2.21)
 abbrev pub write_fields : WriteAsked → List Field
 write_fields a =
-    num 0 2 49 ∷ num 2 2 a.data_offset ∷ num 4 4 (length a.buffer) ∷ num 8 8 a.offset
-    ∷ num 16 8 a.file_id.persistent ∷ num 24 8 a.file_id.volatile ∷ num 32 4 a.channel.0
-    ∷ num 36 4 a.remaining_bytes ∷ num 40 2 a.write_channel_info_offset ∷ num 42 2 a.write_channel_info_length
-    ∷ num 44 4 a.flags.0 ∷ []
+    num 0 2 49  -- StructureSize
+    ∷ num 2 2 a.data_offset  -- DataOffset
+    ∷ num 4 4 (length a.buffer)  -- Length
+    ∷ num 8 8 a.offset  -- Offset
+    ∷ num 16 8 a.file_id.persistent  -- FileId.Persistent
+    ∷ num 24 8 a.file_id.volatile  -- FileId.Volatile
+    ∷ num 32 4 a.channel.0  -- Channel
+    ∷ num 36 4 a.remaining_bytes  -- RemainingBytes
+    ∷ num 40 2 a.write_channel_info_offset  -- WriteChannelInfoOffset
+    ∷ num 42 2 a.write_channel_info_length  -- WriteChannelInfoLength
+    ∷ num 44 4 a.flags.0  -- Flags
+    ∷ []
 
 -- a request says this: its fields stand at their places, and its buffer is what an offset and a length name
 pub record SaysWrite (request : List ℕ) (a : WriteAsked) : Type 0 where
@@ -86,4 +94,10 @@ is_write_too_long a = nat_lt 4294967295 (length a.buffer)
 -- the fixed part of a response ([MS-SMB2] 2.2.22)
 abbrev pub write_response_fields : WriteResponse → List Field
 write_response_fields r =
-    num 0 2 17 ∷ num 2 2 0 ∷ num 4 4 r.count ∷ num 8 4 0 ∷ num 12 2 0 ∷ num 14 2 0 ∷ []
+    num 0 2 17  -- StructureSize
+    ∷ num 2 2 0  -- Reserved
+    ∷ num 4 4 r.count  -- Count
+    ∷ num 8 4 0  -- Remaining
+    ∷ num 12 2 0  -- WriteChannelInfoOffset
+    ∷ num 14 2 0  -- WriteChannelInfoLength
+    ∷ []

@@ -5,8 +5,8 @@ ghost use Rattle.smb_wire.specs.Units.{units_of};
 ghost use Rattle.smb_wire.specs.Pairs.{units_in};
 ghost use Rattle.smb_body.specs.Buffers.{body, file_id_at, slice, is_within};
 
-use super::types::{FileId, Guid};
-use smb_wire::{Units, u64_in};
+use super::types::Guid;
+use smb_wire::{FileId, Units, u64_in};
 
 /// The length of a header ([MS-SMB2] 2.2.1), in bytes.
 const HEADER: usize = 64;

@@ -5,8 +5,7 @@ ghost use Rattle.smb_wire.specs.Fields.{AllFit, appended};
 ghost use Rattle.smb_body.specs.Close.{close_fields, is_close, close_of, FitsClose, close_response_fields};
 
 use super::buffer::{body, file_id_in};
-use super::types::{FileAttributes, FileId};
-use smb_wire::{WireFault, put_u16, put_u32, put_u64, u16_in, u32_in};
+use smb_wire::{FileAttributes, FileId, WireFault, put_u16, put_u32, put_u64, u16_in, u32_in};
 
 /// Flags of CLOSE ([MS-SMB2] 2.2.15, 2.2.16).
 #[derive(Clone, Copy, Debug, PartialEq, Eq)]

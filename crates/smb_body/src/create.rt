@@ -3,15 +3,15 @@
 ghost use Rattle.std.specs.Prelude.{◌≡◌, ◌++◌, ◌≤◌, ◌<◌, ◌^◌, length, take, replicate, is_some, IfSome, OnOk, OnErr, IfErr, false};
 ghost use Rattle.smb_wire.specs.Fields.{AllFit, appended};
 ghost use Rattle.smb_wire.specs.Pairs.{AreUnits};
-ghost use Rattle.smb_body.specs.Refusals.{refusal};
+ghost use Rattle.smb_body.specs.Refusals.{body_refusal};
 ghost use Rattle.smb_body.specs.Create.{create_asked, create_fields, is_create, create_of, create_laid, create_spelling, FitsCreate, is_create_too_long, contexts_place, contexts_gap, name_end, create_response_fields};
 
 use super::buffer::{body, buffer, text};
 use super::fault::BodyFault;
-use super::masks::{Access, CreateOptions, ShareAccess};
-use super::types::{FileAttributes, FileId};
 use smb_wire::{
-    Units, WireFault, put_bytes, put_u8, put_u16, put_u32, put_u64, u8_in, u16_in, u32_in, u64_in,
+    Access, CreateAction, CreateDispositionCode, CreateOptions, FileAttributes, FileId,
+    ShareAccess, Units, WireFault, put_bytes, put_u8, put_u16, put_u32, put_u64, u8_in, u16_in,
+    u32_in, u64_in,
 };
 
 /// Security flags of a CREATE request, which are reserved.
@@ -34,24 +34,6 @@ pub struct ImpersonationLevel(pub u32);
 #[derive(Clone, Copy, Debug, PartialEq, Eq)]
 pub struct SmbCreateFlags(pub u64);
 
-/// What to do where the entry is there, and where it is not.
-#[derive(Clone, Copy, Debug, PartialEq, Eq)]
-pub struct CreateDisposition(pub u32);
-
-impl CreateDisposition {
-    pub const SUPERSEDE: CreateDisposition = CreateDisposition(0);
-
-    pub const OPEN: CreateDisposition = CreateDisposition(1);
-
-    pub const CREATE: CreateDisposition = CreateDisposition(2);
-
-    pub const OPEN_IF: CreateDisposition = CreateDisposition(3);
-
-    pub const OVERWRITE: CreateDisposition = CreateDisposition(4);
-
-    pub const OVERWRITE_IF: CreateDisposition = CreateDisposition(5);
-}
-
 /// A CREATE request ([MS-SMB2] 2.2.13).
 #[derive(Clone, Copy, Debug)]
 pub struct CreateRequest<'a> {
@@ -63,7 +45,7 @@ pub struct CreateRequest<'a> {
     pub desired_access: Access,
     pub file_attributes: FileAttributes,
     pub share_access: ShareAccess,
-    pub create_disposition: CreateDisposition,
+    pub create_disposition: CreateDispositionCode,
     pub create_options: CreateOptions,
     pub name_offset: u16,
     pub name: Units<'a>,
@@ -103,7 +85,7 @@ pub(crate) fn read_create(request: &[u8]) -> Option<CreateRequest<'_>>
         desired_access: Access(u32_in(body, 24)),
         file_attributes: FileAttributes(u32_in(body, 28)),
         share_access: ShareAccess(u32_in(body, 32)),
-        create_disposition: CreateDisposition(u32_in(body, 36)),
+        create_disposition: CreateDispositionCode(u32_in(body, 36)),
         create_options: CreateOptions(u32_in(body, 40)),
         name_offset,
         name,
@@ -199,7 +181,7 @@ pub(crate) fn put_create(request: CreateRequest<'_>, out: &mut Vec<u8>) -> Resul
     ensures fits { OnOk result (FitsCreate (create_asked request.entry)) }
     ensures short { OnOk result (is_create_too_long (create_asked request.entry) ≡ false) }
     ensures fault { IfErr result (λ fault. fault ≡
-        refusal (is_create_too_long (create_asked request.entry))) }
+        body_refusal (is_create_too_long (create_asked request.entry))) }
     ensures kept { take (length out.old.items) out.new.items ≡ out.old.items }
 {
     if request.name.len() > 32_767 || request.create_contexts.len() > 4_294_967_295 {
@@ -207,20 +189,6 @@ pub(crate) fn put_create(request: CreateRequest<'_>, out: &mut Vec<u8>) -> Resul
     }
     put_parts(&request, out)?;
     Ok(())
-}
-
-/// What a CREATE did ([MS-SMB2] 2.2.14).
-#[derive(Clone, Copy, Debug, PartialEq, Eq)]
-pub struct CreateAction(pub u32);
-
-impl CreateAction {
-    pub const SUPERSEDED: CreateAction = CreateAction(0);
-
-    pub const OPENED: CreateAction = CreateAction(1);
-
-    pub const CREATED: CreateAction = CreateAction(2);
-
-    pub const OVERWRITTEN: CreateAction = CreateAction(3);
 }
 
 /// A CREATE response ([MS-SMB2] 2.2.14).
@@ -248,7 +216,7 @@ fn put_response_fields(response: &CreateResponse, out: &mut Vec<u8>) -> Result<(
     put_u16(out, 89)?;
     put_u8(out, response.oplock_level.0)?;
     put_u8(out, 0)?;
-    put_u32(out, response.create_action.0)?;
+    put_u32(out, response.create_action.code())?;
     put_u64(out, response.creation_time)?;
     put_u64(out, response.last_access_time)?;
     put_u64(out, response.last_write_time)?;

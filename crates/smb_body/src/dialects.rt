@@ -5,7 +5,7 @@ ghost use Rattle.std.specs.Option.{option_map};
 ghost use Rattle.smb_wire.specs.Pairs.{units_in, unit_bytes, AreUnits};
 ghost use Rattle.smb_body.specs.Dialects.{dialects_of};
 
-use super::types::Dialect;
+use super::types::DialectRevision;
 use smb_wire::Units;
 
 /// Dialects over borrowed bytes, two bytes each ([MS-SMB2] 2.2.3).
@@ -32,11 +32,11 @@ impl<'a> Dialects<'a> {
     }
 
     /// The dialect at `i`, or None past the end.
-    pub fn get(self, i: usize) -> Option<Dialect>
+    pub fn get(self, i: usize) -> Option<DialectRevision>
         ensures { option_map (λ dialect. dialect.0) result ≡ slice_get (dialects_of self.entry) i }
     {
         if i < self.numbers.len() {
-            Some(Dialect(self.numbers.unit(i)))
+            Some(DialectRevision(self.numbers.unit(i)))
         } else {
             None
         }

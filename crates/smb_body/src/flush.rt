@@ -5,8 +5,7 @@ ghost use Rattle.smb_wire.specs.Fields.{appended};
 ghost use Rattle.smb_body.specs.Flush.{flush_fields, is_flush, flush_of, FitsFlush};
 
 use super::buffer::{body, file_id_in};
-use super::types::FileId;
-use smb_wire::{WireFault, put_u16, put_u32, put_u64, u16_in, u32_in};
+use smb_wire::{FileId, WireFault, put_u16, put_u32, put_u64, u16_in, u32_in};
 
 /// A FLUSH request ([MS-SMB2] 2.2.17).
 #[derive(Clone, Copy, Debug)]

@@ -39,8 +39,7 @@ mod write;
 
 pub use close::{CloseFlags, CloseRequest, CloseResponse};
 pub use create::{
-    CreateAction, CreateDisposition, CreateRequest, CreateResponse, ImpersonationLevel,
-    OplockLevel, SecurityFlags, SmbCreateFlags,
+    CreateRequest, CreateResponse, ImpersonationLevel, OplockLevel, SecurityFlags, SmbCreateFlags,
 };
 pub use dialects::Dialects;
 pub use fault::BodyFault;
@@ -48,7 +47,7 @@ pub use flush::FlushRequest;
 pub use lock::{LockRequest, LockSequence};
 pub use lock_element::LockElement;
 pub use lock_list::LockList;
-pub use masks::{Access, CreateOptions, LockFlags, ShareAccess};
+pub use masks::LockFlags;
 pub use negotiate::{NegotiateRequest, NegotiateResponse, SecurityMode};
 pub use query::QueryResponse;
 pub use query_directory::{QueryDirectoryFlags, QueryDirectoryRequest};
@@ -64,7 +63,6 @@ pub use set_info::SetInfoRequest;
 pub use smb1::{Smb1Dialects, laws_of_smb1, read_smb1_negotiate};
 pub use tree_connect::{ShareFlags, ShareType, TreeConnectRequest, TreeConnectResponse};
 pub use types::{
-    AdditionalInformation, Capabilities, Channel, Dialect, FileAttributes, FileId, Guid, InfoType,
-    InformationClass,
+    AdditionalInformation, Capabilities, Channel, DialectRevision, Guid, InfoType, InformationClass,
 };
 pub use write::{WriteFlags, WriteRequest, WriteResponse};

@@ -2,14 +2,13 @@
 
 ghost use Rattle.std.specs.Prelude.{◌≡◌, ◌++◌, ◌≤◌, length, take, is_some, IfSome, OnOk, IfErr, false};
 ghost use Rattle.smb_wire.specs.Fields.{appended};
-ghost use Rattle.smb_body.specs.Refusals.{refusal};
+ghost use Rattle.smb_body.specs.Refusals.{body_refusal};
 ghost use Rattle.smb_body.specs.Lock.{lock_asked, lock_request_fields, is_lock, lock_of, lock_spelling, FitsLock, is_lock_too_long};
 
 use super::buffer::{body, file_id_in};
 use super::fault::BodyFault;
 use super::lock_list::LockList;
-use super::types::FileId;
-use smb_wire::{WireFault, put_bytes, put_u16, put_u32, put_u64, u16_in, u32_in};
+use smb_wire::{FileId, WireFault, put_bytes, put_u16, put_u32, put_u64, u16_in, u32_in};
 
 /// The sequence of a LOCK, for replays. The profile ignores it.
 #[derive(Clone, Copy, Debug, PartialEq, Eq)]
@@ -66,7 +65,7 @@ pub(crate) fn put_lock(request: LockRequest<'_>, out: &mut Vec<u8>) -> Result<()
     ensures fits { OnOk result (FitsLock (lock_asked request.entry)) }
     ensures short { OnOk result (is_lock_too_long (lock_asked request.entry) ≡ false) }
     ensures fault { IfErr result (λ fault. fault ≡
-        refusal (is_lock_too_long (lock_asked request.entry))) }
+        body_refusal (is_lock_too_long (lock_asked request.entry))) }
     ensures kept { take (length out.old.items) out.new.items ≡ out.old.items }
 {
     if request.locks.len() > 65_535 {

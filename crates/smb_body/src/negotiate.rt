@@ -2,13 +2,13 @@
 
 ghost use Rattle.std.specs.Prelude.{◌≡◌, ◌++◌, ◌≤◌, length, take, is_some, IfSome, IfErr, OnOk, false};
 ghost use Rattle.smb_wire.specs.Fields.{AllFit, appended, joined};
-ghost use Rattle.smb_body.specs.Refusals.{refusal};
+ghost use Rattle.smb_body.specs.Refusals.{body_refusal};
 ghost use Rattle.smb_body.specs.Negotiate.{negotiate_asked, negotiate_fields, is_negotiate, negotiate_of, negotiate_spelling, FitsNegotiate, is_negotiate_too_long, negotiate_answered, negotiate_response_fields, is_negotiate_response_too_long};
 
 use super::buffer::{body, guid_in};
 use super::dialects::Dialects;
 use super::fault::BodyFault;
-use super::types::{Capabilities, Dialect, Guid};
+use super::types::{Capabilities, DialectRevision, Guid};
 use smb_wire::{WireFault, put_bytes, put_u16, put_u32, put_u64, u16_in, u32_in, u64_in};
 
 /// Whether signing is enabled (1) and required (2).
@@ -77,7 +77,7 @@ pub(crate) fn put_negotiate(
     ensures fits { OnOk result (FitsNegotiate (negotiate_asked request.entry)) }
     ensures short { OnOk result (is_negotiate_too_long (negotiate_asked request.entry) ≡ false) }
     ensures fault { IfErr result (λ fault. fault ≡
-        refusal (is_negotiate_too_long (negotiate_asked request.entry))) }
+        body_refusal (is_negotiate_too_long (negotiate_asked request.entry))) }
     ensures kept { take (length out.old.items) out.new.items ≡ out.old.items }
 {
     if request.dialects.len() > 65_535 {
@@ -93,7 +93,7 @@ pub(crate) fn put_negotiate(
 #[derive(Clone, Copy, Debug)]
 pub struct NegotiateResponse<'a> {
     pub security_mode: SecurityMode,
-    pub dialect_revision: Dialect,
+    pub dialect_revision: DialectRevision,
     pub server_guid: Guid,
     pub capabilities: Capabilities,
     pub max_transact_size: u32,
@@ -141,7 +141,7 @@ pub(crate) fn put_negotiate_response(
     ensures short { OnOk result
         (is_negotiate_response_too_long (negotiate_answered response.entry) ≡ false) }
     ensures fault { IfErr result (λ fault. fault ≡
-        refusal (is_negotiate_response_too_long (negotiate_answered response.entry))) }
+        body_refusal (is_negotiate_response_too_long (negotiate_answered response.entry))) }
     ensures kept { take (length out.old.items) out.new.items ≡ out.old.items }
 {
     if response.security_buffer.len() > 65_535 {

@@ -2,7 +2,7 @@
 
 ghost use Rattle.std.specs.Prelude.{◌≡◌, ◌++◌, ◌≤◌, length, take, OnOk, IfErr, false};
 ghost use Rattle.smb_wire.specs.Fields.{AllFit, appended, joined};
-ghost use Rattle.smb_body.specs.Refusals.{refusal};
+ghost use Rattle.smb_body.specs.Refusals.{body_refusal};
 ghost use Rattle.smb_body.specs.Query.{query_response_fields, is_query_response_too_long};
 
 use super::fault::BodyFault;
@@ -39,7 +39,7 @@ pub(crate) fn put_query_response(
     ensures short { OnOk result
         (is_query_response_too_long response.entry.output_buffer.now ≡ false) }
     ensures fault { IfErr result (λ fault. fault ≡
-        refusal (is_query_response_too_long response.entry.output_buffer.now)) }
+        body_refusal (is_query_response_too_long response.entry.output_buffer.now)) }
     ensures kept { take (length out.old.items) out.new.items ≡ out.old.items }
 {
     if response.output_buffer.len() > 4_294_967_295 {

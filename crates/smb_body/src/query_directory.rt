@@ -2,14 +2,14 @@
 
 ghost use Rattle.std.specs.Prelude.{◌≡◌, ◌++◌, ◌≤◌, length, take, is_some, IfSome, OnOk, IfErr, false};
 ghost use Rattle.smb_wire.specs.Fields.{appended};
-ghost use Rattle.smb_body.specs.Refusals.{refusal};
+ghost use Rattle.smb_body.specs.Refusals.{body_refusal};
 ghost use Rattle.smb_body.specs.QueryDirectory.{query_directory_asked, query_directory_fields, is_query_directory, query_directory_of, query_directory_laid, query_directory_spelling, FitsQueryDirectory, is_query_directory_too_long};
 
 use super::buffer::{body, file_id_in, text};
 use super::fault::BodyFault;
-use super::types::{FileId, InformationClass};
+use super::types::InformationClass;
 use smb_wire::{
-    Units, WireFault, put_bytes, put_u8, put_u16, put_u32, put_u64, u8_in, u16_in, u32_in,
+    FileId, Units, WireFault, put_bytes, put_u8, put_u16, put_u32, put_u64, u8_in, u16_in, u32_in,
 };
 
 /// Flags of a QUERY_DIRECTORY request ([MS-SMB2] 2.2.33).
@@ -96,7 +96,7 @@ pub(crate) fn put_query_directory(
     ensures short { OnOk result
         (is_query_directory_too_long (query_directory_asked request.entry) ≡ false) }
     ensures fault { IfErr result (λ fault. fault ≡
-        refusal (is_query_directory_too_long (query_directory_asked request.entry))) }
+        body_refusal (is_query_directory_too_long (query_directory_asked request.entry))) }
     ensures kept { take (length out.old.items) out.new.items ≡ out.old.items }
 {
     if request.file_name.len() > 32_767 {

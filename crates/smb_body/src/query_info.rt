@@ -5,8 +5,8 @@ ghost use Rattle.smb_wire.specs.Fields.{appended};
 ghost use Rattle.smb_body.specs.QueryInfo.{query_info_fields, is_query_info, query_info_of, FitsQueryInfo};
 
 use super::buffer::{body, file_id_in};
-use super::types::{AdditionalInformation, FileId, InfoType, InformationClass};
-use smb_wire::{WireFault, put_u8, put_u16, put_u32, put_u64, u8_in, u16_in, u32_in};
+use super::types::{AdditionalInformation, InfoType, InformationClass};
+use smb_wire::{FileId, WireFault, put_u8, put_u16, put_u32, put_u64, u8_in, u16_in, u32_in};
 
 /// Flags of a QUERY_INFO request ([MS-SMB2] 2.2.37). The profile ignores them.
 #[derive(Clone, Copy, Debug, PartialEq, Eq)]

@@ -2,15 +2,15 @@
 
 ghost use Rattle.std.specs.Prelude.{ℕ, List, ◌+◌, OnErr, ◌≡◌, length, take, is_some, IfSome, OnOk, ◌++◌, ◌≤◌, IfErr, false};
 ghost use Rattle.smb_wire.specs.Fields.{AllFit, appended, joined};
-ghost use Rattle.smb_body.specs.Refusals.{refusal};
+ghost use Rattle.smb_body.specs.Refusals.{body_refusal};
 ghost use Rattle.smb_body.specs.Read.{read_fields, is_read, read_of, FitsRead, read_response_fields, is_read_response_too_long};
 ghost use Rattle.smb_body.specs.Replies.{reply_spelling, answers_read};
 
 use super::buffer::{body, file_id_in};
 use super::fault::BodyFault;
-use super::types::{Channel, FileId};
+use super::types::Channel;
 use smb_wire::{
-    WireFault, put_bytes, put_u8, put_u16, put_u32, put_u64, u8_in, u16_in, u32_in, u64_in,
+    FileId, WireFault, put_bytes, put_u8, put_u16, put_u32, put_u64, u8_in, u16_in, u32_in, u64_in,
 };
 
 /// Flags of a READ request ([MS-SMB2] 2.2.19). The profile ignores them.
@@ -109,7 +109,7 @@ pub(crate) fn put_read_response(
     ensures fits { OnOk result (AllFit (read_response_fields response.entry.buffer.now)) }
     ensures short { OnOk result (is_read_response_too_long response.entry.buffer.now ≡ false) }
     ensures fault { IfErr result (λ fault. fault ≡
-        refusal (is_read_response_too_long response.entry.buffer.now)) }
+        body_refusal (is_read_response_too_long response.entry.buffer.now)) }
     ensures kept { take (length out.old.items) out.new.items ≡ out.old.items }
 {
     if response.buffer.len() > 4_294_967_295 {

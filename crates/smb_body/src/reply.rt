@@ -2,8 +2,8 @@
 
 ghost use Rattle.std.specs.Prelude.{◌≡◌, ◌++◌, ◌+◌, length, take, OnOk, OnErr, IfErr, false};
 ghost use Rattle.smb_wire.specs.Fields.{AllFit, AllStand};
-ghost use Rattle.smb_body.specs.Refusals.{refusal};
-ghost use Rattle.smb_body.specs.Replies.{reply_value, reply_fields, reply_spelling, reply_length, is_reply_too_long};
+ghost use Rattle.smb_body.specs.Refusals.{body_refusal};
+ghost use Rattle.smb_body.specs.Replies.{reply_value, reply_fields, reply_spelling, reply_length, is_reply_too_long, HasBufferAtItsOffset};
 
 use super::close::{CloseResponse, put_close_response};
 use super::create::{CreateResponse, put_create_response};
@@ -46,7 +46,7 @@ fn put_reply(reply: &Reply<'_>, out: &mut Vec<u8>) -> Result<(), BodyFault>
     ensures fits { OnOk result (AllFit (reply_fields (reply_value reply.now))) }
     ensures short { OnOk result (is_reply_too_long (reply_value reply.now) ≡ false) }
     ensures fault { IfErr result (λ fault. fault ≡
-        refusal (is_reply_too_long (reply_value reply.now))) }
+        body_refusal (is_reply_too_long (reply_value reply.now))) }
     ensures kept { take (length out.old.items) out.new.items ≡ out.old.items }
 {
     match reply {
@@ -79,11 +79,12 @@ pub fn write_reply(reply: &Reply<'_>, out: &mut Vec<u8>) -> Result<(), BodyFault
         out.old.items ++ reply_spelling (reply_value reply.now)) }
     ensures stand { OnOk result
         (AllStand (reply_spelling (reply_value reply.now)) (reply_fields (reply_value reply.now))) }
+    ensures buffer { OnOk result (HasBufferAtItsOffset (reply_value reply.now)) }
     ensures len { OnOk result
         (length out.new.items ≡ length out.old.items + reply_length (reply_value reply.now)) }
     ensures short { OnOk result (is_reply_too_long (reply_value reply.now) ≡ false) }
     ensures fault { IfErr result (λ fault. fault ≡
-        refusal (is_reply_too_long (reply_value reply.now))) }
+        body_refusal (is_reply_too_long (reply_value reply.now))) }
     ensures kept { OnErr result (out.new.items ≡ out.old.items) }
 {
     let before = out.len();

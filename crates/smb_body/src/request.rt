@@ -1,7 +1,7 @@
 //! Requests of all commands.
 
 ghost use Rattle.std.specs.Prelude.{◌≡◌, ◌++◌, length, take, Some, None, IfSome, IfNone, OnOk, OnErr, IfOk, IfErr, false};
-ghost use Rattle.smb_body.specs.Refusals.{refusal};
+ghost use Rattle.smb_body.specs.Refusals.{body_refusal};
 ghost use Rattle.smb_body.specs.Requests.{request_value, request_of, file_id_of, request_spelling, FitsRequest, is_too_long, IsReadBack, RequestsAreTold, LaidIsTheSame};
 
 use super::close::{CloseRequest, put_close, read_close};
@@ -17,8 +17,8 @@ use super::reserved::{ReservedRequest, put_reserved, read_reserved};
 use super::session_setup::{SessionSetupRequest, put_session_setup, read_session_setup};
 use super::set_info::{SetInfoRequest, put_set_info, read_set_info};
 use super::tree_connect::{TreeConnectRequest, put_tree_connect, read_tree_connect};
-use super::types::FileId;
 use super::write::{WriteRequest, put_write, read_write};
+use smb_wire::FileId;
 
 /// A request of a command ([MS-SMB2] 2.2).
 #[derive(Clone, Copy, Debug)]
@@ -116,7 +116,7 @@ fn put_request(request: &Request<'_>, out: &mut Vec<u8>) -> Result<(), BodyFault
     ensures fits { OnOk result (FitsRequest (request_value request.now)) }
     ensures short { OnOk result (is_too_long (request_value request.now) ≡ false) }
     ensures fault { IfErr result (λ fault. fault ≡
-        refusal (is_too_long (request_value request.now))) }
+        body_refusal (is_too_long (request_value request.now))) }
     ensures kept { take (length out.old.items) out.new.items ≡ out.old.items }
 {
     match request {
@@ -151,7 +151,7 @@ pub fn write_request(request: &Request<'_>, out: &mut Vec<u8>) -> Result<(), Bod
     ensures read { OnOk result (IsReadBack (request_value request.now)) }
     ensures short { OnOk result (is_too_long (request_value request.now) ≡ false) }
     ensures fault { IfErr result (λ fault. fault ≡
-        refusal (is_too_long (request_value request.now))) }
+        body_refusal (is_too_long (request_value request.now))) }
     ensures kept { OnErr result (out.new.items ≡ out.old.items) }
 {
     let before = out.len();

@@ -2,7 +2,7 @@
 
 ghost use Rattle.std.specs.Prelude.{◌≡◌, ◌++◌, ◌≤◌, length, take, is_some, IfSome, OnOk, IfErr, false};
 ghost use Rattle.smb_wire.specs.Fields.{AllFit, appended, joined};
-ghost use Rattle.smb_body.specs.Refusals.{refusal};
+ghost use Rattle.smb_body.specs.Refusals.{body_refusal};
 ghost use Rattle.smb_body.specs.SessionSetup.{session_setup_asked, session_setup_fields, is_session_setup, session_setup_of, session_setup_laid, session_setup_spelling, FitsSessionSetup, is_session_setup_too_long, session_setup_answered, session_setup_response_fields, is_session_setup_response_too_long};
 
 use super::buffer::{body, buffer};
@@ -93,7 +93,7 @@ pub(crate) fn put_session_setup(
     ensures short { OnOk result
         (is_session_setup_too_long (session_setup_asked request.entry) ≡ false) }
     ensures fault { IfErr result (λ fault. fault ≡
-        refusal (is_session_setup_too_long (session_setup_asked request.entry))) }
+        body_refusal (is_session_setup_too_long (session_setup_asked request.entry))) }
     ensures kept { take (length out.old.items) out.new.items ≡ out.old.items }
 {
     if request.security_buffer.len() > 65_535 {
@@ -151,7 +151,7 @@ pub(crate) fn put_session_setup_response(
     ensures short { OnOk result
         (is_session_setup_response_too_long (session_setup_answered response.entry) ≡ false) }
     ensures fault { IfErr result (λ fault. fault ≡
-        refusal (is_session_setup_response_too_long (session_setup_answered response.entry))) }
+        body_refusal (is_session_setup_response_too_long (session_setup_answered response.entry))) }
     ensures kept { take (length out.old.items) out.new.items ≡ out.old.items }
 {
     if response.security_buffer.len() > 65_535 {

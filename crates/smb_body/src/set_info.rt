@@ -2,13 +2,15 @@
 
 ghost use Rattle.std.specs.Prelude.{◌≡◌, ◌++◌, ◌≤◌, length, take, is_some, IfSome, OnOk, IfErr, false};
 ghost use Rattle.smb_wire.specs.Fields.{appended};
-ghost use Rattle.smb_body.specs.Refusals.{refusal};
+ghost use Rattle.smb_body.specs.Refusals.{body_refusal};
 ghost use Rattle.smb_body.specs.SetInfo.{set_info_asked, set_info_fields, is_set_info, set_info_of, set_info_laid, set_info_spelling, FitsSetInfo, is_set_info_too_long, set_info_response_fields};
 
 use super::buffer::{body, buffer, file_id_in};
 use super::fault::BodyFault;
-use super::types::{AdditionalInformation, FileId, InfoType, InformationClass};
-use smb_wire::{WireFault, put_bytes, put_u8, put_u16, put_u32, put_u64, u8_in, u16_in, u32_in};
+use super::types::{AdditionalInformation, InfoType, InformationClass};
+use smb_wire::{
+    FileId, WireFault, put_bytes, put_u8, put_u16, put_u32, put_u64, u8_in, u16_in, u32_in,
+};
 
 /// A SET_INFO request ([MS-SMB2] 2.2.39).
 #[derive(Clone, Copy, Debug)]
@@ -75,7 +77,7 @@ pub(crate) fn put_set_info(request: SetInfoRequest<'_>, out: &mut Vec<u8>) -> Re
     ensures fits { OnOk result (FitsSetInfo (set_info_asked request.entry)) }
     ensures short { OnOk result (is_set_info_too_long (set_info_asked request.entry) ≡ false) }
     ensures fault { IfErr result (λ fault. fault ≡
-        refusal (is_set_info_too_long (set_info_asked request.entry))) }
+        body_refusal (is_set_info_too_long (set_info_asked request.entry))) }
     ensures kept { take (length out.old.items) out.new.items ≡ out.old.items }
 {
     if request.buffer.len() > 4_294_967_295 {

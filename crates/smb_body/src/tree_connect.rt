@@ -2,14 +2,13 @@
 
 ghost use Rattle.std.specs.Prelude.{◌≡◌, ◌++◌, ◌≤◌, length, take, is_some, IfSome, OnOk, IfErr, false};
 ghost use Rattle.smb_wire.specs.Fields.{AllFit, appended};
-ghost use Rattle.smb_body.specs.Refusals.{refusal};
+ghost use Rattle.smb_body.specs.Refusals.{body_refusal};
 ghost use Rattle.smb_body.specs.TreeConnect.{tree_connect_asked, tree_connect_fields, is_tree_connect, tree_connect_of, tree_connect_laid, tree_connect_spelling, FitsTreeConnect, is_tree_connect_too_long, tree_connect_response_fields};
 
 use super::buffer::{body, text};
 use super::fault::BodyFault;
-use super::masks::Access;
 use super::types::Capabilities;
-use smb_wire::{Units, WireFault, put_bytes, put_u8, put_u16, put_u32, u16_in};
+use smb_wire::{Access, Units, WireFault, put_bytes, put_u8, put_u16, put_u32, u16_in};
 
 /// A TREE_CONNECT request ([MS-SMB2] 2.2.9).
 #[derive(Clone, Copy, Debug)]
@@ -62,7 +61,7 @@ pub(crate) fn put_tree_connect(
     ensures short { OnOk result
         (is_tree_connect_too_long (tree_connect_asked request.entry) ≡ false) }
     ensures fault { IfErr result (λ fault. fault ≡
-        refusal (is_tree_connect_too_long (tree_connect_asked request.entry))) }
+        body_refusal (is_tree_connect_too_long (tree_connect_asked request.entry))) }
     ensures kept { take (length out.old.items) out.new.items ≡ out.old.items }
 {
     if request.path.len() > 32_767 {

@@ -1,19 +1,12 @@
 //! Types that several bodies share.
 
-/// A dialect ([MS-SMB2] 2.2.3), as 0x0202.
+/// The DialectRevision that a NEGOTIATE response tells ([MS-SMB2] 2.2.4), as 0x0202: a dialect's, or 0x02FF.
 #[derive(Clone, Copy, Debug, PartialEq, Eq)]
-pub struct Dialect(pub u16);
+pub struct DialectRevision(pub u16);
 
 /// A GUID, as its 16 bytes stand on the wire.
 #[derive(Clone, Copy, Debug, PartialEq, Eq)]
 pub struct Guid(pub [u8; 16]);
-
-/// The number of an open in two halves ([MS-SMB2] 2.2.14.1).
-#[derive(Clone, Copy, Debug, PartialEq, Eq)]
-pub struct FileId {
-    pub persistent: u64,
-    pub volatile: u64,
-}
 
 /// Capabilities of a client, a server or a share ([MS-SMB2] 2.2.3, 2.2.5, 2.2.10). The profile ignores
 /// them.
@@ -23,24 +16,6 @@ pub struct Capabilities(pub u32);
 /// The channel of a request ([MS-SMB2] 2.2.5, 2.2.19). The profile ignores it.
 #[derive(Clone, Copy, Debug, PartialEq, Eq)]
 pub struct Channel(pub u32);
-
-/// Attributes of a file or a folder ([MS-FSCC] 2.6).
-#[derive(Clone, Copy, Debug, PartialEq, Eq)]
-pub struct FileAttributes(pub u32);
-
-impl FileAttributes {
-    pub const READONLY: FileAttributes = FileAttributes(1);
-
-    pub const HIDDEN: FileAttributes = FileAttributes(2);
-
-    pub const SYSTEM: FileAttributes = FileAttributes(4);
-
-    pub const DIRECTORY: FileAttributes = FileAttributes(0x10);
-
-    pub const ARCHIVE: FileAttributes = FileAttributes(0x20);
-
-    pub const NORMAL: FileAttributes = FileAttributes(0x80);
-}
 
 /// What information is about ([MS-SMB2] 2.2.37).
 #[derive(Clone, Copy, Debug, PartialEq, Eq)]

@@ -2,13 +2,13 @@
 
 ghost use Rattle.std.specs.Prelude.{◌≡◌, ◌++◌, ◌≤◌, length, take, is_some, IfSome, OnOk, IfErr, false};
 ghost use Rattle.smb_wire.specs.Fields.{AllFit, appended};
-ghost use Rattle.smb_body.specs.Refusals.{refusal};
+ghost use Rattle.smb_body.specs.Refusals.{body_refusal};
 ghost use Rattle.smb_body.specs.Write.{write_asked, write_fields, is_write, write_of, write_laid, write_spelling, FitsWrite, is_write_too_long, write_response_fields};
 
 use super::buffer::{body, buffer, file_id_in};
 use super::fault::BodyFault;
-use super::types::{Channel, FileId};
-use smb_wire::{WireFault, put_bytes, put_u16, put_u32, put_u64, u16_in, u32_in, u64_in};
+use super::types::Channel;
+use smb_wire::{FileId, WireFault, put_bytes, put_u16, put_u32, put_u64, u16_in, u32_in, u64_in};
 
 /// Flags of a WRITE request ([MS-SMB2] 2.2.21). The profile ignores them.
 #[derive(Clone, Copy, Debug, PartialEq, Eq)]
@@ -80,7 +80,7 @@ pub(crate) fn put_write(request: WriteRequest<'_>, out: &mut Vec<u8>) -> Result<
     ensures fits { OnOk result (FitsWrite (write_asked request.entry)) }
     ensures short { OnOk result (is_write_too_long (write_asked request.entry) ≡ false) }
     ensures fault { IfErr result (λ fault. fault ≡
-        refusal (is_write_too_long (write_asked request.entry))) }
+        body_refusal (is_write_too_long (write_asked request.entry))) }
     ensures kept { take (length out.old.items) out.new.items ≡ out.old.items }
 {
     if request.buffer.len() > 4_294_967_295 {

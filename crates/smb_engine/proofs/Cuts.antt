@@ -20,8 +20,8 @@ use Rattle.smb_engine.specs.Chain.{PayloadStep, payload_step}
 use Rattle.smb_engine.specs.Output.{end_of, reply_frame}
 use Rattle.smb_engine.specs.Stream.{longest_payload, PayloadSteps, after_outputs, and_then, payload_steps, added_payloads}
 use Rattle.smb_engine.specs.Share.{EventStep, settled, bytes_step, ended, unread, link_of, with_link}
-use Rattle.smb_engine.specs.Run.{Ran, run, run_behind, then_ran, later, refused_at_once, refusal, event_step}
-use Rattle.smb_engine.specs.Laws.{InOrder, AreAlike, later_behind, with_one_more_at, moved, run_after, pieces_on, joined}
+use Rattle.smb_engine.specs.Run.{Ran, run, run_behind, then_ran, later, refused_at_once, event_refusal, event_step}
+use Rattle.smb_engine.specs.Laws.{LinksInOrder, AreAlike, later_behind, with_one_more_at, moved, run_after, pieces_on, bytes_of_pieces}
 use Rattle.smb_engine.proofs.Links.{bytes_step-none, bytes_step-some, remove-set}
 use Rattle.smb_engine.proofs.Pieces.{added_is, steps_by, step-open, step-over}
 use Rattle.smb_engine.proofs.Order.{lookup-set, set-set, link_of-without, bytes_step-next, order_step}
@@ -176,7 +176,7 @@ module _ {S : Type 0} (m : Meaning S) (n moment : ℕ) where
       cut_open_at s link a b f (by_piece f.shared link' b) _ h refl t refl on' refl
 
   -- the first piece ends it
-  cut_over_by : (s : ShareState S) (link : LinkState) (a b : List ℕ) → InOrder s → link_of n s.links ≡ Some link →
+  cut_over_by : (s : ShareState S) (link : LinkState) (a b : List ℕ) → LinksInOrder s → link_of n s.links ≡ Some link →
       ((by_piece s.shared link a).stays_open && kind_after (link.stream ++ a)) ≡ false →
       by_piece s.shared link (a ++ b) ≡ by_piece s.shared link a → ((by_piece s.shared link a).stays_open && kind_after (link.stream ++ (a ++ b))) ≡ false →
       bytes_step m s n moment (a ++ b) ≡ two s a b
@@ -186,7 +186,7 @@ module _ {S : Type 0} (m : Meaning S) (n moment : ℕ) where
       rw (bytes-over s link (a ++ b) f h e t', bytes-over s link a f h refl t, bytes_step-none m gone n moment b (link_of-without n s.links r.rising))
       (ap (λ t. record { state = gone; outputs = t }) (sym (append-nil (f.outputs ++ end_of n ∷ []))))
 
-  cut_over_at : (s : ShareState S) (link : LinkState) (a b : List ℕ) (x : Bool) → InOrder s → link_of n s.links ≡ Some link → (by_piece s.shared link a).stays_open ≡ x →
+  cut_over_at : (s : ShareState S) (link : LinkState) (a b : List ℕ) (x : Bool) → LinksInOrder s → link_of n s.links ≡ Some link → (by_piece s.shared link a).stays_open ≡ x →
       (x && kind_after (link.stream ++ a)) ≡ false → bytes_step m s n moment (a ++ b) ≡ two s a b
   cut_over_at s link a b true r h e t =
       let f = by_piece s.shared link a in
@@ -204,17 +204,17 @@ module _ {S : Type 0} (m : Meaning S) (n moment : ℕ) where
       let over = steps-over s.shared link.connection (added_payloads link.stream a) (added_payloads (link.stream ++ a) b) (ap (λ d. d.stays_open) (sym is) ∙ e) in
       cut_over_by s link a b r h (rw e refl) (by-cut s.shared link a b ∙ over ∙ sym is) (rw e refl)
 
-  cut_link : (s : ShareState S) (link : LinkState) (a b : List ℕ) (c : Bool) → InOrder s → link_of n s.links ≡ Some link →
+  cut_link : (s : ShareState S) (link : LinkState) (a b : List ℕ) (c : Bool) → LinksInOrder s → link_of n s.links ≡ Some link →
       ((by_piece s.shared link a).stays_open && kind_after (link.stream ++ a)) ≡ c → bytes_step m s n moment (a ++ b) ≡ two s a b
   cut_link s link a b true r h t = cut_open s link a b h t
   cut_link s link a b false r h t = cut_over_at s link a b _ r h refl t
 
-  cut_at : (s : ShareState S) (a b : List ℕ) (o : Option LinkState) → InOrder s → link_of n s.links ≡ o → bytes_step m s n moment (a ++ b) ≡ two s a b
+  cut_at : (s : ShareState S) (a b : List ℕ) (o : Option LinkState) → LinksInOrder s → link_of n s.links ≡ o → bytes_step m s n moment (a ++ b) ≡ two s a b
   cut_at s a b None r h = rw (bytes_step-none m s n moment (a ++ b) h, bytes_step-none m s n moment a h, bytes_step-none m s n moment b h) refl
   cut_at s a b (Some link) r h = cut_link s link a b _ r h refl
 
   -- one event, in two
-  pub bytes_step-cut : (s : ShareState S) (a b : List ℕ) → InOrder s → bytes_step m s n moment (a ++ b) ≡ two s a b
+  pub bytes_step-cut : (s : ShareState S) (a b : List ℕ) → LinksInOrder s → bytes_step m s n moment (a ++ b) ≡ two s a b
   bytes_step-cut s a b r = cut_at s a b _ r refl
 
 -- the place of a stop, one event later
@@ -254,12 +254,12 @@ module _ {S : Type 0} (m : Meaning S) where
   one_by_two : (a b : EventStep S) (r : Ran S) → then_ran a (then_ran b r) ≡ with_one_more_at 0 (then_ran (record { state = b.state; outputs = a.outputs ++ b.outputs }) r)
   one_by_two a b r = rw (append_assoc a.outputs b.outputs r.outputs, later_head r.stop) refl
 
-  cut_head_at : (s : ShareState S) (n moment : ℕ) (a b : List ℕ) (after : List EventText) (o : Option ServeFault) → InOrder s → refusal s (brings n moment a) ≡ o →
+  cut_head_at : (s : ShareState S) (n moment : ℕ) (a b : List ℕ) (after : List EventText) (o : Option ServeFault) → LinksInOrder s → event_refusal s (brings n moment a) ≡ o →
       run m s (brings n moment a ∷ brings n moment b ∷ after) ≡ with_one_more_at 0 (run m s (brings n moment (a ++ b) ∷ after))
   cut_head_at s n moment a b after None h e =
       let first_step = bytes_step m s n moment a in
       let second_step = bytes_step m first_step.state n moment b in
-      let e' : refusal first_step.state (brings n moment b) ≡ None = rw (bytes_step-next m s n moment a) e in
+      let e' : event_refusal first_step.state (brings n moment b) ≡ None = rw (bytes_step-next m s n moment a) e in
       rw (e, e', bytes_step-cut m n moment s a b h) (one_by_two first_step second_step (run m second_step.state after))
   cut_head_at s n moment a b after (Some why) h e = rw e refl
 
@@ -268,12 +268,12 @@ module _ {S : Type 0} (m : Meaning S) where
   cut_more d k s r r' None e = rw e (ap (λ t. record { state = r'.state; outputs = d.outputs ++ r'.outputs; stop = t }) (later_more k r'.stop))
   cut_more d k s r r' (Some why) e = let t : ltb (suc k) 0 ≡ false = le-ltb _ _ (omega arith) in rw t refl
 
-  pub cuts_do_not_matter : (s : ShareState S) → InOrder s → (before after : List EventText) (n moment : ℕ) (a b : List ℕ) →
+  pub cuts_do_not_matter : (s : ShareState S) → LinksInOrder s → (before after : List EventText) (n moment : ℕ) (a b : List ℕ) →
       run m s (before ++ brings n moment a ∷ brings n moment b ∷ after) ≡ with_one_more_at (length before) (run m s (before ++ brings n moment (a ++ b) ∷ after))
   cuts_do_not_matter s h [] after n moment a b = cut_head_at s n moment a b after _ h refl
   cuts_do_not_matter s h (x ∷ before) after n moment a b =
       let d = event_step m s x in
-      cut_more d (length before) s _ _ (refusal s x) (cuts_do_not_matter d.state (order_step m s x h) before after n moment a b)
+      cut_more d (length before) s _ _ (event_refusal s x) (cuts_do_not_matter d.state (order_step m s x h) before after n moment a b)
 
   -- runs one after the other
   goes_on_at : (s : ShareState S) (d : EventStep S) (k : ℕ) (r whole second : Ran S) (o : Option ServeFault) →
@@ -294,8 +294,8 @@ module _ {S : Type 0} (m : Meaning S) where
   run_goes_on s (x ∷ events) others h =
       let d = event_step m s x in
       let r = run m d.state events in
-      rw (state_at s d r (refusal s x) h)
-      (goes_on_at s d (length events) r (run m d.state (events ++ others)) (run m r.state others) (refusal s x) (run_goes_on d.state events others) h)
+      rw (state_at s d r (event_refusal s x) h)
+      (goes_on_at s d (length events) r (run m d.state (events ++ others)) (run m r.state others) (event_refusal s x) (run_goes_on d.state events others) h)
 
   stays_at : (s : ShareState S) (d : EventStep S) (r whole : Ran S) (o : Option ServeFault) → (is_none r.stop ≡ false → whole ≡ r) →
       is_none (option_map_or (refused_at_once s) o (then_ran d r)).stop ≡ false → option_map_or (refused_at_once s) o (then_ran d whole) ≡ option_map_or (refused_at_once s) o (then_ran d r)
@@ -306,7 +306,7 @@ module _ {S : Type 0} (m : Meaning S) where
   stays_by s [] others h = cc
   stays_by s (x ∷ events) others h =
       let d = event_step m s x in
-      stays_at s d (run m d.state events) (run m d.state (events ++ others)) (refusal s x) (stays_by d.state events others) h
+      stays_at s d (run m d.state events) (run m d.state (events ++ others)) (event_refusal s x) (stays_by d.state events others) h
 
   pub run_stays : (s : ShareState S) (events others : List EventText) (fault : RunFault) → (run m s events).stop ≡ Some fault → run m s (events ++ others) ≡ run m s events
   run_stays s events others fault h = stays_by s events others (rw h refl)
@@ -328,8 +328,8 @@ module _ {S : Type 0} (m : Meaning S) where
       let d = event_step m s x in
       let d' = event_step m s' x in
       let e : unread_step d ≡ unread_step d' = sym (event_step-unread m s x) ∙ ap (λ t. unread_step (event_step m t x)) h ∙ event_step-unread m s' x in
-      let o : refusal s x ≡ refusal s' x = sym (refusal-unread m s x) ∙ ap (λ t. refusal t x) h ∙ refusal-unread m s' x in
-      rw o (same_at s s' d d' (run m d.state events) (run m d'.state events) (refusal s' x) h e (same_run d.state d'.state events (ap (λ t. t.state) e)))
+      let o : event_refusal s x ≡ event_refusal s' x = sym (refusal-unread m s x) ∙ ap (λ t. event_refusal t x) h ∙ refusal-unread m s' x in
+      rw o (same_at s s' d d' (run m d.state events) (run m d'.state events) (event_refusal s' x) h e (same_run d.state d'.state events (ap (λ t. t.state) e)))
 
   pub unread_is_enough : (s : ShareState S) (events : List EventText) → run_behind [] (run m (unread s) events) ≡ run_behind [] (run m s events)
   unread_is_enough s events = same_run (unread s) s events (unread-unread s)
@@ -356,8 +356,8 @@ alike_more : {S : Type 0} (k : ℕ) (r r' : Ran S) → r ≡ with_one_more_at k 
 alike_more k r r' e = rw e (record { state = refl; outputs = refl; reason = reason_behind k r'.stop })
 
 module _ {S : Type 0} (m : Meaning S) (n moment : ℕ) where
-  whole : (s : ShareState S) → InOrder s → (before after : List EventText) (piece : List ℕ) (pieces : List (List ℕ)) →
-      AreAlike (run m s (before ++ brings n moment piece ∷ (pieces_on n moment pieces ++ after))) (run m s (before ++ brings n moment (piece ++ joined pieces) ∷ after))
+  whole : (s : ShareState S) → LinksInOrder s → (before after : List EventText) (piece : List ℕ) (pieces : List (List ℕ)) →
+      AreAlike (run m s (before ++ brings n moment piece ∷ (pieces_on n moment pieces ++ after))) (run m s (before ++ brings n moment (piece ++ bytes_of_pieces pieces) ∷ after))
   whole s h before after piece [] = rw append-nil (alike_same (run m s (before ++ brings n moment piece ∷ after)))
   whole s h before after piece (next ∷ pieces) =
       let one = run m s (before ++ brings n moment (piece ++ next) ∷ (pieces_on n moment pieces ++ after)) in
@@ -365,11 +365,11 @@ module _ {S : Type 0} (m : Meaning S) (n moment : ℕ) where
       (alike_more (length before) _ one (cuts_do_not_matter m s h before (pieces_on n moment pieces ++ after) n moment piece next)) (whole s h before after (piece ++ next) pieces) in
       rw append_assoc at all
 
-  pub however_cut : (s : ShareState S) → InOrder s → (before after : List EventText) (pieces others : List (List ℕ)) → 0 < length pieces → 0 < length others → joined pieces ≡ joined others →
+  pub however_cut : (s : ShareState S) → LinksInOrder s → (before after : List EventText) (pieces others : List (List ℕ)) → 0 < length pieces → 0 < length others → bytes_of_pieces pieces ≡ bytes_of_pieces others →
       AreAlike (run m s (before ++ (pieces_on n moment pieces ++ after))) (run m s (before ++ (pieces_on n moment others ++ after)))
   however_cut s h before after [] others p q e = absurd (omega (arith, p))
   however_cut s h before after (x ∷ pieces) [] p q e = absurd (omega (arith, q))
   however_cut s h before after (x ∷ pieces) (y ∷ others) p q e =
       let here = whole s h before after x pieces in
       let there = alike_sym _ _ (whole s h before after y others) in
-      alike_trans _ (run m s (before ++ brings n moment (joined (y ∷ others)) ∷ after)) _ (rw e at here) there
+      alike_trans _ (run m s (before ++ brings n moment (bytes_of_pieces (y ∷ others)) ∷ after)) _ (rw e at here) there

@@ -19,8 +19,8 @@ use Rattle.smb_engine.specs.Chain.{PayloadStep, payload_step}
 use Rattle.smb_engine.specs.Output.{Output, frame_to, end_of, reply_frame}
 use Rattle.smb_engine.specs.Stream.{longest_payload, PayloadSteps, and_then, payload_steps, added_payloads, closed_by, piece_step}
 use Rattle.smb_engine.specs.Share.{EventStep, settled, bytes_step, link_of}
-use Rattle.smb_engine.specs.Run.{Ran, run, then_ran, refused_at_once, refusal, event_step}
-use Rattle.smb_engine.specs.Laws.{InOrder, connection_of, receiver, IsLastEnd}
+use Rattle.smb_engine.specs.Run.{Ran, run, then_ran, refused_at_once, event_refusal, event_step}
+use Rattle.smb_engine.specs.Laws.{LinksInOrder, connection_of, receiver, IsLastEnd}
 use Rattle.smb_engine.proofs.Links.{bytes_step-none, bytes_step-some}
 use Rattle.smb_engine.proofs.Order.{link_of-without, bytes_step-next, order_step, other_left, not_for}
 
@@ -78,7 +78,7 @@ module _ {S : Type 0} (m : Meaning S) (n : ℕ) where
     pub stays : IsGone n d.state
     pub says : AllByRecursion (IsNotFor n) d.outputs
 
-  quiet_on : (s : ShareState S) (event : EventText) → connection_of event ≡ n → IsGone n s → refusal s event ≡ None → Quiet s (event_step m s event)
+  quiet_on : (s : ShareState S) (event : EventText) → connection_of event ≡ n → IsGone n s → event_refusal s event ≡ None → Quiet s (event_step m s event)
   quiet_on s (opens k) e g r =
       let t : eqb k s.next ≡ false = ne_eqb k s.next (λ x. omega (arith, g.before, e, x)) in
       let r' = rw t at r in cc
@@ -87,7 +87,7 @@ module _ {S : Type 0} (m : Meaning S) (n : ℕ) where
       rw (bytes_step-none m s k moment piece none) (record { stays = g; says = tt })
   quiet_on s (ends k) e g r = rw e (record { stays = record { gone = without_none n s.links g.gone; before = g.before }; says = tt })
 
-  quiet_at : (s : ShareState S) (event : EventText) (b : Bool) → eqb (connection_of event) n ≡ b → IsGone n s → refusal s event ≡ None → Quiet s (event_step m s event)
+  quiet_at : (s : ShareState S) (event : EventText) (b : Bool) → eqb (connection_of event) n ≡ b → IsGone n s → event_refusal s event ≡ None → Quiet s (event_step m s event)
   quiet_at s event true t g r = quiet_on s event (eqb-true (connection_of event) n t) g r
   quiet_at s event false t g r = record {
     stays = record { gone = other_left m s event n r t ∙ g.gone; before = next_above s event g.before };
@@ -104,7 +104,7 @@ module _ {S : Type 0} (m : Meaning S) (n : ℕ) where
   quiet_run s (event ∷ events) g =
       let d = event_step m s event in
       let one = quiet_at s event _ refl g in
-      quiet_run_at s d (run m d.state events) (refusal s event) (λ r. (one r).says) (λ r. quiet_run d.state events (one r).stays)
+      quiet_run_at s d (run m d.state events) (event_refusal s event) (λ r. (one r).says) (λ r. quiet_run d.state events (one r).stays)
 
   -- a piece puts frames out, and then the end or none
   reply_no_end : (replies : List ℕ) → AllByRecursion (IsNoEnd n) (reply_frame n replies)
@@ -131,17 +131,17 @@ module _ {S : Type 0} (m : Meaning S) (n : ℕ) where
   end_last (x ∷ xs) others h k = (λ e. absurd (h.0 e), end_last xs others h.1 k)
 
   closed_at : (s : ShareState S) (link : LinkState) (stream : List ℕ) (steps : PayloadSteps S) (b : Bool) → (steps.stays_open && is_none (fault_of longest_payload (rest longest_payload stream))) ≡ b →
-      InOrder s → n < s.next → AllByRecursion (IsNoEnd n) steps.outputs → Ends (settled s n (closed_by n link stream steps))
+      LinksInOrder s → n < s.next → AllByRecursion (IsNoEnd n) steps.outputs → Ends (settled s n (closed_by n link stream steps))
   closed_at s link stream steps true e o p h others l q = rw e (last_behind n steps.outputs others h l)
   closed_at s link stream steps false e o p h others l q =
       let q' = rw e at q in
       rw e (end_last steps.outputs others h (q' (record { gone = link_of-without n s.links o.rising; before = p })))
 
-  piece_ends : (s : ShareState S) (moment : ℕ) (link : LinkState) (piece : List ℕ) → InOrder s → n < s.next → Ends (settled s n (piece_step m n moment s.shared link piece))
+  piece_ends : (s : ShareState S) (moment : ℕ) (link : LinkState) (piece : List ℕ) → LinksInOrder s → n < s.next → Ends (settled s n (piece_step m n moment s.shared link piece))
   unfolding piece_step
   piece_ends s moment link piece o p = closed_at s link (link.stream ++ piece) _ _ refl o p (steps_no_end moment s.shared link.connection (added_payloads link.stream piece))
 
-  bytes_at : (s : ShareState S) (moment : ℕ) (piece : List ℕ) (o : Option LinkState) → link_of n s.links ≡ o → InOrder s → n < s.next → Ends (bytes_step m s n moment piece)
+  bytes_at : (s : ShareState S) (moment : ℕ) (piece : List ℕ) (o : Option LinkState) → link_of n s.links ≡ o → LinksInOrder s → n < s.next → Ends (bytes_step m s n moment piece)
   bytes_at s moment piece None e o p = rw (bytes_step-none m s n moment piece e) (λ others l q. l)
   bytes_at s moment piece (Some link) e o p = rw (bytes_step-some m s n moment piece link e) (piece_ends s moment link piece o p)
 
@@ -150,15 +150,15 @@ module _ {S : Type 0} (m : Meaning S) (n : ℕ) where
   known_at true false h = cc
   known_at false b h = cc
 
-  known : (s : ShareState S) (k moment : ℕ) (piece : List ℕ) → refusal s (brings k moment piece) ≡ None → k < s.next
+  known : (s : ShareState S) (k moment : ℕ) (piece : List ℕ) → event_refusal s (brings k moment piece) ≡ None → k < s.next
   known s k moment piece r = ltb-true k s.next (known_at (ltb 0 k) (ltb k s.next) (ap (λ o. option_map_or (λ (why : ServeFault). false) o true) r))
 
-  event_on : (s : ShareState S) (event : EventText) → connection_of event ≡ n → InOrder s → refusal s event ≡ None → Ends (event_step m s event)
+  event_on : (s : ShareState S) (event : EventText) → connection_of event ≡ n → LinksInOrder s → event_refusal s event ≡ None → Ends (event_step m s event)
   event_on s (opens k) e o r = λ others l q. l
   event_on s (brings k moment piece) e o r = let p = known s k moment piece r in rw e (bytes_at s moment piece _ refl o (rw e at p))
   event_on s (ends k) e o r = λ others l q. l
 
-  event_at : (s : ShareState S) (event : EventText) (b : Bool) → eqb (connection_of event) n ≡ b → InOrder s → refusal s event ≡ None → Ends (event_step m s event)
+  event_at : (s : ShareState S) (event : EventText) (b : Bool) → eqb (connection_of event) n ≡ b → LinksInOrder s → event_refusal s event ≡ None → Ends (event_step m s event)
   event_at s event true t o r = event_on s event (eqb-true (connection_of event) n t) o r
   event_at s event false t o r = λ others l q. last_behind n (event_step m s event).outputs others (no_ends n _ (not_for m s event n t)) l
 
@@ -167,8 +167,8 @@ module _ {S : Type 0} (m : Meaning S) (n : ℕ) where
   run_at s d r None h l q = h refl r.outputs l q
   run_at s d r (Some why) h l q = tt
 
-  pub an_end_is_the_last : (s : ShareState S) (events : List EventText) → InOrder s → IsLastEnd n (run m s events).outputs
+  pub an_end_is_the_last : (s : ShareState S) (events : List EventText) → LinksInOrder s → IsLastEnd n (run m s events).outputs
   an_end_is_the_last s [] o = tt
   an_end_is_the_last s (event ∷ events) o =
       let d = event_step m s event in
-      run_at s d (run m d.state events) (refusal s event) (event_at s event _ refl o) (an_end_is_the_last d.state events (order_step m s event o)) (quiet_run d.state events)
+      run_at s d (run m d.state events) (event_refusal s event) (event_at s event _ refl o) (an_end_is_the_last d.state events (order_step m s event o)) (quiet_run d.state events)

@@ -22,13 +22,13 @@ use Rattle.smb_engine.specs.Chain.{PayloadStep, payload_step}
 use Rattle.smb_engine.specs.Output.{Output, end_of, reply_frame}
 use Rattle.smb_engine.specs.Stream.{longest_payload, PayloadSteps, and_then, payload_steps, added_payloads, PieceStep, closed_by, piece_step}
 use Rattle.smb_engine.specs.Share.{GoodState, EventStep, settled, bytes_step, ended, opened, new_link, link_of}
-use Rattle.smb_engine.specs.Run.{Ran, run, then_ran, refused_at_once, refusal, event_step}
-use Rattle.smb_engine.specs.Laws.{InOrder, connection_of, receiver}
+use Rattle.smb_engine.specs.Run.{Ran, run, then_ran, refused_at_once, event_refusal, event_step}
+use Rattle.smb_engine.specs.Laws.{LinksInOrder, connection_of, receiver}
 use Rattle.smb_request.proofs.Numbered.{at_is, at_same}
 use Rattle.smb_engine.proofs.Links.{all_set, all_remove, all_insert, bytes_step-none, bytes_step-some}
 use Rattle.smb_engine.proofs.Kept.{numbers_of, numbers-set, numbers-remove, numbers-insert, not_among, given_more}
 
-pub good_in_order : {S : Type 0} (s : ShareState S) → GoodState s → InOrder s
+pub good_in_order : {S : Type 0} (s : ShareState S) → GoodState s → LinksInOrder s
 good_in_order s h = record { rising = subst IsRising h.known h.sessions.connections; given = h.given }
 
 -- what was found is found again where another is put in its place, and that again where yet another is
@@ -67,25 +67,25 @@ link_of-without n [] r = refl
 link_of-without n (e ∷ es) r = gone_at n e es (eqb e.0 n) refl r.0 (link_of-without n es r.1)
 
 -- the steps keep the order
-order_set : {S : Type 0} (s t : ShareState S) (n : ℕ) (new : LinkState) → t.links ≡ set_value (is_at (nat_cmp n)) s.links new → t.next ≡ s.next → InOrder s → InOrder t
+order_set : {S : Type 0} (s t : ShareState S) (n : ℕ) (new : LinkState) → t.links ≡ set_value (is_at (nat_cmp n)) s.links new → t.next ≡ s.next → LinksInOrder s → LinksInOrder t
 order_set s t n new e f h = record {
   rising = rw (e, numbers-set (is_at (nat_cmp n)) s.links new) h.rising;
   given = rw (e, f) (all_set (λ x. x.0 < s.next) (is_at (nat_cmp n)) s.links new (λ x p. p) h.given);
 }
 
-order_without : {S : Type 0} (s t : ShareState S) (n : ℕ) → t.links ≡ remove_entry (is_at (nat_cmp n)) s.links → t.next ≡ s.next → InOrder s → InOrder t
+order_without : {S : Type 0} (s t : ShareState S) (n : ℕ) → t.links ≡ remove_entry (is_at (nat_cmp n)) s.links → t.next ≡ s.next → LinksInOrder s → LinksInOrder t
 order_without s t n e f h = record {
   rising = rw (e, numbers-remove n s.links h.rising) (rising-filter _ (numbers_of s.links) h.rising);
   given = rw (e, f) (all_remove (λ x. x.0 < s.next) (is_at (nat_cmp n)) s.links h.given);
 }
 
-pub order_opened : {S : Type 0} (s : ShareState S) → InOrder s → InOrder (opened s)
+pub order_opened : {S : Type 0} (s : ShareState S) → LinksInOrder s → LinksInOrder (opened s)
 order_opened s h = record {
   rising = rw (← numbers-insert s.next new_link s.links h.given) (rising-with (numbers_of s.links) s.next h.rising (not_among s.next s.links h.given));
   given = all_insert (λ e. e.0 < s.next + 1) s.next new_link s.links (omega arith) (λ e p. p) (given_more s.links s.next h.given);
 }
 
-order_settled : {S : Type 0} (s : ShareState S) (n : ℕ) (t : PieceStep S) (b : Bool) → t.stays_open ≡ b → InOrder s → InOrder (settled s n t).state
+order_settled : {S : Type 0} (s : ShareState S) (n : ℕ) (t : PieceStep S) (b : Bool) → t.stays_open ≡ b → LinksInOrder s → LinksInOrder (settled s n t).state
 order_settled s n t true e h = rw e (order_set s _ n t.link refl refl h)
 order_settled s n t false e h = rw e (order_without s _ n refl refl h)
 
@@ -94,7 +94,7 @@ next_settled s n t true e = rw e refl
 next_settled s n t false e = rw e refl
 
 module _ {S : Type 0} (m : Meaning S) where
-  order_bytes : (s : ShareState S) (n moment : ℕ) (piece : List ℕ) (o : Option LinkState) → link_of n s.links ≡ o → InOrder s → InOrder (bytes_step m s n moment piece).state
+  order_bytes : (s : ShareState S) (n moment : ℕ) (piece : List ℕ) (o : Option LinkState) → link_of n s.links ≡ o → LinksInOrder s → LinksInOrder (bytes_step m s n moment piece).state
   order_bytes s n moment piece None e h = rw (bytes_step-none m s n moment piece e) h
   order_bytes s n moment piece (Some link) e h = rw (bytes_step-some m s n moment piece link e) (order_settled s n (piece_step m n moment s.shared link piece) _ refl h)
 
@@ -105,20 +105,20 @@ module _ {S : Type 0} (m : Meaning S) where
   pub bytes_step-next : (s : ShareState S) (n moment : ℕ) (piece : List ℕ) → (bytes_step m s n moment piece).state.next ≡ s.next
   bytes_step-next s n moment piece = next_at s n moment piece (link_of n s.links) refl
 
-  pub order_step : (s : ShareState S) (event : EventText) → InOrder s → InOrder (event_step m s event).state
+  pub order_step : (s : ShareState S) (event : EventText) → LinksInOrder s → LinksInOrder (event_step m s event).state
   order_step s (opens n) h = order_opened s h
   order_step s (brings n moment piece) h = order_bytes s n moment piece (link_of n s.links) refl h
   order_step s (ends n) h = order_without s (ended s n) n refl refl h
 
-  run_at : (s : ShareState S) (d : EventStep S) (r : Ran S) (o : Option ServeFault) → InOrder s → InOrder r.state → InOrder (option_map_or (refused_at_once s) o (then_ran d r)).state
+  run_at : (s : ShareState S) (d : EventStep S) (r : Ran S) (o : Option ServeFault) → LinksInOrder s → LinksInOrder r.state → LinksInOrder (option_map_or (refused_at_once s) o (then_ran d r)).state
   run_at s d r None h k = k
   run_at s d r (Some why) h k = h
 
-  pub run_in_order : (s : ShareState S) (events : List EventText) → InOrder s → InOrder (run m s events).state
+  pub run_in_order : (s : ShareState S) (events : List EventText) → LinksInOrder s → LinksInOrder (run m s events).state
   run_in_order s [] h = h
   run_in_order s (event ∷ events) h =
       let d = event_step m s event in
-      run_at s d (run m d.state events) (refusal s event) h (run_in_order d.state events (order_step s event h))
+      run_at s d (run m d.state events) (event_refusal s event) h (run_in_order d.state events (order_step s event h))
 
 -- what is done at one number is not seen at another
 differs : (n k x : ℕ) → eqb n k ≡ false → is_at (nat_cmp n) x ≡ true → is_at (nat_cmp k) x ≡ false
@@ -164,11 +164,11 @@ module _ {S : Type 0} (m : Meaning S) where
   other_bytes s n k moment piece None e d = rw (bytes_step-none m s n moment piece e) refl
   other_bytes s n k moment piece (Some link) e d = rw (bytes_step-some m s n moment piece link e) (other_settled s n k (piece_step m n moment s.shared link piece) _ refl d)
 
-  opens_at : (s : ShareState S) (n : ℕ) (b : Bool) → eqb n s.next ≡ b → refusal s (opens n) ≡ None → n ≡ s.next
+  opens_at : (s : ShareState S) (n : ℕ) (b : Bool) → eqb n s.next ≡ b → event_refusal s (opens n) ≡ None → n ≡ s.next
   opens_at s n true t h = eqb-true n s.next t
   opens_at s n false t h = cc
 
-  pub other_left : (s : ShareState S) (event : EventText) (other : ℕ) → refusal s event ≡ None → eqb (connection_of event) other ≡ false →
+  pub other_left : (s : ShareState S) (event : EventText) (other : ℕ) → event_refusal s event ≡ None → eqb (connection_of event) other ≡ false →
       link_of other (event_step m s event).state.links ≡ link_of other s.links
   other_left s (opens n) k h d =
       let same : n ≡ s.next = opens_at s n (eqb n s.next) refl h in
@@ -234,4 +234,4 @@ module _ {S : Type 0} (m : Meaning S) where
   others_left s [] k a = (refl, tt)
   others_left s (event ∷ events) k a =
       let d = event_step m s event in
-      left_at k s d (run m d.state events) (refusal s event) (λ e. other_left m s event k e a.0) (not_for s event k a.0) (others_left d.state events k a.1)
+      left_at k s d (run m d.state events) (event_refusal s event) (λ e. other_left m s event k e a.0) (not_for s event k a.0) (others_left d.state events k a.1)

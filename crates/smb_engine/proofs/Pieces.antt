@@ -32,7 +32,7 @@ pub held_with : (link : LinkState) (before after : Unread) (piece : List ℕ) �
 held_with link before after piece e b w h =
     let sound : fault_of before.limit before.bytes ≡ None = rw (e, b) w.sound in
     let test : is_none (fault_of before.limit before.bytes) ≡ true = rw sound refl in
-    let all : after ≡ record before { bytes = before.bytes ++ piece } = h ∙ rw test refl in
+    let all : after ≡ record before { done = 0; bytes = before.bytes ++ piece } = h ∙ rw test refl in
     (ap (λ u. u.limit) all ∙ e, ap (λ u. u.bytes) all ∙ ap (λ t. t ++ piece) b)
 
 none_is : {X : Type 0} (o : Option X) → is_none o ≡ true → o ≡ None

@@ -18,7 +18,7 @@ use Rattle.smb_engine.specs.Event.{EventText, opens, brings, ends, text_of, even
 use Rattle.smb_engine.specs.Output.{Output}
 use Rattle.smb_engine.specs.Stream.{longest_payload, PayloadSteps, payload_steps, added_payloads, PieceStep, closed_by, piece_step, shared_after_piece, count_in_piece}
 use Rattle.smb_engine.specs.Share.{EventStep, settled, bytes_step, stopped, count_on, ended, opened, new_link, opening_refusal, OpeningRefused, unread, unread_link, unread_entry, link_of}
-use Rattle.smb_engine.specs.Run.{Ran, run, run_behind, then_ran, later, refused_at_once, refusal, event_step, count_of, stopped_event, can_want_memory, EventStopped, RunStopped}
+use Rattle.smb_engine.specs.Run.{Ran, run, run_behind, then_ran, later, refused_at_once, event_refusal, event_step, count_of, stopped_event, can_want_memory, EventStopped, RunStopped}
 use Rattle.smb_engine.proofs.Pieces.{added_is}
 use Rattle.smb_engine.proofs.Links.{unread-with, unread-without, unread-insert, link_of-unread}
 
@@ -80,7 +80,7 @@ module _ {S : Type 0} (m : Meaning S) where
   event_step-unread s (brings n moment piece) = bytes_step-unread s n moment piece
   event_step-unread s (ends n) = rw (unread-without (is_at (nat_cmp n)) (map unread_entry s.links), unread_entries s.links, unread-without (is_at (nat_cmp n)) s.links) refl
 
-  pub refusal-unread : (s : ShareState S) (event : EventText) → refusal (unread s) event ≡ refusal s event
+  pub refusal-unread : (s : ShareState S) (event : EventText) → event_refusal (unread s) event ≡ event_refusal s event
   refusal-unread s (opens n) = rw length-map refl
   refusal-unread s (brings n moment piece) = refl
   refusal-unread s (ends n) = refl
@@ -94,10 +94,10 @@ module _ {S : Type 0} (m : Meaning S) where
   goes_at s d r (Some why) h = cc
 
   run-goes : (s : ShareState S) (event : EventText) (events : List EventText) → (run m s (event ∷ events)).stop ≡ None →
-      (refusal s event ≡ None) × ((run m (event_step m s event).state events).stop ≡ None)
-  run-goes s event events h = goes_at s (event_step m s event) (run m (event_step m s event).state events) (refusal s event) h
+      (event_refusal s event ≡ None) × ((run m (event_step m s event).state events).stop ≡ None)
+  run-goes s event events h = goes_at s (event_step m s event) (run m (event_step m s event).state events) (event_refusal s event) h
 
-  run-cons : (s : ShareState S) (event : EventText) (events : List EventText) → refusal s event ≡ None →
+  run-cons : (s : ShareState S) (event : EventText) (events : List EventText) → event_refusal s event ≡ None →
       run m s (event ∷ events) ≡ then_ran (event_step m s event) (run m (event_step m s event).state events)
   run-cons s event events h = rw h refl
 
@@ -106,7 +106,7 @@ module _ {S : Type 0} (m : Meaning S) where
 
   -- one more event at the end, which is not refused
   pub run-more : (s : ShareState S) (events others : List EventText) (event : EventText) (i : ℕ) → drop i events ≡ event ∷ others →
-      (run m s (take i events)).stop ≡ None → refusal (run m s (take i events)).state event ≡ None →
+      (run m s (take i events)).stop ≡ None → event_refusal (run m s (take i events)).state event ≡ None →
       run m s (take (i + 1) events) ≡ and_then (run m s (take i events)) (event_step m (run m s (take i events)).state event)
   run-more s [] others event zero h g r = cc
   run-more s (x ∷ events) others event zero h g r =
@@ -120,13 +120,13 @@ module _ {S : Type 0} (m : Meaning S) where
       let before = run m first.state (take i events) in
       let last = event_step m before.state event in
       let whole = run-cons s x (take i events) p.0 in
-      let r' : refusal before.state event ≡ None = ap (λ t. refusal t.state event) (sym whole) ∙ r in
+      let r' : event_refusal before.state event ≡ None = ap (λ t. event_refusal t.state event) (sym whole) ∙ r in
       rw (e, whole, run-cons s x (take (i + 1) events) p.0, run-more first.state events others event i h p.1 r')
       (ap (λ t. record { state = last.state; outputs = t; stop = None }) (sym (append_assoc first.outputs before.outputs last.outputs)))
 
   -- the run stops at an event that is refused
   pub run-refused : (s : ShareState S) (events others : List EventText) (event : EventText) (i : ℕ) (why : ServeFault) → drop i events ≡ event ∷ others →
-      (run m s (take i events)).stop ≡ None → refusal (run m s (take i events)).state event ≡ Some why →
+      (run m s (take i events)).stop ≡ None → event_refusal (run m s (take i events)).state event ≡ Some why →
       run m s events ≡ record { state = (run m s (take i events)).state; outputs = (run m s (take i events)).outputs; stop = Some (record { place = i; fault = why }) }
   run-refused s [] others event zero why h g r = cc
   run-refused s (x ∷ events) others event zero why h g r = let e : x ≡ event = cc in rw (e, r) refl
@@ -135,7 +135,7 @@ module _ {S : Type 0} (m : Meaning S) where
       let p = run-goes s x (take i events) g in
       let first = event_step m s x in
       let whole = run-cons s x (take i events) p.0 in
-      let r' : refusal (run m first.state (take i events)).state event ≡ Some why = ap (λ t. refusal t.state event) (sym whole) ∙ r in
+      let r' : event_refusal (run m first.state (take i events)).state event ≡ Some why = ap (λ t. event_refusal t.state event) (sym whole) ∙ r in
       rw (whole, run-cons s x events p.0, run-refused first.state events others event i why h p.1 r') refl
 
   stopped_at : (s : ShareState S) (n moment k : ℕ) (piece : List ℕ) (o : Option LinkState) →
@@ -191,12 +191,12 @@ module _ {S : Type 0} (m : Meaning S) where
   at_place : (events : List Event) (event : Event) (i : ℕ) → i < length events → event ≡ get_or events i event → drop i (events_of events) ≡ text_of event ∷ events_of (drop (i + 1) events)
   at_place events event i p e = drop-map text_of i events ∙ ap events_of (drop_more events i event p) ∙ ap (λ x. text_of x ∷ events_of (drop (i + 1) events)) (sym e)
 
-  not_refused : (start now : ShareState S) (events : List EventText) (event : EventText) (i : ℕ) (o : Option ServeFault) → now ≡ unread (run m start (take i events)).state → refusal now event ≡ o →
-      refusal (run m start (take i events)).state event ≡ o
-  not_refused start now events event i o h r = sym (refusal-unread (run m start (take i events)).state event) ∙ ap (λ t. refusal t event) (sym h) ∙ r
+  not_refused : (start now : ShareState S) (events : List EventText) (event : EventText) (i : ℕ) (o : Option ServeFault) → now ≡ unread (run m start (take i events)).state → event_refusal now event ≡ o →
+      event_refusal (run m start (take i events)).state event ≡ o
+  not_refused start now events event i o h r = sym (refusal-unread (run m start (take i events)).state event) ∙ ap (λ t. event_refusal t event) (sym h) ∙ r
 
   pub run_more : (start now new : ShareState S) (front outputs outputs' : List Output) (events : List Event) (event : Event) (i : ℕ) → RunSoFar start now front outputs (events_of events) i →
-      i < length events → event ≡ get_or events i event → refusal now (text_of event) ≡ None → new ≡ unread (event_step m now (text_of event)).state →
+      i < length events → event ≡ get_or events i event → event_refusal now (text_of event) ≡ None → new ≡ unread (event_step m now (text_of event)).state →
       outputs' ≡ outputs ++ (event_step m now (text_of event)).outputs → RunSoFar start new front outputs' (events_of events) (i + 1)
   run_more start now new front outputs outputs' events event i h p e r s t =
       let text = text_of event in
@@ -217,7 +217,7 @@ module _ {S : Type 0} (m : Meaning S) where
       rw (h.state, h.says, ← h.goes) (ap (λ es. run_behind front (run m start es)) (take_all i (events_of events) q))
 
   run_refused : (start now new : ShareState S) (front outputs : List Output) (events : List Event) (event : Event) (i : ℕ) (why : ServeFault) → RunSoFar start now front outputs (events_of events) i →
-      i < length events → event ≡ get_or events i event → refusal now (text_of event) ≡ Some why → new ≡ now →
+      i < length events → event ≡ get_or events i event → event_refusal now (text_of event) ≡ Some why → new ≡ now →
       record { state = new; outputs = outputs; stop = Some (record { place = i; fault = why }) } ≡ run_behind front (run m start (events_of events))
   run_refused start now new front outputs events event i why h p e r s =
       rw (s, h.state, h.says, run-refused start (events_of events) (events_of (drop (i + 1) events)) (text_of event) i why (at_place events event i p e) h.goes (not_refused start now (events_of events) (text_of event) i (Some why) h.state r)) refl
@@ -248,7 +248,7 @@ module _ {S : Type 0} (m : Meaning S) where
   unfolding rest
   opened-unread s h = rw (unread-insert s.next new_link s.links) (ap (λ t. record { shared = shared_opened s.shared s.next; links = insert_entry nat_cmp t.links s.next new_link; next = s.next + 1 }) h)
 
-  open_refused : (s : ShareState S) (n : ℕ) (o : Option ServeFault) → n ≡ s.next → opening_refusal s ≡ o → refusal s (opens n) ≡ o
+  open_refused : (s : ShareState S) (n : ℕ) (o : Option ServeFault) → n ≡ s.next → opening_refusal s ≡ o → event_refusal s (opens n) ≡ o
   open_refused s n o e h = rw (eq-eqb n s.next e) h
 
   pub open_stops : (s new : ShareState S) (n : ℕ) (fault : ServeFault) → s ≡ unread s → n ≡ s.next → OpeningRefused s fault → new ≡ s → EventStopped m s (opens n) fault new

@@ -2,6 +2,8 @@
 use Rattle.std.specs.Prelude.{ℕ, Bool, true, false, ◌&&◌, ◌==◌, not, List, [], ◌∷◌, ◌++◌, length, take, filter, map, replicate, Option, Some, None, if◌then◌else◌}
 use Rattle.std.specs.Option.{option_map_or}
 use Rattle.std.specs.List.{list_any}
+use Rattle.smb_wire.specs.Commands.{code_of}
+use Rattle.smb_wire.specs.declared.command.Command.TheVariants.{Negotiate, Cancel}
 use Rattle.smb_head.specs.Headers.{header_of}
 use Rattle.smb_head.specs.Chains.{chain_of, is_related}
 use Rattle.smb_head.specs.Replies.{Reply, joined_replies}
@@ -9,9 +11,9 @@ use Rattle.smb_body.specs.Smb1.{smb1_of}
 use Rattle.smb_body.specs.declared.smb1.Smb1Dialects.{Smb1Dialects}
 use Rattle.smb_request.specs.declared.context.Context.{Context}
 use Rattle.smb_engine.specs.declared.connection.Connection.{Connection}
-use Rattle.smb_session.specs.declared.dialect.Dialect.{Dialect}
+use Rattle.smb_wire.specs.declared.dialect.Dialect.{Dialect}
 use Rattle.smb_request.specs.Status.{status_code}
-use Rattle.smb_session.specs.Window.{first_window, may_use, without, granted, with_more}
+use Rattle.smb_session.specs.Window.{first_window, may_use, without_ids, credits_granted, with_more}
 use Rattle.smb_session.specs.Authenticator.{Meaning}
 use Rattle.smb_request.specs.Negotiate.{negotiate_answer}
 use Rattle.smb_request.specs.Smb1.{answer_to_smb1, reply_to_smb1}
@@ -20,10 +22,10 @@ use Rattle.smb_request.specs.Response.{ResponseState, Performed}
 use Rattle.smb_request.specs.Request.{performed}
 
 abbrev pub is_cancel : List ℕ → Bool
-is_cancel request = (header_of request).command.0 == 0x0C
+is_cancel request = (header_of request).command.0 == code_of Cancel
 
 abbrev pub is_negotiate_request : List ℕ → Bool
-is_negotiate_request request = (header_of request).command.0 == 0
+is_negotiate_request request = (header_of request).command.0 == code_of Negotiate
 
 -- the MessageIds that a chain uses: those of its requests, but for CANCEL (3.3.5.2.3)
 abbrev pub message_ids : List (List ℕ) → List ℕ
@@ -73,7 +75,7 @@ reply_to request response credits = record {
 -- a request that was performed: what answers it grants credits and joins the replies
 abbrev pub replied : {S : Type 0} → Turn S → List ℕ → Performed S → Turn S
 replied turn request p = option_map_or
-    (λ response. let credits = granted turn.connection.window (header_of request).credits in record {
+    (λ response. let credits = credits_granted turn.connection.window (header_of request).credits in record {
       shared = p.shared;
       connection = record turn.connection { dialect = p.dialect; window = with_more turn.connection.window credits };
       context = p.context;
@@ -96,7 +98,7 @@ module _ {S : Type 0} (m : Meaning S) (number moment : ℕ) where
 abbrev pub turn_before : {S : Type 0} → SharedState S → Connection → List (List ℕ) → Turn S
 turn_before shared connection requests = record {
   shared = shared;
-  connection = record connection { payload_came = true; window = without connection.window (message_ids requests) };
+  connection = record connection { payload_came = true; window = without_ids connection.window (message_ids requests) };
   context = record { session_id = 0; tree_id = 0 };
   replies = [];
 }

@@ -1,3 +1,4 @@
+-- For the proofs; nothing here need be believed.
 -- What the code holds of the definitions' values.
 use Rattle.std.specs.Prelude.{◌≡◌, ℕ, ◌++◌, Bool, List, IsTrue}
 use Rattle.std.specs.List.{flat_map, AllByRecursion}

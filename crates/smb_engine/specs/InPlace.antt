@@ -1,3 +1,4 @@
+-- For the proofs; nothing here need be believed.
 -- What the code holds of turns, chains and payloads: replies that stand behind what stood where they are sent from.
 use Rattle.std.specs.Prelude.{ℕ, ◌++◌, Bool, List, [], Option, None, Some, is_some}
 use Rattle.std.specs.List.{flat_map}

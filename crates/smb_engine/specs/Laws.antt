@@ -12,7 +12,7 @@ use Rattle.smb_engine.specs.Share.{GoodState, link_of, unread}
 use Rattle.smb_engine.specs.Run.{Ran, later, run, run_behind}
 
 -- the open connections stand in rising number, and each number was given
-pub record InOrder {S : Type 0} (s : ShareState S) : Type 0 where
+pub record LinksInOrder {S : Type 0} (s : ShareState S) : Type 0 where
   pub rising : IsRising (map (λ entry. entry.0) s.links)
   pub given : AllByRecursion (λ entry. entry.0 < s.next) s.links
 
@@ -50,8 +50,8 @@ pub record AreAlike {S : Type 0} (one other : Ran S) : Type 0 where
 abbrev pub pieces_on : ℕ → ℕ → List (List ℕ) → List EventText
 pieces_on connection moment pieces = map (brings connection moment) pieces
 
-abbrev pub joined : List (List ℕ) → List ℕ
-joined pieces = flat_map (λ piece. piece) pieces
+abbrev pub bytes_of_pieces : List (List ℕ) → List ℕ
+bytes_of_pieces pieces = flat_map (λ piece. piece) pieces
 
 -- behind a connection's end nothing goes to it
 abbrev pub IsLastEnd : ℕ → List Output → Type 0
@@ -62,21 +62,21 @@ IsLastEnd connection (output ∷ outputs) =
 module _ {S : Type 0} (m : Meaning S) where
   -- a good state is in order, and so is what a run leaves of one in order
   abbrev pub StatesAreInOrder : Type 0
-  StatesAreInOrder = ((s : ShareState S) → GoodState s → InOrder s) × ((s : ShareState S) (events : List EventText) → InOrder s → InOrder (run m s events).state)
+  StatesAreInOrder = ((s : ShareState S) → GoodState s → LinksInOrder s) × ((s : ShareState S) (events : List EventText) → LinksInOrder s → LinksInOrder (run m s events).state)
 
   -- of one piece, wherever it stands in a run, two can be made, and the run leaves and puts out the same; where it stops
   -- behind them, that is one event later
   abbrev pub ACutDoesNotMatter : Type 0
   ACutDoesNotMatter =
-      (s : ShareState S) → InOrder s → (before after : List EventText) (connection moment : ℕ) (front back : List ℕ) →
+      (s : ShareState S) → LinksInOrder s → (before after : List EventText) (connection moment : ℕ) (front back : List ℕ) →
       run m s (before ++ brings connection moment front ∷ brings connection moment back ∷ after)
       ≡ with_one_more_at (length before) (run m s (before ++ brings connection moment (front ++ back) ∷ after))
 
   -- it does not matter how bytes that come at one moment are cut into pieces, if there is one at all
   abbrev pub CutsDoNotMatter : Type 0
   CutsDoNotMatter =
-      (s : ShareState S) → InOrder s → (before after : List EventText) (connection moment : ℕ) (pieces others : List (List ℕ)) →
-      0 < length pieces → 0 < length others → joined pieces ≡ joined others →
+      (s : ShareState S) → LinksInOrder s → (before after : List EventText) (connection moment : ℕ) (pieces others : List (List ℕ)) →
+      0 < length pieces → 0 < length others → bytes_of_pieces pieces ≡ bytes_of_pieces others →
       AreAlike (run m s (before ++ (pieces_on connection moment pieces ++ after))) (run m s (before ++ (pieces_on connection moment others ++ after)))
 
   -- several runs are one: the second goes on where the first stopped, unless that was at a refusal
@@ -99,4 +99,4 @@ module _ {S : Type 0} (m : Meaning S) where
 
   -- the share ends a connection at most once, and puts nothing out to it afterwards
   abbrev pub AnEndIsTheLast : Type 0
-  AnEndIsTheLast = (s : ShareState S) → InOrder s → (events : List EventText) (connection : ℕ) → IsLastEnd connection (run m s events).outputs
+  AnEndIsTheLast = (s : ShareState S) → LinksInOrder s → (events : List EventText) (connection : ℕ) → IsLastEnd connection (run m s events).outputs

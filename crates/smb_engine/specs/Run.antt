@@ -15,10 +15,10 @@ abbrev pub unknown_refusal : {S : Type 0} → ShareState S → ℕ → Option Se
 unknown_refusal s number = if nat_lt 0 number && nat_lt number s.next then None else Some BadEvent
 
 -- why an event is refused: an opening has to bear the next number, and then there has to be room for it
-abbrev pub refusal : {S : Type 0} → ShareState S → EventText → Option ServeFault
-refusal s (opens number) = if number == s.next then opening_refusal s else Some BadEvent
-refusal s (brings number moment piece) = unknown_refusal s number
-refusal s (ends number) = unknown_refusal s number
+abbrev pub event_refusal : {S : Type 0} → ShareState S → EventText → Option ServeFault
+event_refusal s (opens number) = if number == s.next then opening_refusal s else Some BadEvent
+event_refusal s (brings number moment piece) = unknown_refusal s number
+event_refusal s (ends number) = unknown_refusal s number
 
 -- one event that is not refused
 abbrev pub event_step : {S : Type 0} → Meaning S → ShareState S → EventText → EventStep S
@@ -64,7 +64,7 @@ refused_at_once s fault = record { state = s; outputs = []; stop = Some (record 
 abbrev pub run : {S : Type 0} → Meaning S → ShareState S → List EventText → Ran S
 run m s [] = record { state = s; outputs = []; stop = None }
 run m s (event ∷ events) =
-    option_map_or (refused_at_once s) (refusal s event) (then_ran (event_step m s event) (run m (event_step m s event).state events))
+    option_map_or (refused_at_once s) (event_refusal s event) (then_ran (event_step m s event) (run m (event_step m s event).state events))
 
 -- a run as the code holds its state, behind what was put out before
 abbrev pub run_behind : {S : Type 0} → List Output → Ran S → Ran S
@@ -73,9 +73,9 @@ run_behind before ran = record { state = unread ran.state; outputs = before ++ r
 -- where one event stops: it is refused and changes nothing, or memory ran out after some of its requests
 abbrev pub EventStopped : {S : Type 0} → Meaning S → ShareState S → EventText → ServeFault → ShareState S → Type 0
 EventStopped m s event (NoMemory done) left =
-    (refusal s event ≡ None) × (can_want_memory s event ≡ true) × (done ≤ count_of m s event) × (left ≡ unread (stopped_event m s event done))
-EventStopped m s event TooManyConnections left = (refusal s event ≡ Some TooManyConnections) × (left ≡ s)
-EventStopped m s event BadEvent left = (refusal s event ≡ Some BadEvent) × (left ≡ s)
+    (event_refusal s event ≡ None) × (can_want_memory s event ≡ true) × (done ≤ count_of m s event) × (left ≡ unread (stopped_event m s event done))
+EventStopped m s event TooManyConnections left = (event_refusal s event ≡ Some TooManyConnections) × (left ≡ s)
+EventStopped m s event BadEvent left = (event_refusal s event ≡ Some BadEvent) × (left ≡ s)
 EventStopped m s event BadConfig left = ⊥
 
 -- where memory ran out in a run: the events before the place were performed whole, none of them refused, and of that
@@ -85,7 +85,7 @@ pub record OutOfMemory {S : Type 0} (m : Meaning S) (start : ShareState S) (even
   pub others : List EventText
   pub at : drop place events ≡ event ∷ others
   pub unrefused : (run m start (take place events)).stop ≡ None
-  pub sound : refusal (run m start (take place events)).state event ≡ None
+  pub sound : event_refusal (run m start (take place events)).state event ≡ None
   pub wanting : can_want_memory (run m start (take place events)).state event ≡ true
   pub within : done ≤ count_of m (run m start (take place events)).state event
   pub state : left ≡ unread (stopped_event m (run m start (take place events)).state event done)

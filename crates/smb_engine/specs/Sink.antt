@@ -1,3 +1,4 @@
+-- For the proofs; nothing here need be believed.
 -- What a place for outputs holds: whole outputs, or their bytes.
 use Rattle.std.specs.Prelude.{ℕ, List, [], ◌∷◌, map}
 use Rattle.smb_engine.specs.Output.{Output, bytes_of}

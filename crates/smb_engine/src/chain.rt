@@ -5,7 +5,7 @@ ghost use Rattle.std.specs.List.{list_any, flat_map};
 ghost use Rattle.smb_head.specs.Headers.{header_of};
 ghost use Rattle.smb_head.specs.Replies.{Reply, rounded_up};
 ghost use Rattle.smb_head.specs.Placed.{placed, written};
-ghost use Rattle.smb_session.specs.Window.{granted, without};
+ghost use Rattle.smb_session.specs.Window.{credits_granted, without_ids};
 ghost use Rattle.smb_request.specs.Request.{performed};
 ghost use Rattle.std.specs.Bool.{OnTrue, OnFalse};
 ghost use Rattle.smb_head.specs.Replies.{joined_replies};
@@ -25,17 +25,12 @@ use smb_frame::{close_frame, open_frame};
 use smb_head::{Chain, Header, HeaderFlags, ReplyWriter, read_chain};
 use smb_opens::Opens;
 use smb_request::{Answered, Context, Shared, Unanswered, smb1};
-use smb_session::{Authenticator, Dialect, Window};
+use smb_session::{Authenticator, Window};
 use smb_tree::Tree;
+use smb_wire::{Command, Dialect};
 
 /// How many requests a chain has at most.
 const CHAIN_LIMIT: usize = 16;
-
-/// The code of NEGOTIATE.
-const NEGOTIATE: u16 = 0;
-
-/// The code of CANCEL.
-const CANCEL: u16 = 0x0C;
 
 /// A request of a chain, with its header.
 fn request_at<'a>(chain: &'a Chain<'_>, i: usize) -> (Header, &'a [u8])
@@ -52,7 +47,7 @@ fn holds_negotiate(chain: &Chain<'_>) -> bool
 {
     for i in 0..chain.len() {
         let (header, _) = request_at(chain, i);
-        if header.command.0 == NEGOTIATE {
+        if header.command.0 == Command::Negotiate.code().0 {
             return true;
         }
     }
@@ -77,7 +72,7 @@ fn message_ids(chain: &Chain<'_>) -> ArrayVec<u64, CHAIN_LIMIT>
     let mut ids = ArrayVec::new();
     for i in 0..chain.len() {
         let (header, _) = request_at(chain, i);
-        if header.command.0 != CANCEL {
+        if header.command.0 != Command::Cancel.code().0 {
             ids.push(header.message_id);
         }
     }
@@ -91,7 +86,7 @@ fn admit<'a>(connection: &mut Connection, payload: &'a [u8]) -> Option<Chain<'a>
     ensures chain { result ≡ admitted connection.old payload.now }
     ensures few { IfSome result (λ chain. length chain ≤ 16) }
     ensures taken { IfSome result (λ chain. connection.new
-        ≡ record connection.old { payload_came = true; window = without connection.old.window (message_ids chain) }) }
+        ≡ record connection.old { payload_came = true; window = without_ids connection.old.window (message_ids chain) }) }
     ensures kept { IfNone result (connection.new ≡ connection.old) }
 {
     let chain = read_chain(payload).ok()?;

@@ -1,7 +1,8 @@
 //! A connection, and what is unread of its stream ([MS-SMB2] 3.3.1.7).
 
 use smb_frame::FrameBuffer;
-use smb_session::{Dialect, Window};
+use smb_session::Window;
+use smb_wire::Dialect;
 use std::marker::Model;
 
 /// What a connection has agreed on, and which MessageIds its client may use.

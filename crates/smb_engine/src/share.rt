@@ -11,7 +11,7 @@ ghost use Rattle.smb_request.specs.State.{shared_opened};
 ghost use Rattle.smb_engine.specs.Event.{text_of, events_of};
 ghost use Rattle.smb_engine.specs.Output.{bytes_of, outputs_of};
 ghost use Rattle.smb_engine.specs.Share.{MakingRefused, new_share, link_of, new_link, opened, ended, opening_refusal, bytes_step, is_open_after, stopped, count_on, unread, OpeningRefused, PieceStopped, GoodState};
-ghost use Rattle.smb_engine.specs.Run.{unknown_refusal, refusal, event_step, run, run_behind, EventStopped, RunStopped};
+ghost use Rattle.smb_engine.specs.Run.{unknown_refusal, event_refusal, event_step, run, run_behind, EventStopped, RunStopped};
 
 use super::connection::{Connection, LONGEST_PAYLOAD, Link};
 use super::event::{Event, Fate};
@@ -209,7 +209,7 @@ impl<A: Authenticator + Drop, T: Tree + Drop, O: Opens + Drop> Share<A, T, O> {
     /// Ends a connection, and its sessions with it; on one that is not open it does nothing. It takes no
     /// memory.
     pub fn ended(&mut self, connection: u64)
-        ensures state { self.new ≡ unread (ended self.old connection) }
+        ensures state { self.new ≡ ended self.old connection }
         ensures good { GoodState self.new }
     {
         self.shared.disconnect(connection);
@@ -274,7 +274,7 @@ impl<A: Authenticator + Drop, T: Tree + Drop, O: Opens + Drop> Share<A, T, O> {
 
     /// Takes one event.
     fn event(&mut self, event: &Event, answers: &mut Vec<Answer>) -> Result<(), ServeFault>
-        ensures unrefused { OnOk result (refusal self.old (text_of event.now) ≡ None) }
+        ensures unrefused { OnOk result (event_refusal self.old (text_of event.now) ≡ None) }
         ensures state { OnOk result (self.new ≡ unread (event_step A.meaning self.old (text_of event.now)).state) }
         ensures outputs { OnOk result (outputs_of answers.new.items ≡ outputs_of answers.old.items ++ (event_step A.meaning self.old (text_of event.now)).outputs) }
         ensures err { IfErr result (λ fault. EventStopped A.meaning self.old (text_of event.now) fault self.new) }

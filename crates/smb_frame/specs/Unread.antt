@@ -4,14 +4,21 @@ use Rattle.smb_frame.specs.declared.fault.FrameFault.{FrameFault}
 use Rattle.smb_frame.specs.declared.fault.FrameFault.TheVariants.{FirstByte, TooLong, PayloadTooLong, NoMemory}
 use Rattle.smb_frame.specs.Reading.{fault_of}
 
--- the longest payload that is let through, and the bytes that have come and are not done
+-- the longest payload that is let through, how many bytes are still held of frames that are done, and the bytes that have
+-- come and are not done
 pub record Unread : Type 0 where
   pub limit : ℕ
+  pub done : ℕ
   pub bytes : List ℕ
 
--- after a piece has come: behind a fault nothing is taken
+-- nothing is held of frames that are done
+abbrev pub without_done : Unread → Unread
+without_done held = record held { done = 0 }
+
+-- after a piece has come: nothing is held of frames that are done, and behind a fault nothing is taken
 abbrev pub with_piece : Unread → List ℕ → Unread
-with_piece held piece = if is_none (fault_of held.limit held.bytes) then record held { bytes = held.bytes ++ piece } else held
+with_piece held piece =
+    if is_none (fault_of held.limit held.bytes) then record (without_done held) { bytes = held.bytes ++ piece } else without_done held
 
 -- when a payload gets no frame: it is 2 ^ 24 bytes long or longer, or the vector could not grow
 abbrev pub FrameRefused : List ℕ → FrameFault → Type 0

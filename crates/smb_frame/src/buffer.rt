@@ -1,9 +1,9 @@
-//! The unread bytes of one stream.
+//! The bytes of one stream that are held.
 
 ghost use Rattle.std.specs.Prelude.{◌≡◌, ◌↔◌, ◌+◌, ◌≤◌, ℕ, IsTrue, List, [], length, OnOk, OnErr, IfErr, IsSome, IfSome};
 ghost use Rattle.std.specs.Option.{option_map};
 ghost use Rattle.smb_frame.specs.Reading.{size, first, fault_of, after, EachStreamHasOneReading, RestIsEnough, FaultIsForGood, OpenRestIsShort};
-ghost use Rattle.smb_frame.specs.Unread.{Unread, with_piece};
+ghost use Rattle.smb_frame.specs.Unread.{without_done, with_piece};
 
 use super::fault::FrameFault;
 use std::alloc::Global;
@@ -27,7 +27,7 @@ impl Model for FrameBuffer {
 
     ghost Value = { Unread };
 
-    ghost view = { λ b. record { limit = b.limit; bytes = drop b.start b.bytes.items } };
+    ghost view = { λ b. record { limit = b.limit; done = b.start; bytes = drop b.start b.bytes.items } };
 
     ghost invariant = { λ b. b.start ≤ length b.bytes.items };
 }
@@ -85,7 +85,7 @@ fn first_fault(limit: u32, bytes: &[u8]) -> Option<FrameFault>
 impl FrameBuffer {
     /// An empty buffer, which takes payloads of up to `limit` bytes. It allocates nothing yet.
     pub fn new(alloc: Global, limit: u32) -> Self
-        ensures { result ≡ record { limit = limit; bytes = [] } }
+        ensures { result ≡ record { limit = limit; done = 0; bytes = [] } }
     {
         FrameBuffer {
             limit,
@@ -94,18 +94,19 @@ impl FrameBuffer {
         }
     }
 
-    /// Takes the next piece of the stream. Once [`fault`](FrameBuffer::fault) is Some nothing is added.
+    /// Takes the next piece of the stream, and gives up the bytes of frames that are done. Once
+    /// [`fault`](FrameBuffer::fault) is Some nothing is added.
     ///
-    /// After [`FrameFault::NoMemory`], the only refusal, the buffer holds what it held.
+    /// After [`FrameFault::NoMemory`], the only refusal, nothing was added.
     pub fn push(&mut self, piece: &[u8]) -> Result<(), FrameFault>
         ensures ok { OnOk result (self.new ≡ with_piece self.old piece.now) }
         ensures memory { IfErr result (λ fault. fault ≡ FrameFault.NoMemory) }
-        ensures err { OnErr result (self.new ≡ self.old) }
+        ensures err { OnErr result (self.new ≡ without_done self.old) }
     {
+        self.give_up_done();
         if self.fault().is_some() {
             return Ok(());
         }
-        self.give_up_done();
         self.bytes.extend_from_slice(piece)?;
         Ok(())
     }
@@ -113,7 +114,7 @@ impl FrameBuffer {
     /// Moves the unread bytes to the front, in place of frames that are done. One move of the unread
     /// bytes, and none where no frame was done since the last one.
     fn give_up_done(&mut self)
-        ensures same { self.new ≡ self.old }
+        ensures { self.new ≡ without_done self.old }
     {
         if self.start > 0 {
             let length = self.bytes.len();
@@ -149,7 +150,7 @@ impl FrameBuffer {
     pub fn done(&mut self)
         requires { IsSome (first self.old.limit self.old.bytes) }
         ensures { (payload : List ℕ) → first self.old.limit self.old.bytes ≡ Some payload →
-            self.new ≡ record self.old { bytes = after payload self.old.bytes } }
+            self.new ≡ record self.old { done = self.old.done + (length payload + 4); bytes = after payload self.old.bytes } }
     {
         if let Some(payload) = self.next() {
             let length = payload.len();

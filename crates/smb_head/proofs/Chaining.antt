@@ -9,7 +9,7 @@ use Rattle.std.proofs.lemmas.List.{append-nil, take-append-le, drop-append-le, t
 use Rattle.smb_wire.specs.Fields.{Field, num, raw, AllStand}
 use Rattle.smb_head.specs.declared.header.Header.{Header}
 use Rattle.smb_head.specs.declared.fault.HeadFault.{HeadFault}
-use Rattle.smb_head.specs.Headers.{fields, Spells, header_of}
+use Rattle.smb_head.specs.Headers.{fields, SpellsHeader, header_of}
 use Rattle.smb_head.specs.Chains.{is_related, next_of, IsRequest, BeginsUnrelated, AreLinked, Chained, is_next_right, request_fault, followed_by, requests_in, chain_of}
 use Rattle.smb_head.proofs.Readings.{Begins, spells_header_of, spells_only, spells_begins}
 use Rattle.smb_head.proofs.Faultless.{IsRight, right, no_fault, leads_on}
@@ -28,7 +28,7 @@ stand_front a b (num p w n ∷ fields) s =
 stand_front a b (raw p w text ∷ fields) s =
     ((omega (arith, length-append a b, s.0.0), rw (part_front w p a b s.0.0) s.0.1), stand_front a b fields s.1)
 
-pub header_front : (a b : List ℕ) → Spells a (header_of a) → header_of (a ++ b) ≡ header_of a
+pub header_front : (a b : List ℕ) → SpellsHeader a (header_of a) → header_of (a ++ b) ≡ header_of a
 header_front a b s = sym (spells_only (a ++ b) (header_of a) (stand_front a b (fields (header_of a)) s))
 
 begins_front : (a b : List ℕ) → 64 ≤ length a → Begins (a ++ b) → Begins a
@@ -37,6 +37,14 @@ begins_front a b long whole = record {
   protocol = rw (← part_front 4 0 a b (omega arith)) whole.protocol;
   size = rw (← part_front 2 4 a b (omega arith)) whole.size;
 }
+
+-- a header is that of the front that it stands in
+pub header_of_front : (n : ℕ) (bytes : List ℕ) → 64 ≤ n → n ≤ length bytes → Begins bytes → header_of (take n bytes) ≡ header_of bytes
+header_of_front n bytes l m b =
+    let whole : take n bytes ++ drop n bytes ≡ bytes = take-append-drop n bytes in
+    let long : 64 ≤ length (take n bytes) = rw (length-take-le n bytes m) l in
+    let begins : Begins (take n bytes) = begins_front (take n bytes) (drop n bytes) long (rw whole b) in
+    sym (header_front (take n bytes) (drop n bytes) (spells_header_of (take n bytes) begins)) ∙ ap header_of whole
 
 -- the rest of a payload is these requests
 record Follow (n : ℕ) (first : Bool) (rest : List ℕ) (requests : List (List ℕ)) : Type 0 where

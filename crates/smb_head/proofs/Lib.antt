@@ -1,4 +1,3 @@
-pub mod Codes
 pub mod Readings
 pub mod Walks
 pub mod Faultless

@@ -3,7 +3,7 @@ use Rattle.std.proofs.Common.{◌≡◌, ℕ, ◌+◌, ◌-◌, ◌<◌, ◌≤�
 use Rattle.std.proofs.Math.Seq.{drop-append-add}
 use Rattle.std.proofs.lemmas.List.{take_at, drop_at, length-take, take-take, take-append-le, drop-drop, replicate-append-replicate}
 use Rattle.smb_head.specs.Replies.{Reply, Held, reply_bytes, rounded_up, padded, joined_replies, last_place, so_far}
-use Rattle.smb_head.specs.Placed.{placed, written, opened}
+use Rattle.smb_head.specs.Placed.{placed, written, with_open_reply}
 use Rattle.smb_head.proofs.Joining.{patched, patched_behind, length-padded, push_more, push_first, last_after, holds_none}
 
 -- bytes put over those at a place
@@ -38,7 +38,7 @@ header_over one two header old mid new place m n h e a b =
 
 -- a reply is opened
 pub open_is : (before out new : List ℕ) (replies : List Reply) (base end up : ℕ) → base ≡ length before → out ≡ written before replies → end ≡ length out →
-    up ≡ rounded_up (end - base) → new ≡ out ++ replicate (base + up - end + 64) 0 → new ≡ opened before replies
+    up ≡ rounded_up (end - base) → new ≡ out ++ replicate (base + up - end + 64) 0 → new ≡ with_open_reply before replies
 open_is before out new replies base end up b o e u n =
     let held : List ℕ = joined_replies replies in
     let zeros : List ℕ = replicate (rounded_up (length held) - length held) 0 in
@@ -51,7 +51,7 @@ open_is before out new replies base end up b o e u n =
 
 -- its header is written
 pub filled : (before body header out mid : List ℕ) (replies : List Reply) (place : ℕ) → place ≡ length before + rounded_up (length (joined_replies replies)) →
-    out ≡ opened before replies ++ body → mid ≡ take place out ++ (header ++ drop (place + 64) out) →
+    out ≡ with_open_reply before replies ++ body → mid ≡ take place out ++ (header ++ drop (place + 64) out) →
     mid ≡ before ++ (padded (joined_replies replies) ++ (header ++ body))
 filled before body header out mid replies place p o m =
     let front : List ℕ = before ++ padded (joined_replies replies) in

@@ -10,7 +10,7 @@ use Rattle.smb_wire.proofs.Numbers.{spelling_of_number}
 use Rattle.smb_wire.proofs.FieldTables.{stand_behind}
 use Rattle.smb_head.specs.declared.header.Header.{Header}
 use Rattle.smb_head.specs.declared.fault.HeadFault.{HeadFault}
-use Rattle.smb_head.specs.Headers.{protocol_id, fields, Spells, header_of, header_fault}
+use Rattle.smb_head.specs.Headers.{protocol_id, fields, SpellsHeader, header_of, header_fault}
 
 -- a test that gave no fault
 pub passed : (b : Bool) (x : HeadFault) (others : Option HeadFault) → (if b then Some x else others) ≡ None → (b ≡ false) × (others ≡ None)
@@ -37,18 +37,18 @@ begins bytes h =
 pub faultless : (bytes : List ℕ) → Begins bytes → header_fault bytes ≡ None
 faultless bytes b = rw (le-ltb (length bytes) 64 b.long, b.protocol, b.size) refl
 
-pub spells_header_of : (bytes : List ℕ) → Begins bytes → Spells bytes (header_of bytes)
+pub spells_header_of : (bytes : List ℕ) → Begins bytes → SpellsHeader bytes (header_of bytes)
 unfolding header_of
 spells_header_of bytes b = search rules
 
-pub spells_only : (bytes : List ℕ) (header : Header) → Spells bytes header → header ≡ header_of bytes
+pub spells_only : (bytes : List ℕ) (header : Header) → SpellsHeader bytes header → header ≡ header_of bytes
 unfolding header_of
 spells_only bytes header s = search rules
 
-pub spells_begins : (bytes : List ℕ) (header : Header) → Spells bytes header → Begins bytes
+pub spells_begins : (bytes : List ℕ) (header : Header) → SpellsHeader bytes header → Begins bytes
 spells_begins bytes header s = record { long = omega arith; protocol = search rules; size = search rules }
 
-pub written_spells : (header : Header) (rest : List ℕ) → AllFit (fields header) → Spells (joined (fields header) ++ rest) header
+pub written_spells : (header : Header) (rest : List ℕ) → AllFit (fields header) → SpellsHeader (joined (fields header) ++ rest) header
 written_spells header rest fit = stand_behind [] (fields header) rest 0 refl (search rules) fit
 
 -- a part of bytes is bytes

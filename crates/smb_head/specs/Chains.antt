@@ -5,7 +5,7 @@ use Rattle.std.specs.Option.{option_or, option_map_or}
 use Rattle.std.specs.Result.{result_ok, result_err}
 use Rattle.smb_head.specs.declared.fault.HeadFault.{HeadFault}
 use Rattle.smb_head.specs.declared.fault.HeadFault.TheVariants.{Next, TooMany, FromServer, RelatedFirst}
-use Rattle.smb_head.specs.Headers.{Spells, header_of, header_fault}
+use Rattle.smb_head.specs.Headers.{SpellsHeader, header_of, header_fault}
 
 -- SERVER_TO_REDIR is set in the header that the bytes begin with, as in a reply
 abbrev pub is_from_server : List ℕ → Bool
@@ -21,7 +21,7 @@ next_of bytes = (header_of bytes).next_command
 
 -- a request begins with a header, so it has 64 bytes or more, and the header is not that of a reply
 pub record IsRequest (request : List ℕ) : Type 0 where
-  pub header : Spells request (header_of request)
+  pub header : SpellsHeader request (header_of request)
   pub to_server : is_from_server request ≡ false
 
 -- the first of some requests is not related to one before it

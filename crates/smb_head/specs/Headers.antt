@@ -10,29 +10,27 @@ use Rattle.smb_head.specs.declared.fault.HeadFault.TheVariants.{Short, Protocol,
 abbrev pub protocol_id : ℕ
 protocol_id = 0x424d53fe
 
--- the header's fields at their offsets, in the order of the standard ([MS-SMB2] 2.2.1.2): ProtocolId,
--- StructureSize, CreditCharge, Status, Command, CreditRequest or CreditResponse, Flags, NextCommand,
--- MessageId, Reserved, TreeId, SessionId, Signature
+-- the header's fields at their offsets, in the order of the standard ([MS-SMB2] 2.2.1.2)
 abbrev pub fields : Header → List Field
 fields h =
-    num 0 4 protocol_id
-    ∷ num 4 2 64
-    ∷ num 6 2 h.credit_charge
-    ∷ num 8 4 h.status
-    ∷ num 12 2 h.command.0
-    ∷ num 14 2 h.credits
-    ∷ num 16 4 h.flags.0
-    ∷ num 20 4 h.next_command
-    ∷ num 24 8 h.message_id
-    ∷ num 32 4 h.reserved
-    ∷ num 36 4 h.tree_id
-    ∷ num 40 8 h.session_id
-    ∷ raw 48 16 h.signature
+    num 0 4 protocol_id  -- ProtocolId
+    ∷ num 4 2 64  -- StructureSize
+    ∷ num 6 2 h.credit_charge  -- CreditCharge
+    ∷ num 8 4 h.status  -- Status
+    ∷ num 12 2 h.command.0  -- Command
+    ∷ num 14 2 h.credits  -- CreditRequest or CreditResponse
+    ∷ num 16 4 h.flags.0  -- Flags
+    ∷ num 20 4 h.next_command  -- NextCommand
+    ∷ num 24 8 h.message_id  -- MessageId
+    ∷ num 32 4 h.reserved  -- Reserved
+    ∷ num 36 4 h.tree_id  -- TreeId
+    ∷ num 40 8 h.session_id  -- SessionId
+    ∷ raw 48 16 h.signature  -- Signature
     ∷ []
 
 -- the bytes begin with the header
-abbrev pub Spells : List ℕ → Header → Type 0
-Spells bytes header = AllStand bytes (fields header)
+abbrev pub SpellsHeader : List ℕ → Header → Type 0
+SpellsHeader bytes header = AllStand bytes (fields header)
 
 -- the header that is read from the first 64 bytes
 unfoldable pub header_of : List ℕ → Header
@@ -62,8 +60,8 @@ header_fault bytes =
 abbrev pub EachHeaderHasOneReading : Type 0
 EachHeaderHasOneReading =
     (bytes : List ℕ) →
-    (header_fault bytes ≡ None → Spells bytes (header_of bytes))
-    × ((header : Header) → Spells bytes header → (header_fault bytes ≡ None) × (header ≡ header_of bytes))
+    (header_fault bytes ≡ None → SpellsHeader bytes (header_of bytes))
+    × ((header : Header) → SpellsHeader bytes header → (header_fault bytes ≡ None) × (header ≡ header_of bytes))
 
 -- a header whose numbers fit their fields is read where it was written, whatever follows
 abbrev pub WhatIsWrittenIsRead : Type 0

@@ -1,4 +1,3 @@
-pub mod Commands
 pub mod Faults
 pub mod Headers
 pub mod Chains

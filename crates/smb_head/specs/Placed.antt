@@ -13,8 +13,8 @@ abbrev pub placed : List ℕ → List Reply → ReplyWriter
 placed before replies = record { base = length before; last = length before + last_place replies }
 
 -- with an open reply behind them, up to where its body goes
-abbrev pub opened : List ℕ → List Reply → List ℕ
-opened before replies = before ++ (padded (joined_replies replies) ++ replicate 64 0)
+abbrev pub with_open_reply : List ℕ → List Reply → List ℕ
+with_open_reply before replies = before ++ (padded (joined_replies replies) ++ replicate 64 0)
 
 -- where the open reply stands
 abbrev pub open_place : List ℕ → List Reply → OpenReply

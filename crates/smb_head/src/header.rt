@@ -4,10 +4,11 @@ ghost use Rattle.std.specs.Prelude.{⊤, ◌≡◌, ◌≤◌, ◌+◌, ◌∷�
 ghost use Rattle.smb_wire.specs.Fields.{AllFit, appended};
 ghost use Rattle.smb_head.specs.Headers.{fields, header_of, header_fault, EachHeaderHasOneReading, WhatIsWrittenIsRead, WhatIsReadIsWritten};
 
-use super::command::CommandCode;
 use super::fault::HeadFault;
 use bitflags::{Flag, Flags, bitflag_items};
-use smb_wire::{WireFault, put_bytes, put_u16, put_u32, put_u64, u16_in, u32_in, u64_in};
+use smb_wire::{
+    CommandCode, WireFault, put_bytes, put_u16, put_u32, put_u64, u16_in, u32_in, u64_in,
+};
 
 /// Flags of a header ([MS-SMB2] 2.2.1.2). Unknown bits are kept.
 #[derive(Clone, Copy, Debug, PartialEq, Eq)]
@@ -62,6 +63,21 @@ pub struct Header {
     pub session_id: u64,
     pub signature: [u8; 16],
 }
+
+/// What stands where no header was read yet.
+pub(crate) const NO_HEADER: Header = Header {
+    credit_charge: 0,
+    status: 0,
+    command: CommandCode(0),
+    credits: 0,
+    flags: HeaderFlags(0),
+    next_command: 0,
+    message_id: 0,
+    reserved: 0,
+    tree_id: 0,
+    session_id: 0,
+    signature: [0; 16],
+};
 
 /// ProtocolId: 0xFE and the letters SMB.
 const PROTOCOL_ID: u32 = 0x424d_53fe;

@@ -9,18 +9,16 @@
 //!
 //! A [`ReplyChain`] takes replies one by one and gives the payload that joins them, by
 //! `specs/Replies.antt`: each but the last padded, its NextCommand the distance to the next. This layer
-//! knows the commands' codes, and nothing of their bodies.
+//! knows nothing of bodies.
 #![tactic(auto)]
 
 mod chain;
-mod command;
 mod fault;
 mod header;
 mod reply;
 mod writer;
 
 pub use chain::{Chain, laws_of_chains, read_chain};
-pub use command::{Command, CommandCode, laws_of_commands};
 pub use fault::{ChainFault, HeadFault};
 pub use header::{
     Header, HeaderFlags, each_header_fits, laws_of_headers, read_header, write_header,

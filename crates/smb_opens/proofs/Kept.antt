@@ -6,7 +6,7 @@ use Rattle.smb_opens.specs.declared.open_row.OpenRow.{OpenRow}
 use Rattle.smb_opens.specs.declared.open_row.Owner.{Owner}
 use Rattle.smb_opens.specs.Close.{closed, closed_all, closed_each}
 use Rattle.smb_opens.specs.Good.{GoodStore, IsKept}
-use Rattle.smb_opens.specs.Opens.{open_of, without, first_held_by}
+use Rattle.smb_opens.specs.Opens.{open_of, without_open, first_held_by}
 use Rattle.smb_opens.specs.State.{StoreState}
 use Rattle.smb_opens.specs.Views.{view_at, view_through, open_view}
 use Rattle.smb_opens.proofs.Rows.{found, all_without, rising_without, below_without, length-without, first_closed, none_held}
@@ -31,7 +31,7 @@ good_closed state number good stands = record {
   few = omega (arith, good.few, length-without number state.opens good.rising stands);
 }
 
-pub kept_closed : (tree : Content) (opens : List OpenRow) (next opens_count entries_count number : ℕ) → IsKept tree opens next opens_count entries_count → is_some (open_of opens number) ≡ true → IsKept tree (without number opens) next (opens_count - 1) entries_count
+pub kept_closed : (tree : Content) (opens : List OpenRow) (next opens_count entries_count number : ℕ) → IsKept tree opens next opens_count entries_count → is_some (open_of opens number) ≡ true → IsKept tree (without_open number opens) next (opens_count - 1) entries_count
 kept_closed tree opens next opens_count entries_count number kept stands = record {
   good = good_closed (record { tree = tree; opens = opens; next = next }) number kept.good stands;
   opens_counted = omega (arith, kept.opens_counted, length-without number opens kept.good.rising stands);

@@ -4,7 +4,7 @@ use Rattle.std.proofs.lemmas.Bool.Decides.{nat_tests}
 use Rattle.std.specs.List.{AllByRecursion}
 use Rattle.std.specs.Map.{lookup, values_of, remove_entry}
 use Rattle.smb_opens.specs.declared.open_row.OpenRow.{OpenRow}
-use Rattle.smb_opens.specs.Opens.{open_of, without, AreAllBelow}
+use Rattle.smb_opens.specs.Opens.{open_of, without_open, AreAllBelow}
 use Rattle.smb_opens.specs.Plain.{AreKeyed}
 
 pub lookup_open_of : (es : List (ℕ × OpenRow)) (n : ℕ) → AreKeyed es → lookup (λ k. n == k) es ≡ open_of (values_of es) n
@@ -12,11 +12,11 @@ lookup_open_of [] n h = refl
 lookup_open_of (e ∷ es) n h = grind (arith, nat_tests, h.0, lookup_open_of es n h.2)
 
 -- none of the later ones has the number of an earlier one
-later_kept : (es : List (ℕ × OpenRow)) (n : ℕ) → AreKeyed es → AllByRecursion (λ later. n < later.0) es → without n (values_of es) ≡ values_of es
+later_kept : (es : List (ℕ × OpenRow)) (n : ℕ) → AreKeyed es → AllByRecursion (λ later. n < later.0) es → without_open n (values_of es) ≡ values_of es
 later_kept [] n h b = refl
 later_kept (e ∷ es) n h b = grind (arith, nat_tests, h.0, b.0, later_kept es n h.2 b.1)
 
-pub values_without : (es : List (ℕ × OpenRow)) (n : ℕ) → AreKeyed es → values_of (remove_entry (λ k. n == k) es) ≡ without n (values_of es)
+pub values_without : (es : List (ℕ × OpenRow)) (n : ℕ) → AreKeyed es → values_of (remove_entry (λ k. n == k) es) ≡ without_open n (values_of es)
 values_without [] n h = refl
 values_without (e ∷ es) n h = grind (arith, nat_tests, h.0, values_without es n h.2, later_kept es e.0 h.2 h.1)
 

@@ -7,4 +7,5 @@ pub mod Overwrites
 pub mod Made
 pub mod Passing
 pub mod OnePath
+pub mod Returned
 pub mod Kept

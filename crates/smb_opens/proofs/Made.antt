@@ -13,14 +13,17 @@ use Rattle.smb_tree.proofs.Apart.{numbered-from_at, numbered-changed}
 use Rattle.smb_opens.specs.declared.open_row.OpenRow.{OpenRow}
 use Rattle.smb_opens.specs.declared.found.Target.{Target}
 use Rattle.smb_opens.specs.declared.view.View.{View}
-use Rattle.smb_opens.specs.declared.view.CreateAction.{CreateAction}
-use Rattle.smb_opens.specs.declared.view.CreateAction.TheVariants.{Created}
+use Rattle.smb_wire.specs.declared.create_action.CreateAction.{CreateAction}
+use Rattle.smb_wire.specs.declared.create_action.CreateAction.TheVariants.{Created}
 use Rattle.smb_opens.specs.declared.view.Created.{Created as CreatedOpen}
-use Rattle.smb_opens.specs.Asked.{CreateAsked, kind_asked, attributes_asked, overwrites_by}
-use Rattle.smb_opens.specs.Effect.{overwritten, overwritten_tree, standing_tree, entry_after, told_by, created_by, opened_by, action_on}
-use Rattle.smb_opens.specs.Found.{target_of, has_all_opens}
+use Rattle.smb_wire.specs.declared.access.Access.{Access}
+use Rattle.smb_wire.specs.Dispositions.{overwrites_by}
+use Rattle.smb_opens.specs.Asked.{FileAsked, kind_asked, attributes_asked}
+use Rattle.smb_opens.specs.Effect.{overwritten, overwritten_tree, standing_tree, entry_after, create_result_by, created_by, opened_by, action_on}
+use Rattle.smb_opens.specs.Found.{has_all_opens}
+use Rattle.smb_opens.specs.Looked.{target_of}
 use Rattle.smb_opens.specs.Good.{GoodTree, GoodStore, IsKept, ArePresent}
-use Rattle.smb_opens.specs.Opens.{without, AreAllBelow}
+use Rattle.smb_opens.specs.Opens.{without_open, AreAllBelow}
 use Rattle.smb_opens.specs.State.{StoreState}
 use Rattle.smb_opens.specs.Views.{view_of, view_at}
 use Rattle.smb_opens.proofs.Rows.{all_push, rising_push, below_push, without_last}
@@ -28,8 +31,8 @@ use Rattle.smb_opens.proofs.Changes.{free_path, good_push, present_push, numbere
 use Rattle.smb_opens.proofs.Overwrites.{empties}
 
 -- an open that was added last is taken out again
-pub undone : (before with_one after : List OpenRow) (next : ℕ) (row : OpenRow) → AreAllBelow next before → row.number ≡ next → with_one ≡ before ++ row ∷ [] → after ≡ without next with_one → after ≡ before
-undone before with_one after next row b e f h = h ∙ ap (without next) f ∙ without_last next before row b e
+pub undone : (before with_one after : List OpenRow) (next : ℕ) (row : OpenRow) → AreAllBelow next before → row.number ≡ next → with_one ≡ before ++ row ∷ [] → after ≡ without_open next with_one → after ≡ before
+undone before with_one after next row b e f h = h ∙ ap (without_open next) f ∙ without_last next before row b e
 
 pub kept_undone : (tree tree' : Content) (before after : List OpenRow) (next opens_count entries_count : ℕ) → tree' ≡ tree → after ≡ before → IsKept tree before next opens_count entries_count → IsKept tree' after next opens_count entries_count
 kept_undone tree tree' before after next opens_count entries_count e f kept = rw (e, f) kept
@@ -63,7 +66,7 @@ kept_added state opens_count entries_count parts kind attributes moment row kept
     }
 
 -- the entry that was added shows itself
-pub shown_added : (tree after : Content) (parts : List (List ℕ)) (kind : Kind) (attributes moment number access : ℕ) → GoodTree tree → after ≡ added tree parts kind attributes moment → number ≡ tree.next → view_at after.rows number access ≡ Some (view_of access (new_entry tree.next parts kind attributes moment))
+pub shown_added : (tree after : Content) (parts : List (List ℕ)) (kind : Kind) (attributes moment number : ℕ) (access : Access) → GoodTree tree → after ≡ added tree parts kind attributes moment → number ≡ tree.next → view_at after.rows number access ≡ Some (view_of access (new_entry tree.next parts kind attributes moment))
 shown_added tree after parts kind attributes moment number access good t e =
     let new : Row = (folded_path parts, new_entry tree.next parts kind attributes moment) in
     let last : numbered (tree.rows ++ new ∷ []) number ≡ Some new = rw e (numbered-last tree new good refl) in
@@ -77,7 +80,7 @@ no_view o view e f = cc
 pub no_number : (content : Content) (path : Path) → add_fault content path ≡ None → None ≡ next_number content → ⊥
 no_number content path e f = let free = free_path content path e in grind (arith, nat_tests, common_steps, f, free.next)
 
-pub told_added : (state : StoreState) (ask : CreateAsked) (moment access given : ℕ) (parts : List (List ℕ)) (kind : Kind) (attributes : ℕ) (view : View) (o : Option View) → parts ≡ path_spelled ask.name → kind ≡ kind_asked ask → attributes ≡ attributes_asked kind ask → given ≡ access → Some view ≡ o → o ≡ Some (view_of given (new_entry state.tree.next parts kind attributes moment)) → (let told : CreatedOpen = record { number = state.next; action = Created; view = view } in told) ≡ told_by state ask moment access None
+pub told_added : (state : StoreState) (ask : FileAsked) (moment : ℕ) (access given : Access) (parts : List (List ℕ)) (kind : Kind) (attributes : ℕ) (view : View) (o : Option View) → parts ≡ path_spelled ask.name → kind ≡ kind_asked ask → attributes ≡ attributes_asked kind ask → given ≡ access → Some view ≡ o → o ≡ Some (view_of given (new_entry state.tree.next parts kind attributes moment)) → (let told : CreatedOpen = record { number = state.next; action = Created; view = view } in told) ≡ create_result_by state ask moment access None
 told_added state ask moment access given parts kind attributes view o p k a g e f =
     let seen : view ≡ view_of given (new_entry state.tree.next parts kind attributes moment) = cc in
     let attrs : attributes ≡ attributes_asked (kind_asked ask) ask = a ∙ ap (λ (x : Kind). attributes_asked x ask) k in
@@ -99,15 +102,15 @@ target_numbered rows path target a e =
     ap (option_map (λ (row : Row). target_of row.1)) t.3 ∙ ap (λ (x : Target). Some x) t.2
 
 -- a tree in which a standing entry was dealt with is good, and its entries stand as before
-pub good_standing : (tree : Content) (ask : CreateAsked) (moment number : ℕ) (row : Row) → numbered tree.rows number ≡ Some row → GoodTree tree → GoodTree (standing_tree tree ask moment number)
+pub good_standing : (tree : Content) (ask : FileAsked) (moment number : ℕ) (row : Row) → numbered tree.rows number ≡ Some row → GoodTree tree → GoodTree (standing_tree tree ask moment number)
 good_standing tree ask moment number row h good =
     elim (overwrites_by ask.disposition) as (λ b. GoodTree (cond b (overwritten_tree tree ask moment number) tree)) [ true ↦ good_changed (overwritten ask moment) tree number row (empties ask moment) h good | false ↦ good ]
 
-pub present_standing : (tree : Content) (ask : CreateAsked) (moment number : ℕ) (opens : List OpenRow) → ArePresent tree.rows opens → ArePresent (standing_tree tree ask moment number).rows opens
+pub present_standing : (tree : Content) (ask : FileAsked) (moment number : ℕ) (opens : List OpenRow) → ArePresent tree.rows opens → ArePresent (standing_tree tree ask moment number).rows opens
 present_standing tree ask moment number opens h =
     elim (overwrites_by ask.disposition) as (λ b. ArePresent (let x : Content = cond b (overwritten_tree tree ask moment number) tree in x).rows opens) [ true ↦ present_changed (overwritten ask moment) tree.rows number opens (empties ask moment) h | false ↦ h ]
 
-numbered_standing : (tree : Content) (ask : CreateAsked) (moment number : ℕ) (path : Path) (entry : Entry) → numbered tree.rows number ≡ Some (path, entry) → numbered (standing_tree tree ask moment number).rows number ≡ Some (path, entry_after tree ask moment (Some entry))
+numbered_standing : (tree : Content) (ask : FileAsked) (moment number : ℕ) (path : Path) (entry : Entry) → numbered tree.rows number ≡ Some (path, entry) → numbered (standing_tree tree ask moment number).rows number ≡ Some (path, entry_after tree ask moment (Some entry))
 numbered_standing tree ask moment number path entry h =
     elim (overwrites_by ask.disposition) as (λ b. numbered (let x : Content = cond b (overwritten_tree tree ask moment number) tree in x).rows number ≡ Some (path, cond b (overwritten ask moment entry) entry)) [
       | true ↦ (let here = numbered-changed (overwritten ask moment) tree.rows number number (λ _. refl) in grind (arith, nat_tests, common_steps, here, h))
@@ -115,15 +118,15 @@ numbered_standing tree ask moment number path entry h =
     ]
 
 -- the entry shows itself
-pub shown_standing : (tree after : Content) (ask : CreateAsked) (moment number access : ℕ) (path : Path) (entry : Entry) → after ≡ standing_tree tree ask moment number → numbered tree.rows number ≡ Some (path, entry) → view_at after.rows number access ≡ Some (view_of access (entry_after tree ask moment (Some entry)))
+pub shown_standing : (tree after : Content) (ask : FileAsked) (moment number : ℕ) (access : Access) (path : Path) (entry : Entry) → after ≡ standing_tree tree ask moment number → numbered tree.rows number ≡ Some (path, entry) → view_at after.rows number access ≡ Some (view_of access (entry_after tree ask moment (Some entry)))
 shown_standing tree after ask moment number access path entry t h =
     ap (λ (x : Content). view_at x.rows number access) t ∙ ap (option_map (λ (row : Row). view_of access row.1)) (numbered_standing tree ask moment number path entry h)
 
-length-standing : (tree : Content) (ask : CreateAsked) (moment number : ℕ) → length (standing_tree tree ask moment number).rows ≡ length tree.rows
+length-standing : (tree : Content) (ask : FileAsked) (moment number : ℕ) → length (standing_tree tree ask moment number).rows ≡ length tree.rows
 length-standing tree ask moment number =
     elim (overwrites_by ask.disposition) as (λ b. length (let x : Content = cond b (overwritten_tree tree ask moment number) tree in x).rows ≡ length tree.rows) [ true ↦ length-changed (overwritten ask moment) tree.rows number | false ↦ refl ]
 
-pub kept_standing : (state : StoreState) (ask : CreateAsked) (moment opens_count entries_count : ℕ) (row : OpenRow) (number : ℕ) (path : Path) (entry : Entry) → IsKept state.tree state.opens state.next opens_count entries_count → numbered state.tree.rows number ≡ Some (path, entry) → has_all_opens state ≡ false → row.number ≡ state.next → row.entry ≡ number → IsKept (standing_tree state.tree ask moment number) (state.opens ++ row ∷ []) (state.next + 1) (opens_count + 1) entries_count
+pub kept_standing : (state : StoreState) (ask : FileAsked) (moment opens_count entries_count : ℕ) (row : OpenRow) (number : ℕ) (path : Path) (entry : Entry) → IsKept state.tree state.opens state.next opens_count entries_count → numbered state.tree.rows number ≡ Some (path, entry) → has_all_opens state ≡ false → row.number ≡ state.next → row.entry ≡ number → IsKept (standing_tree state.tree ask moment number) (state.opens ++ row ∷ []) (state.next + 1) (opens_count + 1) entries_count
 kept_standing state ask moment opens_count entries_count row number path entry kept h room n e =
     let tree : Content = standing_tree state.tree ask moment number in
     let stands : is_some (numbered tree.rows row.entry) ≡ true = rw (e, numbered_standing state.tree ask moment number path entry h) refl in
@@ -133,15 +136,15 @@ kept_standing state ask moment opens_count entries_count row number path entry k
       entries_counted = kept.entries_counted ∙ sym (length-standing state.tree ask moment number);
     }
 
-pub told_standing : (state : StoreState) (ask : CreateAsked) (moment access given : ℕ) (stood : Option Entry) (entry : Entry) (action : CreateAction) (view : View) (o : Option View) → stood ≡ Some entry → action ≡ action_on ask.disposition → given ≡ access → Some view ≡ o → o ≡ Some (view_of given (entry_after state.tree ask moment (Some entry))) → (let told : CreatedOpen = record { number = state.next; action = action; view = view } in told) ≡ told_by state ask moment access stood
+pub told_standing : (state : StoreState) (ask : FileAsked) (moment : ℕ) (access given : Access) (stood : Option Entry) (entry : Entry) (action : CreateAction) (view : View) (o : Option View) → stood ≡ Some entry → action ≡ action_on ask.disposition → given ≡ access → Some view ≡ o → o ≡ Some (view_of given (entry_after state.tree ask moment (Some entry))) → (let told : CreatedOpen = record { number = state.next; action = action; view = view } in told) ≡ create_result_by state ask moment access stood
 told_standing state ask moment access given stood entry action view o s a g e f =
     let seen : view ≡ view_of given (entry_after state.tree ask moment (Some entry)) = cc in
     let whole : view ≡ view_of access (entry_after state.tree ask moment (Some entry)) = seen ∙ ap (λ n. view_of n (entry_after state.tree ask moment (Some entry))) g in
-    let told : (let t : CreatedOpen = record { number = state.next; action = action; view = view } in t) ≡ told_by state ask moment access (Some entry) = λ i. record { number = state.next; action = a i; view = whole i } in
-    told ∙ ap (told_by state ask moment access) (sym s)
+    let told : (let t : CreatedOpen = record { number = state.next; action = action; view = view } in t) ≡ create_result_by state ask moment access (Some entry) = λ i. record { number = state.next; action = a i; view = whole i } in
+    told ∙ ap (create_result_by state ask moment access) (sym s)
 
 -- the store afterwards, where the entry stood
-pub made_standing : (state : StoreState) (ask : CreateAsked) (moment access given : ℕ) (stood : Option Entry) (entry : Entry) (number : ℕ) (tree : Content) (opens : List OpenRow) (row : OpenRow) → stood ≡ Some entry → entry.number ≡ number → given ≡ access → tree ≡ standing_tree state.tree ask moment number → opens ≡ state.opens ++ row ∷ [] → row ≡ opened_by ask state.next number given → (let after : StoreState = record { tree = tree; opens = opens; next = state.next + 1 } in after) ≡ created_by state ask moment access stood
+pub made_standing : (state : StoreState) (ask : FileAsked) (moment : ℕ) (access given : Access) (stood : Option Entry) (entry : Entry) (number : ℕ) (tree : Content) (opens : List OpenRow) (row : OpenRow) → stood ≡ Some entry → entry.number ≡ number → given ≡ access → tree ≡ standing_tree state.tree ask moment number → opens ≡ state.opens ++ row ∷ [] → row ≡ opened_by ask state.next number given → (let after : StoreState = record { tree = tree; opens = opens; next = state.next + 1 } in after) ≡ created_by state ask moment access stood
 made_standing state ask moment access given stood entry number tree opens row s n g t o r =
     let same : (entry_after state.tree ask moment (Some entry)).number ≡ number = elim (overwrites_by ask.disposition) as (λ b. (let x : Entry = cond b (overwritten ask moment entry) entry in x).number ≡ number) [ true ↦ n | false ↦ n ] in
     let rows : opens ≡ state.opens ++ opened_by ask state.next (entry_after state.tree ask moment (Some entry)).number access ∷ [] =

@@ -3,7 +3,8 @@ use Rattle.std.proofs.Common.{lit<, lit≤, ◌≡◌, ℕ, List, [], ◌∷◌,
 use Rattle.smb_tree.specs.Entries.{Entry}
 use Rattle.smb_tree.specs.Content.{Path, Row, Content, is_same_path, entry_at, changed, new_content}
 use Rattle.smb_tree.proofs.Apart.{at-changed, numbered-from_at}
-use Rattle.smb_opens.specs.Asked.{CreateAsked, overwrites_by}
+use Rattle.smb_wire.specs.Dispositions.{overwrites_by}
+use Rattle.smb_opens.specs.Asked.{FileAsked}
 use Rattle.smb_opens.specs.Effect.{overwritten, overwritten_tree, tree_after, entry_after, created}
 use Rattle.smb_opens.specs.Found.{path_asked, entry_asked}
 use Rattle.smb_opens.specs.Good.{GoodTree, GoodStore}
@@ -30,7 +31,7 @@ elsewhere_added (row ∷ rows) path other entry h = ap (λ (o : Option Entry). i
 elsewhere_changed : (f : Entry → Entry) (tree : Content) (path other : Path) (entry : Entry) → GoodTree tree → entry_at tree.rows path ≡ Some entry → is_same_path path other ≡ false → entry_at (changed f tree.rows entry.number) other ≡ entry_at tree.rows other
 elsewhere_changed f tree path other entry good e h = at-changed f tree.rows path other entry entry.number good.apart (numbered-from_at tree.rows path entry good.apart e) ∙ rw h refl
 
-elsewhere : (tree : Content) (ask : CreateAsked) (moment : ℕ) (other : Path) (stood : Option Entry) → GoodTree tree → entry_at tree.rows (path_asked ask) ≡ stood → is_same_path (path_asked ask) other ≡ false → entry_at (tree_after tree ask moment stood).rows other ≡ entry_at tree.rows other
+elsewhere : (tree : Content) (ask : FileAsked) (moment : ℕ) (other : Path) (stood : Option Entry) → GoodTree tree → entry_at tree.rows (path_asked ask) ≡ stood → is_same_path (path_asked ask) other ≡ false → entry_at (tree_after tree ask moment stood).rows other ≡ entry_at tree.rows other
 elsewhere tree ask moment other None good e h = elsewhere_added tree.rows (path_asked ask) other (entry_after tree ask moment None) h
 elsewhere tree ask moment other (Some entry) good e h =
     elim (overwrites_by ask.disposition) as (λ b. entry_at (let x : Content = cond b (overwritten_tree tree ask moment entry.number) tree in x).rows other ≡ entry_at tree.rows other) [
@@ -38,5 +39,5 @@ elsewhere tree ask moment other (Some entry) good e h =
       | false ↦ refl
     ]
 
-pub one_path : (state : StoreState) (ask : CreateAsked) (moment : ℕ) (path : Path) → GoodStore state → is_same_path (path_asked ask) path ≡ false → entry_at (created state ask moment).tree.rows path ≡ entry_at state.tree.rows path
+pub one_path : (state : StoreState) (ask : FileAsked) (moment : ℕ) (path : Path) → GoodStore state → is_same_path (path_asked ask) path ≡ false → entry_at (created state ask moment).tree.rows path ≡ entry_at state.tree.rows path
 one_path state ask moment path good h = elsewhere state.tree ask moment path (entry_asked state ask) good.tree refl h

@@ -14,10 +14,11 @@ use Rattle.smb_tree.proofs.Apart.{numbered-changed}
 use Rattle.smb_opens.specs.declared.found.Target.{Target}
 use Rattle.smb_opens.specs.declared.fault.StoreFault.{StoreFault}
 use Rattle.smb_opens.specs.declared.fault.StoreFault.TheVariants.{NoMemory as NoRoom}
-use Rattle.smb_opens.specs.Asked.{CreateAsked, overwrites_by}
+use Rattle.smb_wire.specs.Dispositions.{overwrites_by}
+use Rattle.smb_opens.specs.Asked.{FileAsked}
 use Rattle.smb_opens.specs.Effect.{overwritten, overwritten_basic, overwritten_tree, standing_tree}
 use Rattle.smb_opens.specs.Faults.{refusal_of}
-use Rattle.smb_opens.specs.Found.{target_of}
+use Rattle.smb_opens.specs.Looked.{target_of}
 use Rattle.smb_opens.specs.Good.{GoodTree}
 use Rattle.smb_opens.proofs.Changes.{Empties, space_within_changed}
 
@@ -68,7 +69,7 @@ changed-same f h (x ∷ rows) n row e s =
       | false ↦ λ q. ap (λ (rs : List Row). x ∷ rs) (changed-same f h rows n row q s)
     ] e
 
-overwritten_at : (content : Content) (ask : CreateAsked) (moment n : ℕ) (row : Row) (basic : Basic) → numbered content.rows n ≡ Some row → kept_basic basic ≡ overwritten_basic ask moment row.1.basic → with_basic (with_size content n 0) n basic ≡ overwritten_tree content ask moment n
+overwritten_at : (content : Content) (ask : FileAsked) (moment n : ℕ) (row : Row) (basic : Basic) → numbered content.rows n ≡ Some row → kept_basic basic ≡ overwritten_basic ask moment row.1.basic → with_basic (with_size content n 0) n basic ≡ overwritten_tree content ask moment n
 overwritten_at content ask moment n row basic h e =
     let size : Entry → Entry = λ entry. record entry { bytes = resized 0 entry.bytes } in
     let base : Entry → Entry = λ entry. record entry { basic = kept_basic basic } in
@@ -76,13 +77,13 @@ overwritten_at content ask moment n row basic h e =
     let same : base (size row.1) ≡ overwritten ask moment row.1 = λ i. record row.1 { bytes = none i; basic = e i } in
     ap (λ (rows : List Row). let c : Content = record content { rows = rows } in c) (changed-changed base size content.rows n (λ _. refl) ∙ changed-same (λ x. base (size x)) (overwritten ask moment) content.rows n row h same)
 
-pub overwritten_done : (content : Content) (ask : CreateAsked) (moment n : ℕ) (target : Target) (basic : Basic) → option_map (λ row. target_of row.1) (numbered content.rows n) ≡ Some target → kept_basic basic ≡ overwritten_basic ask moment target.basic → with_basic (with_size content n 0) n basic ≡ overwritten_tree content ask moment n
+pub overwritten_done : (content : Content) (ask : FileAsked) (moment n : ℕ) (target : Target) (basic : Basic) → option_map (λ row. target_of row.1) (numbered content.rows n) ≡ Some target → kept_basic basic ≡ overwritten_basic ask moment target.basic → with_basic (with_size content n 0) n basic ≡ overwritten_tree content ask moment n
 overwritten_done content ask moment n target basic e k =
     let t = target_row content.rows n target e in
     overwritten_at content ask moment n t.0 basic t.1 (k ∙ ap (λ (x : Target). overwritten_basic ask moment x.basic) (sym t.2))
 
 -- an overwritten file has no bytes
-pub empties : (ask : CreateAsked) (moment : ℕ) → Empties (overwritten ask moment)
+pub empties : (ask : FileAsked) (moment : ℕ) → Empties (overwritten ask moment)
 empties ask moment = record { number = λ _. refl; kind = λ _. refl; bytes = λ _. refl }
 
 -- a refusal of the tree that is want of memory is told as that
@@ -91,5 +92,5 @@ told_memory (Ok x) fault e h = tt
 told_memory (Err told) fault e h = h ∙ ap refusal_of e
 
 -- what overwrites is done
-pub standing_over : (tree : Content) (ask : CreateAsked) (moment number : ℕ) → overwrites_by ask.disposition ≡ true → overwritten_tree tree ask moment number ≡ standing_tree tree ask moment number
+pub standing_over : (tree : Content) (ask : FileAsked) (moment number : ℕ) → overwrites_by ask.disposition ≡ true → overwritten_tree tree ask moment number ≡ standing_tree tree ask moment number
 standing_over tree ask moment number e = rw e refl

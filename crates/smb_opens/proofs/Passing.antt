@@ -14,21 +14,24 @@ use Rattle.smb_tree.specs.Faults.{add_fault}
 use Rattle.smb_opens.specs.declared.fault.StoreFault.{StoreFault}
 use Rattle.smb_opens.specs.declared.fault.StoreFault.TheVariants.{NoMemory}
 use Rattle.smb_opens.specs.declared.found.Found.{Found}
-use Rattle.smb_opens.specs.Asked.{CreateAsked}
-use Rattle.smb_opens.specs.Create.{StatusRow, first_status, asked_rows, found_rows, create_status}
+use Rattle.smb_opens.specs.Asked.{FileAsked}
+use Rattle.smb_wire.specs.NtStatus.{STATUS_SUCCESS}
+use Rattle.smb_opens.specs.declared.found.Target.{Target}
+use Rattle.smb_opens.specs.Access.{granted}
+use Rattle.smb_opens.specs.Create.{StatusRow, first_status, create_rows, create_status, access_granted}
+use Rattle.smb_opens.specs.Looked.{target_of, found_at, found_by, asked_rows, found_rows, is_read_only_target}
 use Rattle.smb_opens.specs.Faults.{IsRefusal}
-use Rattle.smb_opens.specs.Found.{target_of, found_at, found_by, path_asked, is_reached, has_all_opens, has_all_entries}
+use Rattle.smb_opens.specs.Found.{path_asked, entry_asked, is_read_only_file, is_reached, has_all_opens, has_all_entries}
 use Rattle.smb_opens.specs.Good.{GoodStore}
 use Rattle.smb_opens.specs.State.{StoreState}
-use Rattle.smb_opens.specs.Statuses.{success}
 use Rattle.smb_opens.proofs.Trees.{reached_folder}
 
 -- where no row decides, none holds
-pass_at : (b : Bool) (status code : ℕ) → status ≢ success → (cond b status code) ≡ success → (b ≡ false) × (code ≡ success)
+pass_at : (b : Bool) (status code : ℕ) → status ≢ STATUS_SUCCESS → (cond b status code) ≡ STATUS_SUCCESS → (b ≡ false) × (code ≡ STATUS_SUCCESS)
 pass_at true status code n e = absurd (n e)
 pass_at false status code n e = (refl, e)
 
-pass_all : (rows : List StatusRow) → AllByRecursion (λ row. row.1 ≢ success) rows → first_status rows ≡ success → AllByRecursion (λ row. row.0 ≡ false) rows
+pass_all : (rows : List StatusRow) → AllByRecursion (λ row. row.1 ≢ STATUS_SUCCESS) rows → first_status rows ≡ STATUS_SUCCESS → AllByRecursion (λ row. row.0 ≡ false) rows
 pass_all [] n e = tt
 pass_all (row ∷ rows) n e =
     let p = pass_at row.0 row.1 (first_status rows) n.0 e in
@@ -39,19 +42,25 @@ pub record Passed (found : Found) : Type 0 where
   pub opens : found.opens_full ≡ false
   pub entries : (is_none found.target && found.entries_full) ≡ false
 
-pub passed : (ask : CreateAsked) (found : Found) → first_status (found_rows ask found) ≡ success → Passed found
+pub passed : (ask : FileAsked) (found : Found) → first_status (found_rows ask found) ≡ STATUS_SUCCESS → Passed found
 passed ask found e =
-    let refuses : AllByRecursion (λ row. row.1 ≢ success) (found_rows ask found) =
+    let refuses : AllByRecursion (λ row. row.1 ≢ STATUS_SUCCESS) (found_rows ask found) =
     ((λ q. omega (arith, q)), ((λ q. omega (arith, q)), ((λ q. omega (arith, q)), ((λ q. omega (arith, q)), ((λ q. omega (arith, q)), ((λ q. omega (arith, q)), ((λ q. omega (arith, q)), ((λ q. omega (arith, q)), ((λ q. omega (arith, q)), tt))))))))) in
     let none = pass_all (found_rows ask found) refuses e in
     record { reached = grind (arith, none.1.0); opens = none.1.1.1.1.1.1.1.0; entries = none.1.1.1.1.1.1.1.1.0 }
 
+-- the table's rows are those over the request and those over what is found
+rows_by : (state : StoreState) (ask : FileAsked) (entry : Option Entry) → create_rows state ask entry ≡ asked_rows ask ++ found_rows ask (record { target = option_map target_of entry; reached = is_reached state.tree.rows (path_asked ask); opens_full = has_all_opens state; entries_full = has_all_entries state })
+rows_by state ask None = refl
+rows_by state ask (Some entry) = refl
+
 -- the status is that of what was found
-pub status_told : (state : StoreState) (ask : CreateAsked) (path : Path) (found : Found) (code : ℕ) → found ≡ found_at state path → path ≡ path_asked ask → code ≡ first_status (found_rows ask found) → ((rows : List StatusRow) → first_status (asked_rows ask ++ rows) ≡ first_status rows) → code ≡ create_status state ask
+pub status_told : (state : StoreState) (ask : FileAsked) (path : Path) (found : Found) (code : ℕ) → found ≡ found_at state path → path ≡ path_asked ask → code ≡ first_status (found_rows ask found) → ((rows : List StatusRow) → first_status (asked_rows ask ++ rows) ≡ first_status rows) → code ≡ create_status state ask
 status_told state ask path found code f p e l =
     e ∙ ap (λ (x : Found). first_status (found_rows ask x)) (f ∙ ap (found_at state) p) ∙ sym (l (found_rows ask (found_by state ask)))
+    ∙ ap first_status (sym (rows_by state ask (entry_asked state ask)))
 
-pub refused_memory : {X : Type 0} (r : Result X StoreFault) (status : ℕ) → status ≡ success → IfErr r (λ fault. fault ≡ NoMemory) → IfErr r (λ fault. IsRefusal status fault)
+pub refused_memory : {X : Type 0} (r : Result X StoreFault) (status : ℕ) → status ≡ STATUS_SUCCESS → IfErr r (λ fault. fault ≡ NoMemory) → IfErr r (λ fault. IsRefusal status fault)
 refused_memory (Ok x) status e h = tt
 refused_memory (Err fault) status e h = subst (IsRefusal status) (sym h) e
 
@@ -67,7 +76,7 @@ absent_target None e = refl
 absent_target (Some entry) e = cc
 
 -- an entry may be added where none was found
-pub free_found : (state : StoreState) (ask : CreateAsked) (parts : List (List ℕ)) (found : Found) → GoodStore state → found ≡ found_at state (folded_path parts) → parts ≡ path_spelled ask.name → path_fault ask.name ≡ None → first_status (found_rows ask found) ≡ success → found.target ≡ None → add_fault state.tree (folded_path parts) ≡ None
+pub free_found : (state : StoreState) (ask : FileAsked) (parts : List (List ℕ)) (found : Found) → GoodStore state → found ≡ found_at state (folded_path parts) → parts ≡ path_spelled ask.name → path_fault ask.name ≡ None → first_status (found_rows ask found) ≡ STATUS_SUCCESS → found.target ≡ None → add_fault state.tree (folded_path parts) ≡ None
 free_found state ask parts found good f p n e t =
     let fine = passed ask found e in
     let absent : entry_at state.tree.rows (folded_path parts) ≡ None = absent_target _ (ap (λ (x : Found). x.target) (sym f) ∙ t) in
@@ -77,5 +86,15 @@ free_found state ask parts found good f p n e t =
     let room : has_all_entries state ≡ false = (let same = ap (λ (x : Found). x.entries_full) f in grind (arith, fine.entries, t, same)) in
     grind (arith, nat_tests, common_steps, absent, above, deep, room)
 
-pub room_found : (state : StoreState) (ask : CreateAsked) (path : Path) (found : Found) → found ≡ found_at state path → first_status (found_rows ask found) ≡ success → has_all_opens state ≡ false
+pub room_found : (state : StoreState) (ask : FileAsked) (path : Path) (found : Found) → found ≡ found_at state path → first_status (found_rows ask found) ≡ STATUS_SUCCESS → has_all_opens state ≡ false
 room_found state ask path found f e = ap (λ (x : Found). x.opens_full) (sym f) ∙ (passed ask found e).opens
+
+read_only_same : (o : Option Entry) → is_read_only_target (option_map target_of o) ≡ is_read_only_file o
+read_only_same None = refl
+read_only_same (Some entry) = refl
+
+-- the access that is granted on the target that was found
+pub access_found : (state : StoreState) (ask : FileAsked) (path : Path) (found : Found) (target : Target) → found ≡ found_at state path → path ≡ path_asked ask → found.target ≡ Some target → granted ask.access (is_read_only_target (Some target)) ≡ access_granted state ask
+access_found state ask path found target f p t =
+    ap (λ (o : Option Target). granted ask.access (is_read_only_target o)) (sym t ∙ ap (λ (x : Found). x.target) f ∙ ap (λ (q : Path). option_map target_of (entry_at state.tree.rows q)) p)
+    ∙ ap (granted ask.access) (read_only_same (entry_asked state ask))

@@ -5,7 +5,7 @@ use Rattle.std.specs.List.{AllByRecursion}
 use Rattle.smb_opens.specs.declared.open_row.OpenRow.{OpenRow}
 use Rattle.smb_opens.specs.declared.open_row.Owner.{Owner}
 use Rattle.smb_opens.specs.Numbers.{AreRising}
-use Rattle.smb_opens.specs.Opens.{open_of, without, open_numbers, AreAllBelow, is_held_by, first_held_by}
+use Rattle.smb_opens.specs.Opens.{open_of, without_open, open_numbers, AreAllBelow, is_held_by, first_held_by}
 
 -- what is true of all opens is true of the one that is found
 pub found : (P : OpenRow → Type 0) (rows : List OpenRow) (number : ℕ) (row : OpenRow) → AllByRecursion P rows → open_of rows number ≡ Some row → P row
@@ -17,10 +17,10 @@ found P (x ∷ rows) number row h e =
     ] e
 
 -- what is true of all opens is true of those that are left
-pub all_without : (P : OpenRow → Type 0) (n : ℕ) (rows : List OpenRow) → AllByRecursion P rows → AllByRecursion P (without n rows)
+pub all_without : (P : OpenRow → Type 0) (n : ℕ) (rows : List OpenRow) → AllByRecursion P rows → AllByRecursion P (without_open n rows)
 all_without P n [] h = h
 all_without P n (row ∷ rows) h =
-    elim (row.number == n) as (λ b. AllByRecursion P (cond (not b) (row ∷ without n rows) (without n rows))) [ true ↦ all_without P n rows h.1 | false ↦ (h.0, all_without P n rows h.1) ]
+    elim (row.number == n) as (λ b. AllByRecursion P (cond (not b) (row ∷ without_open n rows) (without_open n rows))) [ true ↦ all_without P n rows h.1 | false ↦ (h.0, all_without P n rows h.1) ]
 
 pub all_push : {X : Type 0} (P : X → Type 0) (xs : List X) (x : X) → AllByRecursion P xs → P x → AllByRecursion P (xs ++ x ∷ [])
 all_push P [] x h p = (p, tt)
@@ -31,32 +31,32 @@ all_more P Q [] f h = h
 all_more P Q (x ∷ xs) f h = (f x h.0, all_more P Q xs f h.1)
 
 -- bounds of numbers, before and after
-numbers_without : (P : ℕ → Type 0) (n : ℕ) (rows : List OpenRow) → AllByRecursion P (open_numbers rows) → AllByRecursion P (open_numbers (without n rows))
+numbers_without : (P : ℕ → Type 0) (n : ℕ) (rows : List OpenRow) → AllByRecursion P (open_numbers rows) → AllByRecursion P (open_numbers (without_open n rows))
 numbers_without P n [] h = h
 numbers_without P n (row ∷ rows) h =
-    elim (row.number == n) as (λ b. AllByRecursion P (open_numbers (cond (not b) (row ∷ without n rows) (without n rows)))) [ true ↦ numbers_without P n rows h.1 | false ↦ (h.0, numbers_without P n rows h.1) ]
+    elim (row.number == n) as (λ b. AllByRecursion P (open_numbers (cond (not b) (row ∷ without_open n rows) (without_open n rows)))) [ true ↦ numbers_without P n rows h.1 | false ↦ (h.0, numbers_without P n rows h.1) ]
 
-pub below_without : (m n : ℕ) (rows : List OpenRow) → AreAllBelow m rows → AreAllBelow m (without n rows)
+pub below_without : (m n : ℕ) (rows : List OpenRow) → AreAllBelow m rows → AreAllBelow m (without_open n rows)
 below_without m n rows h = numbers_without (λ k. k < m) n rows h
 
-pub rising_without : (n : ℕ) (rows : List OpenRow) → AreRising (open_numbers rows) → AreRising (open_numbers (without n rows))
+pub rising_without : (n : ℕ) (rows : List OpenRow) → AreRising (open_numbers rows) → AreRising (open_numbers (without_open n rows))
 rising_without n [] h = h
 rising_without n (row ∷ rows) h =
-    elim (row.number == n) as (λ b. AreRising (open_numbers (cond (not b) (row ∷ without n rows) (without n rows)))) [
+    elim (row.number == n) as (λ b. AreRising (open_numbers (cond (not b) (row ∷ without_open n rows) (without_open n rows)))) [
       | true ↦ rising_without n rows h.1
       | false ↦ (numbers_without (λ k. row.number < k) n rows h.0, rising_without n rows h.1)
     ]
 
 -- none of the later opens has this number
-kept_above : (n : ℕ) (rows : List OpenRow) → AllByRecursion (λ k. n < k) (open_numbers rows) → without n rows ≡ rows
+kept_above : (n : ℕ) (rows : List OpenRow) → AllByRecursion (λ k. n < k) (open_numbers rows) → without_open n rows ≡ rows
 kept_above n [] h = refl
 kept_above n (row ∷ rows) h = grind (arith, nat_tests, h.0, kept_above n rows h.1)
 
-pub length-without : (n : ℕ) (rows : List OpenRow) → AreRising (open_numbers rows) → is_some (open_of rows n) ≡ true → length (without n rows) + 1 ≡ length rows
+pub length-without : (n : ℕ) (rows : List OpenRow) → AreRising (open_numbers rows) → is_some (open_of rows n) ≡ true → length (without_open n rows) + 1 ≡ length rows
 length-without n [] h s = cc
 length-without n (row ∷ rows) h s =
-    elim (row.number == n) as (λ b. row.number == n ≡ b → is_some (cond b (Some row) (open_of rows n)) ≡ true → length (cond (not b) (row ∷ without n rows) (without n rows)) + 1 ≡ length (row ∷ rows)) [
-      | true ↦ λ e _. (let same : row.number ≡ n = grind (arith, nat_tests, e) in let kept : without n rows ≡ rows = subst (λ (k : ℕ). without k rows ≡ rows) same (kept_above row.number rows h.0) in rw kept (omega arith))
+    elim (row.number == n) as (λ b. row.number == n ≡ b → is_some (cond b (Some row) (open_of rows n)) ≡ true → length (cond (not b) (row ∷ without_open n rows) (without_open n rows)) + 1 ≡ length (row ∷ rows)) [
+      | true ↦ λ e _. (let same : row.number ≡ n = grind (arith, nat_tests, e) in let kept : without_open n rows ≡ rows = subst (λ (k : ℕ). without_open k rows ≡ rows) same (kept_above row.number rows h.0) in rw kept (omega arith))
       | false ↦ λ _ t. (let rest = length-without n rows h.1 t in omega (arith, rest))
     ] refl s
 
@@ -73,7 +73,7 @@ pub below_push : (n : ℕ) (rows : List OpenRow) (row : OpenRow) → AreAllBelow
 below_push n rows row h e = numbers_push (λ k. k < n + 1) rows row (all_more (λ k. k < n) (λ k. k < n + 1) (open_numbers rows) (λ k l. omega (arith, l)) h) (omega (arith, e))
 
 -- what was added last is taken out again
-pub without_last : (n : ℕ) (rows : List OpenRow) (row : OpenRow) → AreAllBelow n rows → row.number ≡ n → without n (rows ++ row ∷ []) ≡ rows
+pub without_last : (n : ℕ) (rows : List OpenRow) (row : OpenRow) → AreAllBelow n rows → row.number ≡ n → without_open n (rows ++ row ∷ []) ≡ rows
 without_last n [] row h e = grind (arith, nat_tests, e)
 without_last n (x ∷ rows) row h e = grind (arith, nat_tests, h.0, without_last n rows row h.1 e)
 
@@ -93,11 +93,11 @@ first_stands owner [] n e = cc
 first_stands owner (row ∷ rows) n e = grind (arith, nat_tests, e, first_stands owner rows n)
 
 -- closing the first open of an owner leaves its others
-pub first_closed : (owner : Owner) (rows : List OpenRow) (n : ℕ) → AreRising (open_numbers rows) → first_held_by owner rows ≡ Some n → numbers_held owner rows ≡ n ∷ numbers_held owner (without n rows)
+pub first_closed : (owner : Owner) (rows : List OpenRow) (n : ℕ) → AreRising (open_numbers rows) → first_held_by owner rows ≡ Some n → numbers_held owner rows ≡ n ∷ numbers_held owner (without_open n rows)
 first_closed owner [] n h e = cc
 first_closed owner (row ∷ rows) n h e = grind (arith, nat_tests, e, kept_above row.number rows h.0, first_above owner rows row.number n h.0, first_closed owner rows n h.1)
 
-pub others_closed : (owner : Owner) (rows : List OpenRow) (n : ℕ) → AreRising (open_numbers rows) → first_held_by owner rows ≡ Some n → others owner (without n rows) ≡ others owner rows
+pub others_closed : (owner : Owner) (rows : List OpenRow) (n : ℕ) → AreRising (open_numbers rows) → first_held_by owner rows ≡ Some n → others owner (without_open n rows) ≡ others owner rows
 others_closed owner [] n h e = cc
 others_closed owner (row ∷ rows) n h e = grind (arith, nat_tests, e, kept_above row.number rows h.0, first_above owner rows row.number n h.0, others_closed owner rows n h.1)
 

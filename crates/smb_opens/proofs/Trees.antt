@@ -10,7 +10,8 @@ use Rattle.smb_tree.specs.Views.{Shown, entry_shown, row_shown}
 use Rattle.smb_tree.proofs.Keys.{same_path-eq}
 use Rattle.smb_tree.proofs.Apart.{numbered-from_at}
 use Rattle.smb_opens.specs.declared.found.Target.{Target}
-use Rattle.smb_opens.specs.Found.{target_of, ancestors, is_reached, is_folder_target}
+use Rattle.smb_opens.specs.Found.{ancestors, is_reached}
+use Rattle.smb_opens.specs.Looked.{target_of, is_folder_target}
 use Rattle.smb_tree.specs.Laws.{AreApart}
 use Rattle.smb_wire.specs.Names.{folded}
 use Rattle.smb_wire.specs.Paths.{folded_path}

@@ -1,12 +1,12 @@
 -- Closing opens ([MS-SMB2] 3.3.5.10).
 use Rattle.std.specs.Prelude.{ℕ, List, [], ◌∷◌, filter}
 use Rattle.smb_opens.specs.declared.open_row.Owner.{Owner}
-use Rattle.smb_opens.specs.Opens.{without, open_numbers, is_held_by}
+use Rattle.smb_opens.specs.Opens.{without_open, open_numbers, is_held_by}
 use Rattle.smb_opens.specs.State.{StoreState}
 
 -- the open of a number is gone (absent until entries can be marked: an entry goes with its last open)
 abbrev pub closed : StoreState → ℕ → StoreState
-closed state number = record state { opens = without number state.opens }
+closed state number = record state { opens = without_open number state.opens }
 
 -- opens are closed one after the other
 abbrev pub closed_each : StoreState → List ℕ → StoreState

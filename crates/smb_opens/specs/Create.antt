@@ -1,69 +1,70 @@
 -- The status of a CREATE ([MS-SMB2] 3.3.5.9): the rows in order, the first whose condition holds decides.
-use Rattle.std.specs.Prelude.{ℕ, ◌||◌, ◌&&◌, Bool, not, nat_lt, List, [], ◌∷◌, ◌++◌, slice_index, if◌then◌else◌}
+use Rattle.std.specs.Prelude.{ℕ, ◌||◌, ◌&&◌, Bool, not, nat_lt, List, [], ◌∷◌, slice_index, Option, if◌then◌else◌}
 use Rattle.std.specs.Option.{is_none, is_some}
+use Rattle.smb_wire.specs.declared.access.Access.{Access}
+use Rattle.smb_wire.specs.Dispositions.{overwrites_by, must_exist_by, must_be_new_by}
+use Rattle.smb_wire.specs.NtStatus.{STATUS_SUCCESS, STATUS_INVALID_PARAMETER, STATUS_NOT_SUPPORTED, STATUS_OBJECT_NAME_INVALID, STATUS_ACCESS_DENIED, STATUS_OBJECT_PATH_NOT_FOUND, STATUS_OBJECT_NAME_NOT_FOUND, STATUS_OBJECT_NAME_COLLISION, STATUS_FILE_IS_A_DIRECTORY, STATUS_NOT_A_DIRECTORY, STATUS_TOO_MANY_OPENED_FILES, STATUS_DISK_FULL}
 use Rattle.smb_wire.specs.Paths.{is_separator, path_fault}
-use Rattle.smb_opens.specs.declared.found.Found.{Found}
-use Rattle.smb_opens.specs.Access.{has_any, is_bad_access, granted, writing}
-use Rattle.smb_opens.specs.Asked.{CreateAsked, overwrites_by, must_stand_by, must_be_new_by, asks_folder, asks_file, asks_unsupported}
-use Rattle.smb_opens.specs.Found.{found_by, is_file_target, is_folder_target, is_read_only_target}
+use Rattle.smb_tree.specs.Entries.{Entry, is_folder}
+use Rattle.smb_opens.specs.Access.{is_bad_access, granted, is_writing}
+use Rattle.smb_opens.specs.Asked.{FileAsked, asks_folder, asks_file, asks_unsupported}
+use Rattle.smb_opens.specs.Found.{path_asked, entry_asked, is_file, is_read_only_file, is_reached, has_all_opens, has_all_entries}
 use Rattle.smb_opens.specs.State.{StoreState}
-use Rattle.smb_opens.specs.Statuses.{success, invalid_parameter, not_supported, object_name_invalid, access_denied, object_path_not_found, object_name_not_found, object_name_collision, file_is_a_directory, not_a_directory, too_many_opened_files, disk_full}
 
 -- a condition, and the status where it holds
 abbrev pub StatusRow : Type 0
 StatusRow = Bool × ℕ
 
--- the status of the first row that holds, or SUCCESS
+-- the status of the first row that holds, or STATUS_SUCCESS
 abbrev pub first_status : List StatusRow → ℕ
-first_status [] = success
+first_status [] = STATUS_SUCCESS
 first_status (row ∷ rows) = if row.0 then row.1 else first_status rows
 
--- what is wrong with a request, whatever stands
-abbrev pub asked_rows : CreateAsked → List StatusRow
-asked_rows ask =
-    -- no disposition ([MS-SMB2] 2.2.13)
-    (nat_lt 5 ask.disposition, invalid_parameter)
-    -- a folder is asked for that is to be a file, or to be overwritten (2.2.13)
-    ∷ (asks_folder ask && (asks_file ask || overwrites_by ask.disposition), invalid_parameter)
-    -- the name begins with a separator (2.2.13)
-    ∷ (is_separator (slice_index ask.name 0), invalid_parameter)
-    -- an entry is asked for by its number; or it is to go when the open is closed, which is not built yet (3.3.5.9)
-    ∷ (asks_unsupported ask, not_supported)
-    -- the name is no path (2.2.13)
-    ∷ (is_some (path_fault ask.name), object_name_invalid)
-    ∷ []
+-- the access that a request is granted, by the entry that it names (3.3.5.9)
+abbrev pub access_granted : StoreState → FileAsked → Access
+access_granted state ask = granted ask.access (is_read_only_file (entry_asked state ask))
 
--- the access that a request is granted, by what it found (3.3.5.9)
-abbrev pub access_granted : CreateAsked → Found → ℕ
-access_granted ask found = granted ask.access (is_read_only_target found.target)
-
--- what is wrong by what stands (3.3.5.9)
-abbrev pub found_rows : CreateAsked → Found → List StatusRow
-found_rows ask found =
-    -- no access is asked for, or an unknown one (2.2.13.1)
-    (is_bad_access ask.access, access_denied)
-    -- (absent until delete-on-close is built: DELETE_ON_CLOSE without DELETE)
-    -- an entry above the path is absent, or a file
-    ∷ (not found.reached, object_path_not_found)
+-- the rows of a CREATE that names this entry, by their numbers in docs/PROFILE.md
+abbrev pub create_rows : StoreState → FileAsked → Option Entry → List StatusRow
+create_rows state ask entry =
+    -- 1. no disposition ([MS-SMB2] 2.2.13)
+    (nat_lt 5 ask.disposition, STATUS_INVALID_PARAMETER)
+    -- 2. a folder is asked for that is to be a file, or to be overwritten (2.2.13)
+    ∷ (asks_folder ask && (asks_file ask || overwrites_by ask.disposition), STATUS_INVALID_PARAMETER)
+    -- 3. the name begins with a separator (2.2.13)
+    ∷ (is_separator (slice_index ask.name 0), STATUS_INVALID_PARAMETER)
+    -- 4. an entry is asked for by its number; or it is to go when the open is closed, which is not built yet (3.3.5.9)
+    ∷ (asks_unsupported ask, STATUS_NOT_SUPPORTED)
+    -- 5. the name is no path ([MS-FSCC] 2.1.5)
+    ∷ (is_some (path_fault ask.name), STATUS_OBJECT_NAME_INVALID)
+    -- 6. no access is asked for, or an unknown one ([MS-SMB2] 2.2.13.1)
+    -- (absent until delete-on-close is built: FILE_DELETE_ON_CLOSE without DELETE)
+    ∷ (is_bad_access ask.access, STATUS_ACCESS_DENIED)
+    -- 7. an entry above the path is absent, or a file ([MS-FSA] 2.1.5.1)
     -- (absent until entries can be marked: the entry or its folder is marked)
-    -- it is absent, and was to stand
-    ∷ (is_none found.target && must_stand_by ask.disposition, object_name_not_found)
-    -- it stands, and was to be new
-    ∷ (is_some found.target && must_be_new_by ask.disposition, object_name_collision)
-    -- it is a folder, where a file was asked for or bytes are to be overwritten
-    ∷ (is_folder_target found.target && (asks_file ask || overwrites_by ask.disposition), file_is_a_directory)
-    -- it is a file, where a folder was asked for
-    ∷ (is_file_target found.target && asks_folder ask, not_a_directory)
-    -- it is a read-only file, and is to be overwritten or written
-    ∷ (is_read_only_target found.target && (overwrites_by ask.disposition || has_any (access_granted ask found) writing), access_denied)
+    ∷ (not (is_reached state.tree.rows (path_asked ask)), STATUS_OBJECT_PATH_NOT_FOUND)
+    -- 8. the entry is absent, and has to exist ([MS-FSA] 2.1.5.1)
+    ∷ (is_none entry && must_exist_by ask.disposition, STATUS_OBJECT_NAME_NOT_FOUND)
+    -- 9. it exists, and has to be new ([MS-FSA] 2.1.5.1)
+    ∷ (is_some entry && must_be_new_by ask.disposition, STATUS_OBJECT_NAME_COLLISION)
+    -- 10. it is a folder, where a file is asked for or bytes are to be overwritten ([MS-FSA] 2.1.5.1.2)
+    ∷ (is_folder entry && (asks_file ask || overwrites_by ask.disposition), STATUS_FILE_IS_A_DIRECTORY)
+    -- 11. it is a file, where a folder is asked for ([MS-FSA] 2.1.5.1.2)
+    ∷ (is_file entry && asks_folder ask, STATUS_NOT_A_DIRECTORY)
+    -- 12. it is a read-only file, and is to be overwritten or written ([MS-FSA] 2.1.5.1.2)
     -- (absent until delete-on-close is built: an entry that cannot be deleted)
     -- (absent until sharing is built: a conflict with another open)
-    -- no more opens
-    ∷ (found.opens_full, too_many_opened_files)
-    -- it is absent, and there are no more entries
-    ∷ (is_none found.target && found.entries_full, disk_full)
+    ∷ (
+      is_read_only_file entry
+          && (overwrites_by ask.disposition || is_writing (granted ask.access (is_read_only_file entry))),
+      STATUS_ACCESS_DENIED,
+    )
+    -- 13. no more opens
+    ∷ (has_all_opens state, STATUS_TOO_MANY_OPENED_FILES)
+    -- 14. it is absent, and there are no more entries
+    ∷ (is_none entry && has_all_entries state, STATUS_DISK_FULL)
     ∷ []
 
 -- the status of a CREATE (3.3.5.9)
-abbrev pub create_status : StoreState → CreateAsked → ℕ
-create_status state ask = first_status (asked_rows ask ++ found_rows ask (found_by state ask))
+abbrev pub create_status : StoreState → FileAsked → ℕ
+create_status state ask = first_status (create_rows state ask (entry_asked state ask))

@@ -6,18 +6,21 @@ use Rattle.smb_tree.specs.declared.entry.Kind.TheVariants.{File}
 use Rattle.smb_tree.specs.Entries.{Entry, new_entry, kept_attributes}
 use Rattle.smb_tree.specs.Content.{Content, added, changed}
 use Rattle.smb_opens.specs.declared.open_row.OpenRow.{OpenRow}
-use Rattle.smb_opens.specs.declared.view.CreateAction.{CreateAction}
-use Rattle.smb_opens.specs.declared.view.CreateAction.TheVariants.{Superseded, Opened, Created, Overwritten}
+use Rattle.smb_wire.specs.declared.create_action.CreateAction.{CreateAction}
+use Rattle.smb_wire.specs.declared.create_action.CreateAction.TheVariants.{Superseded, Opened, Created, Overwritten}
 use Rattle.smb_opens.specs.declared.view.Created.{Created as CreatedOpen}
-use Rattle.smb_opens.specs.Asked.{CreateAsked, supersedes_by, overwrites_by, kind_asked, attributes_asked}
+use Rattle.smb_wire.specs.Dispositions.{supersedes_by, overwrites_by}
+use Rattle.smb_wire.specs.Access.{FILE_SHARE_ALL}
+use Rattle.smb_wire.specs.declared.access.Access.{Access}
+use Rattle.smb_opens.specs.Asked.{FileAsked, kind_asked, attributes_asked}
 use Rattle.smb_opens.specs.Create.{access_granted}
-use Rattle.smb_opens.specs.Found.{entry_asked, found_by}
+use Rattle.smb_opens.specs.Found.{entry_asked}
 use Rattle.smb_opens.specs.State.{StoreState}
 use Rattle.smb_opens.specs.Views.{view_of}
 
 -- an overwritten file's times and attributes: the attributes of a new file, and the moment for the times of
 -- the last write and change; SUPERSEDE sets all four times
-abbrev pub overwritten_basic : CreateAsked → ℕ → Basic → Basic
+abbrev pub overwritten_basic : FileAsked → ℕ → Basic → Basic
 overwritten_basic ask moment basic = record {
   creation_time = if supersedes_by ask.disposition then moment else basic.creation_time;
   last_access_time = if supersedes_by ask.disposition then moment else basic.last_access_time;
@@ -27,25 +30,25 @@ overwritten_basic ask moment basic = record {
 }
 
 -- an overwritten file: it has no bytes; its number and its spelling stay
-abbrev pub overwritten : CreateAsked → ℕ → Entry → Entry
+abbrev pub overwritten : FileAsked → ℕ → Entry → Entry
 overwritten ask moment entry = record entry { bytes = []; basic = overwritten_basic ask moment entry.basic }
 
 -- the file of a number overwritten
-abbrev pub overwritten_tree : Content → CreateAsked → ℕ → ℕ → Content
+abbrev pub overwritten_tree : Content → FileAsked → ℕ → ℕ → Content
 overwritten_tree tree ask moment number = record tree { rows = changed (overwritten ask moment) tree.rows number }
 
 -- the tree after what is asked of an entry that stands
-abbrev pub standing_tree : Content → CreateAsked → ℕ → ℕ → Content
+abbrev pub standing_tree : Content → FileAsked → ℕ → ℕ → Content
 standing_tree tree ask moment number = if overwrites_by ask.disposition then overwritten_tree tree ask moment number else tree
 
 -- the entry as it stands afterwards: added where there was none, overwritten where that is asked
-abbrev pub entry_after : Content → CreateAsked → ℕ → Option Entry → Entry
+abbrev pub entry_after : Content → FileAsked → ℕ → Option Entry → Entry
 entry_after tree ask moment None =
     new_entry tree.next (path_spelled ask.name) (kind_asked ask) (attributes_asked (kind_asked ask) ask) moment
 entry_after tree ask moment (Some entry) = if overwrites_by ask.disposition then overwritten ask moment entry else entry
 
 -- the tree afterwards: at most this one entry is another
-abbrev pub tree_after : Content → CreateAsked → ℕ → Option Entry → Content
+abbrev pub tree_after : Content → FileAsked → ℕ → Option Entry → Content
 tree_after tree ask moment None =
     added tree (path_spelled ask.name) (kind_asked ask) (attributes_asked (kind_asked ask) ask) moment
 tree_after tree ask moment (Some entry) = standing_tree tree ask moment entry.number
@@ -56,24 +59,24 @@ action_on disposition =
     if supersedes_by disposition then Superseded else if overwrites_by disposition then Overwritten else Opened
 
 -- what was done ([MS-SMB2] 2.2.14)
-abbrev pub action_taken : CreateAsked → Option Entry → CreateAction
+abbrev pub action_taken : FileAsked → Option Entry → CreateAction
 action_taken ask None = Created
 action_taken ask (Some entry) = action_on ask.disposition
 
 -- the open that is made of an entry ([MS-SMB2] 3.3.1.10); of the sharing asked for three bits count
-abbrev pub opened_by : CreateAsked → ℕ → ℕ → ℕ → OpenRow
+abbrev pub opened_by : FileAsked → ℕ → ℕ → Access → OpenRow
 opened_by ask number entry access = record {
   number = number;
   entry = entry;
   session = ask.session;
   tree = ask.tree;
   access = access;
-  share = bit_and ask.share 0x7;
+  share = record { 0 = bit_and ask.share FILE_SHARE_ALL };
   delete_on_close = false;
 }
 
 -- the store afterwards, of an entry that stood or did not
-abbrev pub created_by : StoreState → CreateAsked → ℕ → ℕ → Option Entry → StoreState
+abbrev pub created_by : StoreState → FileAsked → ℕ → Access → Option Entry → StoreState
 created_by state ask moment access stood = record {
   tree = tree_after state.tree ask moment stood;
   opens = state.opens ++ opened_by ask state.next (entry_after state.tree ask moment stood).number access ∷ [];
@@ -81,19 +84,19 @@ created_by state ask moment access stood = record {
 }
 
 -- the store afterwards: the open is the last one, and its number the next
-abbrev pub created : StoreState → CreateAsked → ℕ → StoreState
+abbrev pub created : StoreState → FileAsked → ℕ → StoreState
 created state ask moment =
-    created_by state ask moment (access_granted ask (found_by state ask)) (entry_asked state ask)
+    created_by state ask moment (access_granted state ask) (entry_asked state ask)
 
 -- what is told of it, of an entry that stood or did not
-abbrev pub told_by : StoreState → CreateAsked → ℕ → ℕ → Option Entry → CreatedOpen
-told_by state ask moment access stood = record {
+abbrev pub create_result_by : StoreState → FileAsked → ℕ → Access → Option Entry → CreatedOpen
+create_result_by state ask moment access stood = record {
   number = state.next;
   action = action_taken ask stood;
   view = view_of access (entry_after state.tree ask moment stood);
 }
 
 -- what is told: the open's number, what was done, and the entry as it stands afterwards
-abbrev pub told : StoreState → CreateAsked → ℕ → CreatedOpen
-told state ask moment =
-    told_by state ask moment (access_granted ask (found_by state ask)) (entry_asked state ask)
+abbrev pub create_result : StoreState → FileAsked → ℕ → CreatedOpen
+create_result state ask moment =
+    create_result_by state ask moment (access_granted state ask) (entry_asked state ask)

@@ -2,12 +2,11 @@ pub mod Numbers
 pub mod Opens
 pub mod Plain
 pub mod State
-pub mod Statuses
 pub mod Access
-pub mod Dispositions
 pub mod Asked
 pub mod Found
 pub mod Create
+pub mod Looked
 pub mod Views
 pub mod Effect
 pub mod Close

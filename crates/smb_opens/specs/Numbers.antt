@@ -8,8 +8,8 @@ AreRising [] = Unit {0}
 AreRising (number ∷ numbers) = AllByRecursion (λ later. number < later) numbers × AreRising numbers
 
 -- each is below this one
-abbrev pub AreBelow : ℕ → List ℕ → Type 0
-AreBelow limit = AllByRecursion (λ number. number < limit)
+abbrev pub AreNumbersBelow : ℕ → List ℕ → Type 0
+AreNumbersBelow limit = AllByRecursion (λ number. number < limit)
 
 -- a counter gives no more once it gave the greatest number but one of 64 bits
 abbrev pub is_spent : ℕ → Bool

@@ -1,6 +1,6 @@
 -- The opens that stand, in rising number.
 use Rattle.std.specs.Prelude.{ℕ, ◌==◌, ◌&&◌, not, Bool, List, map, filter, find, Option, slice_get}
-use Rattle.smb_opens.specs.Numbers.{AreBelow}
+use Rattle.smb_opens.specs.Numbers.{AreNumbersBelow}
 use Rattle.std.specs.Option.{option_map}
 use Rattle.smb_opens.specs.declared.open_row.OpenRow.{OpenRow}
 use Rattle.smb_opens.specs.declared.open_row.Owner.{Owner}
@@ -28,8 +28,8 @@ abbrev pub open_of : List OpenRow → ℕ → Option OpenRow
 open_of rows number = find (has_number number) rows
 
 -- the opens but that of a number
-abbrev pub without : ℕ → List OpenRow → List OpenRow
-without number = filter (λ row. not (has_number number row))
+abbrev pub without_open : ℕ → List OpenRow → List OpenRow
+without_open number = filter (λ row. not (has_number number row))
 
 -- the number of an entry's open at a place among its opens
 abbrev pub open_on_entry : List OpenRow → ℕ → ℕ → Option ℕ
@@ -45,4 +45,4 @@ open_numbers = map (λ row. row.number)
 
 -- each open's number is below this one
 abbrev pub AreAllBelow : ℕ → List OpenRow → Type 0
-AreAllBelow number rows = AreBelow number (open_numbers rows)
+AreAllBelow number rows = AreNumbersBelow number (open_numbers rows)

@@ -1,3 +1,4 @@
+-- For the proofs; nothing here need be believed.
 -- Opens under their numbers in a map.
 use Rattle.std.specs.Prelude.{◌≡◌, ◌<◌, ℕ, List, [], ◌∷◌}
 use Rattle.std.specs.List.{AllByRecursion}

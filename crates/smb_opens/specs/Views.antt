@@ -1,26 +1,26 @@
 -- What is shown of an entry that is open ([MS-FSCC] 2.4.2, 2.4.27).
 use Rattle.std.specs.Prelude.{ℕ, ◌==◌, List, length, if◌then◌else◌, bit_or, Option, None, Some}
 use Rattle.std.specs.Option.{option_map}
+use Rattle.smb_wire.specs.declared.access.Access.{Access}
+use Rattle.smb_wire.specs.Attributes.{FILE_ATTRIBUTE_DIRECTORY, FILE_ATTRIBUTE_NORMAL}
 use Rattle.smb_tree.specs.declared.entry.Kind.{Kind}
 use Rattle.smb_tree.specs.declared.entry.Kind.TheVariants.{File, Folder}
 use Rattle.smb_tree.specs.Entries.{Entry, allocation_size}
 use Rattle.smb_tree.specs.Content.{Row, numbered}
 use Rattle.smb_tree.specs.Views.{Shown}
 use Rattle.smb_opens.specs.declared.open_row.OpenRow.{OpenRow}
-use Rattle.smb_opens.specs.declared.view.CreateAction.{CreateAction}
-use Rattle.smb_opens.specs.declared.view.CreateAction.TheVariants.{Superseded, Opened, Created, Overwritten}
 use Rattle.smb_opens.specs.declared.view.View.{View}
 use Rattle.smb_opens.specs.Opens.{open_of}
 use Rattle.smb_opens.specs.State.{StoreState}
 
--- the attributes that are shown: of a folder DIRECTORY 0x10 besides the kept ones, of a file that keeps none
--- NORMAL 0x80 ([MS-FSCC] 2.6)
+-- the attributes that are shown: of a folder FILE_ATTRIBUTE_DIRECTORY besides the kept ones, of a file that keeps none
+-- FILE_ATTRIBUTE_NORMAL ([MS-FSCC] 2.6)
 abbrev pub shown_attributes : Kind → ℕ → ℕ
-shown_attributes Folder attributes = bit_or attributes 0x10
-shown_attributes File attributes = if attributes == 0 then 0x80 else attributes
+shown_attributes Folder attributes = bit_or attributes FILE_ATTRIBUTE_DIRECTORY
+shown_attributes File attributes = if attributes == 0 then FILE_ATTRIBUTE_NORMAL else attributes
 
 -- an entry through an open with this access
-abbrev pub view_of : ℕ → Entry → View
+abbrev pub view_of : Access → Entry → View
 view_of access entry = record {
   entry = entry.number;
   kind = entry.kind;
@@ -30,13 +30,13 @@ view_of access entry = record {
   change_time = entry.basic.change_time;
   size = length entry.bytes;
   allocation_size = allocation_size (length entry.bytes);
-  attributes = shown_attributes entry.kind entry.basic.attributes;
+  attributes = record { 0 = shown_attributes entry.kind entry.basic.attributes };
   mark = entry.mark;
   access = access;
 }
 
 -- the entry of a number, through an open with this access
-abbrev pub view_at : List Row → ℕ → ℕ → Option View
+abbrev pub view_at : List Row → ℕ → Access → Option View
 view_at rows number access = option_map (λ row. view_of access row.1) (numbered rows number)
 
 -- what an open shows
@@ -48,15 +48,8 @@ view_through rows (Some row) = view_at rows row.entry row.access
 abbrev pub open_view : StoreState → ℕ → Option View
 open_view state number = view_through state.tree.rows (open_of state.opens number)
 
--- the number of an action in a response ([MS-SMB2] 2.2.14)
-abbrev pub action_code : CreateAction → ℕ
-action_code Superseded = 0
-action_code Opened = 1
-action_code Created = 2
-action_code Overwritten = 3
-
 -- the same of what a tree shows of an entry
-abbrev pub view_shown : ℕ → Shown → View
+abbrev pub view_shown : Access → Shown → View
 view_shown access seen = record {
   entry = seen.number;
   kind = seen.kind;
@@ -66,7 +59,7 @@ view_shown access seen = record {
   change_time = seen.basic.change_time;
   size = seen.size;
   allocation_size = allocation_size seen.size;
-  attributes = shown_attributes seen.kind seen.basic.attributes;
+  attributes = record { 0 = shown_attributes seen.kind seen.basic.attributes };
   mark = seen.mark;
   access = access;
 }

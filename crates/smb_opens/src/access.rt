@@ -1,67 +1,56 @@
 //! Access that is asked for and access that is granted.
 
 ghost use Rattle.std.specs.Prelude.{◌≡◌};
-ghost use Rattle.smb_opens.specs.Access.{has_any, is_bad_access, rights_for, granted};
+ghost use Rattle.smb_opens.specs.Access.{is_bad_access, rights_for, granted, is_writing};
 
-/// WRITE_DATA and APPEND_DATA.
-pub(crate) const WRITING: u32 = 0x6;
+use bitflags::Flags;
+use smb_wire::Access;
 
-const ALL_RIGHTS: u32 = 0x1F_01FF;
+/// Every right but to write a file's bytes.
+const READ_ONLY_ACCESS: Access = Access(0x1F_01F9);
 
-const READ_ONLY_RIGHTS: u32 = 0x1F_01F9;
-
-const KNOWN_ACCESS: u32 = 0xF21F_01FF;
-
-const MAXIMUM_ALLOWED: u32 = 0x200_0000;
-
-const GENERIC_ALL: u32 = 0x1000_0000;
-
-const GENERIC_EXECUTE: u32 = 0x2000_0000;
-
-const GENERIC_WRITE: u32 = 0x4000_0000;
-
-const GENERIC_READ: u32 = 0x8000_0000;
-
-const EXECUTE_RIGHTS: u32 = 0x12_00A0;
-
-const WRITE_RIGHTS: u32 = 0x12_0116;
-
-const READ_RIGHTS: u32 = 0x12_0089;
-
-/// Whether some bit of a mask is set.
-pub(crate) fn has_any(bits: u32, mask: u32) -> bool
-    ensures { result ≡ has_any bits mask }
-{
-    bits & mask != 0
-}
+/// Every bit that may be asked for.
+const KNOWN_ACCESS: Access = Access(0xF21F_01FF);
 
 /// Whether no access is asked for, or an unknown one.
-pub(crate) fn is_bad_access(access: u32) -> bool
-    ensures { result ≡ is_bad_access access }
+pub(crate) fn is_bad_access(access: Access) -> bool
+    ensures { result ≡ is_bad_access access.0 }
 {
-    access == 0 || access & KNOWN_ACCESS != access
+    access.0 == 0 || access.0 & KNOWN_ACCESS.0 != access.0
+}
+
+/// Whether a file's bytes may be written with this access.
+pub(crate) fn is_writing(access: Access) -> bool
+    ensures { result ≡ is_writing access }
+{
+    access.intersects(Access::WRITE_DATA) || access.intersects(Access::APPEND_DATA)
 }
 
 // The rights that a bit stands for, where it is set.
-fn rights_for(access: u32, bit: u32, rights: u32) -> u32
-    ensures { result ≡ rights_for access bit rights }
+fn rights_for(access: Access, bit: Access, rights: Access) -> u32
+    ensures { result ≡ rights_for access.0 bit.0 rights.0 }
 {
-    if has_any(access, bit) { rights } else { 0 }
+    if access.intersects(bit) { rights.0 } else { 0 }
 }
 
 /// The access that is granted where this is asked for, on a read-only file or on another entry.
-pub(crate) fn granted(access: u32, on_read_only: bool) -> u32
-    ensures { result ≡ granted access on_read_only }
+pub(crate) fn granted(access: Access, on_read_only: bool) -> Access
+    ensures { result ≡ granted access.0 on_read_only }
 {
     let most = if on_read_only {
-        READ_ONLY_RIGHTS
+        READ_ONLY_ACCESS
     } else {
-        ALL_RIGHTS
+        Access::FILE_ALL_ACCESS
     };
-    (access & ALL_RIGHTS)
-        | (rights_for(access, GENERIC_ALL, ALL_RIGHTS)
-            | (rights_for(access, GENERIC_EXECUTE, EXECUTE_RIGHTS)
-                | (rights_for(access, GENERIC_WRITE, WRITE_RIGHTS)
-                    | (rights_for(access, GENERIC_READ, READ_RIGHTS)
-                        | rights_for(access, MAXIMUM_ALLOWED, most)))))
+    Access(
+        (access.0 & Access::FILE_ALL_ACCESS.0)
+            | (rights_for(access, Access::GENERIC_ALL, Access::FILE_ALL_ACCESS)
+                | (rights_for(
+                    access,
+                    Access::GENERIC_EXECUTE,
+                    Access::FILE_GENERIC_EXECUTE,
+                ) | (rights_for(access, Access::GENERIC_WRITE, Access::FILE_GENERIC_WRITE)
+                    | (rights_for(access, Access::GENERIC_READ, Access::FILE_GENERIC_READ)
+                        | rights_for(access, Access::MAXIMUM_ALLOWED, most))))),
+    )
 }

@@ -5,29 +5,22 @@ ghost use Rattle.smb_wire.specs.Paths.{is_separator, path_fault, path_spelled};
 ghost use Rattle.smb_wire.specs.PathViews.{parts_of};
 ghost use Rattle.smb_wire.specs.Units.{units_of};
 ghost use Rattle.smb_opens.specs.Asked.{asked, asks_folder, asks_file, asks_unsupported};
-ghost use Rattle.smb_opens.specs.Create.{StatusRow, first_status, asked_rows, found_rows};
-ghost use Rattle.smb_opens.specs.Dispositions.{disposition_code};
-ghost use Rattle.smb_opens.specs.Found.{is_file_target, is_folder_target, is_read_only_target};
-ghost use Rattle.smb_opens.specs.Statuses.{success};
+ghost use Rattle.smb_wire.specs.Dispositions.{disposition_code};
+ghost use Rattle.smb_wire.specs.NtStatus.{STATUS_SUCCESS};
+ghost use Rattle.smb_opens.specs.Create.{StatusRow, first_status};
+ghost use Rattle.smb_opens.specs.Looked.{asked_rows, found_rows, is_file_target, is_folder_target, is_read_only_target};
 
-use super::access::{WRITING, granted, has_any, is_bad_access};
+use super::access::{granted, is_bad_access, is_writing};
 use super::ask::CreateAsk;
-use super::disposition::Disposition;
 use super::found::{Found, Target};
-use super::status::{
-    ACCESS_DENIED, DISK_FULL, FILE_IS_A_DIRECTORY, INVALID_PARAMETER, NOT_A_DIRECTORY,
-    NOT_SUPPORTED, OBJECT_NAME_COLLISION, OBJECT_NAME_INVALID, OBJECT_NAME_NOT_FOUND,
-    OBJECT_PATH_NOT_FOUND, SUCCESS, TOO_MANY_OPENED_FILES,
+use bitflags::Flags;
+use smb_wire::nt_status::{
+    STATUS_ACCESS_DENIED, STATUS_DISK_FULL, STATUS_FILE_IS_A_DIRECTORY, STATUS_INVALID_PARAMETER,
+    STATUS_NOT_A_DIRECTORY, STATUS_NOT_SUPPORTED, STATUS_OBJECT_NAME_COLLISION,
+    STATUS_OBJECT_NAME_INVALID, STATUS_OBJECT_NAME_NOT_FOUND, STATUS_OBJECT_PATH_NOT_FOUND,
+    STATUS_SUCCESS, STATUS_TOO_MANY_OPENED_FILES,
 };
-use smb_wire::{PathView, Units, split_path};
-
-const DIRECTORY_FILE: u32 = 0x1;
-
-const NON_DIRECTORY_FILE: u32 = 0x40;
-
-const UNSUPPORTED: u32 = 0x3000;
-
-const READONLY: u32 = 0x1;
+use smb_wire::{CreateDisposition, CreateOptions, FileAttributes, PathView, Units, split_path};
 
 const SEPARATOR: u16 = 0x5C;
 
@@ -35,14 +28,22 @@ const SEPARATOR: u16 = 0x5C;
 pub(crate) fn asks_folder(ask: &CreateAsk<'_>) -> bool
     ensures { result ≡ asks_folder (asked ask.now) }
 {
-    has_any(ask.options, DIRECTORY_FILE)
+    ask.options.intersects(CreateOptions::DIRECTORY_FILE)
 }
 
 // Whether a file is asked for.
 fn asks_file(ask: &CreateAsk<'_>) -> bool
     ensures { result ≡ asks_file (asked ask.now) }
 {
-    has_any(ask.options, NON_DIRECTORY_FILE)
+    ask.options.intersects(CreateOptions::NON_DIRECTORY_FILE)
+}
+
+// Whether something is asked for that is not supported.
+fn asks_unsupported(ask: &CreateAsk<'_>) -> bool
+    ensures { result ≡ asks_unsupported (asked ask.now) }
+{
+    ask.options.intersects(CreateOptions::DELETE_ON_CLOSE)
+        || ask.options.intersects(CreateOptions::OPEN_BY_FILE_ID)
 }
 
 // Whether a name begins with a separator.
@@ -77,72 +78,79 @@ pub(crate) fn is_read_only_target(target: &Option<Target>) -> bool
     ensures { result ≡ is_read_only_target target.now }
 {
     match target {
-        Some(target) => !target.kind.is_folder() && has_any(target.basic.attributes, READONLY),
+        Some(target) => {
+            !target.kind.is_folder()
+                && FileAttributes(target.basic.attributes).intersects(FileAttributes::READONLY)
+        }
         None => false,
     }
 }
 
 /// The disposition and the path that a request names, or the status that answers it whatever stands.
-pub(crate) fn asked_path<'a>(ask: &CreateAsk<'a>) -> Result<(Disposition, PathView<'a>), u32>
-    ensures disposition { IfOk result (λ pair. disposition_code pair.0 ≡ ask.now.disposition) }
+pub(crate) fn asked_path<'a>(ask: &CreateAsk<'a>) -> Result<(CreateDisposition, PathView<'a>), u32>
+    ensures disposition { IfOk result (λ pair. disposition_code pair.0 ≡ ask.now.disposition.0) }
     ensures path { IfOk result (λ pair. parts_of pair.1 ≡ path_spelled (units_of ask.now.name)) }
     ensures fault { OnOk result (path_fault (units_of ask.now.name) ≡ None) }
     ensures lawful { OnOk result ((rows : List StatusRow) → first_status (asked_rows (asked ask.now) ++ rows) ≡ first_status rows) }
     ensures err { IfErr result (λ status. (rows : List StatusRow) → first_status (asked_rows (asked ask.now) ++ rows) ≡ status) }
-    ensures refused { IfErr result (λ status. status ≢ success) }
+    ensures refused { IfErr result (λ status. status ≢ STATUS_SUCCESS) }
 {
-    let Some(disposition) = Disposition::of(ask.disposition) else {
-        return Err(INVALID_PARAMETER);
+    let Some(disposition) = ask.disposition.known() else {
+        return Err(STATUS_INVALID_PARAMETER);
     };
     if asks_folder(ask) && (asks_file(ask) || disposition.overwrites()) {
-        return Err(INVALID_PARAMETER);
+        return Err(STATUS_INVALID_PARAMETER);
     }
     if begins_with_separator(ask.name) {
-        return Err(INVALID_PARAMETER);
+        return Err(STATUS_INVALID_PARAMETER);
     }
-    if has_any(ask.options, UNSUPPORTED) {
-        return Err(NOT_SUPPORTED);
+    if asks_unsupported(ask) {
+        return Err(STATUS_NOT_SUPPORTED);
     }
     match split_path(ask.name) {
         Ok(path) => Ok((disposition, path)),
-        Err(_) => Err(OBJECT_NAME_INVALID),
+        Err(_) => Err(STATUS_OBJECT_NAME_INVALID),
     }
 }
 
 /// The status of a request by what stands.
-pub(crate) fn found_status(ask: &CreateAsk<'_>, disposition: Disposition, found: &Found) -> u32
-    requires { disposition_code disposition ≡ ask.now.disposition }
+pub(crate) fn found_status(
+    ask: &CreateAsk<'_>,
+    disposition: CreateDisposition,
+    found: &Found,
+) -> u32
+    requires { disposition_code disposition ≡ ask.now.disposition.0 }
     ensures { result ≡ first_status (found_rows (asked ask.now) found.now) }
 {
-    let stands = found.target.is_some();
+    let exists = found.target.is_some();
     let overwrites = disposition.overwrites();
     let read_only = is_read_only_target(&found.target);
     if is_bad_access(ask.access) {
-        return ACCESS_DENIED;
+        return STATUS_ACCESS_DENIED;
     }
     if !found.reached {
-        return OBJECT_PATH_NOT_FOUND;
+        return STATUS_OBJECT_PATH_NOT_FOUND;
     }
-    if !stands && disposition.must_stand() {
-        return OBJECT_NAME_NOT_FOUND;
+    if !exists && disposition.must_exist() {
+        return STATUS_OBJECT_NAME_NOT_FOUND;
     }
-    if stands && disposition.must_be_new() {
-        return OBJECT_NAME_COLLISION;
+    if exists && disposition.must_be_new() {
+        return STATUS_OBJECT_NAME_COLLISION;
     }
     if is_folder_target(&found.target) && (asks_file(ask) || overwrites) {
-        return FILE_IS_A_DIRECTORY;
+        return STATUS_FILE_IS_A_DIRECTORY;
     }
     if is_file_target(&found.target) && asks_folder(ask) {
-        return NOT_A_DIRECTORY;
+        return STATUS_NOT_A_DIRECTORY;
     }
-    if read_only && (overwrites || has_any(granted(ask.access, read_only), WRITING)) {
-        return ACCESS_DENIED;
+    if read_only && (overwrites || is_writing(granted(ask.access, read_only))) {
+        return STATUS_ACCESS_DENIED;
     }
     if found.opens_full {
-        return TOO_MANY_OPENED_FILES;
+        return STATUS_TOO_MANY_OPENED_FILES;
     }
-    if !stands && found.entries_full {
-        return DISK_FULL;
+    if !exists && found.entries_full {
+        return STATUS_DISK_FULL;
     }
-    SUCCESS
+    STATUS_SUCCESS
 }

@@ -4,24 +4,22 @@ ghost use Rattle.std.specs.Prelude.{◌≡◌, Some, OnOk, OnErr, IfErr, true, f
 ghost use Rattle.std.specs.Option.{option_map};
 ghost use Rattle.smb_tree.specs.Content.{numbered};
 ghost use Rattle.smb_tree.specs.Entries.{is_folder_kind, kept_basic};
-ghost use Rattle.smb_opens.specs.Asked.{asked, overwrites_by, kind_asked, attributes_asked};
-ghost use Rattle.smb_opens.specs.Dispositions.{disposition_code};
+ghost use Rattle.smb_wire.specs.Dispositions.{disposition_code, overwrites_by};
+ghost use Rattle.smb_opens.specs.Asked.{asked, kind_asked, attributes_asked};
 ghost use Rattle.smb_opens.specs.Effect.{overwritten_basic, standing_tree, action_on, opened_by};
-ghost use Rattle.smb_opens.specs.Found.{target_of};
+ghost use Rattle.smb_opens.specs.Looked.{target_of};
 ghost use Rattle.smb_opens.specs.Good.{GoodTree};
 ghost use Rattle.smb_opens.specs.declared.fault.StoreFault.TheVariants.{NoMemory};
 
 use super::ask::CreateAsk;
 use super::checks::asks_folder;
-use super::disposition::Disposition;
 use super::fault::StoreFault;
 use super::found::Target;
 use super::open_row::{OpenNo, OpenRow};
-use super::view::CreateAction;
 use smb_tree::{Basic, EntryNo, Kind, Tree};
+use smb_wire::{Access, CreateAction, CreateDisposition, FileAttributes, ShareAccess};
 
-const ARCHIVE: u32 = 0x20;
-
+/// The bits of sharing that have a name.
 const SHARING: u32 = 0x7;
 
 /// What an entry becomes that is added.
@@ -40,13 +38,13 @@ pub(crate) fn attributes_asked(kind: Kind, ask: &CreateAsk<'_>) -> u32
     ensures { result ≡ attributes_asked kind (asked ask.now) }
 {
     match kind {
-        Kind::File => ask.attributes | ARCHIVE,
-        Kind::Folder => ask.attributes,
+        Kind::File => ask.attributes.0 | FileAttributes::ARCHIVE.0,
+        Kind::Folder => ask.attributes.0,
     }
 }
 
 /// What is done to an entry that stands.
-pub(crate) fn action_on(disposition: Disposition) -> CreateAction
+pub(crate) fn action_on(disposition: CreateDisposition) -> CreateAction
     ensures { result ≡ action_on (disposition_code disposition) }
 {
     if disposition.supersedes() {
@@ -59,7 +57,12 @@ pub(crate) fn action_on(disposition: Disposition) -> CreateAction
 }
 
 /// The open that is made of an entry, under its number and with the access granted.
-pub(crate) fn opened_by(ask: &CreateAsk<'_>, number: OpenNo, entry: EntryNo, access: u32) -> OpenRow
+pub(crate) fn opened_by(
+    ask: &CreateAsk<'_>,
+    number: OpenNo,
+    entry: EntryNo,
+    access: Access,
+) -> OpenRow
     ensures { result ≡ opened_by (asked ask.now) number entry access }
 {
     OpenRow {
@@ -68,7 +71,7 @@ pub(crate) fn opened_by(ask: &CreateAsk<'_>, number: OpenNo, entry: EntryNo, acc
         session: ask.session,
         tree: ask.tree,
         access,
-        share: ask.share & SHARING,
+        share: ShareAccess(ask.share.0 & SHARING),
         delete_on_close: false,
     }
 }
@@ -76,11 +79,11 @@ pub(crate) fn opened_by(ask: &CreateAsk<'_>, number: OpenNo, entry: EntryNo, acc
 // What an overwritten file's times and attributes become, of which a tree keeps some.
 fn overwritten_basic(
     ask: &CreateAsk<'_>,
-    disposition: Disposition,
+    disposition: CreateDisposition,
     moment: u64,
     basic: Basic,
 ) -> Basic
-    requires { disposition_code disposition ≡ ask.now.disposition }
+    requires { disposition_code disposition ≡ ask.now.disposition.0 }
     ensures { kept_basic result ≡ overwritten_basic (asked ask.now) moment basic }
 {
     let supersedes = disposition.supersedes();
@@ -106,14 +109,14 @@ fn overwritten_basic(
 pub(crate) fn affect<T: Tree>(
     tree: &mut T,
     ask: &CreateAsk<'_>,
-    disposition: Disposition,
+    disposition: CreateDisposition,
     target: Target,
     moment: u64,
 ) -> Result<(), StoreFault>
     requires good { GoodTree (T.content tree.old) }
-    requires disposition { disposition_code disposition ≡ ask.now.disposition }
+    requires disposition { disposition_code disposition ≡ ask.now.disposition.0 }
     requires target { option_map (λ row. target_of row.1) (numbered (T.content tree.old).rows target.number) ≡ Some target }
-    requires file { overwrites_by ask.now.disposition ≡ true → is_folder_kind target.kind ≡ false }
+    requires file { overwrites_by ask.now.disposition.0 ≡ true → is_folder_kind target.kind ≡ false }
     ensures ok { OnOk result (T.content tree.new ≡ standing_tree (T.content tree.old) (asked ask.now) moment target.number) }
     ensures err { OnErr result (T.content tree.new ≡ T.content tree.old) }
     ensures memory { IfErr result (λ fault. fault ≡ NoMemory) }

@@ -4,11 +4,11 @@ ghost use Rattle.std.specs.Prelude.{◌≡◌};
 ghost use Rattle.smb_opens.specs.Faults.{refusal_of};
 ghost use Rattle.smb_opens.specs.declared.fault.StoreFault.TheVariants.{NoMemory};
 
-use super::status::{
-    DIRECTORY_NOT_EMPTY, DISK_FULL, OBJECT_NAME_COLLISION, OBJECT_NAME_INVALID,
-    OBJECT_NAME_NOT_FOUND, OBJECT_PATH_NOT_FOUND,
-};
 use smb_tree::TreeFault;
+use smb_wire::nt_status::{
+    STATUS_DIRECTORY_NOT_EMPTY, STATUS_DISK_FULL, STATUS_OBJECT_NAME_COLLISION,
+    STATUS_OBJECT_NAME_INVALID, STATUS_OBJECT_NAME_NOT_FOUND, STATUS_OBJECT_PATH_NOT_FOUND,
+};
 use std::alloc::AllocError;
 use thiserror::Error;
 
@@ -36,12 +36,12 @@ impl From<TreeFault> for StoreFault {
 
     fn from(refusal: TreeFault) -> StoreFault {
         match refusal {
-            TreeFault::Absent => StoreFault::Status(OBJECT_NAME_NOT_FOUND),
-            TreeFault::ParentAbsent => StoreFault::Status(OBJECT_PATH_NOT_FOUND),
-            TreeFault::Exists => StoreFault::Status(OBJECT_NAME_COLLISION),
-            TreeFault::NotEmpty => StoreFault::Status(DIRECTORY_NOT_EMPTY),
-            TreeFault::TooDeep => StoreFault::Status(OBJECT_NAME_INVALID),
-            TreeFault::Full => StoreFault::Status(DISK_FULL),
+            TreeFault::Absent => StoreFault::Status(STATUS_OBJECT_NAME_NOT_FOUND),
+            TreeFault::ParentAbsent => StoreFault::Status(STATUS_OBJECT_PATH_NOT_FOUND),
+            TreeFault::Exists => StoreFault::Status(STATUS_OBJECT_NAME_COLLISION),
+            TreeFault::NotEmpty => StoreFault::Status(STATUS_DIRECTORY_NOT_EMPTY),
+            TreeFault::TooDeep => StoreFault::Status(STATUS_OBJECT_NAME_INVALID),
+            TreeFault::Full => StoreFault::Status(STATUS_DISK_FULL),
             TreeFault::NoMemory => StoreFault::NoMemory,
         }
     }

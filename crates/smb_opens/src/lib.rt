@@ -4,8 +4,7 @@
 //! number, and [`PlainOpens`] the plain one. A [`Store`] is a tree and its opens; its state is
 //! `specs/State.antt`, and what holds of it between any two calls `specs/Good.antt`.
 //!
-//! [`Store::create`] answers a CREATE: with the status that the table of `specs/Create.antt` gives, by what
-//! `specs/Found.antt` says stands where the request looks; or, where no row holds, with what
+//! [`Store::create`] answers a CREATE: with the status that the table of `specs/Create.antt` gives; or, where no row holds, with what
 //! `specs/Effect.antt` does: one entry at most is added or overwritten, and one open comes last. A refusal changes
 //! nothing. [`Store::close`] and [`Store::close_all`] take opens away, as `specs/Close.antt` says, and take no
 //! memory.
@@ -17,7 +16,6 @@
 mod access;
 mod ask;
 mod checks;
-mod disposition;
 mod effect;
 mod fault;
 mod found;
@@ -26,7 +24,6 @@ mod look;
 mod open_row;
 mod opens;
 mod plain;
-mod status;
 mod store;
 mod view;
 
@@ -37,4 +34,4 @@ pub use open_row::{OpenNo, OpenRow, Owner};
 pub use opens::Opens;
 pub use plain::PlainOpens;
 pub use store::Store;
-pub use view::{Closed, CreateAction, Created, View};
+pub use view::{Closed, Created, View};

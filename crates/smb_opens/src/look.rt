@@ -6,7 +6,8 @@ ghost use Rattle.smb_wire.specs.Paths.{folded_path};
 ghost use Rattle.smb_wire.specs.PathViews.{parts_of};
 ghost use Rattle.smb_tree.specs.Content.{entry_at};
 ghost use Rattle.smb_tree.specs.Views.{shown};
-ghost use Rattle.smb_opens.specs.Found.{target_of, is_reached};
+ghost use Rattle.smb_opens.specs.Found.{is_reached};
+ghost use Rattle.smb_opens.specs.Looked.{target_of};
 ghost use Rattle.smb_opens.specs.Good.{GoodTree};
 ghost use Rattle.smb_opens.specs.Views.{view_shown, view_at, shown_attributes};
 
@@ -14,13 +15,9 @@ use super::checks::is_folder_target;
 use super::found::Target;
 use super::view::View;
 use smb_tree::{EntryNo, EntryView, Kind, Tree};
-use smb_wire::PathView;
+use smb_wire::{Access, FileAttributes, PathView};
 
 const CLUSTER: u64 = 4096;
-
-const DIRECTORY: u32 = 0x10;
-
-const NORMAL: u32 = 0x80;
 
 /// Of the entry at a path, what decides, or None.
 pub(crate) fn find_target<T: Tree>(tree: &T, path: &PathView<'_>) -> Option<Target>
@@ -54,13 +51,19 @@ fn shown_attributes(kind: Kind, attributes: u32) -> u32
     ensures { result ≡ shown_attributes kind attributes }
 {
     match kind {
-        Kind::Folder => attributes | DIRECTORY,
-        Kind::File => { if attributes == 0 { NORMAL } else { attributes } }
+        Kind::Folder => attributes | FileAttributes::DIRECTORY.0,
+        Kind::File => {
+            if attributes == 0 {
+                FileAttributes::NORMAL.0
+            } else {
+                attributes
+            }
+        }
     }
 }
 
 // An entry through an open with this access.
-fn view_of(entry: &EntryView<'_>, access: u32) -> View
+fn view_of(entry: &EntryView<'_>, access: Access) -> View
     requires { entry.now.size ≤ 16777216 }
     ensures { result ≡ view_shown access (shown entry.now) }
 {
@@ -73,14 +76,14 @@ fn view_of(entry: &EntryView<'_>, access: u32) -> View
         change_time: entry.basic.change_time,
         size: entry.size,
         allocation_size: entry.size.div_ceil(CLUSTER) * CLUSTER,
-        attributes: shown_attributes(entry.kind, entry.basic.attributes),
+        attributes: FileAttributes(shown_attributes(entry.kind, entry.basic.attributes)),
         mark: entry.mark,
         access,
     }
 }
 
 /// The entry of a number through an open with this access, or None.
-pub(crate) fn entry_view<T: Tree>(tree: &T, number: EntryNo, access: u32) -> Option<View>
+pub(crate) fn entry_view<T: Tree>(tree: &T, number: EntryNo, access: Access) -> Option<View>
     requires { GoodTree (T.content tree.now) }
     ensures { result ≡ view_at (T.content tree.now).rows number access }
 {

@@ -4,6 +4,7 @@ ghost use Rattle.std.specs.Prelude.{◌≡◌};
 ghost use Rattle.smb_opens.specs.Opens.{is_held_by};
 
 use smb_tree::EntryNo;
+use smb_wire::{Access, ShareAccess};
 
 /// The number of an open: 1, 2, 3 and so on, each once.
 pub type OpenNo = u64;
@@ -39,10 +40,10 @@ pub struct OpenRow {
     pub session: u64,
     /// The number of the tree connect, in that session, under which it was opened.
     pub tree: u32,
-    /// The access that was granted ([MS-SMB2] 2.2.13.1).
-    pub access: u32,
-    /// What others may do meanwhile: READ 1, WRITE 2, DELETE 4.
-    pub share: u32,
+    /// The access that was granted.
+    pub access: Access,
+    /// What others may do meanwhile.
+    pub share: ShareAccess,
     /// The entry is to go when this open is closed.
     pub delete_on_close: bool,
 }

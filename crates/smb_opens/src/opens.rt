@@ -1,7 +1,7 @@
 //! The opens that every layer above speaks to.
 
 ghost use Rattle.std.specs.Prelude.{◌≡◌, ◌++◌, ◌∷◌, [], OnOk, OnErr, option_copied};
-ghost use Rattle.smb_opens.specs.Opens.{open_of, without, open_on_entry, first_held_by, AreAllBelow};
+ghost use Rattle.smb_opens.specs.Opens.{open_of, without_open, open_on_entry, first_held_by, AreAllBelow};
 
 use super::open_row::{OpenNo, OpenRow, Owner};
 use smb_tree::EntryNo;
@@ -26,7 +26,7 @@ pub trait Opens {
 
     /// Takes the open of a number away; where none has it, nothing changes.
     fn remove(&mut self, number: OpenNo)
-        ensures { content self.new ≡ without number (content self.old) };
+        ensures { content self.new ≡ without_open number (content self.old) };
 
     /// The number of the `i`-th open of an entry, counted from 0 in rising number, or None.
     fn on_entry(&self, entry: EntryNo, i: usize) -> Option<OpenNo>

@@ -8,33 +8,33 @@ ghost use Rattle.smb_wire.specs.Units.{units_of};
 ghost use Rattle.smb_tree.specs.Entries.{is_folder_kind};
 ghost use Rattle.smb_tree.specs.Faults.{add_fault};
 ghost use Rattle.smb_opens.specs.Access.{granted};
-ghost use Rattle.smb_opens.specs.Asked.{asked, overwrites_by};
+ghost use Rattle.smb_wire.specs.Dispositions.{disposition_code, overwrites_by};
+ghost use Rattle.smb_wire.specs.NtStatus.{STATUS_SUCCESS};
+ghost use Rattle.smb_opens.specs.Asked.{asked};
 ghost use Rattle.smb_opens.specs.Close.{closed, closed_all};
 ghost use Rattle.smb_opens.specs.Create.{create_status};
-ghost use Rattle.smb_opens.specs.Dispositions.{disposition_code};
-ghost use Rattle.smb_opens.specs.Effect.{created, created_by, told, told_by};
+ghost use Rattle.smb_opens.specs.Effect.{created, created_by, create_result, create_result_by};
 ghost use Rattle.smb_opens.specs.Faults.{IsRefusal};
-ghost use Rattle.smb_opens.specs.Found.{entry_asked, found_at, has_all_opens, is_read_only_target, target_of};
+ghost use Rattle.smb_opens.specs.Found.{entry_asked, has_all_opens};
+ghost use Rattle.smb_opens.specs.Looked.{found_at, is_read_only_target, target_of};
 ghost use Rattle.smb_opens.specs.Good.{GoodTree, GoodStore};
 ghost use Rattle.smb_opens.specs.Opens.{open_of, is_held_by};
-ghost use Rattle.smb_opens.specs.Statuses.{success};
 ghost use Rattle.smb_opens.specs.Views.{open_view};
 ghost use Rattle.smb_opens.specs.declared.fault.StoreFault.TheVariants.{NoMemory};
 
 use super::access::granted;
 use super::ask::CreateAsk;
 use super::checks::{asked_path, found_status, is_read_only_target};
-use super::disposition::Disposition;
 use super::effect::{action_on, affect, attributes_asked, kind_asked, opened_by};
 use super::fault::StoreFault;
 use super::found::{Found, Target};
 use super::look::{count_entries, entry_view, find_target, is_reached};
 use super::open_row::{OpenNo, Owner};
 use super::opens::Opens;
-use super::status::SUCCESS;
-use super::view::{Closed, CreateAction, Created, View};
+use super::view::{Closed, Created, View};
 use smb_tree::{EntryNo, Tree};
-use smb_wire::PathView;
+use smb_wire::nt_status::STATUS_SUCCESS;
+use smb_wire::{CreateAction, CreateDisposition, PathView};
 use std::marker::Model;
 
 const MOST_OPENS: usize = 1024;
@@ -118,8 +118,8 @@ impl<T: Tree + Drop, O: Opens + Drop> Store<T, O> {
     /// [`NoMemory`](StoreFault::NoMemory) that an allocation was refused where none does.
     pub fn create(&mut self, ask: &CreateAsk<'_>, moment: u64) -> Result<Created, StoreFault>
         ensures store { OnOk result (self.new ≡ created self.old (asked ask.now) moment) }
-        ensures told { IfOk result (λ done. done ≡ told self.old (asked ask.now) moment) }
-        ensures lawful { OnOk result (create_status self.old (asked ask.now) ≡ success) }
+        ensures told { IfOk result (λ done. done ≡ create_result self.old (asked ask.now) moment) }
+        ensures lawful { OnOk result (create_status self.old (asked ask.now) ≡ STATUS_SUCCESS) }
         ensures err { OnErr result (self.new ≡ self.old) }
         ensures why { IfErr result (λ fault. IsRefusal (create_status self.old (asked ask.now)) fault) }
     {
@@ -130,7 +130,7 @@ impl<T: Tree + Drop, O: Opens + Drop> Store<T, O> {
         };
         let found = self.find(&path);
         let status = found_status(ask, disposition, &found);
-        if status != SUCCESS {
+        if status != STATUS_SUCCESS {
             return Err(StoreFault::Status(status));
         }
         match found.target {
@@ -161,8 +161,8 @@ impl<T: Tree + Drop, O: Opens + Drop> Store<T, O> {
         requires path { parts_of path.now ≡ path_spelled (units_of ask.now.name) }
         requires free { add_fault self.old.tree (folded_path (parts_of path.now)) ≡ None }
         requires room { has_all_opens self.old ≡ false }
-        ensures store { OnOk result (self.new ≡ created_by self.old (asked ask.now) moment (granted ask.now.access false) None) }
-        ensures told { IfOk result (λ done. done ≡ told_by self.old (asked ask.now) moment (granted ask.now.access false) None) }
+        ensures store { OnOk result (self.new ≡ created_by self.old (asked ask.now) moment (granted ask.now.access.0 false) None) }
+        ensures told { IfOk result (λ done. done ≡ create_result_by self.old (asked ask.now) moment (granted ask.now.access.0 false) None) }
         ensures err { OnErr result (self.new ≡ self.old) }
         ensures memory { IfErr result (λ fault. fault ≡ NoMemory) }
     {
@@ -197,16 +197,16 @@ impl<T: Tree + Drop, O: Opens + Drop> Store<T, O> {
     fn open_standing(
         &mut self,
         ask: &CreateAsk<'_>,
-        disposition: Disposition,
+        disposition: CreateDisposition,
         target: Target,
         moment: u64,
     ) -> Result<Created, StoreFault>
-        requires disposition { disposition_code disposition ≡ ask.now.disposition }
+        requires disposition { disposition_code disposition ≡ ask.now.disposition.0 }
         requires target { option_map target_of (entry_asked self.old (asked ask.now)) ≡ Some target }
-        requires file { overwrites_by ask.now.disposition ≡ true → is_folder_kind target.kind ≡ false }
+        requires file { overwrites_by ask.now.disposition.0 ≡ true → is_folder_kind target.kind ≡ false }
         requires room { has_all_opens self.old ≡ false }
-        ensures store { OnOk result (self.new ≡ created_by self.old (asked ask.now) moment (granted ask.now.access (is_read_only_target (Some target))) (entry_asked self.old (asked ask.now))) }
-        ensures told { IfOk result (λ done. done ≡ told_by self.old (asked ask.now) moment (granted ask.now.access (is_read_only_target (Some target))) (entry_asked self.old (asked ask.now))) }
+        ensures store { OnOk result (self.new ≡ created_by self.old (asked ask.now) moment (granted ask.now.access.0 (is_read_only_target (Some target))) (entry_asked self.old (asked ask.now))) }
+        ensures told { IfOk result (λ done. done ≡ create_result_by self.old (asked ask.now) moment (granted ask.now.access.0 (is_read_only_target (Some target))) (entry_asked self.old (asked ask.now))) }
         ensures err { OnErr result (self.new ≡ self.old) }
         ensures memory { IfErr result (λ fault. fault ≡ NoMemory) }
     {

@@ -10,7 +10,7 @@ use Rattle.std.proofs.lemmas.List.{append-nil}
 use Rattle.smb_replay.specs.declared.script.Script.{Script}
 use Rattle.smb_replay.specs.Reading.{script_text, behind}
 use Rattle.smb_engine.specs.Event.{text_of}
-use Rattle.smb_replay.specs.Script.{lines_of, LineText, and_then, read_line, script_from, script_of}
+use Rattle.smb_replay.specs.Script.{lines_of, LineText, line_then, read_line, script_from, script_of}
 
 abbrev to_end : List ℕ → ℕ
 to_end text = prefix_len (λ c. not (eqb c 10)) text
@@ -63,8 +63,8 @@ script_end script h = rw (h, append-nil (map text_of script.events.items), appen
 -- the last line of a text
 pub read_last : (before now : Script) (text : List ℕ) (line : LineText) (rest content : List ℕ) (number : ℕ) →
     behind before (script_from number (lines_of rest)) ≡ script_of text → lines_of rest ≡ content ∷ [] → line ≡ read_line content → now.unreadable_at ≡ None →
-    behind now (record { events = []; places = []; unreadable_at = None }) ≡ behind before (and_then number line (record { events = []; places = []; unreadable_at = None })) →
+    behind now (record { events = []; places = []; unreadable_at = None }) ≡ behind before (line_then number line (record { events = []; places = []; unreadable_at = None })) →
     script_text now ≡ script_of text
 read_last before now text line rest content number left lines e none add =
-    script_end now none ∙ add ∙ ap (λ l. behind before (and_then number l (record { events = []; places = []; unreadable_at = None }))) e
+    script_end now none ∙ add ∙ ap (λ l. behind before (line_then number l (record { events = []; places = []; unreadable_at = None }))) e
     ∙ sym (ap (λ ls. behind before (script_from number ls)) lines) ∙ left

@@ -5,14 +5,15 @@ use Rattle.std.proofs.lemmas.List.{append-nil, drop_more, drop_all}
 use Rattle.std.proofs.lemmas.Option.{slice_get_within, get_or_from_slice_get}
 use Rattle.smb_frame.specs.Reading.{first, after, payloads, rest}
 use Rattle.smb_frame.proofs.Streams.{payloads-none, payloads-some, rest-none, rest-some}
-use Rattle.smb_replay.specs.Show.{Shown, good_lines, last_line, then_lines, longest_payload, payload_lines, rest_lines, lines_from, show_of, request_line, request_lines}
+use Rattle.smb_engine.specs.Stream.{longest_payload}
+use Rattle.smb_replay.specs.Show.{ListingText, good_lines, last_line, then_lines, payload_lines, rest_lines, lines_from, show_of, request_line, request_lines}
 
 -- what a buffer with the limit holds first
 pub at_limit : (limit : ℕ) (bytes : List ℕ) (o : Option (List ℕ)) → limit ≡ longest_payload → o ≡ first limit bytes → first longest_payload bytes ≡ o
 at_limit limit bytes o e h = sym (rw e at h)
 
 -- what is listed of held bytes, from the frame of this number on
-pub lines_of_held : ℕ → List ℕ → Shown
+pub lines_of_held : ℕ → List ℕ → ListingText
 lines_of_held frame held = lines_from frame (payloads longest_payload held) (rest longest_payload held)
 
 pub held-whole : (stream : List ℕ) → then_lines (good_lines []) (lines_of_held 1 stream) ≡ show_of stream
@@ -28,10 +29,10 @@ held-none : (frame : ℕ) (held : List ℕ) → first longest_payload held ≡ N
 unfolding lines_of_held
 held-none frame held f = rw (payloads-none longest_payload held f, rest-none longest_payload held f) refl
 
-on : (text : List ℕ) (p o : Shown) → p.is_good ≡ true → then_lines (good_lines (text ++ p.text)) o ≡ then_lines (good_lines text) (then_lines p o)
+on : (text : List ℕ) (p o : ListingText) → p.is_good ≡ true → then_lines (good_lines (text ++ p.text)) o ≡ then_lines (good_lines text) (then_lines p o)
 on text p o g = rw g (ap (λ t. record { text = t; is_good = o.is_good }) (append_assoc text p.text o.text))
 
-over : (text : List ℕ) (p o : Shown) → p.is_good ≡ false → last_line (text ++ p.text) ≡ then_lines (good_lines text) (then_lines p o)
+over : (text : List ℕ) (p o : ListingText) → p.is_good ≡ false → last_line (text ++ p.text) ≡ then_lines (good_lines text) (then_lines p o)
 over text p o g = rw g refl
 
 -- a payload with nothing wrong

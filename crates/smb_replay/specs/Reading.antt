@@ -1,3 +1,4 @@
+-- For the proofs; nothing here need be believed.
 -- A script that is being read.
 use Rattle.std.specs.Prelude.{◌++◌, map, Bool, if◌then◌else◌}
 use Rattle.smb_engine.specs.Event.{text_of}
@@ -17,5 +18,5 @@ behind script later = record {
 }
 
 -- a script is whole, or more is read behind it
-abbrev pub so_far : Bool → Script → ScriptText → ScriptText
-so_far goes_on script later = if goes_on then behind script later else script_text script
+abbrev pub script_so_far : Bool → Script → ScriptText → ScriptText
+script_so_far goes_on script later = if goes_on then behind script later else script_text script

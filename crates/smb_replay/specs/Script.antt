@@ -1,3 +1,4 @@
+-- For the proofs; nothing here need be believed.
 -- The text of a replay: one event a line.
 use Rattle.std.specs.Prelude.{ℕ, ◌+◌, ◌-◌, ◌*◌, Bool, ◌&&◌, ◌==◌, not, nat_le, nat_lt, List, [], ◌∷◌, length, take, drop, position, Option, Some, None, if◌then◌else◌}
 use Rattle.std.specs.List.{list_all}
@@ -17,8 +18,8 @@ decimal_from n [] = n
 decimal_from n (digit ∷ digits) = decimal_from (10 * n + (digit - 48)) digits
 
 -- a number: one decimal digit or more, below 2 ^ 64
-abbrev pub number_of : List ℕ → Option ℕ
-number_of digits =
+abbrev pub decimal_number : List ℕ → Option ℕ
+decimal_number digits =
     if nat_lt 0 (length digits) && list_all is_digit digits && nat_lt (decimal_from 0 digits) 18446744073709551616
     then Some (decimal_from 0 digits) else None
 
@@ -51,8 +52,8 @@ piece_parts text =
     option_and_then (λ first.
     option_and_then (λ number.
     option_and_then (λ second.
-    option_map (λ moment. (number, moment, second.1)) (number_of second.0))
-    (at_blank first.1)) (number_of first.0)) (at_blank text)
+    option_map (λ moment. (number, moment, second.1)) (decimal_number second.0))
+    (at_blank first.1)) (decimal_number first.0)) (at_blank text)
 
 abbrev pub bytes_line : List ℕ → LineText
 bytes_line text =
@@ -63,8 +64,8 @@ abbrev pub marked_line : ℕ → List ℕ → LineText
 marked_line mark [] = unreadable
 marked_line mark (blank ∷ text) =
     if not (blank == 32) then unreadable else
-    if mark == 43 then with_part (number_of text) (λ number. says (opens number)) else
-    if mark == 45 then with_part (number_of text) (λ number. says (ends number)) else
+    if mark == 43 then with_part (decimal_number text) (λ number. says (opens number)) else
+    if mark == 45 then with_part (decimal_number text) (λ number. says (ends number)) else
     if mark == 62 then bytes_line text else unreadable
 
 -- `+ N` opens a connection, `> N MOMENT HEX` brings a piece, `- N` ends a connection; an empty line and one that `#`
@@ -89,14 +90,14 @@ pub record ScriptText : Type 0 where
   pub places : List ℕ
   pub unreadable_at : Option ℕ
 
-abbrev pub and_then : ℕ → LineText → ScriptText → ScriptText
-and_then number skipped script = script
-and_then number unreadable script = record { events = []; places = []; unreadable_at = Some number }
-and_then number (says event) script = record script { events = event ∷ script.events; places = number ∷ script.places }
+abbrev pub line_then : ℕ → LineText → ScriptText → ScriptText
+line_then number skipped script = script
+line_then number unreadable script = record { events = []; places = []; unreadable_at = Some number }
+line_then number (says event) script = record script { events = event ∷ script.events; places = number ∷ script.places }
 
 abbrev pub script_from : ℕ → List (List ℕ) → ScriptText
 script_from number [] = record { events = []; places = []; unreadable_at = None }
-script_from number (line ∷ lines) = and_then number (read_line line) (script_from (number + 1) lines)
+script_from number (line ∷ lines) = line_then number (read_line line) (script_from (number + 1) lines)
 
 abbrev pub script_of : List ℕ → ScriptText
 script_of text = script_from 1 (lines_of text)

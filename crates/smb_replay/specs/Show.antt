@@ -1,3 +1,4 @@
+-- For the proofs; nothing here need be believed.
 -- The listing of a client's stream: a line for each request.
 use Rattle.std.specs.Prelude.{ℕ, ◌+◌, Bool, true, false, ◌&&◌, ◌||◌, ◌==◌, not, List, [], ◌∷◌, ◌++◌, length, Option, is_some, codes, decimal, string_bytes, if◌then◌else◌}
 use Rattle.std.specs.List.{filter}
@@ -7,15 +8,16 @@ use Rattle.hex.specs.Hex.{decode_of}
 use Rattle.smb_frame.specs.declared.fault.FrameFault.{FrameFault}
 use Rattle.smb_frame.specs.declared.fault.FrameFault.TheVariants.{FirstByte, TooLong, PayloadTooLong, NoMemory}
 use Rattle.smb_frame.specs.Reading.{payloads, rest, fault_of}
-use Rattle.smb_head.specs.declared.command.Command.{Command}
-use Rattle.smb_head.specs.declared.command.Command.TheVariants.{Negotiate, SessionSetup, Logoff, TreeConnect, TreeDisconnect, Create, Close, Flush, Read, Write, Lock, Ioctl, Cancel, Echo, QueryDirectory, ChangeNotify, QueryInfo, SetInfo, OplockBreak}
+use Rattle.smb_wire.specs.declared.command.Command.{Command}
+use Rattle.smb_wire.specs.declared.command.Command.TheVariants.{Negotiate, SessionSetup, Logoff, TreeConnect, TreeDisconnect, Create, Close, Flush, Read, Write, Lock, Ioctl, Cancel, Echo, QueryDirectory, ChangeNotify, QueryInfo, SetInfo, OplockBreak}
 use Rattle.smb_head.specs.declared.fault.HeadFault.{HeadFault}
 use Rattle.smb_head.specs.Chains.{chain_of, chain_fault}
-use Rattle.smb_head.specs.Commands.{known_command}
+use Rattle.smb_wire.specs.Commands.{known_command}
 use Rattle.smb_head.specs.Faults.{fault_number}
 use Rattle.smb_head.specs.Headers.{header_of}
 use Rattle.smb_body.specs.Requests.{request_of}
 use Rattle.smb_body.specs.Smb1.{smb1_of}
+use Rattle.smb_engine.specs.Stream.{longest_payload}
 use Rattle.smb_replay.specs.declared.show.Listing.{Listing}
 
 -- ASCII white space: blank, tab, line feed, form feed, carriage return
@@ -25,10 +27,6 @@ is_white c = (c == 32) || ((c == 9) || ((c == 10) || ((c == 12) || (c == 13))))
 -- the bytes that a text spells in hex, its white space left out; none where it spells no whole bytes
 abbrev pub stream_of : List ℕ → Option (List ℕ)
 stream_of text = result_ok (decode_of (filter (λ c. not (is_white c)) text))
-
--- the longest payload of a frame, in bytes
-abbrev pub longest_payload : ℕ
-longest_payload = 131072
 
 -- a command's name ([MS-SMB2] 2.2.1.2)
 abbrev pub name_of : Command → List ℕ
@@ -73,18 +71,18 @@ request_lines frame number [] = []
 request_lines frame number (request ∷ requests) = request_line frame number request ++ request_lines frame (number + 1) requests
 
 -- some lines, and whether nothing is wrong that ends them
-pub record Shown : Type 0 where
+pub record ListingText : Type 0 where
   pub text : List ℕ
   pub is_good : Bool
 
-abbrev pub good_lines : List ℕ → Shown
+abbrev pub good_lines : List ℕ → ListingText
 good_lines text = record { text = text; is_good = true }
 
-abbrev pub last_line : List ℕ → Shown
+abbrev pub last_line : List ℕ → ListingText
 last_line text = record { text = text; is_good = false }
 
 -- lines, and those that follow them unless they are the last
-abbrev pub then_lines : Shown → Shown → Shown
+abbrev pub then_lines : ListingText → ListingText → ListingText
 then_lines lines others = if lines.is_good then record others { text = lines.text ++ others.text } else lines
 
 -- `F: HN`: the payload of the F-th frame is no chain
@@ -92,13 +90,13 @@ abbrev pub no_chain : ℕ → HeadFault → List ℕ
 no_chain frame fault = decimal frame ++ codes ": H" ++ decimal (fault_number fault) ++ 10 ∷ []
 
 -- a payload as a chain: its requests' lines, or its first fault
-abbrev pub chain_lines : ℕ → List ℕ → Shown
+abbrev pub chain_lines : ℕ → List ℕ → ListingText
 chain_lines frame payload =
     option_map_or (λ requests. good_lines (request_lines frame 1 requests)) (chain_of payload)
     (last_line (option_map_or (no_chain frame) (chain_fault payload) []))
 
 -- a payload: the first may be an SMB_COM_NEGOTIATE, in place of a chain ([MS-SMB2] 3.3.5.3.1)
-unfoldable pub payload_lines : ℕ → List ℕ → Shown
+unfoldable pub payload_lines : ℕ → List ℕ → ListingText
 payload_lines frame payload =
     if (frame == 1) && is_some (smb1_of payload) then good_lines (codes "1 smb1 negotiate" ++ 10 ∷ []) else chain_lines frame payload
 
@@ -114,20 +112,20 @@ abbrev pub no_frame : ℕ → FrameFault → List ℕ
 no_frame frame fault = decimal frame ++ codes ": F" ++ decimal (frame_fault_number fault) ++ 10 ∷ []
 
 -- what stands behind the last whole frame: its fault, or how many bytes it has, if any
-unfoldable pub rest_lines : ℕ → List ℕ → Shown
+unfoldable pub rest_lines : ℕ → List ℕ → ListingText
 rest_lines frame bytes =
     option_map_or (λ fault. last_line (no_frame frame fault)) (fault_of longest_payload bytes) (
     if length bytes == 0 then good_lines [] else last_line (codes "rest " ++ decimal (length bytes) ++ 10 ∷ []))
 
 -- payloads from the frame of this number on, and the rest of a stream, up to the first fault
-abbrev pub lines_from : ℕ → List (List ℕ) → List ℕ → Shown
+abbrev pub lines_from : ℕ → List (List ℕ) → List ℕ → ListingText
 lines_from frame [] bytes = rest_lines frame bytes
 lines_from frame (payload ∷ payloads) bytes = then_lines (payload_lines frame payload) (lines_from (frame + 1) payloads bytes)
 
 -- the listing of a stream; frames are counted from 1
-abbrev pub show_of : List ℕ → Shown
+abbrev pub show_of : List ℕ → ListingText
 show_of stream = lines_from 1 (payloads longest_payload stream) (rest longest_payload stream)
 
 -- a listing, without where its bytes lie
-abbrev pub shown : Listing → Shown
-shown listing = record { text = string_bytes listing.text; is_good = listing.is_good }
+abbrev pub listing_text : Listing → ListingText
+listing_text listing = record { text = string_bytes listing.text; is_good = listing.is_good }

@@ -4,9 +4,9 @@ ghost use Rattle.std.specs.Prelude.{ℕ, ◌≡◌, ◌≤◌, ◌<◌, ◌+◌,
 ghost use Rattle.std.specs.List.{list_all};
 ghost use Rattle.std.specs.Option.{option_map, option_map_or};
 ghost use Rattle.smb_engine.specs.Event.{text_of, opens, ends};
-ghost use Rattle.smb_replay.specs.Script.{is_digit, decimal_from, number_of, piece_of, at_blank, line_text, piece_parts, bytes_line, with_part, says, read_line, lines_of, and_then, script_of, script_from};
+ghost use Rattle.smb_replay.specs.Script.{is_digit, decimal_from, decimal_number, piece_of, at_blank, line_text, piece_parts, bytes_line, with_part, says, read_line, lines_of, line_then, script_of, script_from};
 ghost use Rattle.smb_replay.specs.Script.{ScriptText};
-ghost use Rattle.smb_replay.specs.Reading.{script_text, behind, so_far};
+ghost use Rattle.smb_replay.specs.Reading.{script_text, behind, script_so_far};
 
 use hex::FromHexError;
 use smb_engine::Event;
@@ -56,7 +56,7 @@ fn spelled(digits: &[u8]) -> Option<u64>
 
 /// A number of one decimal digit or more, below 2^64.
 fn number_of(digits: &[u8]) -> Option<u64>
-    ensures { result ≡ number_of digits.now }
+    ensures { result ≡ decimal_number digits.now }
 {
     if are_digits(digits) {
         spelled(digits)
@@ -127,7 +127,7 @@ fn bytes_line(alloc: Global, text: &[u8]) -> Result<Line, AllocError>
 
 /// The rest of a line that opens a connection.
 fn opened_line(text: &[u8]) -> Line
-    ensures { line_text result ≡ with_part (number_of text.now) (λ number. says (opens number)) }
+    ensures { line_text result ≡ with_part (decimal_number text.now) (λ number. says (opens number)) }
 {
     match number_of(text) {
         Some(number) => Line::Happens(Event::Opened(number)),
@@ -137,7 +137,7 @@ fn opened_line(text: &[u8]) -> Line
 
 /// The rest of a line that ends a connection.
 fn ended_line(text: &[u8]) -> Line
-    ensures { line_text result ≡ with_part (number_of text.now) (λ number. says (ends number)) }
+    ensures { line_text result ≡ with_part (decimal_number text.now) (λ number. says (ends number)) }
 {
     match number_of(text) {
         Some(number) => Line::Happens(Event::Ended(number)),
@@ -182,7 +182,7 @@ pub(crate) struct Script {
 impl Script {
     /// Adds what a line says, and tells whether the next line is to be read.
     fn add(&mut self, number: u64, line: Line) -> Result<bool, AllocError>
-        ensures added { (later : ScriptText) → IfOk result (λ goes_on. so_far goes_on self.new later ≡ behind self.old (and_then number (line_text line) later)) }
+        ensures added { (later : ScriptText) → IfOk result (λ goes_on. script_so_far goes_on self.new later ≡ behind self.old (line_then number (line_text line) later)) }
         ensures readable { IfOk result (λ goes_on. IsTrue goes_on → self.new.unreadable_at ≡ self.old.unreadable_at) }
     {
         match line {

@@ -5,13 +5,15 @@ ghost use Rattle.std.specs.List.{filter};
 ghost use Rattle.std.specs.Option.{option_map};
 ghost use Rattle.smb_head.specs.Headers.{header_of};
 ghost use Rattle.smb_body.specs.Requests.{request_of};
-ghost use Rattle.smb_replay.specs.Show.{is_white, stream_of, longest_payload, name_of, called, line_end, request_line, request_lines, payload_lines, frame_fault_number, rest_lines, show_of, shown};
+ghost use Rattle.smb_engine.specs.Stream.{longest_payload};
+ghost use Rattle.smb_replay.specs.Show.{is_white, stream_of, name_of, called, line_end, request_line, request_lines, payload_lines, frame_fault_number, rest_lines, show_of, listing_text};
 
 use crate::input::{CommandFault, read_input};
 use hex::FromHexError;
 use smb_body::{read_body, read_smb1_negotiate};
 use smb_frame::{FrameBuffer, FrameFault};
-use smb_head::{Chain, Command, CommandCode, Header, read_chain};
+use smb_head::{Chain, Header, read_chain};
+use smb_wire::{Command, CommandCode};
 use std::alloc::{AllocError, Global};
 use std::io::{Read, Write};
 
@@ -195,7 +197,7 @@ fn put_rest(frame: u64, buffer: &FrameBuffer, text: &mut String) -> Result<bool,
 
 /// A buffer that holds a whole stream.
 fn buffer_of(alloc: Global, stream: &[u8]) -> Result<FrameBuffer, AllocError>
-    ensures { IfOk result (λ buffer. buffer ≡ record { limit = longest_payload; bytes = stream.now }) }
+    ensures { IfOk result (λ buffer. buffer ≡ record { limit = longest_payload; done = 0; bytes = stream.now }) }
 {
     let mut buffer = FrameBuffer::new(alloc, LONGEST_PAYLOAD);
     match buffer.push(stream) {
@@ -206,7 +208,7 @@ fn buffer_of(alloc: Global, stream: &[u8]) -> Result<FrameBuffer, AllocError>
 
 /// The listing of a stream.
 fn list_stream(alloc: Global, stream: &[u8]) -> Result<Listing, AllocError>
-    ensures { IfOk result (λ listing. shown listing ≡ show_of stream.now) }
+    ensures { IfOk result (λ listing. listing_text listing ≡ show_of stream.now) }
 {
     let mut buffer = buffer_of(alloc, stream)?;
     let mut text = String::new(alloc);

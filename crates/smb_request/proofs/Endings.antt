@@ -8,7 +8,7 @@ use Rattle.std.specs.BTreeMap.{is_at}
 use Rattle.std.specs.Ordering.{nat_cmp}
 use Rattle.smb_session.specs.Numbers.{IsRising}
 use Rattle.smb_session.specs.Session.{SessionState}
-use Rattle.smb_session.specs.Table.{TableState, numbers_on, ended, EndStep, end_connection_step}
+use Rattle.smb_session.specs.Table.{TableState, numbers_on, session_ended, EndStep, end_connection_step}
 use Rattle.smb_session.specs.Good.{GoodTable}
 use Rattle.smb_session.specs.Sessions.{SessionsState}
 use Rattle.smb_session.specs.Numbers.{without_number}
@@ -66,7 +66,7 @@ none_left c (e ∷ es) h = none_at c e es (eqb e.1.connection c) refl (none_left
 
 -- the end of a connection's first session changes nothing of what the end of the connection leaves
 pub one_session : (table : TableState) (c n : ℕ) → IsRising (map (λ x. x.0) table.sessions) → slice_get (numbers_on table.sessions c) 0 ≡ Some n →
-    (without_connection (ended table n) c ≡ without_connection table c) × (numbers_on table.sessions c ≡ n ∷ numbers_on (ended table n).sessions c)
+    (without_connection (session_ended table n) c ≡ without_connection table c) × (numbers_on table.sessions c ≡ n ∷ numbers_on (session_ended table n).sessions c)
 one_session table c n r h =
     let one = one_ended n c table.sessions r h in
     (ap (λ es. record (without_connection table c) { sessions = es }) one.others, one.left)
@@ -74,15 +74,15 @@ one_session table c n r h =
 -- what one call of the end of a connection does, by its first session
 abbrev step_by : TableState → ℕ → Option ℕ → EndStep
 step_by table c first = option_map_or
-    (λ number. record { table = ended table number; told = Some number })
+    (λ number. record { table = session_ended table number; told = Some number })
     first
     (record { table = record table { connections = without_number table.connections c }; told = None })
 
-some_at : (table table' : TableState) (c n : ℕ) (o : Option ℕ) → record { table = table'; told = Some n } ≡ step_by table c o → (o ≡ Some n) × (table' ≡ ended table n)
+some_at : (table table' : TableState) (c n : ℕ) (o : Option ℕ) → record { table = table'; told = Some n } ≡ step_by table c o → (o ≡ Some n) × (table' ≡ session_ended table n)
 some_at table table' c n None h = let e = ap (λ s. s.told) h in cc
 some_at table table' c n (Some k) h =
     let e : n ≡ k = let t = ap (λ s. s.told) h in cc in
-    (ap (λ x. Some x) (sym e), ap (λ s. s.table) h ∙ ap (ended table) (sym e))
+    (ap (λ x. Some x) (sym e), ap (λ s. s.table) h ∙ ap (session_ended table) (sym e))
 
 none_of : (table table' : TableState) (c : ℕ) (o : Option ℕ) → record { table = table'; told = None } ≡ step_by table c o →
     (o ≡ None) × (table' ≡ record table { connections = without_number table.connections c })
@@ -115,7 +115,7 @@ pub ended_same : (table table' : TableState) (c : ℕ) → record { table = tabl
 ended_same table table' c h = ap (λ t. t.sessions) (none_of table table' c (slice_get (numbers_on table.sessions c) 0) h).1
 
 -- a session ended: it is the first
-pub ended_first : (table table' : TableState) (c n : ℕ) → record { table = table'; told = Some n } ≡ end_connection_step table c → table' ≡ ended table n
+pub ended_first : (table table' : TableState) (c n : ℕ) → record { table = table'; told = Some n } ≡ end_connection_step table c → table' ≡ session_ended table n
 ended_first table table' c n h = (some_at table table' c n (slice_get (numbers_on table.sessions c) 0) h).1
 
 module _ {S : Type 0} (settings : Settings) (sessions sessions' : SessionsState S) (store : StoreState) (c : ℕ) where

@@ -10,8 +10,8 @@ use Rattle.smb_session.specs.declared.fault.SessionFault.TheVariants.{UnknownSes
 use Rattle.smb_session.specs.Authenticator.{Answered, continues, accepts, denies, Meaning}
 use Rattle.smb_session.specs.Numbers.{contains}
 use Rattle.smb_session.specs.Session.{SessionState, fresh_session, finished_by, with_tree, without_tree}
-use Rattle.smb_session.specs.Table.{TableState, session_at, changed_at, connected, begun, ended, tree_connected, tree_disconnected}
-use Rattle.smb_session.specs.Setup.{standing_refusal, setup_refusal, setup_number, setup_table, previous_ended, answered, told}
+use Rattle.smb_session.specs.Table.{TableState, session_at, changed_at, connected, begun, session_ended, tree_connected, tree_disconnected}
+use Rattle.smb_session.specs.Setup.{known_session_refusal, setup_refusal, setup_number, setup_table, previous_ended, table_answered, setup_result}
 use Rattle.smb_session.specs.Good.{GoodTable}
 use Rattle.smb_session.proofs.Numbers.{equal_back, contains-without}
 use Rattle.smb_session.specs.Sessions.{SessionsState, setup_step}
@@ -126,8 +126,8 @@ pub owned_same : (table table' : TableState) (rows : List OpenRow) → table'.se
 owned_same table table' rows e a = owned_all table table' rows (λ row h. rw e h) a
 
 -- a session less, and its opens
-pub owned_ended : (table : TableState) (n : ℕ) (rows : List OpenRow) → AreOwned table rows → AreOwned (ended table n) (filter (λ row. not (is_held_by (Session n) row)) rows)
-owned_ended table n rows a = owned_rest table (ended table n) (Session n) rows (λ row d h. passes-removed (has_tree row.tree) row.session n table.sessions d ∙ h) a
+pub owned_ended : (table : TableState) (n : ℕ) (rows : List OpenRow) → AreOwned table rows → AreOwned (session_ended table n) (filter (λ row. not (is_held_by (Session n) row)) rows)
+owned_ended table n rows a = owned_rest table (session_ended table n) (Session n) rows (λ row d h. passes-removed (has_tree row.tree) row.session n table.sessions d ∙ h) a
 
 any_at : (m n k : ℕ) (ns : List ℕ) (b : Bool) → eqb m k ≡ b → (contains ns k ≡ true → contains (ns ++ n ∷ []) k ≡ true) → contains (m ∷ ns) k ≡ true → contains (m ∷ ns ++ n ∷ []) k ≡ true
 any_at m n k ns true t ih h = rw t refl
@@ -151,27 +151,27 @@ owned_untree table n tree rows a =
     (λ e s u. let p = and_parts (is_some s.user) (contains s.trees row.tree) u in let other : eqb row.tree tree ≡ false = rw e at d in rw (p.0, contains-without s.trees tree row.tree other p.1) refl) h) a
 
 -- a session is finished
-owned_finished : (table : TableState) (user : List ℕ) (n : ℕ) (rows : List OpenRow) → AreOwned table rows → AreOwned (Rattle.smb_session.specs.Table.changed (finished_by user) table n) rows
+owned_finished : (table : TableState) (user : List ℕ) (n : ℕ) (rows : List OpenRow) → AreOwned table rows → AreOwned (Rattle.smb_session.specs.Table.session_changed (finished_by user) table n) rows
 owned_finished table user n rows a =
-    owned_all table (Rattle.smb_session.specs.Table.changed (finished_by user) table n) rows
+    owned_all table (Rattle.smb_session.specs.Table.session_changed (finished_by user) table n) rows
     (λ row h. passes-changed (has_tree row.tree) row.session (finished_by user) n table.sessions (λ e s u. let p = and_parts (is_some s.user) (contains s.trees row.tree) u in p.1) h) a
 
 -- a session that stands nowhere ends
-owned_denied : (table : TableState) (n : ℕ) (rows : List OpenRow) → ((tree : ℕ) → stands table n tree ≡ false) → AreOwned table rows → AreOwned (ended table n) rows
-owned_denied table n rows none a = owned_all table (ended table n) rows (λ row h. at row h (eqb row.session n) refl) a
+owned_denied : (table : TableState) (n : ℕ) (rows : List OpenRow) → ((tree : ℕ) → stands table n tree ≡ false) → AreOwned table rows → AreOwned (session_ended table n) rows
+owned_denied table n rows none a = owned_all table (session_ended table n) rows (λ row h. at row h (eqb row.session n) refl) a
   where
-    at : (row : OpenRow) → is_owned table row ≡ true → (b : Bool) → eqb row.session n ≡ b → is_owned (ended table n) row ≡ true
+    at : (row : OpenRow) → is_owned table row ≡ true → (b : Bool) → eqb row.session n ≡ b → is_owned (session_ended table n) row ≡ true
     at row h true t = let same : row.session ≡ n = eqb-true row.session n t in let no = none row.tree in let yes : stands table n row.tree ≡ true = rw (← same) h in cc
     at row h false t = passes-removed (has_tree row.tree) row.session n table.sessions t ∙ h
 
 -- an answer about a session
 owned_accepted : (table : TableState) (user : List ℕ) (n : ℕ) (previous : Option ℕ) (rows : List OpenRow) → AreOwned table rows →
-    AreOwned (Rattle.smb_session.specs.Table.changed (finished_by user) (option_map_or (ended table) previous table) n) (opens_left previous rows)
+    AreOwned (Rattle.smb_session.specs.Table.session_changed (finished_by user) (option_map_or (session_ended table) previous table) n) (opens_left previous rows)
 owned_accepted table user n None rows a = owned_finished table user n rows a
-owned_accepted table user n (Some previous) rows a = owned_finished (ended table previous) user n _ (owned_ended table previous rows a)
+owned_accepted table user n (Some previous) rows a = owned_finished (session_ended table previous) user n _ (owned_ended table previous rows a)
 
 owned_answered : (table : TableState) (n previous : ℕ) (answer : Answered) (rows : List OpenRow) → ((tree : ℕ) → stands table n tree ≡ false) → AreOwned table rows →
-    AreOwned (answered table n previous answer) (opens_left (told table n previous answer).ended rows)
+    AreOwned (table_answered table n previous answer) (opens_left (setup_result table n previous answer).ended rows)
 owned_answered table n previous (continues token) rows none a = a
 owned_answered table n previous (accepts user flags token) rows none a = owned_accepted table user n (previous_ended table user previous) rows a
 owned_answered table n previous denies rows none a = owned_denied table n rows none a
@@ -182,14 +182,14 @@ past true fault others h = cc
 past false fault others h = h
 
 -- a session that is set up is not finished
-unfinished : (c tree : ℕ) (s : SessionState) → standing_refusal c s ≡ None → has_tree tree s ≡ false
+unfinished : (c tree : ℕ) (s : SessionState) → known_session_refusal c s ≡ None → has_tree tree s ≡ false
 unfinished c tree s h = at (is_some s.user) refl (past (not (eqb s.connection c)) UnknownSession _ h)
   where
     at : (b : Bool) → is_some s.user ≡ b → (if is_some s.user then Some NotAccepted else None) ≡ None → has_tree tree s ≡ false
     at true t i = let n = rw t at i in cc
     at false t i = rw t refl
 
-unfinished_at : (c tree : ℕ) (o : Option SessionState) → option_map_or (standing_refusal c) o (Some UnknownSession) ≡ None → option_map_or (has_tree tree) o false ≡ false
+unfinished_at : (c tree : ℕ) (o : Option SessionState) → option_map_or (known_session_refusal c) o (Some UnknownSession) ≡ None → option_map_or (has_tree tree) o false ≡ false
 unfinished_at c tree None h = cc
 unfinished_at c tree (Some s) h = unfinished c tree s h
 

@@ -1,23 +1,23 @@
 -- What SESSION_SETUP and NEGOTIATE change.
 use Rattle.std.proofs.Common.{◌≡◌, ℕ, Bool, true, false, List, [], ◌∷◌, Option, None, Some, Ok, Err, refl, ap, ◌∙◌, if◌then◌else◌}
 use Rattle.std.specs.Option.{option_map_or}
-use Rattle.smb_session.specs.declared.dialect.Dialect.{Dialect}
+use Rattle.smb_wire.specs.declared.dialect.Dialect.{Dialect}
 use Rattle.smb_session.specs.declared.fault.SessionFault.{SessionFault}
 use Rattle.smb_session.specs.declared.fault.SessionFault.TheVariants.{NoDialect}
 use Rattle.smb_session.specs.Authenticator.{Answered, continues, accepts, denies, Meaning}
-use Rattle.smb_session.specs.Table.{TableState, begun, ended}
-use Rattle.smb_session.specs.Setup.{answered, previous_ended, setup_table}
+use Rattle.smb_session.specs.Table.{TableState, begun, session_ended}
+use Rattle.smb_session.specs.Setup.{table_answered, previous_ended, setup_table}
 use Rattle.smb_session.specs.Sessions.{SessionsState, setup_step}
 use Rattle.smb_head.specs.declared.header.Header.{Header}
 use Rattle.smb_head.specs.Replies.{joined_replies}
 use Rattle.smb_body.specs.Replies.{ReplyValue, reply_spelling}
 use Rattle.smb_request.specs.Smb1.{reply_to_smb1}
 
-ended-connections : (table : TableState) (o : Option ℕ) → (option_map_or (ended table) o table).connections ≡ table.connections
+ended-connections : (table : TableState) (o : Option ℕ) → (option_map_or (session_ended table) o table).connections ≡ table.connections
 ended-connections table None = refl
 ended-connections table (Some n) = refl
 
-answered-connections : (table : TableState) (number previous : ℕ) (answer : Answered) → (answered table number previous answer).connections ≡ table.connections
+answered-connections : (table : TableState) (number previous : ℕ) (answer : Answered) → (table_answered table number previous answer).connections ≡ table.connections
 answered-connections table number previous (continues token) = refl
 answered-connections table number previous (accepts user flags token) = ended-connections table (previous_ended table user previous)
 answered-connections table number previous denies = refl

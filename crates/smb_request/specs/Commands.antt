@@ -1,7 +1,7 @@
 -- A row for each command: what it needs, and what becomes of it ([MS-SMB2] 2.2.1.2, 3.3.5).
 use Rattle.std.specs.Prelude.{Bool, true, false}
-use Rattle.smb_head.specs.declared.command.Command.{Command}
-use Rattle.smb_head.specs.declared.command.Command.TheVariants.{Negotiate, SessionSetup, Logoff, TreeConnect, TreeDisconnect, Create, Close, Flush, Read, Write, Lock, Ioctl, Cancel, Echo, QueryDirectory, ChangeNotify, QueryInfo, SetInfo, OplockBreak}
+use Rattle.smb_wire.specs.declared.command.Command.{Command}
+use Rattle.smb_wire.specs.declared.command.Command.TheVariants.{Negotiate, SessionSetup, Logoff, TreeConnect, TreeDisconnect, Create, Close, Flush, Read, Write, Lock, Ioctl, Cancel, Echo, QueryDirectory, ChangeNotify, QueryInfo, SetInfo, OplockBreak}
 use Rattle.smb_body.specs.Requests.{RequestValue, asks_negotiate, asks_session_setup, asks_logoff, asks_tree_connect, asks_tree_disconnect, asks_create, asks_close, asks_flush, asks_read, asks_write, asks_lock, asks_cancel, asks_echo, asks_query_directory, asks_query_info, asks_set_info}
 use Rattle.smb_request.specs.declared.command_row.Needs.{Needs}
 use Rattle.smb_request.specs.declared.command_row.Needs.TheVariants.{Nothing, Session, Tree, Open}
@@ -9,26 +9,26 @@ use Rattle.smb_request.specs.declared.command_row.Handling.TheVariants.{Built, N
 use Rattle.smb_request.specs.declared.command_row.Row.{Row}
 
 -- each command, from number 0 on: what its requests need, and whether they are performed, not supported yet, or passed over
-abbrev pub row_of : Command → Row
-row_of Negotiate = record { needs = Nothing; handling = Built }
-row_of SessionSetup = record { needs = Nothing; handling = Built }
-row_of Logoff = record { needs = Session; handling = Built }
-row_of TreeConnect = record { needs = Session; handling = Built }
-row_of TreeDisconnect = record { needs = Tree; handling = Built }
-row_of Create = record { needs = Tree; handling = Built }
-row_of Close = record { needs = Open; handling = Built }
-row_of Flush = record { needs = Open; handling = Built }
-row_of Read = record { needs = Open; handling = NotBuilt }
-row_of Write = record { needs = Open; handling = NotBuilt }
-row_of Lock = record { needs = Open; handling = NotBuilt }
-row_of Ioctl = record { needs = Open; handling = NotBuilt }
-row_of Cancel = record { needs = Nothing; handling = Passed }
-row_of Echo = record { needs = Nothing; handling = Built }
-row_of QueryDirectory = record { needs = Open; handling = NotBuilt }
-row_of ChangeNotify = record { needs = Open; handling = NotBuilt }
-row_of QueryInfo = record { needs = Open; handling = NotBuilt }
-row_of SetInfo = record { needs = Open; handling = NotBuilt }
-row_of OplockBreak = record { needs = Open; handling = NotBuilt }
+abbrev pub command_row : Command → Row
+command_row Negotiate = record { needs = Nothing; handling = Built }
+command_row SessionSetup = record { needs = Nothing; handling = Built }
+command_row Logoff = record { needs = Session; handling = Built }
+command_row TreeConnect = record { needs = Session; handling = Built }
+command_row TreeDisconnect = record { needs = Tree; handling = Built }
+command_row Create = record { needs = Tree; handling = Built }
+command_row Close = record { needs = Open; handling = Built }
+command_row Flush = record { needs = Open; handling = Built }
+command_row Read = record { needs = Open; handling = NotBuilt }
+command_row Write = record { needs = Open; handling = NotBuilt }
+command_row Lock = record { needs = Open; handling = NotBuilt }
+command_row Ioctl = record { needs = Open; handling = NotBuilt }
+command_row Cancel = record { needs = Nothing; handling = Passed }
+command_row Echo = record { needs = Nothing; handling = Built }
+command_row QueryDirectory = record { needs = Open; handling = NotBuilt }
+command_row ChangeNotify = record { needs = Open; handling = NotBuilt }
+command_row QueryInfo = record { needs = Open; handling = NotBuilt }
+command_row SetInfo = record { needs = Open; handling = NotBuilt }
+command_row OplockBreak = record { needs = Open; handling = NotBuilt }
 
 -- the command of a request
 abbrev pub command_asked : RequestValue → Command
@@ -50,7 +50,7 @@ command_asked (asks_query_info asked) = QueryInfo
 command_asked (asks_set_info asked) = SetInfo
 
 abbrev pub needs_of : RequestValue → Needs
-needs_of asked = (row_of (command_asked asked)).needs
+needs_of asked = (command_row (command_asked asked)).needs
 
 -- what needs a finished session, also where it needs more (3.3.5.2.9)
 abbrev pub needs_session : Needs → Bool

@@ -1,7 +1,8 @@
 -- CREATE and CLOSE ([MS-SMB2] 3.3.5.9, 3.3.5.10).
 use Rattle.std.specs.Prelude.{ℕ, Bool, false, ◌&&◌, ◌==◌, bit_and, List, Option, None, Some, if◌then◌else◌}
 use Rattle.std.specs.Option.{option_map_or}
-use Rattle.smb_body.specs.declared.types.FileId.{FileId}
+use Rattle.smb_wire.specs.declared.file_id.FileId.{FileId}
+use Rattle.smb_wire.specs.NtStatus.{STATUS_SUCCESS}
 use Rattle.smb_body.specs.declared.create.CreateResponse.{CreateResponse}
 use Rattle.smb_body.specs.declared.close.CloseFlags.{CloseFlags}
 use Rattle.smb_body.specs.declared.close.CloseResponse.{CloseResponse}
@@ -12,10 +13,10 @@ use Rattle.smb_opens.specs.declared.open_row.Owner.TheVariants.{Tree}
 use Rattle.smb_opens.specs.declared.view.View.{View}
 use Rattle.smb_opens.specs.declared.view.Created.{Created}
 use Rattle.smb_opens.specs.Opens.{open_of, is_held_by}
-use Rattle.smb_opens.specs.Asked.{CreateAsked as FileAsked}
+use Rattle.smb_opens.specs.Asked.{FileAsked}
 use Rattle.smb_opens.specs.Create.{create_status}
-use Rattle.smb_opens.specs.Effect.{created, told}
-use Rattle.smb_opens.specs.Views.{open_view, action_code}
+use Rattle.smb_opens.specs.Effect.{created, create_result}
+use Rattle.smb_opens.specs.Views.{open_view}
 use Rattle.smb_opens.specs.Close.{closed}
 use Rattle.smb_request.specs.declared.status.Status.TheVariants.{Store}
 use Rattle.smb_request.specs.declared.context.Context.{Context}
@@ -40,24 +41,24 @@ file_asked under asked = record {
 abbrev pub create_response : Created → CreateResponse
 create_response done = record {
   oplock_level = record { 0 = 0 };
-  create_action = record { 0 = action_code done.action };
+  create_action = done.action;
   creation_time = done.view.creation_time;
   last_access_time = done.view.last_access_time;
   last_write_time = done.view.last_write_time;
   change_time = done.view.change_time;
   allocation_size = done.view.allocation_size;
   end_of_file = done.view.size;
-  file_attributes = record { 0 = done.view.attributes };
+  file_attributes = done.view.attributes;
   file_id = record { persistent = done.number; volatile = done.number };
 }
 
 -- CREATE (3.3.5.9), by the status that the store gives it
 abbrev pub created_by_status : {S : Type 0} → ℕ → SharedState S → Context → FileAsked → ℕ → CommandStep S
 created_by_status moment shared under asked status =
-    if status == 0
+    if status == STATUS_SUCCESS
     then record {
       shared = with_store shared (created shared.store asked moment);
-      response = success under (answers_create (create_response (told shared.store asked moment)));
+      response = success under (answers_create (create_response (create_result shared.store asked moment)));
     }
     else refused shared under (Store status)
 
@@ -81,7 +82,7 @@ close_shows view = record {
   change_time = view.change_time;
   allocation_size = view.allocation_size;
   end_of_file = view.size;
-  file_attributes = record { 0 = view.attributes };
+  file_attributes = view.attributes;
 }
 
 abbrev pub close_shows_nothing : CloseResponse

@@ -1,9 +1,10 @@
+-- For the proofs; nothing here need be believed.
 -- What a command gives, as a response.
 use Rattle.std.specs.Prelude.{ℕ, ◌≤◌, List, length, Option, None, Some}
-use Rattle.smb_session.specs.declared.dialect.Dialect.{Dialect}
+use Rattle.smb_wire.specs.declared.dialect.Dialect.{Dialect}
 use Rattle.smb_body.specs.Replies.{ReplyValue, answers_session_setup, answers_logoff, answers_tree_connect, answers_tree_disconnect, answers_create, answers_close, answers_flush, answers_echo}
 use Rattle.smb_session.specs.Authenticator.{Meaning}
-use Rattle.smb_session.specs.Negotiate.{revision_of}
+use Rattle.smb_wire.specs.Dialects.{revision_of}
 use Rattle.smb_request.specs.declared.context.Context.{Context}
 use Rattle.smb_request.specs.declared.outcome.SetupTold.{SetupTold}
 use Rattle.smb_request.specs.declared.outcome.Success.{Success}

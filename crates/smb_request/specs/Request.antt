@@ -3,14 +3,15 @@ use Rattle.std.specs.Prelude.{ℕ, Bool, true, false, ◌&&◌, not, List, Optio
 use Rattle.std.specs.Option.{option_map_or}
 use Rattle.smb_head.specs.Headers.{header_of}
 use Rattle.smb_head.specs.Chains.{is_related}
-use Rattle.smb_head.specs.Commands.{code_of, known_command}
-use Rattle.smb_head.specs.declared.command.Command.{Command}
+use Rattle.smb_wire.specs.Commands.{code_of, known_command}
+use Rattle.smb_wire.specs.declared.command.Command.{Command}
 use Rattle.smb_request.specs.declared.command_row.Handling.{Handling}
 use Rattle.smb_request.specs.declared.command_row.Handling.TheVariants.{Built, NotBuilt, Passed}
 use Rattle.smb_session.specs.Authenticator.{Meaning}
-use Rattle.smb_session.specs.Negotiate.{best_of, revision_of}
+use Rattle.smb_wire.specs.Dialects.{revision_of}
+use Rattle.smb_session.specs.Negotiate.{best_of}
 use Rattle.smb_session.specs.Table.{knows_session, knows_tree}
-use Rattle.smb_session.specs.declared.dialect.Dialect.{Dialect}
+use Rattle.smb_wire.specs.declared.dialect.Dialect.{Dialect}
 use Rattle.smb_body.specs.Requests.{RequestValue, asks_negotiate, asks_session_setup, asks_logoff, asks_tree_connect, asks_tree_disconnect, asks_create, asks_close, asks_flush, asks_echo, file_id_of, request_of}
 use Rattle.smb_body.specs.Replies.{answers_echo}
 use Rattle.smb_request.specs.declared.status.Status.{Status}
@@ -21,7 +22,7 @@ use Rattle.smb_request.specs.State.{SharedState, hello_of}
 use Rattle.smb_request.specs.Response.{Performed, success, answered, refused}
 use Rattle.smb_request.specs.Session.{session_set_up, session_logged_off, tree_joined, tree_left}
 use Rattle.smb_request.specs.Files.{file_created, file_closed, file_flushed, names_open}
-use Rattle.smb_request.specs.Commands.{row_of, needs_of, needs_session, needs_tree}
+use Rattle.smb_request.specs.Commands.{command_row, needs_of, needs_session, needs_tree}
 
 -- the session and the tree that a request acts under: its own, or for a related one those of the request before it
 -- (3.3.5.2.7.2)
@@ -32,8 +33,8 @@ acts_under context request =
 
 -- what a request acts under has to stand: a finished session of this connection, then a tree of that session, then an
 -- open of that tree
-abbrev pub standing_refusal : {S : Type 0} → SharedState S → ℕ → Context → RequestValue → Option Status
-standing_refusal shared number under asked =
+abbrev pub missing_refusal : {S : Type 0} → SharedState S → ℕ → Context → RequestValue → Option Status
+missing_refusal shared number under asked =
     if needs_session (needs_of asked) && not (knows_session shared.sessions.table number under.session_id) then Some UserSessionDeleted else
     if needs_tree (needs_of asked) && not (knows_tree shared.sessions.table under.session_id under.tree_id) then Some NetworkNameDeleted else
     if option_map_or (λ id. not (names_open shared.store.opens under id)) (file_id_of asked) false then Some FileClosed else None
@@ -68,7 +69,7 @@ module _ {S : Type 0} (m : Meaning S) (number moment : ℕ) (shared : SharedStat
   by_body None = answered dialect (refused shared under InvalidParameter)
   by_body (Some asked) = option_map_or
       (λ status. answered dialect (refused shared under status))
-      (standing_refusal shared number under asked)
+      (missing_refusal shared number under asked)
       (acted asked)
 
   -- what becomes of it by its command's row: one that is passed over has no answer
@@ -80,7 +81,7 @@ module _ {S : Type 0} (m : Meaning S) (number moment : ℕ) (shared : SharedStat
   -- a request of a known command, or of none
   abbrev pub by_command : List ℕ → Option Command → Performed S
   by_command request None = answered dialect (refused shared under InvalidParameter)
-  by_command request (Some command) = by_handling (row_of command).handling (request_of (code_of command) request)
+  by_command request (Some command) = by_handling (command_row command).handling (request_of (code_of command) request)
 
 -- what one request on a connection leaves, and what answers it
 unfoldable pub performed : {S : Type 0} → Meaning S → ℕ → ℕ → SharedState S → Option Dialect → Context → List ℕ → Performed S

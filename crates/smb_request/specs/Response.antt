@@ -1,7 +1,7 @@
 -- What answers a request.
 use Rattle.std.specs.Prelude.{ℕ, List, Option, Some}
 use Rattle.smb_body.specs.Replies.{ReplyValue, answers_error, reply_spelling}
-use Rattle.smb_session.specs.declared.dialect.Dialect.{Dialect}
+use Rattle.smb_wire.specs.declared.dialect.Dialect.{Dialect}
 use Rattle.smb_request.specs.declared.status.Status.{Status}
 use Rattle.smb_request.specs.declared.status.Status.TheVariants.{Success}
 use Rattle.smb_request.specs.declared.context.Context.{Context}

@@ -1,12 +1,13 @@
 -- SESSION_SETUP, LOGOFF, TREE_CONNECT and TREE_DISCONNECT ([MS-SMB2] 3.3.5.5 to 3.3.5.8).
 use Rattle.std.specs.Prelude.{ℕ, List, Option, Some, None}
 use Rattle.std.specs.Option.{option_map_or}
+use Rattle.smb_wire.specs.Access.{FILE_ALL_ACCESS}
 use Rattle.smb_body.specs.Replies.{ReplyValue, answers_session_setup, answers_logoff, answers_tree_connect, answers_tree_disconnect}
 use Rattle.smb_body.specs.SessionSetup.{SessionSetupAsked}
 use Rattle.smb_body.specs.declared.tree_connect.TreeConnectResponse.{TreeConnectResponse}
 use Rattle.smb_session.specs.Authenticator.{Meaning}
-use Rattle.smb_session.specs.Setup.{Told, setup_refusal}
-use Rattle.smb_session.specs.Table.{ended, logoff_refusal, tree_connected, next_tree_of, tree_disconnect_refusal, tree_disconnected}
+use Rattle.smb_session.specs.Setup.{SetupResult, setup_refusal}
+use Rattle.smb_session.specs.Table.{session_ended, logoff_refusal, tree_connected, next_tree_of, tree_disconnect_refusal, tree_disconnected}
 use Rattle.smb_session.specs.Sessions.{SetupStep, setup_step, tree_connect_refusal}
 use Rattle.smb_session.specs.declared.fault.SessionFault.{SessionFault}
 use Rattle.smb_session.specs.declared.fault.SessionFault.TheVariants.{UnknownSession, UnknownTree, NoShare, NotAccepted, NoDialect, NoMemory}
@@ -33,10 +34,10 @@ status_of_refusal NoMemory = RequestNotAccepted
 
 -- what a SESSION_SETUP is answered: flags and a token where the client goes on or is in, else a failure; either tells the
 -- session's number (2.2.6)
-abbrev pub setup_body : Told → ReplyValue
+abbrev pub setup_body : SetupResult → ReplyValue
 setup_body told = answers_session_setup (record { session_flags = record { 0 = told.flags }; security_buffer = told.token })
 
-abbrev pub setup_response : Context → Told → SetupStatus → ResponseState
+abbrev pub setup_response : Context → SetupResult → SetupStatus → ResponseState
 setup_response under told Success = success under (setup_body told)
 setup_response under told MoreProcessingRequired = with_body under Status.MoreProcessingRequired (setup_body told)
 setup_response under told LogonFailure = failure under Status.LogonFailure
@@ -69,7 +70,7 @@ session_logged_off number shared under = option_map_or
     (λ fault. refused shared under (status_of_refusal fault))
     (logoff_refusal shared.sessions.table number under.session_id)
     (record {
-      shared = with_closed (with_table shared (ended shared.sessions.table under.session_id)) (Session under.session_id);
+      shared = with_closed (with_table shared (session_ended shared.sessions.table under.session_id)) (Session under.session_id);
       response = success under answers_logoff;
     })
 
@@ -79,7 +80,7 @@ tree_response = record {
   share_type = record { 0 = 1 };
   share_flags = record { 0 = 0 };
   capabilities = record { 0 = 0 };
-  maximal_access = record { 0 = 0x1F01FF };
+  maximal_access = record { 0 = FILE_ALL_ACCESS };
 }
 
 -- TREE_CONNECT (3.3.5.7): the answer tells the new tree's number

@@ -4,8 +4,8 @@ use Rattle.std.specs.Prelude.{replicate, Option, Some, None, if◌then◌else◌
 use Rattle.smb_head.specs.Replies.{Reply}
 use Rattle.smb_body.specs.Replies.{ReplyValue, reply_spelling}
 use Rattle.smb_body.specs.declared.smb1.Smb1Dialects.{Smb1Dialects}
-use Rattle.smb_session.specs.declared.dialect.Dialect.TheVariants.{Smb202}
-use Rattle.smb_session.specs.Negotiate.{revision_of}
+use Rattle.smb_wire.specs.declared.dialect.Dialect.TheVariants.{Smb202}
+use Rattle.smb_wire.specs.Dialects.{revision_of}
 use Rattle.smb_request.specs.declared.smb1.Smb1Answer.{Smb1Answer}
 use Rattle.smb_request.specs.declared.status.Status.TheVariants.{Success}
 use Rattle.smb_request.specs.Status.{status_code}

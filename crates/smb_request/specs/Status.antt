@@ -1,17 +1,18 @@
 -- NTSTATUS values ([MS-ERREF] 2.3.1).
 use Rattle.std.specs.Prelude.{ℕ}
+use Rattle.smb_wire.specs.NtStatus.{STATUS_SUCCESS, STATUS_INVALID_PARAMETER, STATUS_MORE_PROCESSING_REQUIRED, STATUS_LOGON_FAILURE, STATUS_NOT_SUPPORTED, STATUS_NETWORK_NAME_DELETED, STATUS_BAD_NETWORK_NAME, STATUS_REQUEST_NOT_ACCEPTED, STATUS_FILE_CLOSED, STATUS_USER_SESSION_DELETED}
 use Rattle.smb_request.specs.declared.status.Status.{Status}
 use Rattle.smb_request.specs.declared.status.Status.TheVariants.{Success, InvalidParameter, MoreProcessingRequired, LogonFailure, NotSupported, NetworkNameDeleted, BadNetworkName, RequestNotAccepted, FileClosed, UserSessionDeleted, Store}
 
 abbrev pub status_code : Status → ℕ
-status_code Success = 0
-status_code InvalidParameter = 0xC000000D
-status_code MoreProcessingRequired = 0xC0000016
-status_code LogonFailure = 0xC000006D
-status_code NotSupported = 0xC00000BB
-status_code NetworkNameDeleted = 0xC00000C9
-status_code BadNetworkName = 0xC00000CC
-status_code RequestNotAccepted = 0xC00000D0
-status_code FileClosed = 0xC0000128
-status_code UserSessionDeleted = 0xC0000203
+status_code Success = STATUS_SUCCESS
+status_code InvalidParameter = STATUS_INVALID_PARAMETER
+status_code MoreProcessingRequired = STATUS_MORE_PROCESSING_REQUIRED
+status_code LogonFailure = STATUS_LOGON_FAILURE
+status_code NotSupported = STATUS_NOT_SUPPORTED
+status_code NetworkNameDeleted = STATUS_NETWORK_NAME_DELETED
+status_code BadNetworkName = STATUS_BAD_NETWORK_NAME
+status_code RequestNotAccepted = STATUS_REQUEST_NOT_ACCEPTED
+status_code FileClosed = STATUS_FILE_CLOSED
+status_code UserSessionDeleted = STATUS_USER_SESSION_DELETED
 status_code (Store code) = code

@@ -2,10 +2,10 @@
 
 ghost use Rattle.std.specs.Prelude.{◌≡◌};
 ghost use Rattle.smb_body.specs.Requests.{request_value};
-ghost use Rattle.smb_request.specs.Commands.{row_of, command_asked};
+ghost use Rattle.smb_request.specs.Commands.{command_row, command_asked};
 
 use smb_body::Request;
-use smb_head::Command;
+use smb_wire::Command;
 
 /// What a request acts on. Each has to exist, in this order.
 #[derive(Clone, Copy, Debug, PartialEq, Eq)]
@@ -39,7 +39,7 @@ pub(crate) struct Row {
 
 /// The row of a command. They stand in the order of their numbers, from 0.
 pub(crate) fn row_of(command: Command) -> Row
-    ensures { result ≡ row_of command }
+    ensures { result ≡ command_row command }
 {
     let (needs, handling) = match command {
         Command::Negotiate => (Needs::Nothing, Handling::Built),
@@ -91,7 +91,7 @@ fn command_asked(request: &Request<'_>) -> Command
 
 /// What a request needs.
 pub(crate) fn needs_of(request: &Request<'_>) -> Needs
-    ensures { result ≡ (row_of (command_asked (request_value request.now))).needs }
+    ensures { result ≡ (command_row (command_asked (request_value request.now))).needs }
 {
     row_of(command_asked(request)).needs
 }

@@ -12,17 +12,12 @@ use super::context::Context;
 use super::outcome::{Success, Told};
 use super::shared::Shared;
 use super::status::Status;
-use smb_body::{
-    CloseFlags, CloseResponse, CreateAction, CreateRequest, CreateResponse, FileAttributes, FileId,
-    OplockLevel,
-};
+use smb_body::{CloseFlags, CloseResponse, CreateRequest, CreateResponse, OplockLevel};
 use smb_opens::{CreateAsk, Created, Opens, Owner, StoreFault, View};
 use smb_session::Authenticator;
 use smb_tree::Tree;
+use smb_wire::{FileAttributes, FileId};
 use std::alloc::AllocError;
-
-/// POSTQUERY_ATTRIB: a CLOSE is to show what the open showed.
-const POSTQUERY_ATTRIB: u16 = 1;
 
 /// What a CREATE asks of the files, under a session and a tree.
 fn file_asked<'a>(under: Context, request: &CreateRequest<'a>) -> CreateAsk<'a>
@@ -30,11 +25,11 @@ fn file_asked<'a>(under: Context, request: &CreateRequest<'a>) -> CreateAsk<'a>
 {
     CreateAsk {
         name: request.name,
-        access: request.desired_access.0,
-        attributes: request.file_attributes.0,
-        share: request.share_access.0,
-        disposition: request.create_disposition.0,
-        options: request.create_options.0,
+        access: request.desired_access,
+        attributes: request.file_attributes,
+        share: request.share_access,
+        disposition: request.create_disposition,
+        options: request.create_options,
         session: under.session_id,
         tree: under.tree_id,
     }
@@ -46,14 +41,14 @@ fn create_response(done: &Created) -> CreateResponse
 {
     CreateResponse {
         oplock_level: OplockLevel(0),
-        create_action: CreateAction(done.action.code()),
+        create_action: done.action,
         creation_time: done.view.creation_time,
         last_access_time: done.view.last_access_time,
         last_write_time: done.view.last_write_time,
         change_time: done.view.change_time,
         allocation_size: done.view.allocation_size,
         end_of_file: done.view.size,
-        file_attributes: FileAttributes(done.view.attributes),
+        file_attributes: done.view.attributes,
         file_id: FileId {
             persistent: done.number,
             volatile: done.number,
@@ -77,18 +72,18 @@ const CLOSE_SHOWS_NOTHING: CloseResponse = CloseResponse {
 fn close_response(flags: CloseFlags, view: &View) -> CloseResponse
     ensures { result ≡ close_response flags (Some view.now) }
 {
-    if flags.0 & POSTQUERY_ATTRIB == 0 {
+    if flags.0 & CloseFlags::POSTQUERY_ATTRIB.0 == 0 {
         return CLOSE_SHOWS_NOTHING;
     }
     CloseResponse {
-        flags: CloseFlags(POSTQUERY_ATTRIB),
+        flags: CloseFlags::POSTQUERY_ATTRIB,
         creation_time: view.creation_time,
         last_access_time: view.last_access_time,
         last_write_time: view.last_write_time,
         change_time: view.change_time,
         allocation_size: view.allocation_size,
         end_of_file: view.size,
-        file_attributes: FileAttributes(view.attributes),
+        file_attributes: view.attributes,
     }
 }
 

@@ -4,7 +4,7 @@ ghost use Rattle.std.specs.Prelude.{◌≡◌};
 ghost use Rattle.smb_body.specs.Replies.{reply_value};
 ghost use Rattle.smb_request.specs.Negotiate.{negotiate_answer};
 
-use smb_body::{Capabilities, Dialect, Guid, NegotiateResponse, Reply, SecurityMode};
+use smb_body::{Capabilities, DialectRevision, Guid, NegotiateResponse, Reply, SecurityMode};
 
 /// The response that tells a dialect's revision, with the authenticator's hello.
 pub(crate) fn response<'a>(
@@ -17,7 +17,7 @@ pub(crate) fn response<'a>(
 {
     Reply::Negotiate(NegotiateResponse {
         security_mode: SecurityMode(1),
-        dialect_revision: Dialect(dialect_revision),
+        dialect_revision: DialectRevision(dialect_revision),
         server_guid: Guid(guid),
         capabilities: Capabilities(0),
         max_transact_size: 65_536,

@@ -2,7 +2,7 @@
 
 ghost use Rattle.std.specs.Prelude.{◌≡◌, ◌≤◌, ◌+◌, IfOk, OnOk, OnErr, length, take};
 ghost use Rattle.smb_body.specs.Replies.{reply_value, reply_length};
-ghost use Rattle.smb_session.specs.Negotiate.{revision_of};
+ghost use Rattle.smb_wire.specs.Dialects.{revision_of};
 ghost use Rattle.smb_request.specs.InPlace.{answer_held, answer_behind};
 ghost use Rattle.smb_request.specs.Outcome.{setup_value, success_value, told_response, IsShortSuccess, IsShort};
 
@@ -13,8 +13,9 @@ use super::shared::Shared;
 use super::status::Status;
 use smb_body::{CloseResponse, CreateResponse, Reply, SessionFlags, SessionSetupResponse};
 use smb_opens::Opens;
-use smb_session::{Authenticator, Dialect};
+use smb_session::Authenticator;
 use smb_tree::Tree;
+use smb_wire::Dialect;
 use std::alloc::AllocError;
 
 /// What a SESSION_SETUP tells that goes on, or whose client is in ([MS-SMB2] 2.2.6).

@@ -3,12 +3,12 @@
 ghost use Rattle.std.specs.Prelude.{ℕ, List, Option, ◌≡◌, ◌≤◌, ◌+◌, Some, None, IfOk, IfErr, IfSome, IfNone, OnOk, OnErr, length, take, if◌then◌else◌};
 ghost use Rattle.std.specs.Option.{option_map};
 ghost use Rattle.smb_head.specs.Headers.{header_of};
-ghost use Rattle.smb_head.specs.Commands.{code_of};
+ghost use Rattle.smb_wire.specs.Commands.{code_of};
 ghost use Rattle.smb_body.specs.Dialects.{dialects_of};
 ghost use Rattle.smb_body.specs.Requests.{request_of, request_value};
 ghost use Rattle.smb_session.specs.Negotiate.{best_of};
 ghost use Rattle.smb_request.specs.Response.{answered};
-ghost use Rattle.smb_request.specs.Request.{acts_under, standing_refusal, negotiated, acted, by_body, by_command, performed};
+ghost use Rattle.smb_request.specs.Request.{acts_under, missing_refusal, negotiated, acted, by_body, by_command, performed};
 ghost use Rattle.smb_request.specs.Held.{is_performed};
 ghost use Rattle.smb_request.specs.InPlace.{answer_held, performed_behind};
 ghost use Rattle.smb_request.specs.Outcome.{told_response, told_step, IsShort};
@@ -22,10 +22,11 @@ use super::shared::Shared;
 use super::status::Status;
 use bitflags::Flags;
 use smb_body::{Dialects, Request, read_body};
-use smb_head::{Command, Header, HeaderFlags};
+use smb_head::{Header, HeaderFlags};
 use smb_opens::Opens;
-use smb_session::{Authenticator, Dialect};
+use smb_session::Authenticator;
 use smb_tree::Tree;
+use smb_wire::{Command, Dialect};
 use std::alloc::AllocError;
 
 /// The session and the tree that a request acts under: its own, or for a related one the context's.
@@ -65,7 +66,7 @@ fn needs_tree(needs: Needs) -> bool
 impl<A: Authenticator + Drop, T: Tree + Drop, O: Opens + Drop> Shared<A, T, O> {
     /// Why a request is refused whose session, tree or open does not stand.
     fn standing_refusal(&self, number: u64, under: Context, request: &Request<'_>) -> Option<Status>
-        ensures { result ≡ standing_refusal self.now number under (request_value request.now) }
+        ensures { result ≡ missing_refusal self.now number under (request_value request.now) }
     {
         let needs = needs_of(request);
         if needs_session(needs) && !self.sessions.knows(number, under.session_id, None) {
@@ -129,7 +130,7 @@ impl<A: Authenticator + Drop, T: Tree + Drop, O: Opens + Drop> Shared<A, T, O> {
         under: Context,
         request: &Request<'_>,
     ) -> Result<Told, AllocError>
-        requires { standing_refusal self.old number under (request_value request.now) ≡ None }
+        requires { missing_refusal self.old number under (request_value request.now) ≡ None }
         ensures ok { IfOk result (λ told. answered dialect.new (record { shared = self.new; response = told_response A.meaning self.new told })
             ≡ acted A.meaning number moment self.old dialect.old under (request_value request.now)) }
         ensures short { IfOk result (λ told. IsShort told.outcome) }

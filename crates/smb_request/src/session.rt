@@ -14,13 +14,12 @@ use super::outcome::{Outcome, SetupTold, Success, Told};
 use super::shared::Shared;
 use super::status::Status;
 use smb_body::{
-    Access, Capabilities, SessionFlags, SessionSetupRequest, ShareFlags, ShareType,
-    TreeConnectResponse,
+    Capabilities, SessionFlags, SessionSetupRequest, ShareFlags, ShareType, TreeConnectResponse,
 };
 use smb_opens::{Opens, Owner, Store};
 use smb_session::{Authenticator, SessionFault, SetupAsk, SetupDone, SetupStatus};
 use smb_tree::Tree;
-use smb_wire::Units;
+use smb_wire::{Access, Units};
 use std::alloc::AllocError;
 
 /// What a tree is: a disk, without flags and capabilities, and with all access ([MS-SMB2] 2.2.10).
@@ -28,7 +27,7 @@ pub(crate) const TREE: TreeConnectResponse = TreeConnectResponse {
     share_type: ShareType(1),
     share_flags: ShareFlags(0),
     capabilities: Capabilities(0),
-    maximal_access: Access(0x001F_01FF),
+    maximal_access: Access::FILE_ALL_ACCESS,
 };
 
 /// What comes of a request that the sessions refuse. Want of memory is no refusal: nothing was performed.

@@ -6,8 +6,8 @@ ghost use Rattle.smb_request.specs.Smb1.{answer_to_smb1, reply_to_smb1};
 
 use super::status::Status;
 use smb_body::Smb1Dialects;
-use smb_head::{Command, Header, HeaderFlags};
-use smb_session::Dialect;
+use smb_head::{Header, HeaderFlags};
+use smb_wire::{Command, Dialect};
 
 /// What an SMB_COM_NEGOTIATE is answered with: a revision, and the dialect that stands from now on.
 #[derive(Clone, Copy, Debug, PartialEq, Eq)]

@@ -3,6 +3,12 @@
 ghost use Rattle.std.specs.Prelude.{◌≡◌};
 ghost use Rattle.smb_request.specs.Status.{status_code};
 
+use smb_wire::nt_status::{
+    STATUS_BAD_NETWORK_NAME, STATUS_FILE_CLOSED, STATUS_INVALID_PARAMETER, STATUS_LOGON_FAILURE,
+    STATUS_MORE_PROCESSING_REQUIRED, STATUS_NETWORK_NAME_DELETED, STATUS_NOT_SUPPORTED,
+    STATUS_REQUEST_NOT_ACCEPTED, STATUS_SUCCESS, STATUS_USER_SESSION_DELETED,
+};
+
 /// An NTSTATUS that the share answers.
 #[derive(Clone, Copy, Debug, PartialEq, Eq)]
 pub enum Status {
@@ -26,16 +32,16 @@ impl Status {
         ensures { result ≡ status_code self }
     {
         match self {
-            Status::Success => 0,
-            Status::InvalidParameter => 0xC000_000D,
-            Status::MoreProcessingRequired => 0xC000_0016,
-            Status::LogonFailure => 0xC000_006D,
-            Status::NotSupported => 0xC000_00BB,
-            Status::NetworkNameDeleted => 0xC000_00C9,
-            Status::BadNetworkName => 0xC000_00CC,
-            Status::RequestNotAccepted => 0xC000_00D0,
-            Status::FileClosed => 0xC000_0128,
-            Status::UserSessionDeleted => 0xC000_0203,
+            Status::Success => STATUS_SUCCESS,
+            Status::InvalidParameter => STATUS_INVALID_PARAMETER,
+            Status::MoreProcessingRequired => STATUS_MORE_PROCESSING_REQUIRED,
+            Status::LogonFailure => STATUS_LOGON_FAILURE,
+            Status::NotSupported => STATUS_NOT_SUPPORTED,
+            Status::NetworkNameDeleted => STATUS_NETWORK_NAME_DELETED,
+            Status::BadNetworkName => STATUS_BAD_NETWORK_NAME,
+            Status::RequestNotAccepted => STATUS_REQUEST_NOT_ACCEPTED,
+            Status::FileClosed => STATUS_FILE_CLOSED,
+            Status::UserSessionDeleted => STATUS_USER_SESSION_DELETED,
             Status::Store(code) => code,
         }
     }

@@ -6,3 +6,4 @@ pub mod Numbers
 pub mod Tables
 pub mod Steps
 pub mod Paths
+pub mod Gone

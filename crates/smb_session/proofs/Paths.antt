@@ -6,7 +6,8 @@ use Rattle.std.specs.List.{position_or_len}
 use Rattle.smb_wire.specs.Number.{spelling}
 use Rattle.smb_wire.specs.Pairs.{AreUnits, unit_bytes, units_in}
 use Rattle.smb_wire.proofs.Pairing.{length-unit_bytes, units_read}
-use Rattle.smb_session.specs.Path.{is_separator, parts_of, share_in}
+use Rattle.smb_wire.specs.Paths.{is_separator}
+use Rattle.smb_session.specs.Path.{path_parts, share_in}
 
 -- the bytes behind some units
 pub bytes_from : (units : List ℕ) (k : ℕ) → k ≤ length units → drop (2 * k) (unit_bytes units) ≡ unit_bytes (drop k units)
@@ -42,40 +43,40 @@ separator_within [] = omega arith
 separator_within (u ∷ units) = within_at u units (is_separator u) refl (separator_within units)
 
 -- parts
-free_at : (u : ℕ) (units : List ℕ) (b : Bool) → is_separator u ≡ b → (position_or_len is_separator units ≡ length units → parts_of units ≡ units ∷ []) →
-    position_or_len is_separator (u ∷ units) ≡ suc (length units) → parts_of (u ∷ units) ≡ (u ∷ units) ∷ []
+free_at : (u : ℕ) (units : List ℕ) (b : Bool) → is_separator u ≡ b → (position_or_len is_separator units ≡ length units → path_parts units ≡ units ∷ []) →
+    position_or_len is_separator (u ∷ units) ≡ suc (length units) → path_parts (u ∷ units) ≡ (u ∷ units) ∷ []
 free_at u units true t ih h = let h' = rw t at h in absurd (omega arith)
 free_at u units false t ih h = let h' = rw t at h in rw (t, ih (omega arith)) refl
 
-pub parts-free : (units : List ℕ) → position_or_len is_separator units ≡ length units → parts_of units ≡ units ∷ []
+pub parts-free : (units : List ℕ) → position_or_len is_separator units ≡ length units → path_parts units ≡ units ∷ []
 parts-free [] h = refl
 parts-free (u ∷ units) h = free_at u units (is_separator u) refl (parts-free units) h
 
 cut_at : (u : ℕ) (units : List ℕ) (b : Bool) → is_separator u ≡ b →
-    (position_or_len is_separator units < length units → parts_of units ≡ take (position_or_len is_separator units) units ∷ parts_of (drop (suc (position_or_len is_separator units)) units)) →
+    (position_or_len is_separator units < length units → path_parts units ≡ take (position_or_len is_separator units) units ∷ path_parts (drop (suc (position_or_len is_separator units)) units)) →
     position_or_len is_separator (u ∷ units) < suc (length units) →
-    parts_of (u ∷ units) ≡ take (position_or_len is_separator (u ∷ units)) (u ∷ units) ∷ parts_of (drop (suc (position_or_len is_separator (u ∷ units))) (u ∷ units))
+    path_parts (u ∷ units) ≡ take (position_or_len is_separator (u ∷ units)) (u ∷ units) ∷ path_parts (drop (suc (position_or_len is_separator (u ∷ units))) (u ∷ units))
 cut_at u units true t ih h = rw t refl
 cut_at u units false t ih h =
     let h' = rw t at h in
     let n : 1 + position_or_len is_separator units ≡ suc (position_or_len is_separator units) = omega arith in
     rw (t, n) (rw (ih (omega arith)) refl)
 
-pub parts-cut : (units : List ℕ) → position_or_len is_separator units < length units → parts_of units ≡ take (position_or_len is_separator units) units ∷ parts_of (drop (suc (position_or_len is_separator units)) units)
+pub parts-cut : (units : List ℕ) → position_or_len is_separator units < length units → path_parts units ≡ take (position_or_len is_separator units) units ∷ path_parts (drop (suc (position_or_len is_separator units)) units)
 parts-cut [] h = absurd (omega arith)
 parts-cut (u ∷ units) h = cut_at u units (is_separator u) refl (parts-cut units) h
 
-some_parts_at : (u : ℕ) (units : List ℕ) (b : Bool) → is_separator u ≡ b → (parts : List (List ℕ)) → parts_of units ≡ parts → parts_of (u ∷ units) ≡ [] → ⊥
+some_parts_at : (u : ℕ) (units : List ℕ) (b : Bool) → is_separator u ≡ b → (parts : List (List ℕ)) → path_parts units ≡ parts → path_parts (u ∷ units) ≡ [] → ⊥
 some_parts_at u units true t parts e h = let h' = rw t at h in cc
 some_parts_at u units false t [] e h = let h' = rw (t, e) at h in cc
 some_parts_at u units false t (p ∷ parts) e h = let h' = rw (t, e) at h in cc
 
-parts-some : (units : List ℕ) → parts_of units ≡ [] → ⊥
+parts-some : (units : List ℕ) → path_parts units ≡ [] → ⊥
 parts-some [] h = cc
-parts-some (u ∷ units) h = some_parts_at u units (is_separator u) refl (parts_of units) refl h
+parts-some (u ∷ units) h = some_parts_at u units (is_separator u) refl (path_parts units) refl h
 
 -- behind two separators
-pub parts_begun : (units : List ℕ) → is_separator (get_or units 0 0) ≡ true → is_separator (get_or units 1 0) ≡ true → parts_of units ≡ [] ∷ [] ∷ parts_of (drop 2 units)
+pub parts_begun : (units : List ℕ) → is_separator (get_or units 0 0) ≡ true → is_separator (get_or units 1 0) ≡ true → path_parts units ≡ [] ∷ [] ∷ path_parts (drop 2 units)
 parts_begun [] h k = cc
 parts_begun (u ∷ []) h k = cc
 parts_begun (u ∷ v ∷ units) h k = rw (h, k) refl
@@ -84,7 +85,7 @@ three_parts : (units : List ℕ) → share_in ([] ∷ [] ∷ units ∷ []) ≡ N
 three_parts [] = refl
 three_parts (u ∷ units) = refl
 
-pub share_without_end : (units : List ℕ) → position_or_len is_separator units ≡ length units → share_in ([] ∷ [] ∷ parts_of units) ≡ None
+pub share_without_end : (units : List ℕ) → position_or_len is_separator units ≡ length units → share_in ([] ∷ [] ∷ path_parts units) ≡ None
 share_without_end units h = rw (parts-free units h) (three_parts units)
 
 server_and : (units : List ℕ) (i : ℕ) (share : List ℕ) → 0 < i → i < length units → share_in ([] ∷ [] ∷ take i units ∷ share ∷ []) ≡ Some share
@@ -93,7 +94,7 @@ server_and (u ∷ units) zero share more less = absurd (omega arith)
 server_and (u ∷ units) (suc i) share more less = refl
 
 pub share_named : (units : List ℕ) (i : ℕ) → i ≡ position_or_len is_separator units → 0 < i → i < length units →
-    position_or_len is_separator (drop (suc i) units) ≡ length (drop (suc i) units) → Some (drop (suc i) units) ≡ share_in ([] ∷ [] ∷ parts_of units)
+    position_or_len is_separator (drop (suc i) units) ≡ length (drop (suc i) units) → Some (drop (suc i) units) ≡ share_in ([] ∷ [] ∷ path_parts units)
 share_named units i e more less free =
     let l : position_or_len is_separator units < length units = omega (arith, e) in
     rw (parts-cut units l, ← e, parts-free (drop (suc i) units) free) (sym (server_and units i (drop (suc i) units) more less))
@@ -104,7 +105,7 @@ five_parts (u ∷ server) p [] h = absurd (h refl)
 five_parts (u ∷ server) p (q ∷ parts) h = refl
 
 pub share_further : (units : List ℕ) (i : ℕ) → i ≡ position_or_len is_separator units → i < length units →
-    (position_or_len is_separator (drop (suc i) units) ≡ length (drop (suc i) units) → ⊥) → share_in ([] ∷ [] ∷ parts_of units) ≡ None
+    (position_or_len is_separator (drop (suc i) units) ≡ length (drop (suc i) units) → ⊥) → share_in ([] ∷ [] ∷ path_parts units) ≡ None
 share_further units i e less more =
     let rest = drop (suc i) units in
     let l : position_or_len is_separator units < length units = omega (arith, e) in
@@ -121,10 +122,10 @@ pub record Begun (units : List ℕ) : Type 0 where
 is_one : (u : ℕ) → u ≡ 92 → is_separator u ≡ true
 is_one u h = rw h refl
 
-begun_parts : (units : List ℕ) → Begun units → parts_of units ≡ [] ∷ [] ∷ parts_of (drop 2 units)
+begun_parts : (units : List ℕ) → Begun units → path_parts units ≡ [] ∷ [] ∷ path_parts (drop 2 units)
 begun_parts units b = parts_begun units (is_one (get_or units 0 0) b.first) (is_one (get_or units 1 0) b.second)
 
-pub no_end : (units : List ℕ) (end : ℕ) → Begun units → end ≡ 2 + position_or_len is_separator (drop 2 units) → end ≡ length units → None ≡ share_in (parts_of units)
+pub no_end : (units : List ℕ) (end : ℕ) → Begun units → end ≡ 2 + position_or_len is_separator (drop 2 units) → end ≡ length units → None ≡ share_in (path_parts units)
 no_end units end b e h =
     let l = b.long in
     rw (begun_parts units b) (sym (share_without_end (drop 2 units) (omega (arith, length-drop 2 units))))
@@ -139,7 +140,7 @@ end_within units end b e h =
     omega (arith, length-drop 2 units)
 
 pub further_end : (units : List ℕ) (end : ℕ) → Begun units → end ≡ 2 + position_or_len is_separator (drop 2 units) → (end ≡ length units → ⊥) →
-    (position_or_len is_separator (drop (end + 1) units) ≡ length (drop (end + 1) units) → ⊥) → None ≡ share_in (parts_of units)
+    (position_or_len is_separator (drop (end + 1) units) ≡ length (drop (end + 1) units) → ⊥) → None ≡ share_in (path_parts units)
 further_end units end b e h more =
     let w = end_within units end b e h in
     let i : end - 2 ≡ position_or_len is_separator (drop 2 units) = omega arith in
@@ -147,7 +148,7 @@ further_end units end b e h more =
     rw (begun_parts units b) (sym (share_further (drop 2 units) (end - 2) i less (rw (rest_from units end (omega arith)) at more)))
 
 pub one_end : (units : List ℕ) (end : ℕ) → Begun units → end ≡ 2 + position_or_len is_separator (drop 2 units) → (end ≡ 2 → ⊥) → (end ≡ length units → ⊥) →
-    position_or_len is_separator (drop (end + 1) units) ≡ length (drop (end + 1) units) → Some (drop (end + 1) units) ≡ share_in (parts_of units)
+    position_or_len is_separator (drop (end + 1) units) ≡ length (drop (end + 1) units) → Some (drop (end + 1) units) ≡ share_in (path_parts units)
 one_end units end b e some h free =
     let w = end_within units end b e h in
     let i : end - 2 ≡ position_or_len is_separator (drop 2 units) = omega arith in

@@ -9,7 +9,7 @@ use Rattle.std.specs.BTreeMap.{is_at, insert_entry}
 use Rattle.std.specs.Ordering.{nat_cmp}
 use Rattle.smb_session.specs.Numbers.{contains, without_number}
 use Rattle.smb_session.specs.Session.{SessionState, fresh_session, finished_by, with_tree, without_tree, has_all_trees}
-use Rattle.smb_session.specs.Table.{TableState, changed_at, numbers_on, session_at, connected, begun, ended, knows_session, end_connection_step}
+use Rattle.smb_session.specs.Table.{TableState, changed_at, numbers_on, session_at, connected, begun, session_ended, knows_session, end_connection_step}
 use Rattle.smb_session.specs.Setup.{has_all_sessions}
 use Rattle.smb_session.specs.Good.{GoodSession}
 use Rattle.smb_session.specs.Held.{table_of, IsHeld, index_without, withdrawn}
@@ -97,7 +97,7 @@ module _ (index : List (ℕ × List ℕ)) (sessions : List (ℕ × SessionState)
   keys_at n None found = rw found refl
   keys_at n (Some s) found = rw found (keys-changed (λ (numbers : List ℕ). without_number numbers n) s.connection index)
 
-  pub taken_is : (n left : ℕ) → table_of (index_without index sessions n) (remove_entry (is_at (nat_cmp n)) sessions) left ≡ record (ended (table_of index sessions next) n) { next = left }
+  pub taken_is : (n left : ℕ) → table_of (index_without index sessions n) (remove_entry (is_at (nat_cmp n)) sessions) left ≡ record (session_ended (table_of index sessions next) n) { next = left }
   taken_is n left = rw (keys_at n (lookup (is_at (nat_cmp n)) sessions) refl) refl
 
   pub held_back : 1 < next → IsHeld index sessions next → IsHeld (index_without index sessions (next - 1)) (remove_entry (is_at (nat_cmp (next - 1))) sessions) (next - 1)
@@ -188,7 +188,7 @@ module _ (index : List (ℕ × List ℕ)) (sessions : List (ℕ × SessionState)
       rw (numbers-none (map (λ e. e.0) index) sessions c absent held.good.known, without_absent c (map (λ e. e.0) index) absent) refl
 
   pub end_some : (c n : ℕ) (ns : List ℕ) → IsHeld index sessions next → lookup (is_at (nat_cmp c)) index ≡ Some ns → slice_get ns 0 ≡ Some n →
-      record { table = ended (table_of index sessions next) n; told = Some n } ≡ end_connection_step (table_of index sessions next) c
+      record { table = session_ended (table_of index sessions next) n; told = Some n } ≡ end_connection_step (table_of index sessions next) c
   end_some c n ns held found first =
       let same : ns ≡ numbers_on sessions c = index-found (numbers_on sessions) c ns index held.indexed found in
       let first' : slice_get (numbers_on sessions c) 0 ≡ Some n = rw (← same) first in

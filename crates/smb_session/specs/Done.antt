@@ -1,7 +1,7 @@
 -- What is told of a SESSION_SETUP, as it stands in memory.
 use Rattle.smb_session.specs.declared.setup.SetupDone.{SetupDone}
-use Rattle.smb_session.specs.Setup.{Told}
+use Rattle.smb_session.specs.Setup.{SetupResult}
 
 -- what it tells
-abbrev pub told_by : SetupDone → Told
-told_by done = record { session = done.session; status = done.status; flags = done.flags; token = done.token.items; ended = done.ended }
+abbrev pub setup_result_of : SetupDone → SetupResult
+setup_result_of done = record { session = done.session; status = done.status; flags = done.flags; token = done.token.items; ended = done.ended }

@@ -1,3 +1,4 @@
+-- For the proofs; nothing here need be believed.
 -- What the table holds besides: for each connection the numbers of its sessions.
 use Rattle.std.specs.Prelude.{◌≡◌, ℕ, ◌-◌, List, map}
 use Rattle.std.specs.Option.{option_map_or}
@@ -7,7 +8,7 @@ use Rattle.std.specs.BTreeMap.{is_at}
 use Rattle.std.specs.Ordering.{nat_cmp}
 use Rattle.smb_session.specs.Numbers.{without_number}
 use Rattle.smb_session.specs.Session.{SessionState}
-use Rattle.smb_session.specs.Table.{TableState, numbers_on, changed_at, ended}
+use Rattle.smb_session.specs.Table.{TableState, numbers_on, changed_at, session_ended}
 use Rattle.smb_session.specs.Good.{GoodTable}
 
 -- the table, without its index
@@ -22,7 +23,7 @@ index_without index sessions number = option_map_or
 
 -- the table as it was before its last session began
 abbrev pub withdrawn : TableState → TableState
-withdrawn table = record (ended table (table.next - 1)) { next = table.next - 1 }
+withdrawn table = record (session_ended table (table.next - 1)) { next = table.next - 1 }
 
 -- the table is good, and the index has each connection's sessions
 pub record IsHeld (index : List (ℕ × List ℕ)) (sessions : List (ℕ × SessionState)) (next : ℕ) : Type 0 where

@@ -13,3 +13,4 @@ pub mod Path
 pub mod Setup
 pub mod Done
 pub mod Sessions
+pub mod Laws

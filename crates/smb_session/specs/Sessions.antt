@@ -7,7 +7,7 @@ use Rattle.smb_session.specs.Authenticator.{Meaning}
 use Rattle.smb_session.specs.Table.{TableState, session_at, knows_session, no_sessions}
 use Rattle.smb_session.specs.Session.{has_all_trees}
 use Rattle.smb_session.specs.Path.{leads_to}
-use Rattle.smb_session.specs.Setup.{Told, setup_number, setup_table, answered, told}
+use Rattle.smb_session.specs.Setup.{SetupResult, setup_number, setup_table, table_answered, setup_result}
 
 -- the authenticator's state, the share's name in units, and the table of sessions
 pub record SessionsState (S : Type 0) : Type 0 where
@@ -22,7 +22,7 @@ new_sessions authenticator share = record { authenticator = authenticator; share
 -- what a SESSION_SETUP leaves, and what it tells
 pub record SetupStep (S : Type 0) : Type 0 where
   pub state : SessionsState S
-  pub told : Told
+  pub told : SetupResult
 
 module _ {S : Type 0} (m : Meaning S) where
   -- the authenticator is asked once about a session that stands, and its answer performed and told (3.3.5.5.3)
@@ -30,9 +30,9 @@ module _ {S : Type 0} (m : Meaning S) where
   asked_step s number previous token = record {
     state = record s {
       authenticator = m.next s.authenticator number token;
-      table = answered s.table number previous (m.answer s.authenticator number token);
+      table = table_answered s.table number previous (m.answer s.authenticator number token);
     };
-    told = told s.table number previous (m.answer s.authenticator number token);
+    told = setup_result s.table number previous (m.answer s.authenticator number token);
   }
 
   -- a SESSION_SETUP that is not refused

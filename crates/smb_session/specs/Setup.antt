@@ -8,7 +8,7 @@ use Rattle.smb_session.specs.declared.setup.SetupStatus.{SetupStatus}
 use Rattle.smb_session.specs.declared.setup.SetupStatus.TheVariants.{Success, MoreProcessingRequired, LogonFailure}
 use Rattle.smb_session.specs.Numbers.{contains}
 use Rattle.smb_session.specs.Session.{SessionState, finished_by}
-use Rattle.smb_session.specs.Table.{TableState, session_at, numbers_on, begun, ended, changed}
+use Rattle.smb_session.specs.Table.{TableState, session_at, numbers_on, begun, session_ended, session_changed}
 use Rattle.smb_session.specs.Authenticator.{Answered, continues, accepts, denies}
 
 -- a connection that can begin no session: it is not known, it has 16 of them (unfinished ones count), or the numbers are spent
@@ -19,8 +19,8 @@ has_all_sessions table connection =
     || (table.next == 18446744073709551615)
 
 -- why a session that stands is not set up further: it is another connection's, or finished
-abbrev pub standing_refusal : ℕ → SessionState → Option SessionFault
-standing_refusal connection session =
+abbrev pub known_session_refusal : ℕ → SessionState → Option SessionFault
+known_session_refusal connection session =
     if not (session.connection == connection) then Some UnknownSession else
     if is_some session.user then Some NotAccepted else None
 
@@ -30,7 +30,7 @@ abbrev pub setup_refusal : TableState → ℕ → ℕ → ℕ → Option Session
 setup_refusal table connection number flags =
     if not (bit_and flags 1 == 0) then Some NotAccepted else
     if number == 0 then (if has_all_sessions table connection then Some NotAccepted else None) else
-    option_map_or (standing_refusal connection) (session_at table number) (Some UnknownSession)
+    option_map_or (known_session_refusal connection) (session_at table number) (Some UnknownSession)
 
 -- the session that is set up: SessionId 0 asks for a new one
 abbrev pub setup_number : TableState → ℕ → ℕ
@@ -53,16 +53,16 @@ previous_ended table user previous =
 -- an accepted session is finished, and the previous one ends
 abbrev pub accepted : TableState → ℕ → List ℕ → ℕ → TableState
 accepted table number user previous =
-    changed (finished_by user) (option_map_or (ended table) (previous_ended table user previous) table) number
+    session_changed (finished_by user) (option_map_or (session_ended table) (previous_ended table user previous) table) number
 
 -- the table after an answer about a session
-abbrev pub answered : TableState → ℕ → ℕ → Answered → TableState
-answered table number previous (continues token) = table
-answered table number previous (accepts user flags token) = accepted table number user previous
-answered table number previous denies = ended table number
+abbrev pub table_answered : TableState → ℕ → ℕ → Answered → TableState
+table_answered table number previous (continues token) = table
+table_answered table number previous (accepts user flags token) = accepted table number user previous
+table_answered table number previous denies = session_ended table number
 
 -- what is told of an answer: the session's number, the status, session flags, a token, and the session that ended
-pub record Told : Type 0 where
+pub record SetupResult : Type 0 where
   pub session : ℕ
   pub status : SetupStatus
   pub flags : ℕ
@@ -70,10 +70,10 @@ pub record Told : Type 0 where
   pub ended : Option ℕ
 
 -- and by each answer
-abbrev pub told : TableState → ℕ → ℕ → Answered → Told
-told table number previous (continues token) =
+abbrev pub setup_result : TableState → ℕ → ℕ → Answered → SetupResult
+setup_result table number previous (continues token) =
     record { session = number; status = MoreProcessingRequired; flags = 0; token = token; ended = None }
-told table number previous (accepts user flags token) =
+setup_result table number previous (accepts user flags token) =
     record { session = number; status = Success; flags = flags; token = token; ended = previous_ended table user previous }
-told table number previous denies =
+setup_result table number previous denies =
     record { session = number; status = LogonFailure; flags = 0; token = []; ended = None }

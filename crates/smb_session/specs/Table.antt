@@ -40,8 +40,8 @@ begun table connection =
     record table { sessions = table.sessions ++ (table.next, fresh_session connection) ∷ []; next = table.next + 1 }
 
 -- a session and its trees are gone
-abbrev pub ended : TableState → ℕ → TableState
-ended table number = record table { sessions = remove_entry (is_at (nat_cmp number)) table.sessions }
+abbrev pub session_ended : TableState → ℕ → TableState
+session_ended table number = record table { sessions = remove_entry (is_at (nat_cmp number)) table.sessions }
 
 -- what stands at a number is changed, where something does
 abbrev pub changed_at : {X : Type 0} → (X → X) → ℕ → List (ℕ × X) → List (ℕ × X)
@@ -50,8 +50,8 @@ changed_at change number (e ∷ entries) =
     if number == e.0 then (e.0, change e.1) ∷ entries else e ∷ changed_at change number entries
 
 -- the session of a number is changed, where there is one
-abbrev pub changed : (SessionState → SessionState) → TableState → ℕ → TableState
-changed change table number = record table { sessions = changed_at change number table.sessions }
+abbrev pub session_changed : (SessionState → SessionState) → TableState → ℕ → TableState
+session_changed change table number = record table { sessions = changed_at change number table.sessions }
 
 -- whether a number is that of a finished session of this connection (3.3.5.2.9)
 abbrev pub knows_session : TableState → ℕ → ℕ → Bool
@@ -79,7 +79,7 @@ tree_disconnect_refusal table connection number tree =
 
 -- and then the tree is gone
 abbrev pub tree_disconnected : TableState → ℕ → ℕ → TableState
-tree_disconnected table number tree = changed (without_tree tree) table number
+tree_disconnected table number tree = session_changed (without_tree tree) table number
 
 -- TREE_CONNECT: the tree that a session is given, which is its next one (3.3.5.7)
 abbrev pub next_tree_of : TableState → ℕ → ℕ
@@ -87,7 +87,7 @@ next_tree_of table number = option_map_or (λ session. session.next_tree) (sessi
 
 -- and the table with it
 abbrev pub tree_connected : TableState → ℕ → TableState
-tree_connected = changed with_tree
+tree_connected = session_changed with_tree
 
 -- what an end of a connection leaves, and the session that it tells
 pub record EndStep : Type 0 where
@@ -97,6 +97,6 @@ pub record EndStep : Type 0 where
 -- the end of a connection: its least session ends and is told; where it has none, the connection is known no longer (3.3.7.1)
 abbrev pub end_connection_step : TableState → ℕ → EndStep
 end_connection_step table connection = option_map_or
-    (λ number. record { table = ended table number; told = Some number })
+    (λ number. record { table = session_ended table number; told = Some number })
     (slice_get (numbers_on table.sessions connection) 0)
     (record { table = record table { connections = without_number table.connections connection }; told = None })

@@ -23,13 +23,13 @@ abbrev pub may_use : Numbers → List ℕ → Bool
 may_use window numbers = are_distinct numbers && list_all (contains window.usable) numbers
 
 -- the window when numbers have left it
-abbrev pub without : Numbers → List ℕ → Numbers
-without window numbers = record window { usable = filter (λ n. not (contains numbers n)) window.usable }
+abbrev pub without_ids : Numbers → List ℕ → Numbers
+without_ids window numbers = record window { usable = filter (λ n. not (contains numbers n)) window.usable }
 
 -- how many numbers a request for credits is granted: as many as asked and 1 at least, as far as the window
 -- then has at most 256, and none past 2 ^ 64 - 2
-abbrev pub granted : Numbers → ℕ → ℕ
-granted window credits = min (max credits 1) (min (256 - length window.usable) (18446744073709551615 - window.next))
+abbrev pub credits_granted : Numbers → ℕ → ℕ
+credits_granted window credits = min (max credits 1) (min (256 - length window.usable) (18446744073709551615 - window.next))
 
 -- so many numbers from the first upward
 abbrev pub upward : ℕ → ℕ → List ℕ

@@ -1,33 +1,13 @@
-//! NEGOTIATE: the dialects of the share, and which one is chosen ([MS-SMB2] 2.2.4, 3.3.5.4).
+//! NEGOTIATE: which dialect is chosen ([MS-SMB2] 3.3.5.4).
 
 ghost use Rattle.std.specs.Prelude.{◌≡◌, ◌==◌, ◌*◌, take};
 ghost use Rattle.std.specs.List.{list_any};
 ghost use Rattle.smb_wire.specs.Pairs.{units_in};
 ghost use Rattle.smb_wire.specs.Units.{units_of};
-ghost use Rattle.smb_session.specs.Negotiate.{revision_of, best_of};
+ghost use Rattle.smb_wire.specs.Dialects.{revision_of};
+ghost use Rattle.smb_session.specs.Negotiate.{best_of};
 
-use smb_wire::Units;
-
-/// A dialect that the share speaks.
-#[derive(Clone, Copy, Debug, PartialEq, Eq)]
-pub enum Dialect {
-    /// SMB 2.0.2
-    Smb202,
-    /// SMB 2.1
-    Smb210,
-}
-
-impl Dialect {
-    /// The dialect's revision number.
-    pub fn revision(self) -> u16
-        ensures { result ≡ revision_of self }
-    {
-        match self {
-            Dialect::Smb202 => 0x0202,
-            Dialect::Smb210 => 0x0210,
-        }
-    }
-}
+use smb_wire::{Dialect, Units};
 
 /// Whether a list has a dialect.
 fn lists(dialects: Units<'_>, dialect: Dialect) -> bool

@@ -4,7 +4,8 @@
 //! refused, and never else. What each call gives and leaves is one definition: a table of connections and
 //! sessions (`specs/Table.antt`, `Session.antt`), a SESSION_SETUP over it (`Setup.antt`), and both over the
 //! authenticator's state (`Sessions.antt`). A refusal, a [`SessionFault`] J1 to J6, leaves everything as it
-//! was. What holds of every table between calls is `Good.antt`, which [`Sessions::good`] tells.
+//! was. What holds of every table between calls is `Good.antt`, which [`Sessions::good`] tells; that a session that ended is
+//! gone for good, and no number is given twice, is the contract of [`laws_of_sessions`].
 //!
 //! What an authenticator means is three functions of its state (`specs/Authenticator.antt`). [`Scripted`]
 //! gives answers in turn; [`Tokens`] knows users by their tokens.
@@ -19,6 +20,7 @@ mod authenticator;
 mod dialect;
 mod fault;
 mod index;
+mod laws;
 mod path;
 mod scripted;
 mod session;
@@ -29,8 +31,8 @@ mod tokens;
 mod window;
 
 pub use authenticator::{Answer, Authenticator};
-pub use dialect::Dialect;
 pub use fault::SessionFault;
+pub use laws::laws_of_sessions;
 pub use scripted::Scripted;
 pub use sessions::Sessions;
 pub use setup::{SetupAsk, SetupDone, SetupStatus};

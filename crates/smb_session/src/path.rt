@@ -5,7 +5,8 @@ ghost use Rattle.std.specs.List.{position_or_len};
 ghost use Rattle.std.specs.Option.{option_map};
 ghost use Rattle.smb_wire.specs.Pairs.{units_in};
 ghost use Rattle.smb_wire.specs.Units.{units_of};
-ghost use Rattle.smb_session.specs.Path.{separator, is_separator, parts_of, share_in, leads_to};
+ghost use Rattle.smb_wire.specs.Paths.{is_separator};
+ghost use Rattle.smb_session.specs.Path.{path_parts, share_in, leads_to};
 
 use smb_wire::{Units, same_name};
 
@@ -36,7 +37,7 @@ fn text_from(text: Units<'_>, from: usize) -> Option<Units<'_>>
 
 /// The share that a path names, `\\server\share`, or None where it is no such path.
 fn named_share(path: Units<'_>) -> Option<Units<'_>>
-    ensures { option_map units_of result ≡ share_in (parts_of (units_of path.entry)) }
+    ensures { option_map units_of result ≡ share_in (path_parts (units_of path.entry)) }
 {
     if path.len() < 2 || path.unit(0) != SEPARATOR || path.unit(1) != SEPARATOR {
         return None;

@@ -6,19 +6,19 @@ ghost use Rattle.smb_wire.specs.Pairs.{units_in};
 ghost use Rattle.smb_wire.specs.Units.{units_of};
 ghost use Rattle.smb_session.specs.Negotiate.{best_of};
 ghost use Rattle.smb_session.specs.Session.{has_all_trees};
-ghost use Rattle.smb_session.specs.Table.{session_at, connected, begun, ended, knows, logoff_refusal, tree_disconnect_refusal, tree_disconnected, next_tree_of, tree_connected, end_connection_step};
+ghost use Rattle.smb_session.specs.Table.{session_at, connected, begun, session_ended, knows, logoff_refusal, tree_disconnect_refusal, tree_disconnected, next_tree_of, tree_connected, end_connection_step};
 ghost use Rattle.smb_session.specs.Setup.{has_all_sessions, setup_refusal};
 ghost use Rattle.smb_session.specs.Sessions.{new_sessions, asked_step, setup_step, tree_connect_refusal, IsRefused};
-ghost use Rattle.smb_session.specs.Done.{told_by};
+ghost use Rattle.smb_session.specs.Done.{setup_result_of};
 ghost use Rattle.smb_session.specs.Good.{GoodTable};
 
 use super::authenticator::{Answer, Authenticator};
-use super::dialect::{Dialect, best_dialect};
+use super::dialect::best_dialect;
 use super::fault::SessionFault;
 use super::path::leads_to;
 use super::setup::{SetupAsk, SetupDone, SetupStatus};
 use super::table::Table;
-use smb_wire::Units;
+use smb_wire::{Dialect, Units};
 use std::alloc::{AllocError, Global};
 use std::marker::Model;
 
@@ -103,7 +103,7 @@ impl<A: Authenticator + Drop> Sessions<A> {
 
     /// Asks the authenticator about a session, and performs its answer.
     fn ask(&mut self, session: u64, ask: &SetupAsk<'_>) -> Result<SetupDone, AllocError>
-        ensures step { IfOk result (λ done. record { state = self.new; told = told_by done } ≡ asked_step A.meaning self.old session ask.now.previous_session ask.now.token.now) }
+        ensures step { IfOk result (λ done. record { state = self.new; told = setup_result_of done } ≡ asked_step A.meaning self.old session ask.now.previous_session ask.now.token.now) }
         ensures flags { IfOk result (λ done. done.flags ≤ 3) }
         ensures token { IfOk result (λ done. length done.token.items ≤ 4096) }
         ensures kept { OnErr result (self.new ≡ self.old) }
@@ -142,7 +142,7 @@ impl<A: Authenticator + Drop> Sessions<A> {
     /// Begins a session on a connection that can have one, and asks about it.
     fn begin(&mut self, connection: u64, ask: &SetupAsk<'_>) -> Result<SetupDone, AllocError>
         requires { has_all_sessions self.old.table connection ≡ false }
-        ensures step { IfOk result (λ done. record { state = self.new; told = told_by done }
+        ensures step { IfOk result (λ done. record { state = self.new; told = setup_result_of done }
             ≡ asked_step A.meaning (record self.old { table = begun self.old.table connection }) self.old.table.next ask.now.previous_session ask.now.token.now) }
         ensures flags { IfOk result (λ done. done.flags ≤ 3) }
         ensures token { IfOk result (λ done. length done.token.items ≤ 4096) }
@@ -174,7 +174,7 @@ impl<A: Authenticator + Drop> Sessions<A> {
         ask: &SetupAsk<'_>,
     ) -> Result<SetupDone, SessionFault>
         ensures unrefused { OnOk result (setup_refusal self.old.table connection session ask.now.flags ≡ None) }
-        ensures step { IfOk result (λ done. record { state = self.new; told = told_by done }
+        ensures step { IfOk result (λ done. record { state = self.new; told = setup_result_of done }
             ≡ setup_step A.meaning self.old connection session ask.now.previous_session ask.now.token.now) }
         ensures flags { IfOk result (λ done. done.flags ≤ 3) }
         ensures token { IfOk result (λ done. length done.token.items ≤ 4096) }
@@ -201,7 +201,7 @@ impl<A: Authenticator + Drop> Sessions<A> {
     /// connection.
     pub fn logoff(&mut self, connection: u64, session: u64) -> Result<(), SessionFault>
         ensures unrefused { OnOk result (logoff_refusal self.old.table connection session ≡ None) }
-        ensures state { OnOk result (self.new ≡ record self.old { table = ended self.old.table session }) }
+        ensures state { OnOk result (self.new ≡ record self.old { table = session_ended self.old.table session }) }
         ensures err { IfErr result (λ fault. logoff_refusal self.old.table connection session ≡ Some fault) }
         ensures kept { OnErr result (self.new ≡ self.old) }
     {

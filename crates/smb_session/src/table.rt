@@ -7,8 +7,8 @@ ghost use Rattle.std.specs.Map.{lookup, remove_entry};
 ghost use Rattle.std.specs.Ordering.{nat_cmp};
 ghost use Rattle.smb_session.specs.Numbers.{without_number};
 ghost use Rattle.smb_session.specs.Session.{fresh_session, finished_by, with_tree, without_tree, has_all_trees};
-ghost use Rattle.smb_session.specs.Table.{no_sessions, session_at, connected, begun, ended, changed, changed_at, knows, tree_disconnected, next_tree_of, tree_connected, end_connection_step};
-ghost use Rattle.smb_session.specs.Setup.{has_all_sessions, is_of_user, standing_refusal, setup_refusal, previous_ended, accepted};
+ghost use Rattle.smb_session.specs.Table.{no_sessions, session_at, connected, begun, session_ended, session_changed, changed_at, knows, tree_disconnected, next_tree_of, tree_connected, end_connection_step};
+ghost use Rattle.smb_session.specs.Setup.{has_all_sessions, is_of_user, known_session_refusal, setup_refusal, previous_ended, accepted};
 ghost use Rattle.smb_session.specs.Good.{GoodTable};
 ghost use Rattle.smb_session.specs.Held.{index_without, withdrawn};
 
@@ -209,7 +209,7 @@ impl Table {
 
     /// Ends a session, where it stands.
     pub(crate) fn end(&mut self, number: u64)
-        ensures { self.new ≡ ended self.old number }
+        ensures { self.new ≡ session_ended self.old number }
     {
         take_session(&mut self.index, &mut self.sessions, number);
     }
@@ -251,7 +251,7 @@ impl Table {
     /// Finishes a session.
     fn finish(&mut self, number: u64, user: Vec<u8>)
         requires { length user.items ≤ 256 }
-        ensures { self.new ≡ changed (finished_by user.items) self.old number }
+        ensures { self.new ≡ session_changed (finished_by user.items) self.old number }
     {
         finish(&mut self.sessions, number, user);
     }

@@ -4,7 +4,7 @@ ghost use Rattle.std.specs.Prelude.{◌≡◌, ◌<◌, ◌≤◌, ◌+◌, ◌+
 ghost use Rattle.std.specs.Bool.{OnTrue, OnFalse};
 ghost use Rattle.std.specs.List.{list_all};
 ghost use Rattle.arrayvec.specs.ArrayVec.{array_vec_len};
-ghost use Rattle.smb_session.specs.Window.{first_window, contains, are_distinct, may_use, without, granted, with_more, upward, GoodWindow};
+ghost use Rattle.smb_session.specs.Window.{first_window, contains, are_distinct, may_use, without_ids, credits_granted, with_more, upward, GoodWindow};
 
 use arrayvec::ArrayVec;
 use std::marker::Model;
@@ -93,7 +93,7 @@ impl Window {
     /// Takes the numbers of a chain out, where they are distinct and may each be used. False changes nothing.
     pub fn take_all(&mut self, numbers: &[u64]) -> bool
         ensures all { result ≡ may_use self.old numbers.now }
-        ensures taken { OnTrue result (self.new ≡ without self.old numbers.now) }
+        ensures taken { OnTrue result (self.new ≡ without_ids self.old numbers.now) }
         ensures kept { OnFalse result (self.new ≡ self.old) }
     {
         if !all_distinct(numbers) || !has_all(&self.usable, numbers) {
@@ -106,7 +106,7 @@ impl Window {
     /// Grants numbers to a request for `credits`, and tells how many: as many as asked and 1 at least,
     /// as far as the window then has at most 256, and none past 2^64 - 2.
     pub fn grant(&mut self, credits: u16) -> u16
-        ensures count { result ≡ granted self.old credits }
+        ensures count { result ≡ credits_granted self.old credits }
         ensures more { self.new ≡ with_more self.old result }
     {
         let next = self.next;

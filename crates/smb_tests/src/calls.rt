@@ -1,7 +1,7 @@
 //! The calls of a share, each in a small function of its own.
 
-use super::words::{ECHO, ECHOED, LONG_ECHO, MOMENT, NEGOTIATE, NEGOTIATED, frames};
 use smb_engine::{Answer, Event, Fate, RunFault, ServeFault, Share, laws_of_shares};
+use smb_layer_tests::words::{ECHO, ECHOED, LONG_ECHO, MOMENT, NEGOTIATE, NEGOTIATED, frames};
 use smb_opens::PlainOpens;
 use smb_replay::{BUILT_IN, Configuration, new_share};
 use smb_session::{Authenticator, Tokens};

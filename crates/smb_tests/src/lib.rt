@@ -1,8 +1,6 @@
-//! The tests of all crates that no row of `smb_rows` can say.
+//! The tests of the share and of its replay that no row of `smb_rows` can say.
 #![tactic(auto)]
 
-#[cfg(test)]
-mod body;
 #[cfg(test)]
 mod calls;
 #[cfg(test)]
@@ -10,18 +8,4 @@ mod configs;
 #[cfg(test)]
 mod faults;
 #[cfg(test)]
-mod frame;
-#[cfg(test)]
-mod head;
-#[cfg(test)]
-mod opens;
-#[cfg(test)]
 mod scripted;
-#[cfg(test)]
-mod session;
-#[cfg(test)]
-mod tree;
-#[cfg(test)]
-mod wire;
-#[cfg(test)]
-mod words;

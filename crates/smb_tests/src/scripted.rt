@@ -6,8 +6,8 @@ ghost use Rattle.smb_session.specs.Authenticator.{IsLawful};
 ghost use Rattle.smb_session.specs.Answers.{answered_by};
 
 use super::calls::{opens, takes};
-use super::words::{NEGOTIATE, NEGOTIATED, frames};
 use smb_engine::{Fate, Share};
+use smb_layer_tests::words::{NEGOTIATE, NEGOTIATED, frames};
 use smb_opens::PlainOpens;
 use smb_replay::{BUILT_IN, Configuration};
 use smb_session::{Answer, Scripted};

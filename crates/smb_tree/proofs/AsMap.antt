@@ -3,13 +3,14 @@ use Rattle.std.proofs.Common.{◌≡◌, ℕ, List, [], ◌∷◌, ◌++◌, Som
 use Rattle.std.specs.Ordering.{nat_cmp, eq_by_cmp}
 use Rattle.std.specs.Cmp.{IsTotalOrder}
 use Rattle.std.specs.Cmp.Lexicographic.{slice_cmp, lists_ties, texts_ties}
-use Rattle.std.specs.FinMap.{get, insert, find, get-from_entries, get-insert, same_map, slice_cmp-IsAntisymmetric, nat_cmp-IsAntisymmetric, IsAntisymmetric}
+use Rattle.std.specs.FinMap.{get, insert, remove, find, get-from_entries, get-insert, get-remove, same_map, slice_cmp-IsAntisymmetric, nat_cmp-IsAntisymmetric, IsAntisymmetric}
 use Rattle.std.proofs.lemmas.Cmp.{nat_list_cmp_total, lists_total}
 use Rattle.smb_tree.specs.Entries.{Entry}
-use Rattle.smb_tree.specs.Content.{Path, Row, is_same_path, entry_at, numbered, changed}
+use Rattle.smb_tree.specs.Content.{Path, Row, is_same_path, entry_at, numbered, changed, without}
 use Rattle.smb_tree.specs.Laws.{path_order, as_map, AreApart}
 use Rattle.smb_tree.proofs.Keys.{same_path-eq, same_path-sym}
 use Rattle.smb_tree.proofs.Apart.{at-push, at-changed}
+use Rattle.smb_tree.proofs.Removals.{at-without}
 
 total : IsTotalOrder path_order
 total = lists_total nat_list_cmp_total
@@ -34,3 +35,7 @@ as_map-push es p e h =
 pub as_map-changed : (f : Entry → Entry) (es : List Row) (n : ℕ) (p : Path) (e : Entry) → AreApart es → numbered es n ≡ Some (p, e) → as_map (changed f es n) ≡ insert (as_map es) p (f e)
 as_map-changed f es n p e a h =
     same_map total exact _ _ (λ q. grind (arith, get-as_map (changed f es n) q, at-changed f es p q e n a h, get-insert total (as_map es) p (f e) q, get-as_map es q, tie q p, same_path-sym q p))
+
+pub as_map-without : (es : List Row) (n : ℕ) (p : Path) (e : Entry) → AreApart es → numbered es n ≡ Some (p, e) → as_map (without es n) ≡ remove (as_map es) p
+as_map-without es n p e a h =
+    same_map total exact _ _ (λ q. grind (arith, get-as_map (without es n) q, at-without es p q e n a h, get-remove total (as_map es) p q, get-as_map es q, tie q p, same_path-sym q p))

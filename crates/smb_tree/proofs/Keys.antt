@@ -63,7 +63,7 @@ same_path-name a b =
     (λ h. same_path-of_eq (folded_path (components a)) (folded_path (components b)) (folded_eq-path a b ((bytes_eq-Decides (folded a) (folded b)).0 h)))
 
 -- the path in which a path's last component stands
-parent_folded : (parts : List (List ℕ)) (n : ℕ) → n ≡ length parts - 1 → folded_path (take n parts) ≡ parent (folded_path parts)
+pub parent_folded : (parts : List (List ℕ)) (n : ℕ) → n ≡ length parts - 1 → folded_path (take n parts) ≡ parent (folded_path parts)
 parent_folded parts n h =
     sym (take-map folded n parts) ∙ ap (λ (m : ℕ). take m (folded_path parts)) (h ∙ ap (λ (m : ℕ). m - 1) (sym (length-map parts folded)))
 

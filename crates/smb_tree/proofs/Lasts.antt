@@ -18,7 +18,7 @@ onto-some : (u : ℕ) (ps : List (List ℕ)) → 0 < length (onto_first u ps)
 onto-some u [] = omega arith
 onto-some u (p ∷ ps) = omega arith
 
-split-some : (us : List ℕ) → 0 < length (split us)
+pub split-some : (us : List ℕ) → 0 < length (split us)
 split-some [] = omega arith
 split-some (u ∷ us) =
     elim (is_separator u) as (λ b. 0 < length (cond b ([] ∷ split us) (onto_first u (split us)))) [ true ↦ omega arith | false ↦ onto-some u (split us) ]
@@ -32,13 +32,13 @@ split_last : (a b : List ℕ) → list_any is_separator b ≡ false → split (a
 split_last [] b h = ap (λ (ps : List (List ℕ)). [] ∷ ps) (split_whole b h)
 split_last (u ∷ a) b h = grind (arith, split_last a b h, onto-append u (split a) b (split-some a))
 
-one_more : (ps : List (List ℕ)) (b : List ℕ) → length (ps ++ b ∷ []) - 1 ≡ length ps
+pub one_more : (ps : List (List ℕ)) (b : List ℕ) → length (ps ++ b ∷ []) - 1 ≡ length ps
 one_more ps b = omega (arith, length-append ps (b ∷ []))
 
-last_of : (ps : List (List ℕ)) (b : List ℕ) → last_part (ps ++ b ∷ []) ≡ b
+pub last_of : (ps : List (List ℕ)) (b : List ℕ) → last_part (ps ++ b ∷ []) ≡ b
 last_of ps b = ap (λ (n : ℕ). get_or (ps ++ b ∷ []) n []) (one_more ps b) ∙ get_or-append_seam ps b [] []
 
-parent_of : (ps : List (List ℕ)) (b : List ℕ) → parent (ps ++ b ∷ []) ≡ ps
+pub parent_of : (ps : List (List ℕ)) (b : List ℕ) → parent (ps ++ b ∷ []) ≡ ps
 parent_of ps b = ap (λ (n : ℕ). take n (ps ++ b ∷ [])) (one_more ps b) ∙ take-append_seam ps (b ∷ [])
 
 -- a list at a place, with what stands before and behind

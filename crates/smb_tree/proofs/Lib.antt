@@ -1,8 +1,14 @@
 pub mod Keys
 pub mod Lasts
+pub mod Parts
 pub mod Places
 pub mod Spaces
+pub mod Apart
+pub mod Removals
 pub mod Changes
 pub mod Additions
-pub mod Apart
 pub mod AsMap
+pub mod AfterWrites
+pub mod Orders
+pub mod Names
+pub mod Siblings

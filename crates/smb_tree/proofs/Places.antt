@@ -2,9 +2,10 @@
 use Rattle.std.proofs.Common.{◌≡◌, ℕ, zero, suc, ◌+◌, ◌<◌, ◌==◌, true, false, if◌then◌else◌, List, [], ◌∷◌, ◌++◌, length, take, drop, set, get_or, Some, None, refl, ap, arith, add-one}
 use Rattle.std.proofs.lemmas.Grind.{common_steps}
 use Rattle.std.proofs.lemmas.List.{map-append}
+use Rattle.std.specs.List.{remove}
 use Rattle.smb_tree.specs.declared.stored.Stored.{Stored}
 use Rattle.smb_tree.specs.Entries.{Entry}
-use Rattle.smb_tree.specs.Content.{Path, Row, is_same_path, entry_at, numbered, changed}
+use Rattle.smb_tree.specs.Content.{Path, Row, is_same_path, entry_at, numbered, changed, without}
 use Rattle.smb_tree.specs.Plain.{row_of, rows_of, IsPlace}
 
 numbered-push : (front : List Row) (row : Row) (n : ℕ) → numbered front n ≡ None → (row.1.number == n) ≡ false → numbered (front ++ row ∷ []) n ≡ None
@@ -46,3 +47,9 @@ pub at_next : (xs : List Stored) (i : ℕ) (x : Stored) (path : Path) → i < le
 at_next [] i x path l h e = absurd (omega arith)
 at_next (y ∷ ys) zero x path l h e = grind (arith, h, e)
 at_next (y ∷ ys) (suc i) x path l h e = rw (add-one (suc i)) (rw (add-one i) at (at_next ys i x path (omega arith) h e))
+
+-- the entry at a place taken out
+pub place_without : (xs : List Stored) (n i : ℕ) (x : Stored) → IsPlace xs n i x → without (rows_of xs) n ≡ rows_of (remove xs i)
+place_without [] n i x p = absurd (omega (arith, p.within))
+place_without (y ∷ ys) n zero x p = grind (arith, p.here, p.its)
+place_without (y ∷ ys) n (suc i) x p = let l = later y x ys n i p in grind (arith, l.0, place_without ys n i x l.1)

@@ -1,6 +1,6 @@
 -- What a tree contains: each entry at its path, in the order of their numbers.
-use Rattle.std.specs.Prelude.{ℕ, ◌+◌, ◌-◌, ◌^◌, Bool, ◌==◌, nat_eq, nat_le, if◌then◌else◌, List, [], ◌∷◌, ◌++◌, length, take, sum_by, replicate, Option, None, Some}
-use Rattle.std.specs.Option.{option_map}
+use Rattle.std.specs.Prelude.{ℕ, ◌+◌, ◌-◌, ◌^◌, Bool, ◌==◌, nat_eq, nat_le, if◌then◌else◌, List, [], ◌∷◌, ◌++◌, length, take, drop, sum_by, replicate, Option, None, Some}
+use Rattle.std.specs.Option.{option_map, option_map_or}
 use Rattle.std.specs.Cmp.Lexicographic.{pointwise}
 use Rattle.smb_wire.specs.Paths.{folded_path}
 use Rattle.smb_tree.specs.declared.entry.Basic.{Basic}
@@ -86,4 +86,41 @@ with_size content number size = record content {
 abbrev pub with_basic : Content → ℕ → Basic → Content
 with_basic content number basic = record content {
   rows = changed (λ entry. record entry { basic = kept_basic basic }) content.rows number;
+}
+
+-- the entry of this number marked, or its mark taken away ([MS-FSCC] 2.4.11, DeletePending)
+abbrev pub with_mark : Content → ℕ → Bool → Content
+with_mark content number mark = record content {
+  rows = changed (λ entry. record entry { mark = mark }) content.rows number;
+}
+
+-- the entries without that of this number
+abbrev pub without : List Row → ℕ → List Row
+without [] number = []
+without (row ∷ rows) number = if row.1.number == number then rows else row ∷ without rows number
+
+-- the entry of this number taken out
+abbrev pub removed : Content → ℕ → Content
+removed content number = record content { rows = without content.rows number }
+
+-- the bytes of the file of this number
+abbrev pub bytes_of : List Row → ℕ → List ℕ
+bytes_of rows number = option_map_or (λ row. row.1.bytes) (numbered rows number) []
+
+-- of bytes those from an offset on, at most so many
+abbrev pub part : ℕ → ℕ → List ℕ → List ℕ
+part offset count bytes = take count (drop offset bytes)
+
+-- what a read of the file of this number gives ([MS-SMB2] 3.3.5.12)
+abbrev pub bytes_read : List Row → ℕ → ℕ → ℕ → List ℕ
+bytes_read rows number offset count = part offset count (bytes_of rows number)
+
+-- bytes with others put at an offset: a gap before these is filled with zeros, and what is behind them stays
+abbrev pub written : ℕ → List ℕ → List ℕ → List ℕ
+written offset buffer bytes = resized offset bytes ++ buffer ++ drop (offset + length buffer) bytes
+
+-- the file of this number with bytes put at an offset ([MS-SMB2] 3.3.5.13)
+abbrev pub with_bytes : Content → ℕ → ℕ → List ℕ → Content
+with_bytes content number offset buffer = record content {
+  rows = changed (λ entry. record entry { bytes = written offset buffer entry.bytes }) content.rows number;
 }

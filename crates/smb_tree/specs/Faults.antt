@@ -1,9 +1,10 @@
 -- Why a change of a tree is refused: the first reason that holds. Want of memory stands apart.
-use Rattle.std.specs.Prelude.{ℕ, ◌-◌, ◌^◌, not, ◌||◌, nat_le, nat_lt, is_some, if◌then◌else◌, length, Option, None, Some}
+use Rattle.std.specs.Prelude.{ℕ, ◌+◌, ◌-◌, ◌^◌, max, not, ◌||◌, nat_le, nat_lt, is_some, if◌then◌else◌, List, length, Option, None, Some}
 use Rattle.smb_tree.specs.declared.fault.TreeFault.{TreeFault}
-use Rattle.smb_tree.specs.declared.fault.TreeFault.TheVariants.{Absent, ParentAbsent, Exists, TooDeep, Full}
+use Rattle.smb_tree.specs.declared.fault.TreeFault.TheVariants.{Absent, ParentAbsent, Exists, NotEmpty, TooDeep, Full}
 use Rattle.smb_tree.specs.Entries.{Entry, is_folder, is_folder_kind}
-use Rattle.smb_tree.specs.Content.{Path, Row, Content, entry_at, numbered, parent, used_space, with_size}
+use Rattle.smb_tree.specs.Content.{Path, Row, Content, entry_at, numbered, parent, used_space, with_size, bytes_of}
+use Rattle.smb_tree.specs.Children.{has_children}
 
 -- of an entry that would be added at a path, by what stands where, how many entries there are, and the next
 -- number: 4,096 entries besides the root are the most, and the greatest number but one of 64 bits is the last
@@ -31,3 +32,28 @@ size_fault content number size = size_fault_of content number size (numbered con
 -- of times and attributes that an entry would get
 abbrev pub basic_fault : Content → ℕ → Option TreeFault
 basic_fault content number = if is_some (numbered content.rows number) then None else Some Absent
+
+-- of another mark that an entry would get
+abbrev pub mark_fault : Content → ℕ → Option TreeFault
+mark_fault = basic_fault
+
+-- of a file that would be read: a folder has no bytes
+abbrev pub read_fault_of : Option Row → Option TreeFault
+read_fault_of None = Some Absent
+read_fault_of (Some row) = if is_folder_kind row.1.kind then Some Absent else None
+
+abbrev pub read_fault : Content → ℕ → Option TreeFault
+read_fault content number = read_fault_of (numbered content.rows number)
+
+-- of so many bytes that would be put into a file at an offset: that of the size which the file would get
+abbrev pub write_fault : Content → ℕ → ℕ → ℕ → Option TreeFault
+write_fault content number offset count =
+    size_fault content number (max (length (bytes_of content.rows number)) (offset + count))
+
+-- of an entry that would be removed: one in which others stand stays
+abbrev pub remove_fault_of : List Row → Option Row → Option TreeFault
+remove_fault_of rows None = Some Absent
+remove_fault_of rows (Some row) = if has_children rows row.0 then Some NotEmpty else None
+
+abbrev pub remove_fault : Content → ℕ → Option TreeFault
+remove_fault content number = remove_fault_of content.rows (numbered content.rows number)

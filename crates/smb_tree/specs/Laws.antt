@@ -3,9 +3,9 @@ use Rattle.std.specs.Prelude.{◌≡◌, ℕ, ◌<◌, ◌++◌, ◌∷◌, List
 use Rattle.std.specs.Ordering.{nat_cmp}
 use Rattle.std.specs.Cmp.Lexicographic.{slice_cmp}
 use Rattle.std.specs.declared.cmp.Ordering.{Ordering}
-use Rattle.std.specs.FinMap.{FinMap, from_entries, get, insert}
+use Rattle.std.specs.FinMap.{FinMap, from_entries, get, insert, remove}
 use Rattle.smb_tree.specs.Entries.{Entry}
-use Rattle.smb_tree.specs.Content.{Path, Row, entry_at, numbered, changed}
+use Rattle.smb_tree.specs.Content.{Path, Row, entry_at, numbered, changed, without}
 
 -- the order of paths: component by component, each by its units
 abbrev pub path_order : Path → Path → Ordering
@@ -59,3 +59,13 @@ abbrev pub AChangeKeepsApart : Type 0
 AChangeKeepsApart =
     (change : Entry → Entry) (rows : List Row) (number : ℕ) → ((entry : Entry) → (change entry).number ≡ entry.number) →
     AreApart rows → AreApart (changed change rows number)
+
+-- a removal takes the entry of a number out of the map, and no other
+abbrev pub ARemovalIsOneLess : Type 0
+ARemovalIsOneLess =
+    (rows : List Row) (number : ℕ) (path : Path) (entry : Entry) → AreApart rows →
+    numbered rows number ≡ Some (path, entry) → as_map (without rows number) ≡ remove (as_map rows) path
+
+-- a removal leaves paths and numbers apart
+abbrev pub ARemovalKeepsApart : Type 0
+ARemovalKeepsApart = (rows : List Row) (number : ℕ) → AreApart rows → AreApart (without rows number)

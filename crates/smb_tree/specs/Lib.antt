@@ -1,8 +1,11 @@
 pub mod Entries
 pub mod Content
+pub mod Children
 pub mod Faults
 pub mod Views
 pub mod Texts
 pub mod Plain
 pub mod Tree
 pub mod Laws
+pub mod FileLaws
+pub mod ChildLaws

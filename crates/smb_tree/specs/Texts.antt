@@ -1,3 +1,4 @@
+-- For the proofs; nothing here need be believed.
 -- The text of a stored path: a whole number of units, whose components are lawful.
 use Rattle.std.specs.Prelude.{◌≡◌, ℕ, ◌%◌, List, length, true}
 use Rattle.std.specs.List.{list_all}

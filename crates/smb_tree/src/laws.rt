@@ -1,14 +1,27 @@
 //! The laws of contents.
 
-ghost use Rattle.smb_tree.specs.Laws.{TheMapTells, AnAdditionIsOneMore, AChangeIsAtOnePath, PathsAndNumbersAgree, AnAdditionKeepsApart, AChangeKeepsApart};
+ghost use Rattle.smb_tree.specs.Laws.{TheMapTells, AnAdditionIsOneMore, AChangeIsAtOnePath, ARemovalIsOneLess, PathsAndNumbersAgree, AnAdditionKeepsApart, AChangeKeepsApart, ARemovalKeepsApart};
+ghost use Rattle.smb_tree.specs.FileLaws.{WhatIsWrittenIsRead, WhatIsNotWrittenStays, AGapReadsAsZeros, TheSizeIsTheGreater, AChangeIsOfOneNumber};
+ghost use Rattle.smb_tree.specs.ChildLaws.{ChildrenComeInTurn};
 
-/// A content is a finite map from paths to entries, in which no path and no number stands twice: the contract
-/// is the statement, and the body does nothing.
+/// A content is a finite map from paths to entries, in which no path and no number stands twice; what was
+/// written to a file is read, and all else of it stays; the children of a folder come in the order of their names.
+/// The contract is the statement, and the body does nothing.
 pub fn laws_of_contents()
     ensures map { TheMapTells }
     ensures addition { AnAdditionIsOneMore }
     ensures change { AChangeIsAtOnePath }
+    ensures removal { ARemovalIsOneLess }
     ensures numbers { PathsAndNumbersAgree }
     ensures added_apart { AnAdditionKeepsApart }
     ensures changed_apart { AChangeKeepsApart }
+    ensures removed_apart { ARemovalKeepsApart }
+
+    ensures written { WhatIsWrittenIsRead }
+    ensures unwritten { WhatIsNotWrittenStays }
+    ensures gap { AGapReadsAsZeros }
+    ensures size { TheSizeIsTheGreater }
+    ensures others { AChangeIsOfOneNumber }
+
+    ensures children { ChildrenComeInTurn }
 {}

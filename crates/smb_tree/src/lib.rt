@@ -7,10 +7,17 @@
 //! leaves the tree as it was. That the list is a finite map from paths, in which no path and no number stands
 //! twice, is the contract of [`laws_of_contents`].
 //!
+//! A file is a list of bytes: [`Tree::read`] gives a part of it, and [`Tree::write`] replaces one, behind zeros
+//! where it is past the end. Which entries stand in a folder, and in which order [`Tree::child_after`] gives
+//! them, is `specs/Children.antt`. What a user expects of both is among the laws (`specs/FileLaws.antt`,
+//! `specs/ChildLaws.antt`).
+//!
 //! Code over a `T: Tree` knows all this of every tree. [`PlainTree`] is one: a list of entries, each with its
 //! whole path and its bytes.
 #![tactic(auto)]
 
+mod bytes;
+mod children;
 mod entry;
 mod fault;
 mod laws;

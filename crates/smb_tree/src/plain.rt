@@ -1,17 +1,20 @@
 //! The plain tree: a list of entries.
 
-ghost use Rattle.std.specs.Prelude.{◌≡◌, ◌≤◌, ◌+◌, ◌-◌, ◌++◌, ◌∷◌, [], ◌||◌, Bool, None, Some, IfOk, IfErr, OnOk, OnErr, if◌then◌else◌, nat_lt, length};
-ghost use Rattle.smb_tree.specs.Content.{resized, new_content};
+ghost use Rattle.std.specs.Prelude.{◌≡◌, ◌≤◌, ◌+◌, ◌-◌, ◌^◌, ◌++◌, ◌∷◌, [], ◌||◌, Bool, None, Some, IfOk, IfErr, OnOk, OnErr, if◌then◌else◌, nat_lt, max, min, length};
+ghost use Rattle.smb_tree.specs.Content.{resized, written, new_content};
 ghost use Rattle.smb_tree.specs.Entries.{allocation_size, kept_basic, is_folder_kind};
 ghost use Rattle.smb_tree.specs.Plain.{row_of, rows_of};
 ghost use Rattle.smb_tree.specs.declared.fault.TreeFault.TheVariants.{NoMemory, Absent, Full};
 
+use super::bytes::{add_part, put_at};
+use super::children::{has_children, next_child};
 use super::entry::{Basic, EntryNo, EntryView, Kind};
 use super::fault::TreeFault;
 use super::look::{add_fault, place_of, stored_at, view_of};
 use super::stored::Stored;
+use super::texts::text_of;
 use super::tree::Tree;
-use smb_wire::PathView;
+use smb_wire::{FoldedName, PathView};
 use std::alloc::{AllocError, Global};
 use std::marker::Model;
 
@@ -21,7 +24,10 @@ pub const MOST_BYTES: u64 = 16_777_216;
 // The size of a cluster.
 const CLUSTER: u64 = 4096;
 
-/// A tree that is a list of entries, each with its whole path and its bytes. A look-up goes through the list.
+/// A tree that is a list of entries, each with its whole path and its bytes. A look-up by path or number goes
+/// through the list, [`child_after`](Tree::child_after) and [`remove`](Tree::remove) twice; none of these takes
+/// memory. A read copies the bytes that it gives once, in one block. A write copies its bytes once, in one block,
+/// over zeros where the file gets longer; the whole file is moved where its vector has to grow.
 #[derive(Drop)]
 pub struct PlainTree {
     entries: Vec<Stored>,
@@ -117,6 +123,30 @@ fn rebase(stored: &mut Stored, basic: Basic)
     stored.basic = basic.kept();
 }
 
+// Marks a stored entry, or takes its mark away.
+fn put_mark(stored: &mut Stored, mark: bool)
+    ensures { row_of stored.new ≡ ((row_of stored.old).0, record (row_of stored.old).1 { mark = mark }) }
+{
+    stored.mark = mark;
+}
+
+// The size that a stored file gets by a write; the greatest number where it is none of 64 bits.
+fn size_written(stored: &Stored, offset: u64, buffer: &[u8]) -> u64
+    ensures { result ≡ max (length stored.now.bytes.items) (min (offset + length buffer.now) (2 ^ 64 - 1)) }
+{
+    let end = offset.saturating_add(buffer.len() as u64);
+    end.max(stored.bytes.len() as u64)
+}
+
+// Puts bytes into a stored file.
+fn overwrite(stored: &mut Stored, offset: u64, buffer: &[u8]) -> Result<(), AllocError>
+    requires { offset + length buffer.now ≤ 16777216 }
+    ensures ok { OnOk result (row_of stored.new ≡ ((row_of stored.old).0, record (row_of stored.old).1 { bytes = written offset buffer.now stored.old.bytes.items })) }
+    ensures err { OnErr result (row_of stored.new ≡ row_of stored.old) }
+{
+    put_at(&mut stored.bytes, offset as usize, buffer)
+}
+
 impl Tree for PlainTree {
     ghost content = { λ content. content };
 
@@ -128,6 +158,11 @@ impl Tree for PlainTree {
     fn entry(&self, number: EntryNo) -> Option<EntryView<'_>> {
         let i = place_of(&self.entries, number)?;
         Some(view_of(&self.entries, &self.entries[i]))
+    }
+
+    fn child_after(&self, number: EntryNo, after: Option<&FoldedName>) -> Option<EntryNo> {
+        let i = place_of(&self.entries, number)?;
+        next_child(&self.entries, text_of(&self.entries[i]), after)
     }
 
     fn next_no(&self) -> Option<EntryNo> {
@@ -190,6 +225,61 @@ impl Tree for PlainTree {
             return Err(TreeFault::Absent);
         };
         rebase(&mut self.entries[i], basic);
+        Ok(())
+    }
+
+    fn set_mark(&mut self, number: EntryNo, mark: bool) -> Result<(), TreeFault> {
+        let Some(i) = place_of(&self.entries, number) else {
+            return Err(TreeFault::Absent);
+        };
+        put_mark(&mut self.entries[i], mark);
+        Ok(())
+    }
+
+    fn remove(&mut self, number: EntryNo) -> Result<(), TreeFault> {
+        let Some(i) = place_of(&self.entries, number) else {
+            return Err(TreeFault::Absent);
+        };
+        let stored = &self.entries[i];
+        if has_children(&self.entries, text_of(stored)) {
+            return Err(TreeFault::NotEmpty);
+        }
+        let others = self.used - allocation_size(stored.bytes.len() as u64);
+        let _ = self.entries.remove(i);
+        self.used = others;
+        Ok(())
+    }
+
+    fn read(
+        &self,
+        number: EntryNo,
+        offset: u64,
+        count: u64,
+        bytes: &mut Vec<u8>,
+    ) -> Result<(), TreeFault> {
+        let Some(i) = place_of(&self.entries, number) else {
+            return Err(TreeFault::Absent);
+        };
+        let stored = &self.entries[i];
+        if stored.kind.is_folder() {
+            return Err(TreeFault::Absent);
+        }
+        add_part(&stored.bytes, offset, count, bytes)?;
+        Ok(())
+    }
+
+    fn write(&mut self, number: EntryNo, offset: u64, buffer: &[u8]) -> Result<(), TreeFault> {
+        let Some(i) = place_of(&self.entries, number) else {
+            return Err(TreeFault::Absent);
+        };
+        let stored = &self.entries[i];
+        let others = self.used - allocation_size(stored.bytes.len() as u64);
+        let new_size = size_written(stored, offset, buffer);
+        if let Some(fault) = size_fault(stored, others, self.capacity, new_size) {
+            return Err(fault);
+        }
+        overwrite(&mut self.entries[i], offset, buffer)?;
+        self.used = others + allocation_size(new_size);
         Ok(())
     }
 }

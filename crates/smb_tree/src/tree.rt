@@ -1,17 +1,18 @@
 //! The tree that every layer above speaks to.
 
-ghost use Rattle.std.specs.Prelude.{◌≡◌, ◌≢◌, None, Some, OnOk, OnErr, IfOk, IfErr};
-ghost use Rattle.std.specs.Option.{option_map};
+ghost use Rattle.std.specs.Prelude.{◌≡◌, ◌≢◌, ◌++◌, None, Some, OnOk, OnErr, IfOk, IfErr, length};
+ghost use Rattle.std.specs.Option.{option_map, option_copied};
 ghost use Rattle.smb_wire.specs.Paths.{folded_path};
 ghost use Rattle.smb_wire.specs.PathViews.{parts_of};
-ghost use Rattle.smb_tree.specs.Content.{number_at, next_number, used_space, added, with_size, with_basic};
-ghost use Rattle.smb_tree.specs.Faults.{add_fault, size_fault, basic_fault};
+ghost use Rattle.smb_tree.specs.Content.{number_at, next_number, used_space, added, with_size, with_basic, with_mark, removed, bytes_read, with_bytes};
+ghost use Rattle.smb_tree.specs.Children.{child_after};
+ghost use Rattle.smb_tree.specs.Faults.{add_fault, size_fault, basic_fault, mark_fault, remove_fault, read_fault, write_fault};
 ghost use Rattle.smb_tree.specs.Views.{shown, entry_shown};
 ghost use Rattle.smb_tree.specs.declared.fault.TreeFault.TheVariants.{NoMemory};
 
 use super::entry::{Basic, EntryNo, EntryView, Kind};
 use super::fault::TreeFault;
-use smb_wire::PathView;
+use smb_wire::{FoldedName, PathView};
 
 /// A tree of files and folders. Its content is the list of entries at their paths, with the next entry
 /// number and the capacity; every call answers by it, and changes it as it says. After a refusal it is as it
@@ -28,6 +29,11 @@ pub trait Tree {
     /// The entry of a number as it stands, or None.
     fn entry(&self, number: EntryNo) -> Option<EntryView<'_>>
         ensures { option_map shown result ≡ entry_shown (content self.now).rows number };
+
+    /// The child of an entry whose folded name comes next after a given one, or first where none is given; None
+    /// where no further child stands or no entry has the number.
+    fn child_after(&self, number: EntryNo, after: Option<&FoldedName>) -> Option<EntryNo>
+        ensures { result ≡ child_after (content self.now).rows number (option_copied after.entry) };
 
     /// The number that the next entry gets, or None once the numbers are spent: the last is the greatest but
     /// one of 64 bits.
@@ -80,4 +86,52 @@ pub trait Tree {
         ensures lawful { OnOk result (basic_fault (content self.old) number ≡ None) }
         ensures err { OnErr result (content self.new ≡ content self.old) }
         ensures why { IfErr result (λ fault. basic_fault (content self.old) number ≡ Some fault) };
+
+    /// Marks an entry, so that it goes once its last open is closed, or takes its mark away. It takes no memory.
+    /// [`Absent`](TreeFault::Absent) where no entry has the number.
+    fn set_mark(&mut self, number: EntryNo, mark: bool) -> Result<(), TreeFault>
+        ensures ok { OnOk result (content self.new ≡ with_mark (content self.old) number mark) }
+        ensures lawful { OnOk result (mark_fault (content self.old) number ≡ None) }
+        ensures err { OnErr result (content self.new ≡ content self.old) }
+        ensures why { IfErr result (λ fault. mark_fault (content self.old) number ≡ Some fault) };
+
+    /// Removes an entry that is not the root, which has number 1. It takes no memory.
+    ///
+    /// [`Absent`](TreeFault::Absent) where no entry has the number, [`NotEmpty`](TreeFault::NotEmpty) where
+    /// entries stand in it.
+    fn remove(&mut self, number: EntryNo) -> Result<(), TreeFault>
+        requires { number ≢ 1 }
+        ensures ok { OnOk result (content self.new ≡ removed (content self.old) number) }
+        ensures lawful { OnOk result (remove_fault (content self.old) number ≡ None) }
+        ensures err { OnErr result (content self.new ≡ content self.old) }
+        ensures why { IfErr result (λ fault. remove_fault (content self.old) number ≡ Some fault) };
+
+    /// Adds the bytes of a file from an offset on, at most `count`, behind those of a vector; past the file's
+    /// end there are none. They are copied once. After a refusal the vector holds what it held.
+    ///
+    /// [`Absent`](TreeFault::Absent) where no file has the number, [`NoMemory`](TreeFault::NoMemory) where an
+    /// allocation is refused.
+    fn read(
+        &self,
+        number: EntryNo,
+        offset: u64,
+        count: u64,
+        bytes: &mut Vec<u8>,
+    ) -> Result<(), TreeFault>
+        ensures ok { OnOk result (bytes.new.items ≡ bytes.old.items ++ bytes_read (content self.now).rows number offset count) }
+        ensures lawful { OnOk result (read_fault (content self.now) number ≡ None) }
+        ensures err { OnErr result (bytes.new.items ≡ bytes.old.items) }
+        ensures why { IfErr result (λ fault. fault ≢ NoMemory → read_fault (content self.now) number ≡ Some fault) };
+
+    /// Puts bytes into a file from an offset on. Where they pass its end it gets longer, and a gap before them
+    /// is filled with zeros, also where they are none. Times stay.
+    ///
+    /// [`Absent`](TreeFault::Absent) where no file has the number, [`Full`](TreeFault::Full) where the file
+    /// would have over 16,777,216 bytes or the used space would pass the capacity,
+    /// [`NoMemory`](TreeFault::NoMemory) where an allocation is refused.
+    fn write(&mut self, number: EntryNo, offset: u64, buffer: &[u8]) -> Result<(), TreeFault>
+        ensures ok { OnOk result (content self.new ≡ with_bytes (content self.old) number offset buffer.now) }
+        ensures lawful { OnOk result (write_fault (content self.old) number offset (length buffer.now) ≡ None) }
+        ensures err { OnErr result (content self.new ≡ content self.old) }
+        ensures why { IfErr result (λ fault. fault ≢ NoMemory → write_fault (content self.old) number offset (length buffer.now) ≡ Some fault) };
 }

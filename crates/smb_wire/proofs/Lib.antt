@@ -5,3 +5,4 @@ pub mod Folding
 pub mod Padding
 pub mod Parting
 pub mod Splits
+pub mod Codes

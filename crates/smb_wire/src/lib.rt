@@ -16,20 +16,42 @@
 //! compare borrowed text in place; a [`FoldedName`] is a key of its own. A [`PathView`] is a name cut into
 //! its components, over the same borrowed text; which names are paths, and why the others are none, is
 //! `specs/Paths.antt`. Names and paths allocate nothing.
+//!
+//! What a number on the wire means has a type here, one for each meaning, which every crate above uses: [`Command`],
+//! [`Dialect`], [`Access`], [`ShareAccess`], [`CreateOptions`], [`CreateDisposition`], [`CreateAction`],
+//! [`FileAttributes`], [`FileId`]; [`nt_status`] is the one list of statuses. Their numbers stand in `specs/` by the
+//! standard's names.
 #![tactic(auto)]
 
+mod access;
+mod attributes;
+mod command;
+mod create_action;
+mod create_options;
+mod dialect;
+mod disposition;
 mod fault;
 mod fields;
+mod file_id;
 mod folded;
 mod names;
+pub mod nt_status;
 mod number;
 mod parts;
 mod paths;
 mod split;
 mod units;
 
+pub use access::{Access, ShareAccess};
+pub use attributes::FileAttributes;
+pub use command::{Command, CommandCode, laws_of_commands};
+pub use create_action::CreateAction;
+pub use create_options::CreateOptions;
+pub use dialect::Dialect;
+pub use disposition::{CreateDisposition, CreateDispositionCode};
 pub use fault::{PathFault, WireFault};
 pub use fields::{laws_of_fields, put_bytes, put_u8, u8_in, u16_in, u32_in, u64_in};
+pub use file_id::FileId;
 pub use folded::FoldedName;
 pub use names::{compare_folded, fold_unit, same_name};
 pub use number::{laws_of_numbers, put_u16, put_u32, put_u64, u16_at, u32_at, u64_at};

@@ -2,20 +2,20 @@ use Rattle.std.proofs.Common.{sym, ap, ◌∙◌, eqb, arith}
 use Rattle.std.proofs.lemmas.Bool.{eq-eqb, ne_eqb}
 use Rattle.smb_engine.proofs.Turns.{ids_skip, ids_more}
 use Rattle.smb_engine.proofs.chain.message_ids.Goals as goal
-use Rattle.smb_engine.proofs.chain.message_ids.Goals.{then-header-ne-CANCEL, else-header-ne-CANCEL}
+use Rattle.smb_engine.proofs.chain.message_ids.Goals.{then-header-code, else-header-code}
 
 pub loop-i-preserved : goal.loop-i-preserved
-loop-i-preserved c = elim c.if-header-ne-CANCEL.branch [
-  | then-header-ne-CANCEL w ↦ record {
+loop-i-preserved c = elim c.if-header-code.branch [
+  | then-header-code w ↦ record {
     left = rw (w.ids-is, w.push.ensures.items, c.request_at.ensures.header)
         (ids_more _ _ _ _ c.request_at.ensures.request c.loop-i.invariant.left
-        (ap (λ h. eqb h.command.0 12) (sym c.request_at.ensures.header) ∙ ne_eqb _ _ w.if-header-ne-CANCEL.true));
+        (ap (λ h. eqb h.command.0 12) (sym c.request_at.ensures.header) ∙ ne_eqb _ _ (λ q. w.if-header-code.true (q ∙ sym c.code.ensures))));
     few = rw w.ids-is (omega (arith, w.push.ensures.len, c.loop-i.invariant.few));
   }
-  | else-header-ne-CANCEL w ↦ record {
+  | else-header-code w ↦ record {
     left = rw w.ids-is
         (ids_skip _ _ _ _ c.request_at.ensures.request c.loop-i.invariant.left
-        (ap (λ h. eqb h.command.0 12) (sym c.request_at.ensures.header) ∙ eq-eqb _ _ w.if-header-ne-CANCEL.false));
+        (ap (λ h. eqb h.command.0 12) (sym c.request_at.ensures.header) ∙ eq-eqb _ _ (w.if-header-code.false ∙ c.code.ensures)));
     few = rw w.ids-is (omega (arith, c.loop-i.invariant.few));
   }
 ]

@@ -1,7 +1,8 @@
 use Rattle.std.proofs.Common.{sym, ap, ◌∙◌}
 use Rattle.smb_tree.specs.Content.{Content, with_basic}
 use Rattle.smb_tree.specs.Faults.{basic_fault}
-use Rattle.smb_opens.specs.Asked.{asked, overwrites_by}
+use Rattle.smb_wire.specs.Dispositions.{overwrites_by}
+use Rattle.smb_opens.specs.Asked.{asked}
 use Rattle.smb_opens.proofs.Overwrites.{only_memory, told_memory, size_free, basic_free, overwritten_done, standing_over}
 use Rattle.smb_opens.proofs.effect.affect.Goals as goal
 

@@ -2,7 +2,7 @@ use Rattle.std.proofs.Common.{ap, ◌∙◌, arith, ◌<◌}
 use Rattle.std.specs.Option.{option_map}
 use Rattle.smb_tree.specs.Content.{entry_at}
 use Rattle.smb_wire.specs.Paths.{folded_path}
-use Rattle.smb_opens.specs.Found.{target_of, is_folder_target}
+use Rattle.smb_opens.specs.Looked.{target_of, is_folder_target}
 use Rattle.smb_opens.proofs.Trees.{reached_told}
 use Rattle.smb_opens.proofs.look.is_reached.Goals as goal
 

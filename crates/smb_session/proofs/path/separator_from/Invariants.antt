@@ -1,7 +1,7 @@
 use Rattle.std.proofs.Common.{◌≡◌, ◌+◌, drop}
 use Rattle.std.specs.List.{position_or_len}
 use Rattle.smb_wire.specs.Units.{units_of}
-use Rattle.smb_session.specs.Path.{is_separator}
+use Rattle.smb_wire.specs.Paths.{is_separator}
 use Rattle.smb_session.proofs.path.separator_from.Given as goal
 
 abbrev pub invariant-loop-i : goal.invariant-loop-i

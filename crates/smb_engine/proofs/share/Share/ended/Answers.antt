@@ -1,8 +1,5 @@
-use Rattle.std.specs.BTreeMap.{is_at}
-use Rattle.std.specs.Ordering.{nat_cmp}
-use Rattle.smb_engine.proofs.Links.{same_unread, all_remove}
+use Rattle.std.proofs.Common.{refl}
 use Rattle.smb_engine.proofs.Kept.{kept_over}
-use Rattle.smb_engine.specs.Held.{Waits}
 use Rattle.smb_engine.proofs.share.Share.ended.Goals as goal
 
 pub invariant_of-self : goal.invariant_of-self
@@ -10,5 +7,4 @@ invariant_of-self g c = rw c.remove.ensures.entries (kept_over _ _ c.args.connec
 
 pub returns-clause-state : goal.returns-clause-state
 returns-clause-state g c =
-    rw (← c.self.view_is, c.remove.ensures.entries, c.disconnect.ensures.ended)
-    (same_unread _ (all_remove (λ e. Waits e.1) (is_at (nat_cmp c.args.connection)) c.self.inside.links.entries c.self.invariant.waits))
+    rw (← c.self.view_is, c.remove.ensures.entries, c.disconnect.ensures.ended) refl

@@ -1,5 +1,8 @@
 use Rattle.std.proofs.Common.{ap, ◌∙◌}
-use Rattle.smb_engine.proofs.Links.{same_unread}
+use Rattle.std.specs.BTreeMap.{is_at}
+use Rattle.std.specs.Ordering.{nat_cmp}
+use Rattle.smb_engine.specs.Held.{Waits, AllWait}
+use Rattle.smb_engine.proofs.Links.{same_unread, all_remove}
 use Rattle.smb_engine.proofs.Runs.{opened-unread, open_stops}
 use Rattle.smb_engine.proofs.share.Share.event.Goals as goal
 
@@ -8,3 +11,8 @@ returns-in-Ok-clause-state g c = rw c.in-Opened.is (c.in-Ok.ensures.state ∙ op
 
 pub returns-in-Err-clause-err : goal.returns-in-Err-clause-err
 returns-in-Err-clause-err g c = rw c.in-Opened.is (open_stops g.A.Authenticator.meaning _ _ _ _ (rw (← c.self.view_is) (same_unread _ c.self.invariant.waits)) (c.if-number-self.false ∙ ap (λ s. s.next) c.self.view_is) c.in-Err.ensures.err c.in-Err.ensures.kept)
+
+pub returns-else-not-was_opened-2-clause-state : goal.returns-else-not-was_opened-2-clause-state
+returns-else-not-was_opened-2-clause-state g c =
+    let waits : AllWait c.args.self.now.links = rw (← c.self.view_is) c.self.invariant.waits in
+    rw c.in-Ended.is (c.ended.ensures.state ∙ same_unread _ (all_remove (λ e. Waits e.1) (is_at (nat_cmp c.in-Ended.connection)) c.args.self.now.links waits))

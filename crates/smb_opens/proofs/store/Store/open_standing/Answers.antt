@@ -3,7 +3,8 @@ use Rattle.std.specs.Option.{option_map}
 use Rattle.smb_opens.specs.Access.{granted}
 use Rattle.smb_opens.specs.Asked.{asked}
 use Rattle.smb_opens.specs.Effect.{action_on}
-use Rattle.smb_opens.specs.Found.{has_all_opens, path_asked, entry_asked, target_of}
+use Rattle.smb_opens.specs.Found.{has_all_opens, path_asked, entry_asked}
+use Rattle.smb_opens.specs.Looked.{target_of}
 use Rattle.smb_opens.specs.State.{StoreState}
 use Rattle.smb_opens.specs.declared.open_row.OpenRow.{OpenRow}
 use Rattle.smb_opens.specs.declared.found.Target.{Target}
@@ -55,7 +56,7 @@ returns-clause-store g c =
     let state : StoreState = record { tree = g.T.Tree.content c.self.inside.tree; opens = g.O.Opens.content c.self.inside.opens; next = c.self.inside.next } in
     let t = target_entry (g.T.Tree.content c.self.inside.tree).rows (path_asked (asked c.args.ask.now)) c.args.target c.self.invariant.good.tree.apart
     (ap (λ (s : StoreState). option_map target_of (entry_asked s (asked c.args.ask.now))) c.self.view_is ∙ c.requires.target) in
-    rw (← c.self.view_is) (made_standing state (asked c.args.ask.now) c.args.moment _ c.granted-access.result (entry_asked state (asked c.args.ask.now)) t.0 c.args.target.number _ _ c.opened_by.result t.1 (ap (λ (x : Target). x.number) t.2) (c.granted-access.ensures ∙ ap (granted c.args.ask.now.access) c.is_read_only_target.ensures) c.in_default.ensures.ok c.in_ok-add.ensures.ok c.opened_by.ensures)
+    rw (← c.self.view_is) (made_standing state (asked c.args.ask.now) c.args.moment _ c.granted-access.result (entry_asked state (asked c.args.ask.now)) t.0 c.args.target.number _ _ c.opened_by.result t.1 (ap (λ (x : Target). x.number) t.2) (c.granted-access.ensures ∙ ap (granted c.args.ask.now.access.0) c.is_read_only_target.ensures) c.in_default.ensures.ok c.in_ok-add.ensures.ok c.opened_by.ensures)
 
 pub returns-clause-told : goal.returns-clause-told
 returns-clause-told g c =
@@ -63,5 +64,5 @@ returns-clause-told g c =
     let t = target_entry (g.T.Tree.content c.self.inside.tree).rows (path_asked (asked c.args.ask.now)) c.args.target c.self.invariant.good.tree.apart
     (ap (λ (s : StoreState). option_map target_of (entry_asked s (asked c.args.ask.now))) c.self.view_is ∙ c.requires.target) in
     let action = c.action_on.ensures ∙ ap action_on c.requires.disposition in
-    rw (← c.self.view_is) (told_standing state (asked c.args.ask.now) c.args.moment _ c.granted-access.result (entry_asked state (asked c.args.ask.now)) t.0 c.action_on.result c.in-Some.view _ t.1 action (c.granted-access.ensures ∙ ap (granted c.args.ask.now.access) c.is_read_only_target.ensures) c.in-Some.ensures
+    rw (← c.self.view_is) (told_standing state (asked c.args.ask.now) c.args.moment _ c.granted-access.result (entry_asked state (asked c.args.ask.now)) t.0 c.action_on.result c.in-Some.view _ t.1 action (c.granted-access.ensures ∙ ap (granted c.args.ask.now.access.0) c.is_read_only_target.ensures) c.in-Some.ensures
     (shown_standing (g.T.Tree.content c.self.inside.tree) (g.T.Tree.content c.affect.new.tree) (asked c.args.ask.now) c.args.moment c.args.target.number c.granted-access.result (path_asked (asked c.args.ask.now)) t.0 c.in_default.ensures.ok t.3))

@@ -1,0 +1,4 @@
+pub mod PatternSteps
+pub mod PatternCarries
+pub mod PatternRuns
+pub mod InformationLemmas

@@ -1,0 +1,77 @@
+-- What is told of a share as a file system ([MS-FSCC] 2.5). A row is a field: its offset, its width, its value.
+use Rattle.std.specs.Prelude.{ℕ, ◌-◌, ◌*◌, ◌/◌, List, [], ◌∷◌, length, Bool, nat_le, ◌==◌, ◌&&◌, if◌then◌else◌, Option, None, Some}
+use Rattle.std.specs.Option.{option_map}
+use Rattle.std.specs.List.{list_all}
+use Rattle.smb_wire.specs.Fields.{Field, num}
+use Rattle.smb_wire.specs.Pairs.{unit_bytes}
+use Rattle.smb_info.specs.Information.{Information}
+use Rattle.smb_info.specs.declared.file_system_class.FileSystemInformationClass.{FileSystemInformationClass}
+use Rattle.smb_info.specs.declared.file_system_class.FileSystemInformationClass.TheVariants.{FileFsVolume, FileFsSize, FileFsDevice, FileFsAttribute, FileFsFullSize}
+
+-- a volume: when it was created in units of 100 ns since 1601, the characters of its label, and how many bytes of
+-- space there are and are used
+pub record VolumeFacts : Type 0 where
+  pub created : ℕ
+  pub label : List ℕ
+  pub capacity : ℕ
+  pub used : ℕ
+
+-- a label: up to 32 characters from 0x20 to 0x7E
+abbrev pub is_label : List ℕ → Bool
+is_label label = nat_le (length label) 32 && list_all (λ character. nat_le 0x20 character && nat_le character 0x7E) label
+
+-- the classes that are told, by their numbers
+abbrev pub fs_class : ℕ → Option FileSystemInformationClass
+fs_class number =
+    if number == 1 then Some FileFsVolume else
+    if number == 3 then Some FileFsSize else
+    if number == 4 then Some FileFsDevice else
+    if number == 5 then Some FileFsAttribute else
+    if number == 7 then Some FileFsFullSize else None
+
+-- an allocation unit is 8 sectors of 512 bytes
+abbrev pub total_units : VolumeFacts → ℕ
+total_units v = v.capacity / 4096
+
+abbrev pub available_units : VolumeFacts → ℕ
+available_units v = (v.capacity - v.used) / 4096
+
+-- VolumeCreationTime, VolumeSerialNumber, VolumeLabelLength, SupportsObjects, Reserved; the label follows
+abbrev pub volume_fields : VolumeFacts → List Field
+volume_fields v =
+    num 0 8 v.created ∷ num 8 4 1 ∷ num 12 4 (2 * length v.label) ∷ num 16 1 0 ∷ num 17 1 0 ∷ []
+
+-- TotalAllocationUnits, AvailableAllocationUnits, SectorsPerAllocationUnit, BytesPerSector
+abbrev pub size_fields : VolumeFacts → List Field
+size_fields v = num 0 8 (total_units v) ∷ num 8 8 (available_units v) ∷ num 16 4 8 ∷ num 20 4 512 ∷ []
+
+-- DeviceType: a disk; Characteristics: mounted
+abbrev pub device_fields : List Field
+device_fields = num 0 4 7 ∷ num 4 4 0x20 ∷ []
+
+-- FileSystemAttributes: names keep their case 2, names are Unicode 4; MaximumComponentNameLength,
+-- FileSystemNameLength; the name follows
+abbrev pub attribute_fields : List Field
+attribute_fields = num 0 4 6 ∷ num 4 4 255 ∷ num 8 4 10 ∷ []
+
+-- TotalAllocationUnits, CallerAvailableAllocationUnits, ActualAvailableAllocationUnits, SectorsPerAllocationUnit,
+-- BytesPerSector
+abbrev pub full_size_fields : VolumeFacts → List Field
+full_size_fields v =
+    num 0 8 (total_units v) ∷ num 8 8 (available_units v) ∷ num 16 8 (available_units v) ∷ num 24 4 8 ∷ num 28 4 512 ∷ []
+
+-- MEMFS
+abbrev pub file_system_name : List ℕ
+file_system_name = 77 ∷ 69 ∷ 77 ∷ 70 ∷ 83 ∷ []
+
+-- what a class tells of a volume
+abbrev pub fs_information_of : FileSystemInformationClass → VolumeFacts → Information
+fs_information_of FileFsVolume v = record { fields = volume_fields v; name = unit_bytes v.label }
+fs_information_of FileFsSize v = record { fields = size_fields v; name = [] }
+fs_information_of FileFsDevice v = record { fields = device_fields; name = [] }
+fs_information_of FileFsAttribute v = record { fields = attribute_fields; name = unit_bytes file_system_name }
+fs_information_of FileFsFullSize v = record { fields = full_size_fields v; name = [] }
+
+-- what the class of a number tells, if there is one
+abbrev pub fs_information : ℕ → VolumeFacts → Option Information
+fs_information number v = option_map (λ class. fs_information_of class v) (fs_class number)

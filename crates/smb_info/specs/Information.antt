@@ -1,0 +1,41 @@
+-- What an information class tells: a table of fields, and for some a name behind it ([MS-FSCC] 2.4, 2.5).
+use Rattle.std.specs.Prelude.{ℕ, List, [], ◌++◌, length, take, nat_lt, if◌then◌else◌, Option, None, Some}
+use Rattle.smb_wire.specs.Fields.{Field, joined, width_of, AllStand}
+use Rattle.smb_info.specs.Written.{written_of}
+use Rattle.smb_info.specs.declared.written.Written.{Written}
+use Rattle.smb_info.specs.declared.written.Written.TheVariants.{Whole}
+use Rattle.smb_info.specs.declared.fault.InfoFault.{InfoFault}
+use Rattle.smb_info.specs.declared.fault.InfoFault.TheVariants.{BadClass, TooSmall}
+
+-- the fields of the fixed part, and the bytes of the name behind them
+pub record Information : Type 0 where
+  pub fields : List Field
+  pub name : List ℕ
+
+-- how many bytes the fixed part has
+abbrev pub fixed_length : Information → ℕ
+fixed_length info = width_of info.fields
+
+-- the whole spelling
+abbrev pub whole : Information → List ℕ
+whole info = joined info.fields ++ info.name
+
+-- why nothing is told: the number is of no class that is told, or there is no room for the fixed part
+abbrev pub info_fault : Option Information → ℕ → Option InfoFault
+info_fault None room = Some BadClass
+info_fault (Some info) room = if nat_lt room (fixed_length info) then Some TooSmall else None
+
+-- what is told: the first bytes of the whole spelling, as many as there is room for
+abbrev pub told : Option Information → ℕ → List ℕ
+told None room = []
+told (Some info) room = take room (whole info)
+
+-- whether that is all
+abbrev pub written : Option Information → ℕ → Written
+written None room = Whole
+written (Some info) room = written_of room (length (whole info))
+
+-- each field of the fixed part is read at its offset of these bytes
+abbrev pub Stands : Option Information → List ℕ → Type 0
+Stands None bytes = Unit {0}
+Stands (Some info) bytes = AllStand bytes info.fields

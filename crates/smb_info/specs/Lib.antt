@@ -1,0 +1,11 @@
+pub mod Patterns
+pub mod PatternRows
+pub mod PatternLaws
+pub mod Written
+pub mod Information
+pub mod FileSystemInformation
+pub mod Volumes
+pub mod SetInformation
+pub mod SetAsks
+pub mod FileInformation
+pub mod EntryCopies

@@ -1,0 +1,39 @@
+//! What a client is shown, and what it asks to be set: which names a pattern matches, and the information
+//! classes.
+//!
+//! A [`Pattern`] says which names of a directory are wanted ([MS-FSA] 2.1.4.4). What each of its units may take
+//! of a name is a table, `specs/Patterns.antt`; [`matches`] decides it. What that means for `*`, for `?`, for
+//! names without wildcards and for the three wildcards of DOS is the contract of [`laws_of_patterns`].
+//!
+//! An information class is a table of fields beside its number ([MS-FSCC] 2.4, 2.5), some with a name behind it.
+//! [`file_info`] tells those of a file or a folder, `specs/FileInformation.antt`, and [`fs_info`] those of a share
+//! as a file system, `specs/FileSystemInformation.antt`. As many bytes are told as there is room for: a name may be
+//! cut, the fixed part never. [`read_set_info`] reads what a SET_INFO asks, `specs/SetInformation.antt`.
+#![tactic(auto)]
+
+mod entry_copy;
+mod fault;
+mod file;
+mod file_class;
+mod file_fields;
+mod file_system;
+mod file_system_class;
+mod file_system_fields;
+mod laws;
+mod matching;
+mod pattern;
+mod set_info;
+mod symbol;
+mod volume;
+mod written;
+
+pub use entry_copy::EntryCopy;
+pub use fault::InfoFault;
+pub use file::file_info;
+pub use file_system::fs_info;
+pub use laws::laws_of_patterns;
+pub use matching::matches;
+pub use pattern::Pattern;
+pub use set_info::{BasicAsk, SetAsk, read_set_info};
+pub use volume::Volume;
+pub use written::Written;

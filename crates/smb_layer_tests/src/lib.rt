@@ -1,0 +1,18 @@
+//! The tests of the crates below smb_request that no row of `smb_rows` can say, and the words in which frames are written in tests.
+#![tactic(auto)]
+
+#[cfg(test)]
+mod body;
+#[cfg(test)]
+mod frame;
+#[cfg(test)]
+mod head;
+#[cfg(test)]
+mod opens;
+#[cfg(test)]
+mod session;
+#[cfg(test)]
+mod tree;
+#[cfg(test)]
+mod wire;
+pub mod words;

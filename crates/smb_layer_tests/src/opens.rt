@@ -1,0 +1,200 @@
+//! A store over a plain tree and plain opens, call by call, with answers set by hand.
+
+ghost use Rattle.std.specs.Prelude.{◌≡◌};
+
+use smb_opens::{
+    CreateAsk, Created, OpenNo, OpenRow, Opens, Owner, PlainOpens, Store, StoreFault, View,
+    laws_of_stores,
+};
+use smb_tree::{Kind, PlainTree, Tree};
+use smb_wire::{
+    Access, CreateAction, CreateDispositionCode, CreateOptions, FileAttributes, ShareAccess, Units,
+};
+use std::alloc::Global;
+
+const CREATED: u64 = 116_444_736_000_000_000;
+
+/// When each request comes.
+const MOMENT: u64 = CREATED + 36_000_000_000;
+
+/// A store of the root alone.
+fn new_store(alloc: Global) -> Option<Store<PlainTree, PlainOpens>> {
+    let tree = PlainTree::new(alloc, CREATED, 67_108_864).ok()?;
+    laws_of_stores();
+    Some(Store::new(tree, PlainOpens::new(alloc)))
+}
+
+/// Asks for the entry `a` with this access, disposition and options.
+fn ask<T: Tree + Drop, O: Opens + Drop>(
+    store: &mut Store<T, O>,
+    access: u32,
+    disposition: u32,
+    options: u32,
+) -> Option<Result<Created, StoreFault>> {
+    let asked = CreateAsk {
+        name: Units::of(b"a\0")?,
+        access: Access(access),
+        attributes: FileAttributes(0),
+        share: ShareAccess(7),
+        disposition: CreateDispositionCode(disposition),
+        options: CreateOptions(options),
+        session: 1,
+        tree: 1,
+    };
+    Some(store.create(&asked, MOMENT))
+}
+
+/// The new file `a`, as an open with READ_DATA and WRITE_DATA shows it.
+fn new_file() -> View {
+    View {
+        entry: 2,
+        kind: Kind::File,
+        creation_time: MOMENT,
+        last_access_time: MOMENT,
+        last_write_time: MOMENT,
+        change_time: MOMENT,
+        size: 0,
+        allocation_size: 0,
+        attributes: FileAttributes::ARCHIVE,
+        mark: false,
+        access: Access(0x3),
+    }
+}
+
+/// Whether the file is made and shown.
+fn creates<T: Tree + Drop, O: Opens + Drop>(store: &mut Store<T, O>) -> bool {
+    let created = Created {
+        number: 1,
+        action: CreateAction::Created,
+        view: new_file(),
+    };
+    ask(store, 0x3, 2, 0) == Some(Ok(created))
+        && created.action.code() == 2
+        && store.view(1) == Some(new_file())
+        && store.opens().on_entry(2, 0) == Some(1)
+        && store.tree().used() == 0
+}
+
+/// Whether an open stands that shows the new file, and is closed.
+fn closes<T: Tree + Drop, O: Opens + Drop>(store: &mut Store<T, O>, number: OpenNo) -> bool {
+    if store.view(number).is_none() {
+        return false;
+    }
+    let closed = store.close(number);
+    closed.view == new_file() && !closed.removed && store.view(number).is_none()
+}
+
+#[test]
+fn a_file_is_made_and_closed(rt: HostRuntime) {
+    let is_so = match new_store(rt.alloc()) {
+        Some(mut store) => creates(&mut store) && closes(&mut store, 1),
+        None => false,
+    };
+    assert!(rt; is_so);
+}
+
+/// Whether an access that is asked for comes to this one.
+fn grants<T: Tree + Drop, O: Opens + Drop>(
+    store: &mut Store<T, O>,
+    access: u32,
+    granted: u32,
+) -> bool {
+    match ask(store, access, 3, 0) {
+        Some(Ok(created)) => created.view.access == Access(granted),
+        _ => false,
+    }
+}
+
+/// Whether each access is mapped ([MS-SMB2] 2.2.13.1).
+fn maps<T: Tree + Drop, O: Opens + Drop>(store: &mut Store<T, O>) -> bool {
+    for (access, granted) in [
+        (0x200_0000, 0x1F_01FF),
+        (0x1000_0000, 0x1F_01FF),
+        (0x2000_0000, 0x12_00A0),
+        (0x4000_0000, 0x12_0116),
+        (0x8000_0000, 0x12_0089),
+        (0x8000_0042, 0x12_00CB),
+    ] {
+        if !grants(store, access, granted) {
+            return false;
+        }
+    }
+    true
+}
+
+/// Whether what no disposition and no options say is refused with STATUS_INVALID_PARAMETER.
+fn refuses<T: Tree + Drop, O: Opens + Drop>(store: &mut Store<T, O>) -> bool {
+    let refused = Some(Err(StoreFault::Status(0xC000_000D)));
+    // Past the last disposition; a folder that is no folder.
+    ask(store, 1, 6, 0) == refused && ask(store, 1, 1, 0x41) == refused
+}
+
+/// Whether the opens of an owner are closed together.
+fn leaves<T: Tree + Drop, O: Opens + Drop>(store: &mut Store<T, O>) -> bool {
+    store.close_all(Owner::Tree(1, 2));
+    if store.opens().of_owner(Owner::Session(1)) != Some(1) {
+        return false;
+    }
+    store.close_all(Owner::Tree(1, 1));
+    store.good();
+    store.opens().of_owner(Owner::Session(1)).is_none()
+}
+
+#[test]
+fn access_is_mapped_and_an_owner_leaves(rt: HostRuntime) {
+    let is_so = match new_store(rt.alloc()) {
+        Some(mut store) => maps(&mut store) && refuses(&mut store) && leaves(&mut store),
+        None => false,
+    };
+    assert!(rt; is_so);
+}
+
+/// An open of an entry, of a session's first tree connect.
+fn row(number: OpenNo, entry: u64, session: u64) -> OpenRow
+    ensures { result.number ≡ number }
+{
+    OpenRow {
+        number,
+        entry,
+        session,
+        tree: 1,
+        access: Access(1),
+        share: ShareAccess(7),
+        delete_on_close: false,
+    }
+}
+
+/// Opens 1 and 3 of entry 5, and 2 of entry 6; the last two are session 2's.
+fn three_opens(alloc: Global) -> Option<PlainOpens> {
+    let mut opens = PlainOpens::new(alloc);
+    opens.add(row(1, 5, 1)).ok()?;
+    opens.add(row(2, 6, 2)).ok()?;
+    opens.add(row(3, 5, 2)).ok()?;
+    Some(opens)
+}
+
+/// Whether each of the three is found.
+fn finds_three<O: Opens>(opens: &O) -> bool {
+    opens.get(2) == Some(&row(2, 6, 2))
+        && opens.on_entry(5, 0) == Some(1)
+        && opens.on_entry(5, 1) == Some(3)
+        && opens.on_entry(5, 2).is_none()
+        && opens.of_owner(Owner::Session(2)) == Some(2)
+}
+
+/// Whether the second is taken away alone.
+fn removes_one<O: Opens>(opens: &mut O) -> bool {
+    opens.remove(2);
+    opens.get(2).is_none()
+        && opens.of_owner(Owner::Tree(2, 1)) == Some(3)
+        && opens.of_owner(Owner::Tree(2, 2)).is_none()
+}
+
+#[test]
+fn opens_by_number_entry_and_owner(rt: HostRuntime) {
+    let is_so = match three_opens(rt.alloc()) {
+        Some(mut opens) => finds_three(&opens) && removes_one(&mut opens),
+        None => false,
+    };
+    assert!(rt; is_so);
+}

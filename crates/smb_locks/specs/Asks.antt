@@ -1,0 +1,37 @@
+-- What the elements of a LOCK request ask ([MS-SMB2] 2.2.26.1). Flags: SHARED_LOCK 1, EXCLUSIVE_LOCK 2, UNLOCK 4,
+-- FAIL_IMMEDIATELY 0x10.
+use Rattle.std.specs.Prelude.{ℕ, ◌==◌, ◌&&◌, ◌||◌, Bool, List, map, length, bit_and}
+use Rattle.std.specs.List.{list_all}
+use Rattle.smb_locks.specs.declared.ask.LockAsk.{LockAsk}
+use Rattle.smb_locks.specs.declared.lock.Lock.{Lock}
+use Rattle.smb_locks.specs.declared.range.ByteRange.{ByteRange}
+
+-- a shared or an exclusive lock, refused at once where it cannot be granted
+abbrev pub is_immediate : LockAsk → Bool
+is_immediate ask = ask.flags.0 == 0x11 || ask.flags.0 == 0x12
+
+-- a shared or an exclusive lock that might be waited for (no lock is: it is refused at once all the same)
+abbrev pub may_wait : LockAsk → Bool
+may_wait ask = ask.flags.0 == 0x1 || ask.flags.0 == 0x2
+
+-- a lock to be taken back
+abbrev pub is_unlock : LockAsk → Bool
+is_unlock ask = ask.flags.0 == 0x4
+
+-- the elements of a request that locks: none may wait, but for one that is alone (3.3.5.14.2)
+abbrev pub are_locks : List LockAsk → Bool
+are_locks asks = list_all (λ ask. is_immediate ask || (length asks == 1 && may_wait ask)) asks
+
+-- the elements of a request that unlocks (3.3.5.14.1)
+abbrev pub are_unlocks : List LockAsk → Bool
+are_unlocks = list_all is_unlock
+
+abbrev pub range_asked : LockAsk → ByteRange
+range_asked ask = record { offset = ask.offset; length = ask.length }
+
+-- the lock that an open asks for
+abbrev pub lock_asked : ℕ → LockAsk → Lock
+lock_asked holder ask = record { holder = holder; range = range_asked ask; exclusive = bit_and ask.flags.0 0x2 == 0x2 }
+
+abbrev pub locks_asked : ℕ → List LockAsk → List Lock
+locks_asked holder = map (lock_asked holder)

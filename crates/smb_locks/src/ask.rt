@@ -1,0 +1,85 @@
+//! What the elements of a LOCK request ask.
+
+ghost use Rattle.std.specs.Prelude.{◌≡◌, ◌&&◌, ◌||◌};
+ghost use Rattle.smb_locks.specs.Asks.{is_immediate, may_wait, is_unlock, are_locks, are_unlocks, range_asked, lock_asked};
+
+use super::flags::LockFlags;
+use super::lock::Lock;
+use super::range::ByteRange;
+use bitflags::Flags;
+
+/// What an element of a LOCK request asks ([MS-SMB2] 2.2.26.1). Every value may be asked: what is wrong is for
+/// [`LockTable`](super::LockTable) to say.
+#[derive(Clone, Copy, Debug, PartialEq, Eq)]
+pub struct LockAsk {
+    /// The number of the range's first byte.
+    pub offset: u64,
+    /// How many bytes the range has; it may be empty.
+    pub length: u64,
+    pub flags: LockFlags,
+}
+
+impl LockAsk {
+    pub(crate) fn range(self) -> ByteRange
+        ensures { result ≡ range_asked self }
+    {
+        ByteRange {
+            offset: self.offset,
+            length: self.length,
+        }
+    }
+
+    // The lock that is asked for by an open.
+    pub(crate) fn lock(self, holder: u64) -> Lock
+        ensures { result ≡ lock_asked holder self }
+    {
+        Lock {
+            holder,
+            range: self.range(),
+            exclusive: self.flags.contains(LockFlags::EXCLUSIVE_LOCK),
+        }
+    }
+
+    // Whether a lock is asked for that is refused at once where it can't be granted.
+    fn is_immediate(self) -> bool
+        ensures { result ≡ is_immediate self }
+    {
+        matches!(self.flags.0, 0x11 | 0x12)
+    }
+
+    // Whether a lock is asked for that might be waited for.
+    fn may_wait(self) -> bool
+        ensures { result ≡ may_wait self }
+    {
+        matches!(self.flags.0, 0x1 | 0x2)
+    }
+
+    // Whether the element may be in a request that locks, alone or beside others.
+    fn is_lock(self, alone: bool) -> bool
+        ensures { result ≡ (is_immediate self || (alone && may_wait self)) }
+    {
+        self.is_immediate() || (alone && self.may_wait())
+    }
+
+    // Whether a lock is to be taken back.
+    fn is_unlock(self) -> bool
+        ensures { result ≡ is_unlock self }
+    {
+        self.flags.0 == 0x4
+    }
+}
+
+// Whether the elements may be in a request that locks: only one that is alone may ask for a lock to be waited for.
+pub(crate) fn are_locks(asks: &[LockAsk]) -> bool
+    ensures { result ≡ are_locks asks.now }
+{
+    let alone = asks.len() == 1;
+    asks.iter().all(|ask| ask.is_lock(alone))
+}
+
+// Whether the elements may be in a request that unlocks.
+pub(crate) fn are_unlocks(asks: &[LockAsk]) -> bool
+    ensures { result ≡ are_unlocks asks.now }
+{
+    asks.iter().all(|ask| ask.is_unlock())
+}

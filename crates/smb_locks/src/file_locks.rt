@@ -1,0 +1,188 @@
+//! The locks of one file.
+
+ghost use Rattle.std.specs.Prelude.{◌≡◌, ◌≢◌, ◌==◌, ◌++◌, ◌∷◌, [], ◌<◌, None, Some, OnOk, OnErr, IfOk, IfErr, IfSome, IsTrue, ◌↔◌, filter, not, length, position, take, nat_le, nat_lt};
+ghost use Rattle.std.specs.List.{list_any};
+ghost use Rattle.smb_locks.specs.Asks.{locks_asked};
+ghost use Rattle.smb_locks.specs.Conflicts.{conflicts, is_read_barred, is_write_barred};
+ghost use Rattle.smb_locks.specs.Locking.{lock_fault, locks_fault};
+ghost use Rattle.smb_locks.specs.Unlocking.{is_lock_over, unlock_fault, without_oldest, left_by, unlock_error_from};
+ghost use Rattle.smb_locks.specs.declared.fault.LockFault.TheVariants.{NoMemory};
+
+use super::ask::LockAsk;
+use super::fault::{LockFault, UnlockError};
+use super::lock::Lock;
+use super::range::ByteRange;
+use std::alloc::Global;
+use std::marker::Model;
+
+/// How many locks a file has at most, of all opens.
+pub const LOCK_LIMIT: usize = 256;
+
+// The locks of one file, oldest first.
+#[derive(Drop)]
+pub(crate) struct FileLocks {
+    locks: Vec<Lock>,
+}
+
+impl Model for FileLocks {
+    ghost use Rattle.std.specs.Prelude.{List};
+    ghost use Rattle.smb_locks.specs.declared.lock.Lock.{Lock};
+
+    ghost Value = { List Lock };
+
+    ghost view = { λ f. f.locks.items };
+}
+
+impl FileLocks {
+    // No locks.
+    pub(crate) fn new(alloc: Global) -> Self
+        ensures { result ≡ [] }
+    {
+        FileLocks {
+            locks: Vec::new(alloc),
+        }
+    }
+
+    fn len(&self) -> usize
+        ensures { result ≡ length self.now }
+    {
+        self.locks.len()
+    }
+
+    pub(crate) fn is_empty(&self) -> bool
+        ensures { result ≡ (length self.now == 0) }
+    {
+        self.locks.is_empty()
+    }
+
+    // Whether a lock bars an open from reading a range.
+    pub(crate) fn bars_read(&self, holder: u64, range: ByteRange) -> bool
+        ensures { result ≡ is_read_barred self.now holder range }
+    {
+        self.locks.iter().any(|lock| lock.bars_read(holder, range))
+    }
+
+    // Whether a lock bars an open from writing a range.
+    pub(crate) fn bars_write(&self, holder: u64, range: ByteRange) -> bool
+        ensures { result ≡ is_write_barred self.now holder range }
+    {
+        self.locks.iter().any(|lock| lock.bars_write(holder, range))
+    }
+
+    // Whether a lock that is held conflicts with one that is asked for.
+    fn has_conflict(&self, asked: Lock) -> bool
+        ensures { result ≡ list_any (conflicts asked) self.now }
+    {
+        self.locks.iter().any(|held| asked.conflicts(*held))
+    }
+
+    // Whether the file has as many locks as it may have.
+    fn is_full(&self) -> bool
+        ensures { result ≡ nat_le 256 (length self.now) }
+    {
+        self.locks.len() >= LOCK_LIMIT
+    }
+
+    // Why a lock can't be added.
+    fn fault(&self, asked: Lock) -> Option<LockFault>
+        ensures { result ≡ lock_fault self.now asked }
+    {
+        if asked.range.is_past_the_end() {
+            return Some(LockFault::BadRange);
+        }
+        if self.is_full() {
+            return Some(LockFault::Full);
+        }
+        if self.has_conflict(asked) {
+            return Some(LockFault::NotGranted);
+        }
+        None
+    }
+
+    // Adds a lock, which is the newest.
+    fn lock(&mut self, asked: Lock) -> Result<(), LockFault>
+        ensures ok { OnOk result (self.new ≡ self.old ++ asked ∷ []) }
+        ensures lawful { OnOk result (lock_fault self.old asked ≡ None) }
+        ensures err { OnErr result (self.new ≡ self.old) }
+        ensures why { IfErr result (λ fault. fault ≢ NoMemory → lock_fault self.old asked ≡ Some fault) }
+    {
+        if let Some(fault) = self.fault(asked) {
+            return Err(fault);
+        }
+        self.locks.push(asked).map_err(|_| LockFault::NoMemory)?;
+        Ok(())
+    }
+
+    // Takes out the newest locks, so that as many are left.
+    fn truncate(&mut self, len: usize)
+        ensures { self.new ≡ take len self.old }
+    {
+        self.locks.truncate(len);
+    }
+
+    // Adds the locks that the elements ask for, in turn: all of them or none.
+    pub(crate) fn lock_all(&mut self, holder: u64, asks: &[LockAsk]) -> Result<(), LockFault>
+        ensures ok { OnOk result (self.new ≡ self.old ++ locks_asked holder asks.now) }
+        ensures lawful { OnOk result (locks_fault self.old (locks_asked holder asks.now) ≡ None) }
+        ensures err { OnErr result (self.new ≡ self.old) }
+        ensures why { IfErr result (λ fault. fault ≢ NoMemory → locks_fault self.old (locks_asked holder asks.now) ≡ Some fault) }
+    {
+        let before = self.len();
+        for ask in asks {
+            if let Err(fault) = self.lock(ask.lock(holder)) {
+                self.truncate(before);
+                return Err(fault);
+            }
+        }
+        Ok(())
+    }
+
+    // The place of the oldest lock that an open holds over this very range.
+    fn oldest(&self, holder: u64, range: ByteRange) -> Option<usize>
+        ensures { result ≡ position (is_lock_over holder range) self.now }
+    {
+        self.locks
+            .iter()
+            .position(|lock| lock.is_over(holder, range))
+    }
+
+    // Takes out the oldest lock that an open holds over this very range.
+    fn unlock(&mut self, holder: u64, range: ByteRange) -> Result<(), LockFault>
+        ensures ok { OnOk result (self.new ≡ without_oldest (is_lock_over holder range) self.old) }
+        ensures lawful { OnOk result (unlock_fault holder self.old range ≡ None) }
+        ensures err { OnErr result (self.new ≡ self.old) }
+        ensures why { IfErr result (λ fault. unlock_fault holder self.old range ≡ Some fault) }
+    {
+        if range.is_past_the_end() {
+            return Err(LockFault::BadRange);
+        }
+        let Some(place) = self.oldest(holder, range) else {
+            return Err(LockFault::NotLocked);
+        };
+        self.locks.remove(place);
+        Ok(())
+    }
+
+    // Takes out the locks that the elements name, in turn, up to the first that is refused.
+    pub(crate) fn unlock_all(&mut self, holder: u64, asks: &[LockAsk]) -> Result<(), UnlockError>
+        ensures left { self.new ≡ left_by holder self.old asks.now }
+        ensures lawful { OnOk result (unlock_error_from 0 holder self.old asks.now ≡ None) }
+        ensures why { IfErr result (λ error. unlock_error_from 0 holder self.old asks.now ≡ Some error) }
+    {
+        for (done, ask) in asks.iter().enumerate() {
+            if let Err(fault) = self.unlock(holder, ask.range()) {
+                return Err(UnlockError { done, fault });
+            }
+        }
+        Ok(())
+    }
+
+    // Takes out all locks of an open, and says whether others are left.
+    pub(crate) fn release(&mut self, holder: u64) -> bool
+        ensures locks { self.new ≡ filter (λ lock. not (lock.holder == holder)) self.old }
+        ensures left { result ≡ nat_lt 0 (length self.new) }
+    {
+        self.locks.retain(|lock| lock.holder != holder);
+        !self.locks.is_empty()
+    }
+}

@@ -1,0 +1,33 @@
+-- Reads and writes of a file, in a user's words.
+use Rattle.std.specs.Prelude.{◌≡◌, ◌≢◌, ℕ, ◌+◌, ◌-◌, ◌<◌, ◌≤◌, ◌⊎◌, max, List, length, replicate, slice_index, Some}
+use Rattle.smb_tree.specs.Entries.{Entry}
+use Rattle.smb_tree.specs.Content.{Row, Content, numbered, changed, part, bytes_read, written, with_bytes}
+
+-- what was written at an offset is read there
+abbrev pub WhatIsWrittenIsRead : Type 0
+WhatIsWrittenIsRead =
+    (content : Content) (number offset : ℕ) (buffer : List ℕ) (row : Row) → numbered content.rows number ≡ Some row →
+    bytes_read (with_bytes content number offset buffer).rows number offset (length buffer) ≡ buffer
+
+-- each byte that was there and was not written over stays
+abbrev pub WhatIsNotWrittenStays : Type 0
+WhatIsNotWrittenStays =
+    (offset : ℕ) (buffer bytes : List ℕ) (i : ℕ) → i < length bytes → (i < offset) ⊎ (offset + length buffer ≤ i) →
+    slice_index (written offset buffer bytes) i ≡ slice_index bytes i
+
+-- a gap between the end of the file and what was written behind it reads as zeros
+abbrev pub AGapReadsAsZeros : Type 0
+AGapReadsAsZeros =
+    (offset : ℕ) (buffer bytes : List ℕ) →
+    part (length bytes) (offset - length bytes) (written offset buffer bytes) ≡ replicate (offset - length bytes) 0
+
+-- afterwards the size is the greater of the size before and the end of what was written
+abbrev pub TheSizeIsTheGreater : Type 0
+TheSizeIsTheGreater =
+    (offset : ℕ) (buffer bytes : List ℕ) → length (written offset buffer bytes) ≡ max (length bytes) (offset + length buffer)
+
+-- a change of the entry of a number leaves the entry of each other number as it was
+abbrev pub AChangeIsOfOneNumber : Type 0
+AChangeIsOfOneNumber =
+    (change : Entry → Entry) (rows : List Row) (number other : ℕ) → ((entry : Entry) → (change entry).number ≡ entry.number) →
+    other ≢ number → numbered (changed change rows number) other ≡ numbered rows other
