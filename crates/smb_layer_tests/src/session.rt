@@ -5,8 +5,8 @@ ghost use Rattle.std.specs.List.{AllByRecursion};
 ghost use Rattle.smb_session.specs.Tokens.{HaveOwnTokens};
 ghost use Rattle.smb_session.specs.Answers.{known_user};
 
-use smb_session::{Dialect, SessionFault, Sessions, SetupAsk, SetupStatus, Tokens, User, Window};
-use smb_wire::Units;
+use smb_session::{SessionFault, Sessions, SetupAsk, SetupStatus, Tokens, User, Window};
+use smb_wire::{Dialect, Units};
 use std::alloc::Global;
 
 /// A text of ASCII in UTF-16.
