@@ -8,6 +8,10 @@ use Rattle.smb_wire.specs.declared.file_id.FileId.{FileId}
 abbrev pub body : List ℕ → List ℕ
 body request = drop 64 request
 
+-- where a fixed part of so many bytes ends, counted from the header's first byte, as offsets of buffers are
+abbrev pub behind : ℕ → ℕ
+behind size = 64 + size
+
 -- the body has its fixed part, with the StructureSize of its command
 abbrev pub has_fixed_part : ℕ → ℕ → List ℕ → Bool
 has_fixed_part size structure_size request =

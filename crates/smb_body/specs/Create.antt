@@ -5,7 +5,7 @@ use Rattle.smb_wire.specs.Fields.{Field, num, number_in, AllStand, AllFit, joine
 use Rattle.smb_wire.specs.Pairs.{units_in, unit_bytes, AreUnits}
 use Rattle.smb_wire.specs.Units.{units_of}
 use Rattle.smb_wire.specs.CreateActions.{action_code}
-use Rattle.smb_body.specs.Buffers.{body, has_fixed_part, slice, is_within, Holds, HoldsText}
+use Rattle.smb_body.specs.Buffers.{body, behind, has_fixed_part, slice, is_within, Holds, HoldsText}
 use Rattle.smb_wire.specs.declared.attributes.FileAttributes.{FileAttributes}
 use Rattle.smb_wire.specs.declared.access.Access.{Access}
 use Rattle.smb_wire.specs.declared.access.ShareAccess.{ShareAccess}
@@ -77,16 +77,16 @@ create_fields a =
 -- a request says this: its fields stand at their places, and each buffer is what its offset and length name
 pub record SaysCreate (request : List ℕ) (a : CreateAsked) : Type 0 where
   pub fields : AllStand (body request) (create_fields a)
-  pub name : HoldsText 120 a.name_offset request a.name
-  pub create_contexts : Holds 120 a.create_contexts_offset request a.create_contexts
+  pub name : HoldsText (behind 56) a.name_offset request a.name
+  pub create_contexts : Holds (behind 56) a.create_contexts_offset request a.create_contexts
 
 -- whether a request says anything
 abbrev pub is_create : List ℕ → Bool
 is_create request =
     has_fixed_part 56 57 request
     && nat_eq (number_in 2 46 (body request) % 2) 0
-    && is_within 120 (number_in 2 44 (body request)) (number_in 2 46 (body request)) request
-    && is_within 120 (number_in 4 48 (body request)) (number_in 4 52 (body request)) request
+    && is_within (behind 56) (number_in 2 44 (body request)) (number_in 2 46 (body request)) request
+    && is_within (behind 56) (number_in 4 48 (body request)) (number_in 4 52 (body request)) request
 
 -- what a request says, if it says anything
 abbrev pub create_of : List ℕ → CreateAsked
@@ -119,11 +119,11 @@ contexts_gap end (byte ∷ bytes) = replicate (next_multiple_of end 8 - end) 0
 
 -- where the name ends that a writer puts
 abbrev pub name_end : CreateAsked → ℕ
-name_end a = 120 + 2 * length a.name
+name_end a = behind 56 + 2 * length a.name
 
 -- the same but for layout: the offsets as a writer sets them
 abbrev pub create_laid : CreateAsked → CreateAsked
-create_laid a = record a { name_offset = 120; create_contexts_offset = contexts_place (name_end a) a.create_contexts }
+create_laid a = record a { name_offset = behind 56; create_contexts_offset = contexts_place (name_end a) a.create_contexts }
 
 -- the one spelling of a request
 unfoldable pub create_spelling : CreateAsked → List ℕ

@@ -3,7 +3,7 @@ use Rattle.std.specs.Prelude.{ℕ, ◌*◌, ◌%◌, List, [], ◌∷◌, ◌++�
 use Rattle.smb_wire.specs.Fields.{Field, num, number_in, AllStand, AllFit, joined}
 use Rattle.smb_wire.specs.Pairs.{units_in, unit_bytes, AreUnits}
 use Rattle.smb_wire.specs.Units.{units_of}
-use Rattle.smb_body.specs.Buffers.{body, has_fixed_part, file_id_at, slice, is_within, HoldsText}
+use Rattle.smb_body.specs.Buffers.{body, behind, has_fixed_part, file_id_at, slice, is_within, HoldsText}
 use Rattle.smb_body.specs.declared.types.InformationClass.{InformationClass}
 use Rattle.smb_body.specs.declared.query_directory.QueryDirectoryFlags.{QueryDirectoryFlags}
 use Rattle.smb_wire.specs.declared.file_id.FileId.{FileId}
@@ -48,14 +48,14 @@ query_directory_fields a =
 -- a request says this: its fields stand at their places, and its buffer is what an offset and a length name
 pub record SaysQueryDirectory (request : List ℕ) (a : QueryDirectoryAsked) : Type 0 where
   pub fields : AllStand (body request) (query_directory_fields a)
-  pub file_name : HoldsText 96 a.file_name_offset request a.file_name
+  pub file_name : HoldsText (behind 32) a.file_name_offset request a.file_name
 
 -- whether a request says anything
 abbrev pub is_query_directory : List ℕ → Bool
 is_query_directory request =
     has_fixed_part 32 33 request
     && nat_eq (number_in 2 26 (body request) % 2) 0
-    && is_within 96 (number_in 2 24 (body request)) (number_in 2 26 (body request)) request
+    && is_within (behind 32) (number_in 2 24 (body request)) (number_in 2 26 (body request)) request
 
 -- what a request says, if it says anything
 abbrev pub query_directory_of : List ℕ → QueryDirectoryAsked
@@ -71,7 +71,7 @@ query_directory_of request = record {
 
 -- the same but for layout: the offset as a writer sets it, straight behind the fixed part
 abbrev pub query_directory_laid : QueryDirectoryAsked → QueryDirectoryAsked
-query_directory_laid a = record a { file_name_offset = 96 }
+query_directory_laid a = record a { file_name_offset = behind 32 }
 
 -- the one spelling of a request
 unfoldable pub query_directory_spelling : QueryDirectoryAsked → List ℕ

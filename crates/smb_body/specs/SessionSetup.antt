@@ -1,7 +1,7 @@
 -- SESSION_SETUP ([MS-SMB2] 2.2.5, 2.2.6).
 use Rattle.std.specs.Prelude.{ℕ, List, [], ◌∷◌, ◌++◌, length, Bool, nat_lt, ◌&&◌}
 use Rattle.smb_wire.specs.Fields.{Field, num, number_in, AllStand, AllFit, joined}
-use Rattle.smb_body.specs.Buffers.{body, has_fixed_part, slice, is_within, Holds}
+use Rattle.smb_body.specs.Buffers.{body, behind, has_fixed_part, slice, is_within, Holds}
 use Rattle.smb_body.specs.declared.session_setup.SessionSetupFlags.{SessionSetupFlags}
 use Rattle.smb_body.specs.declared.session_setup.SessionSecurityMode.{SessionSecurityMode}
 use Rattle.smb_body.specs.declared.types.Capabilities.{Capabilities}
@@ -48,13 +48,13 @@ session_setup_fields a =
 -- a request says this: its fields stand at their places, and its buffer is what an offset and a length name
 pub record SaysSessionSetup (request : List ℕ) (a : SessionSetupAsked) : Type 0 where
   pub fields : AllStand (body request) (session_setup_fields a)
-  pub security_buffer : Holds 88 a.security_buffer_offset request a.security_buffer
+  pub security_buffer : Holds (behind 24) a.security_buffer_offset request a.security_buffer
 
 -- whether a request says anything
 abbrev pub is_session_setup : List ℕ → Bool
 is_session_setup request =
     has_fixed_part 24 25 request
-    && is_within 88 (number_in 2 12 (body request)) (number_in 2 14 (body request)) request
+    && is_within (behind 24) (number_in 2 12 (body request)) (number_in 2 14 (body request)) request
 
 -- what a request says, if it says anything
 abbrev pub session_setup_of : List ℕ → SessionSetupAsked
@@ -70,7 +70,7 @@ session_setup_of request = record {
 
 -- the same but for layout: the offset as a writer sets it, straight behind the fixed part
 abbrev pub session_setup_laid : SessionSetupAsked → SessionSetupAsked
-session_setup_laid a = record a { security_buffer_offset = 88 }
+session_setup_laid a = record a { security_buffer_offset = behind 24 }
 
 -- the one spelling of a request
 unfoldable pub session_setup_spelling : SessionSetupAsked → List ℕ

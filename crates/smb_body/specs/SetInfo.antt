@@ -1,7 +1,7 @@
 -- SET_INFO ([MS-SMB2] 2.2.39, 2.2.40).
 use Rattle.std.specs.Prelude.{ℕ, List, [], ◌∷◌, ◌++◌, length, Bool, nat_lt, ◌&&◌}
 use Rattle.smb_wire.specs.Fields.{Field, num, number_in, AllStand, AllFit, joined}
-use Rattle.smb_body.specs.Buffers.{body, has_fixed_part, file_id_at, slice, is_within, Holds}
+use Rattle.smb_body.specs.Buffers.{body, behind, has_fixed_part, file_id_at, slice, is_within, Holds}
 use Rattle.smb_body.specs.declared.types.InfoType.{InfoType}
 use Rattle.smb_body.specs.declared.types.InformationClass.{InformationClass}
 use Rattle.smb_body.specs.declared.types.AdditionalInformation.{AdditionalInformation}
@@ -47,13 +47,13 @@ set_info_fields a =
 -- a request says this: its fields stand at their places, and its buffer is what an offset and a length name
 pub record SaysSetInfo (request : List ℕ) (a : SetInfoAsked) : Type 0 where
   pub fields : AllStand (body request) (set_info_fields a)
-  pub buffer : Holds 96 a.buffer_offset request a.buffer
+  pub buffer : Holds (behind 32) a.buffer_offset request a.buffer
 
 -- whether a request says anything
 abbrev pub is_set_info : List ℕ → Bool
 is_set_info request =
     has_fixed_part 32 33 request
-    && is_within 96 (number_in 2 8 (body request)) (number_in 4 4 (body request)) request
+    && is_within (behind 32) (number_in 2 8 (body request)) (number_in 4 4 (body request)) request
 
 -- what a request says, if it says anything
 abbrev pub set_info_of : List ℕ → SetInfoAsked
@@ -69,7 +69,7 @@ set_info_of request = record {
 
 -- the same but for layout: the offset as a writer sets it, straight behind the fixed part
 abbrev pub set_info_laid : SetInfoAsked → SetInfoAsked
-set_info_laid a = record a { buffer_offset = 96 }
+set_info_laid a = record a { buffer_offset = behind 32 }
 
 -- the one spelling of a request
 unfoldable pub set_info_spelling : SetInfoAsked → List ℕ

@@ -3,7 +3,7 @@ use Rattle.std.specs.Prelude.{ℕ, ◌*◌, ◌%◌, List, [], ◌∷◌, ◌++�
 use Rattle.smb_wire.specs.Fields.{Field, num, number_in, AllStand, AllFit, joined}
 use Rattle.smb_wire.specs.Pairs.{units_in, unit_bytes, AreUnits}
 use Rattle.smb_wire.specs.Units.{units_of}
-use Rattle.smb_body.specs.Buffers.{body, has_fixed_part, slice, is_within, HoldsText}
+use Rattle.smb_body.specs.Buffers.{body, behind, has_fixed_part, slice, is_within, HoldsText}
 use Rattle.smb_body.specs.declared.tree_connect.TreeConnectRequest.{TreeConnectRequest}
 use Rattle.smb_body.specs.declared.tree_connect.TreeConnectResponse.{TreeConnectResponse}
 
@@ -33,14 +33,14 @@ tree_connect_fields a =
 -- a request says this: its fields stand at their places, and its buffer is what an offset and a length name
 pub record SaysTreeConnect (request : List ℕ) (a : TreeConnectAsked) : Type 0 where
   pub fields : AllStand (body request) (tree_connect_fields a)
-  pub path : HoldsText 72 a.path_offset request a.path
+  pub path : HoldsText (behind 8) a.path_offset request a.path
 
 -- whether a request says anything
 abbrev pub is_tree_connect : List ℕ → Bool
 is_tree_connect request =
     has_fixed_part 8 9 request
     && nat_eq (number_in 2 6 (body request) % 2) 0
-    && is_within 72 (number_in 2 4 (body request)) (number_in 2 6 (body request)) request
+    && is_within (behind 8) (number_in 2 4 (body request)) (number_in 2 6 (body request)) request
 
 -- what a request says, if it says anything
 abbrev pub tree_connect_of : List ℕ → TreeConnectAsked
@@ -52,7 +52,7 @@ tree_connect_of request = record {
 
 -- the same but for layout: the offset as a writer sets it, straight behind the fixed part
 abbrev pub tree_connect_laid : TreeConnectAsked → TreeConnectAsked
-tree_connect_laid a = record a { path_offset = 72 }
+tree_connect_laid a = record a { path_offset = behind 8 }
 
 -- the one spelling of a request
 unfoldable pub tree_connect_spelling : TreeConnectAsked → List ℕ

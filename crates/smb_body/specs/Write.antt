@@ -1,7 +1,7 @@
 -- WRITE ([MS-SMB2] 2.2.21, 2.2.22).
 use Rattle.std.specs.Prelude.{ℕ, List, [], ◌∷◌, ◌++◌, length, Bool, nat_lt, ◌&&◌}
 use Rattle.smb_wire.specs.Fields.{Field, num, number_in, AllStand, AllFit, joined}
-use Rattle.smb_body.specs.Buffers.{body, has_fixed_part, file_id_at, slice, is_within, Holds}
+use Rattle.smb_body.specs.Buffers.{body, behind, has_fixed_part, file_id_at, slice, is_within, Holds}
 use Rattle.smb_wire.specs.declared.file_id.FileId.{FileId}
 use Rattle.smb_body.specs.declared.types.Channel.{Channel}
 use Rattle.smb_body.specs.declared.write.WriteFlags.{WriteFlags}
@@ -53,13 +53,13 @@ write_fields a =
 -- a request says this: its fields stand at their places, and its buffer is what an offset and a length name
 pub record SaysWrite (request : List ℕ) (a : WriteAsked) : Type 0 where
   pub fields : AllStand (body request) (write_fields a)
-  pub buffer : Holds 112 a.data_offset request a.buffer
+  pub buffer : Holds (behind 48) a.data_offset request a.buffer
 
 -- whether a request says anything
 abbrev pub is_write : List ℕ → Bool
 is_write request =
     has_fixed_part 48 49 request
-    && is_within 112 (number_in 2 2 (body request)) (number_in 4 4 (body request)) request
+    && is_within (behind 48) (number_in 2 2 (body request)) (number_in 4 4 (body request)) request
 
 -- what a request says, if it says anything
 abbrev pub write_of : List ℕ → WriteAsked
@@ -77,7 +77,7 @@ write_of request = record {
 
 -- the same but for layout: the offset as a writer sets it, straight behind the fixed part
 abbrev pub write_laid : WriteAsked → WriteAsked
-write_laid a = record a { data_offset = 112 }
+write_laid a = record a { data_offset = behind 48 }
 
 -- the one spelling of a request
 unfoldable pub write_spelling : WriteAsked → List ℕ

@@ -3,7 +3,7 @@ use Rattle.std.proofs.Common.{◌≡◌, ℕ, List, [], ◌∷◌, ◌++◌, len
 use Rattle.std.proofs.lemmas.List.{take-map, length-map}
 use Rattle.std.specs.List.{flat_map}
 use Rattle.std.proofs.lemmas.Grind.{flat_map-append}
-use Rattle.smb_engine.specs.Output.{Output, bytes_of}
+use Rattle.smb_engine.specs.Output.{Output, output_bytes}
 use Rattle.smb_engine.specs.Sink.{Heard, whole, byte, hears_whole, hears_bytes}
 
 output_heard : Heard → List Output
@@ -28,12 +28,12 @@ unfolding bytes_heard
 heard-byte [] = refl
 heard-byte (x ∷ bytes) = ap (λ t. x ∷ t) (heard-byte bytes)
 
-bytes-hears : (outputs : List Output) → flat_map bytes_heard (flat_map hears_bytes outputs) ≡ flat_map bytes_of outputs
+bytes-hears : (outputs : List Output) → flat_map bytes_heard (flat_map hears_bytes outputs) ≡ flat_map output_bytes outputs
 bytes-hears [] = refl
 bytes-hears (o ∷ outputs) =
     flat_map-append bytes_heard (hears_bytes o) (flat_map hears_bytes outputs)
-    ∙ ap (λ t. t ++ flat_map bytes_heard (flat_map hears_bytes outputs)) (heard-byte (bytes_of o))
-    ∙ ap (λ t. bytes_of o ++ t) (bytes-hears outputs)
+    ∙ ap (λ t. t ++ flat_map bytes_heard (flat_map hears_bytes outputs)) (heard-byte (output_bytes o))
+    ∙ ap (λ t. output_bytes o ++ t) (bytes-hears outputs)
 
 pub same_outputs : (a b : List Output) → map whole a ≡ map whole b → a ≡ b
 same_outputs a b h = sym (heard-whole a) ∙ ap (flat_map output_heard) h ∙ heard-whole b
@@ -47,7 +47,7 @@ outputs_more a b outputs h =
     ∙ ap (λ t. t ++ flat_map output_heard (flat_map hears_whole outputs)) (heard-whole b)
     ∙ ap (λ t. b ++ t) (ap (flat_map output_heard) (whole-hears outputs) ∙ heard-whole outputs)
 
-pub bytes_more : (a b : List ℕ) (outputs : List Output) → map byte a ≡ map byte b ++ flat_map hears_bytes outputs → a ≡ b ++ flat_map bytes_of outputs
+pub bytes_more : (a b : List ℕ) (outputs : List Output) → map byte a ≡ map byte b ++ flat_map hears_bytes outputs → a ≡ b ++ flat_map output_bytes outputs
 bytes_more a b outputs h =
     sym (heard-byte a) ∙ ap (flat_map bytes_heard) h ∙ flat_map-append bytes_heard (map byte b) (flat_map hears_bytes outputs)
     ∙ ap (λ t. t ++ flat_map bytes_heard (flat_map hears_bytes outputs)) (heard-byte b)

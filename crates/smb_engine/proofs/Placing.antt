@@ -6,20 +6,20 @@ use Rattle.std.proofs.Math.Seq.{take-append_seam}
 use Rattle.smb_engine.specs.declared.connection.Connection.{Connection}
 use Rattle.smb_request.specs.State.{SharedState}
 use Rattle.smb_engine.specs.Chain.{PayloadStep}
-use Rattle.smb_engine.specs.Output.{Output, reply_frame, bytes_of}
+use Rattle.smb_engine.specs.Output.{Output, reply_frame, output_bytes}
 use Rattle.smb_engine.specs.Sink.{Heard}
 use Rattle.smb_engine.specs.InPlace.{payload_behind, payload_heard, heard_of}
 
 module _ {S : Type 0} (shared' : SharedState S) (connection' : Connection) where
   framed_at : (shared : SharedState S) (connection : Connection) (replies : Option (List ℕ)) (front out : List ℕ) →
       record { shared = shared'; connection = connection'; goes_on = true; out = out } ≡ payload_behind front (record { shared = shared; connection = connection; replies = replies }) →
-      (r : List ℕ) × ((◌≡◌ {A = PayloadStep S} (record { shared = shared'; connection = connection'; replies = Some r }) (record { shared = shared; connection = connection; replies = replies })) × (out ≡ front ++ flat_map bytes_of (reply_frame 0 r)))
+      (r : List ℕ) × ((◌≡◌ {A = PayloadStep S} (record { shared = shared'; connection = connection'; replies = Some r }) (record { shared = shared; connection = connection; replies = replies })) × (out ≡ front ++ flat_map output_bytes (reply_frame 0 r)))
   framed_at shared connection None front out e = let c : true ≡ false = ap (λ p. p.goes_on) e in cc
   framed_at shared connection (Some replies) front out e = (replies, (ap (λ p. record { shared = p.shared; connection = p.connection; replies = Some replies }) e, ap (λ p. p.out) e))
 
   -- a payload that goes on has replies, and their frame stands behind the front
   pub framed : (step : PayloadStep S) (front out : List ℕ) → record { shared = shared'; connection = connection'; goes_on = true; out = out } ≡ payload_behind front step →
-      (r : List ℕ) × ((record { shared = shared'; connection = connection'; replies = Some r } ≡ step) × (out ≡ front ++ flat_map bytes_of (reply_frame 0 r)))
+      (r : List ℕ) × ((record { shared = shared'; connection = connection'; replies = Some r } ≡ step) × (out ≡ front ++ flat_map output_bytes (reply_frame 0 r)))
   framed step front out e = framed_at step.shared step.connection step.replies front out e
 
   unframed_at : (shared : SharedState S) (connection : Connection) (replies : Option (List ℕ)) (front out : List ℕ) →

@@ -17,9 +17,10 @@ use Rattle.std.proofs.lemmas.List.{take_all}
 use Rattle.std.proofs.lemmas.Bool.{ne_eqb}
 use Rattle.smb_head.specs.Headers.{header_of}
 use Rattle.smb_head.specs.Replies.{joined_replies}
-use Rattle.smb_head.specs.Placed.{placed, written}
+use Rattle.smb_head.specs.Placed.{placed, replies_written}
 use Rattle.smb_engine.specs.declared.connection.Connection.{Connection}
 use Rattle.smb_session.specs.Authenticator.{Meaning}
+use Rattle.smb_request.specs.Context.{first_context}
 use Rattle.smb_request.specs.State.{SharedState}
 use Rattle.smb_request.specs.Response.{Performed}
 use Rattle.smb_request.specs.Request.{performed}
@@ -78,7 +79,7 @@ turns-more m number moment turn (suc i) (x ∷ requests) request h =
 
 -- the turn that a chain begins with
 abbrev pub first_turn : {S : Type 0} → SharedState S → Connection → Turn S
-first_turn shared connection = record { shared = shared; connection = connection; context = record { session_id = 0; tree_id = 0 }; replies = [] }
+first_turn shared connection = record { shared = shared; connection = connection; context = first_context; replies = [] }
 
 -- i requests are done, and this is what the code holds, behind what stood there
 pub record ChainSoFar {S : Type 0} (m : Meaning S) (number moment : ℕ) (front : List ℕ) (start : Turn S) (now : TurnPlaced S) (requests : List (List ℕ)) (i : ℕ) : Type 0 where
@@ -102,7 +103,7 @@ pub writer_at : {S : Type 0} (m : Meaning S) (number moment : ℕ) (front : List
 writer_at m number moment front start now requests i h = ap (λ t. t.writer) h.so_far
 
 pub out_at : {S : Type 0} (m : Meaning S) (number moment : ℕ) (front : List ℕ) (start : Turn S) (now : TurnPlaced S) (requests : List (List ℕ)) (i : ℕ) → ChainSoFar m number moment front start now requests i →
-    now.out ≡ written front (turn_after_all m number moment start (take i requests)).replies
+    now.out ≡ replies_written front (turn_after_all m number moment start (take i requests)).replies
 out_at m number moment front start now requests i h = ap (λ t. t.out) h.so_far
 
 pub chain_more : {S : Type 0} (m : Meaning S) (number moment : ℕ) (front : List ℕ) (start : Turn S) (now new : TurnPlaced S) (requests : List (List ℕ)) (request : List ℕ) (i : ℕ) →

@@ -17,6 +17,7 @@ use Rattle.smb_session.specs.Window.{first_window, may_use, without_ids, credits
 use Rattle.smb_session.specs.Authenticator.{Meaning}
 use Rattle.smb_request.specs.Negotiate.{negotiate_answer}
 use Rattle.smb_request.specs.Smb1.{answer_to_smb1, reply_to_smb1}
+use Rattle.smb_request.specs.Context.{first_context}
 use Rattle.smb_request.specs.State.{SharedState, hello_of}
 use Rattle.smb_request.specs.Response.{ResponseState, Performed}
 use Rattle.smb_request.specs.Request.{performed}
@@ -65,8 +66,8 @@ reply_to request response credits = record {
     next_command = 0;
     message_id = (header_of request).message_id;
     reserved = (header_of request).reserved;
-    tree_id = response.under.tree_id;
-    session_id = response.under.session_id;
+    tree_id = response.ids.tree_id;
+    session_id = response.ids.session_id;
     signature = replicate 16 0;
   };
   body = response.body;
@@ -84,10 +85,10 @@ replied turn request p = option_map_or
     p.response
     (record { shared = p.shared; connection = record turn.connection { dialect = p.dialect }; context = p.context; replies = turn.replies })
 
-module _ {S : Type 0} (m : Meaning S) (number moment : ℕ) where
+module _ {S : Type 0} (authenticator : Meaning S) (connection_id moment : ℕ) where
   -- one request of a chain on a connection
   unfoldable pub turn_after : Turn S → List ℕ → Turn S
-  turn_after turn request = replied turn request (performed m number moment turn.shared turn.connection.dialect turn.context request)
+  turn_after turn request = replied turn request (performed authenticator connection_id moment turn.shared turn.connection.dialect turn.context request)
 
   -- the requests of a chain, in order
   abbrev pub turn_after_all : Turn S → List (List ℕ) → Turn S
@@ -99,7 +100,7 @@ abbrev pub turn_before : {S : Type 0} → SharedState S → Connection → List 
 turn_before shared connection requests = record {
   shared = shared;
   connection = record connection { payload_came = true; window = without_ids connection.window (message_ids requests) };
-  context = record { session_id = 0; tree_id = 0 };
+  context = first_context;
   replies = [];
 }
 
@@ -122,11 +123,11 @@ first_negotiate connection payload = if connection.payload_came then None else s
 -- it is answered by an SMB2 NEGOTIATE response, and the client goes on with MessageId 1; without a dialect of the share
 -- it ends the connection
 unfoldable pub first_step : {S : Type 0} → Meaning S → ℕ → SharedState S → Connection → Smb1Dialects → PayloadStep S
-first_step m moment shared connection dialects = option_map_or
+first_step authenticator moment shared connection dialects = option_map_or
     (λ answer. record {
       shared = shared;
       connection = record connection { payload_came = true; dialect = answer.dialect; window = first_window 1 };
-      replies = Some (joined_replies (reply_to_smb1 (negotiate_answer shared.settings.guid (hello_of m shared) moment answer.dialect_revision) ∷ []));
+      replies = Some (joined_replies (reply_to_smb1 (negotiate_answer shared.settings.guid (hello_of authenticator shared) moment answer.dialect_revision) ∷ []));
     })
     (answer_to_smb1 dialects)
     (refused_step shared connection)
@@ -134,17 +135,17 @@ first_step m moment shared connection dialects = option_map_or
 abbrev pub count_in_first : Smb1Dialects → ℕ
 count_in_first dialects = option_map_or (λ answer. 1) (answer_to_smb1 dialects) 0
 
-module _ {S : Type 0} (m : Meaning S) (number moment : ℕ) (shared : SharedState S) (connection : Connection) where
+module _ {S : Type 0} (authenticator : Meaning S) (connection_id moment : ℕ) (shared : SharedState S) (connection : Connection) where
   -- a chain: performed whole and answered, or refused whole, which ends the connection
   unfoldable pub chain_step : List ℕ → PayloadStep S
   chain_step payload =
-      option_map_or (λ requests. step_of (turn_after_all m number moment (turn_before shared connection requests) requests))
+      option_map_or (λ requests. step_of (turn_after_all authenticator connection_id moment (turn_before shared connection requests) requests))
       (admitted connection payload) (refused_step shared connection)
 
   -- what is shared after its first k requests
   unfoldable pub shared_after_chain : List ℕ → ℕ → SharedState S
   shared_after_chain payload k =
-      option_map_or (λ requests. (turn_after_all m number moment (turn_before shared connection requests) (take k requests)).shared)
+      option_map_or (λ requests. (turn_after_all authenticator connection_id moment (turn_before shared connection requests) (take k requests)).shared)
       (admitted connection payload) shared
 
   -- how many of its requests are performed
@@ -153,7 +154,7 @@ module _ {S : Type 0} (m : Meaning S) (number moment : ℕ) (shared : SharedStat
 
   -- one payload
   unfoldable pub payload_step : List ℕ → PayloadStep S
-  payload_step payload = option_map_or (first_step m moment shared connection) (first_negotiate connection payload) (chain_step payload)
+  payload_step payload = option_map_or (first_step authenticator moment shared connection) (first_negotiate connection payload) (chain_step payload)
 
   -- what is shared after the first k requests of a payload; an SMB_COM_NEGOTIATE changes nothing of it
   unfoldable pub shared_after : List ℕ → ℕ → SharedState S

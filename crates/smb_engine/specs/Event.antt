@@ -11,9 +11,9 @@ pub data EventText : Type 0 where
 
 -- an event of the code, without where its bytes lie
 abbrev pub text_of : Event → EventText
-text_of (Opened number) = opens number
-text_of (Bytes number moment piece) = brings number moment piece.items
-text_of (Ended number) = ends number
+text_of (Opened connection) = opens connection
+text_of (Bytes connection moment piece) = brings connection moment piece.items
+text_of (Ended connection) = ends connection
 
 abbrev pub events_of : List Event → List EventText
 events_of events = map text_of events

@@ -3,11 +3,11 @@
 use Rattle.std.specs.Prelude.{ℕ, ◌++◌, Bool, List, [], Option, None, Some, is_some}
 use Rattle.std.specs.List.{flat_map}
 use Rattle.smb_head.specs.declared.writer.ReplyWriter.{ReplyWriter}
-use Rattle.smb_head.specs.Placed.{placed, written}
+use Rattle.smb_head.specs.Placed.{placed, replies_written}
 use Rattle.smb_request.specs.declared.context.Context.{Context}
 use Rattle.smb_request.specs.State.{SharedState}
 use Rattle.smb_engine.specs.declared.connection.Connection.{Connection}
-use Rattle.smb_engine.specs.Output.{Output, reply_frame, bytes_of}
+use Rattle.smb_engine.specs.Output.{Output, reply_frame, output_bytes}
 use Rattle.smb_engine.specs.Sink.{Heard}
 use Rattle.smb_engine.specs.Chain.{Turn, PayloadStep}
 
@@ -25,7 +25,7 @@ turn_behind front turn = record {
   connection = turn.connection;
   context = turn.context;
   writer = placed front turn.replies;
-  out = written front turn.replies;
+  out = replies_written front turn.replies;
 }
 
 -- a chain that was performed, with its replies behind a front
@@ -35,12 +35,12 @@ pub record ChainPlaced (S : Type 0) : Type 0 where
   pub out : List ℕ
 
 abbrev pub chain_behind : {S : Type 0} → List ℕ → Turn S → ChainPlaced S
-chain_behind front turn = record { shared = turn.shared; connection = turn.connection; out = written front turn.replies }
+chain_behind front turn = record { shared = turn.shared; connection = turn.connection; out = replies_written front turn.replies }
 
 -- the bytes of the frame that a payload's replies are sent in, where there are any
 abbrev pub sent : Option (List ℕ) → List ℕ
 sent None = []
-sent (Some replies) = flat_map bytes_of (reply_frame 0 replies)
+sent (Some replies) = flat_map output_bytes (reply_frame 0 replies)
 
 -- a payload that was performed, with the frame of its replies behind a front
 pub record PayloadPlaced (S : Type 0) : Type 0 where
@@ -65,13 +65,13 @@ pub record PayloadHeard (S : Type 0) : Type 0 where
   pub heard : List Heard
 
 abbrev pub heard_of : (Output → List Heard) → ℕ → Option (List ℕ) → List Heard
-heard_of hears number None = []
-heard_of hears number (Some replies) = flat_map hears (reply_frame number replies)
+heard_of hears connection_id None = []
+heard_of hears connection_id (Some replies) = flat_map hears (reply_frame connection_id replies)
 
 abbrev pub payload_heard : {S : Type 0} → (Output → List Heard) → List Heard → ℕ → PayloadStep S → PayloadHeard S
-payload_heard hears before number step = record {
+payload_heard hears before connection_id step = record {
   shared = step.shared;
   connection = step.connection;
   goes_on = is_some step.replies;
-  heard = before ++ heard_of hears number step.replies;
+  heard = before ++ heard_of hears connection_id step.replies;
 }

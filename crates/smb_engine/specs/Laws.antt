@@ -32,9 +32,9 @@ run_after count before ran = record { state = ran.state; outputs = before ++ ran
 
 -- the connection of an event, and that to which an output goes
 abbrev pub connection_of : EventText → ℕ
-connection_of (opens number) = number
-connection_of (brings number moment piece) = number
-connection_of (ends number) = number
+connection_of (opens connection) = connection
+connection_of (brings connection moment piece) = connection
+connection_of (ends connection) = connection
 
 abbrev pub receiver : Output → ℕ
 receiver (frame_to connection bytes) = connection
@@ -59,44 +59,44 @@ IsLastEnd connection [] = Unit {0}
 IsLastEnd connection (output ∷ outputs) =
     (output ≡ end_of connection → AllByRecursion (λ output. (receiver output == connection) ≡ false) outputs) × IsLastEnd connection outputs
 
-module _ {S : Type 0} (m : Meaning S) where
+module _ {S : Type 0} (authenticator : Meaning S) where
   -- a good state is in order, and so is what a run leaves of one in order
   abbrev pub StatesAreInOrder : Type 0
-  StatesAreInOrder = ((s : ShareState S) → GoodState s → LinksInOrder s) × ((s : ShareState S) (events : List EventText) → LinksInOrder s → LinksInOrder (run m s events).state)
+  StatesAreInOrder = ((s : ShareState S) → GoodState s → LinksInOrder s) × ((s : ShareState S) (events : List EventText) → LinksInOrder s → LinksInOrder (run authenticator s events).state)
 
   -- of one piece, wherever it stands in a run, two can be made, and the run leaves and puts out the same; where it stops
   -- behind them, that is one event later
   abbrev pub ACutDoesNotMatter : Type 0
   ACutDoesNotMatter =
       (s : ShareState S) → LinksInOrder s → (before after : List EventText) (connection moment : ℕ) (front back : List ℕ) →
-      run m s (before ++ brings connection moment front ∷ brings connection moment back ∷ after)
-      ≡ with_one_more_at (length before) (run m s (before ++ brings connection moment (front ++ back) ∷ after))
+      run authenticator s (before ++ brings connection moment front ∷ brings connection moment back ∷ after)
+      ≡ with_one_more_at (length before) (run authenticator s (before ++ brings connection moment (front ++ back) ∷ after))
 
   -- it does not matter how bytes that come at one moment are cut into pieces, if there is one at all
   abbrev pub CutsDoNotMatter : Type 0
   CutsDoNotMatter =
       (s : ShareState S) → LinksInOrder s → (before after : List EventText) (connection moment : ℕ) (pieces others : List (List ℕ)) →
       0 < length pieces → 0 < length others → bytes_of_pieces pieces ≡ bytes_of_pieces others →
-      AreAlike (run m s (before ++ (pieces_on connection moment pieces ++ after))) (run m s (before ++ (pieces_on connection moment others ++ after)))
+      AreAlike (run authenticator s (before ++ (pieces_on connection moment pieces ++ after))) (run authenticator s (before ++ (pieces_on connection moment others ++ after)))
 
   -- several runs are one: the second goes on where the first stopped, unless that was at a refusal
   abbrev pub RunsAreOne : Type 0
   RunsAreOne =
       (s : ShareState S) (events others : List EventText) →
-      ((run m s events).stop ≡ None → run m s (events ++ others) ≡ run_after (length events) (run m s events).outputs (run m (run m s events).state others))
-      × ((fault : RunFault) → (run m s events).stop ≡ Some fault → run m s (events ++ others) ≡ run m s events)
+      ((run authenticator s events).stop ≡ None → run authenticator s (events ++ others) ≡ run_after (length events) (run authenticator s events).outputs (run authenticator (run authenticator s events).state others))
+      × ((fault : RunFault) → (run authenticator s events).stop ≡ Some fault → run authenticator s (events ++ others) ≡ run authenticator s events)
 
   -- and the second may begin with what is unread alone
   abbrev pub UnreadIsEnough : Type 0
-  UnreadIsEnough = (s : ShareState S) (events : List EventText) → run_behind [] (run m (unread s) events) ≡ run_behind [] (run m s events)
+  UnreadIsEnough = (s : ShareState S) (events : List EventText) → run_behind [] (run authenticator (unread s) events) ≡ run_behind [] (run authenticator s events)
 
   -- events on other connections leave a connection as it was, stream, dialect and window, and put nothing out to it
   abbrev pub OthersAreLeft : Type 0
   OthersAreLeft =
       (s : ShareState S) (events : List EventText) (connection : ℕ) → AllByRecursion (λ event. (connection_of event == connection) ≡ false) events →
-      (link_of connection (run m s events).state.links ≡ link_of connection s.links)
-      × AllByRecursion (λ output. (receiver output == connection) ≡ false) (run m s events).outputs
+      (link_of connection (run authenticator s events).state.links ≡ link_of connection s.links)
+      × AllByRecursion (λ output. (receiver output == connection) ≡ false) (run authenticator s events).outputs
 
   -- the share ends a connection at most once, and puts nothing out to it afterwards
   abbrev pub AnEndIsTheLast : Type 0
-  AnEndIsTheLast = (s : ShareState S) → LinksInOrder s → (events : List EventText) (connection : ℕ) → IsLastEnd connection (run m s events).outputs
+  AnEndIsTheLast = (s : ShareState S) → LinksInOrder s → (events : List EventText) (connection : ℕ) → IsLastEnd connection (run authenticator s events).outputs

@@ -23,6 +23,6 @@ reply_frame connection [] = []
 reply_frame connection (byte ∷ replies) = frame_to connection (frame (byte ∷ replies)) ∷ []
 
 -- the bytes of an output: an end has none
-abbrev pub bytes_of : Output → List ℕ
-bytes_of (frame_to connection bytes) = bytes
-bytes_of (end_of connection) = []
+abbrev pub output_bytes : Output → List ℕ
+output_bytes (frame_to connection bytes) = bytes
+output_bytes (end_of connection) = []

@@ -25,13 +25,13 @@ new_share settings authenticator = record { shared = new_shared settings authent
 
 -- the connection of a number, another in its place, and all but it
 abbrev pub link_of : ℕ → List (ℕ × LinkState) → Option LinkState
-link_of number links = lookup (is_at (nat_cmp number)) links
+link_of connection links = lookup (is_at (nat_cmp connection)) links
 
 abbrev pub with_link : ℕ → LinkState → List (ℕ × LinkState) → List (ℕ × LinkState)
-with_link number link links = set_value (is_at (nat_cmp number)) links link
+with_link connection link links = set_value (is_at (nat_cmp connection)) links link
 
 abbrev pub without_link : ℕ → List (ℕ × LinkState) → List (ℕ × LinkState)
-without_link number links = remove_entry (is_at (nat_cmp number)) links
+without_link connection links = remove_entry (is_at (nat_cmp connection)) links
 
 -- a new connection: nothing came, no dialect stands, and the window is {0}
 abbrev pub new_link : LinkState
@@ -43,7 +43,7 @@ opened s = record s { shared = shared_opened s.shared s.next; links = insert_ent
 
 -- the share without a connection: its sessions end with it
 abbrev pub ended : {S : Type 0} → ShareState S → ℕ → ShareState S
-ended s number = record s { shared = shared_ended s.shared number; links = without_link number s.links }
+ended s connection = record s { shared = shared_ended s.shared connection; links = without_link connection s.links }
 
 -- why no connection opens: 64 are open, or the numbers are spent
 abbrev pub opening_refusal : {S : Type 0} → ShareState S → Option ServeFault
@@ -56,31 +56,31 @@ pub record EventStep (S : Type 0) : Type 0 where
 
 -- a connection goes on after a piece, or is gone
 abbrev pub settled : {S : Type 0} → ShareState S → ℕ → PieceStep S → EventStep S
-settled s number step =
+settled s connection step =
     if step.stays_open
-    then record { state = record s { shared = step.shared; links = with_link number step.link s.links }; outputs = step.outputs }
-    else record { state = ended (record s { shared = step.shared }) number; outputs = step.outputs }
+    then record { state = record s { shared = step.shared; links = with_link connection step.link s.links }; outputs = step.outputs }
+    else record { state = ended (record s { shared = step.shared }) connection; outputs = step.outputs }
 
 -- a piece on a connection; on one that is not open it is passed over
 unfoldable pub bytes_step : {S : Type 0} → Meaning S → ShareState S → ℕ → ℕ → List ℕ → EventStep S
-bytes_step m s number moment piece =
-    option_map_or (λ link. settled s number (piece_step m number moment s.shared link piece)) (link_of number s.links)
+bytes_step authenticator s connection moment piece =
+    option_map_or (λ link. settled s connection (piece_step authenticator connection moment s.shared link piece)) (link_of connection s.links)
     (record { state = s; outputs = [] })
 
 -- whether a connection is open after a piece on it
 unfoldable pub is_open_after : {S : Type 0} → Meaning S → ShareState S → ℕ → ℕ → List ℕ → Bool
-is_open_after m s number moment piece =
-    option_map_or (λ link. (piece_step m number moment s.shared link piece).stays_open) (link_of number s.links) false
+is_open_after authenticator s connection moment piece =
+    option_map_or (λ link. (piece_step authenticator connection moment s.shared link piece).stays_open) (link_of connection s.links) false
 
 -- where memory ran out after k requests of a piece: those k stand, and then the connection has ended
 unfoldable pub stopped : {S : Type 0} → Meaning S → ShareState S → ℕ → ℕ → List ℕ → ℕ → ShareState S
-stopped m s number moment piece k =
-    option_map_or (λ link. ended (record s { shared = shared_after_piece m number moment s.shared link piece k }) number) (link_of number s.links) s
+stopped authenticator s connection moment piece k =
+    option_map_or (λ link. ended (record s { shared = shared_after_piece authenticator connection moment s.shared link piece k }) connection) (link_of connection s.links) s
 
 -- how many requests of a piece are performed
 unfoldable pub count_on : {S : Type 0} → Meaning S → ShareState S → ℕ → ℕ → List ℕ → ℕ
-count_on m s number moment piece =
-    option_map_or (λ link. count_in_piece m number moment s.shared link piece) (link_of number s.links) 0
+count_on authenticator s connection moment piece =
+    option_map_or (λ link. count_in_piece authenticator connection moment s.shared link piece) (link_of connection s.links) 0
 
 -- a state as the code holds it: of each stream the unread rest alone
 abbrev pub unread_link : LinkState → LinkState
@@ -108,11 +108,11 @@ OpeningRefused s BadConfig = ⊥
 
 -- where a piece stops: only memory can run out, on an open connection, after at most as many requests as the piece has
 abbrev pub PieceStopped : {S : Type 0} → Meaning S → ShareState S → ℕ → ℕ → List ℕ → ServeFault → ShareState S → Type 0
-PieceStopped m s number moment piece (NoMemory done) left =
-    (is_some (link_of number s.links) ≡ true) × (done ≤ count_on m s number moment piece) × (left ≡ unread (stopped m s number moment piece done))
-PieceStopped m s number moment piece TooManyConnections left = ⊥
-PieceStopped m s number moment piece BadEvent left = ⊥
-PieceStopped m s number moment piece BadConfig left = ⊥
+PieceStopped authenticator s connection moment piece (NoMemory done) left =
+    (is_some (link_of connection s.links) ≡ true) × (done ≤ count_on authenticator s connection moment piece) × (left ≡ unread (stopped authenticator s connection moment piece done))
+PieceStopped authenticator s connection moment piece TooManyConnections left = ⊥
+PieceStopped authenticator s connection moment piece BadEvent left = ⊥
+PieceStopped authenticator s connection moment piece BadConfig left = ⊥
 
 -- a connection between calls: at most 131,075 bytes are unread, and its window is good
 pub record IsGoodLink (link : LinkState) : Type 0 where

@@ -1,7 +1,7 @@
 -- For the proofs; nothing here need be believed.
 -- What a place for outputs holds: whole outputs, or their bytes.
 use Rattle.std.specs.Prelude.{ℕ, List, [], ◌∷◌, map}
-use Rattle.smb_engine.specs.Output.{Output, bytes_of}
+use Rattle.smb_engine.specs.Output.{Output, output_bytes}
 
 -- an output whole, or one byte of it
 pub data Heard : Type 0 where
@@ -12,4 +12,4 @@ abbrev pub hears_whole : Output → List Heard
 hears_whole output = whole output ∷ []
 
 abbrev pub hears_bytes : Output → List Heard
-hears_bytes output = map byte (bytes_of output)
+hears_bytes output = map byte (output_bytes output)

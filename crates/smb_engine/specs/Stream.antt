@@ -26,36 +26,36 @@ after_outputs outputs steps = record steps { outputs = outputs ++ steps.outputs 
 
 -- a payload's replies to a connection and what comes of the payloads after it; or the end
 abbrev pub and_then : {S : Type 0} → ℕ → (SharedState S → Connection → PayloadSteps S) → PayloadStep S → PayloadSteps S
-and_then number others step = option_map_or
-    (λ replies. after_outputs (reply_frame number replies) (others step.shared step.connection))
+and_then connection_id others step = option_map_or
+    (λ replies. after_outputs (reply_frame connection_id replies) (others step.shared step.connection))
     step.replies
     (record { shared = step.shared; connection = step.connection; outputs = []; stays_open = false })
 
-module _ {S : Type 0} (m : Meaning S) (number moment : ℕ) where
+module _ {S : Type 0} (authenticator : Meaning S) (connection_id moment : ℕ) where
   -- payloads in order, up to one that ends the connection
   abbrev pub payload_steps : SharedState S → Connection → List (List ℕ) → PayloadSteps S
   payload_steps shared connection [] = record { shared = shared; connection = connection; outputs = []; stays_open = true }
   payload_steps shared connection (payload ∷ payloads) =
-      and_then number (λ shared' connection'. payload_steps shared' connection' payloads) (payload_step m number moment shared connection payload)
+      and_then connection_id (λ shared' connection'. payload_steps shared' connection' payloads) (payload_step authenticator connection_id moment shared connection payload)
 
   -- what is shared after the first k requests of these payloads
   abbrev pub shared_after_some : SharedState S → Connection → List (List ℕ) → ℕ → SharedState S
   shared_after_some shared connection [] k = shared
   shared_after_some shared connection (payload ∷ payloads) k =
-      if nat_lt k (count_in m number moment shared connection payload)
-      then shared_after m number moment shared connection payload k
+      if nat_lt k (count_in authenticator connection_id moment shared connection payload)
+      then shared_after authenticator connection_id moment shared connection payload k
       else shared_after_some
-      (payload_step m number moment shared connection payload).shared (payload_step m number moment shared connection payload).connection
-      payloads (k - count_in m number moment shared connection payload)
+      (payload_step authenticator connection_id moment shared connection payload).shared (payload_step authenticator connection_id moment shared connection payload).connection
+      payloads (k - count_in authenticator connection_id moment shared connection payload)
 
   -- how many requests of these payloads are performed, up to a payload that ends the connection
   abbrev pub count_in_all : SharedState S → Connection → List (List ℕ) → ℕ
   count_in_all shared connection [] = 0
   count_in_all shared connection (payload ∷ payloads) =
-      count_in m number moment shared connection payload
+      count_in authenticator connection_id moment shared connection payload
       + option_map_or
-      (λ replies. count_in_all (payload_step m number moment shared connection payload).shared (payload_step m number moment shared connection payload).connection payloads)
-      (payload_step m number moment shared connection payload).replies 0
+      (λ replies. count_in_all (payload_step authenticator connection_id moment shared connection payload).shared (payload_step authenticator connection_id moment shared connection payload).connection payloads)
+      (payload_step authenticator connection_id moment shared connection payload).replies 0
 
 -- the payloads that a piece adds to a stream
 abbrev pub added_payloads : List ℕ → List ℕ → List (List ℕ)
@@ -70,23 +70,23 @@ pub record PieceStep (S : Type 0) : Type 0 where
 
 -- the connection stays open, or ends by a payload or by what is wrong with the rest of its stream
 abbrev pub closed_by : {S : Type 0} → ℕ → LinkState → List ℕ → PayloadSteps S → PieceStep S
-closed_by number link stream steps =
+closed_by connection_id link stream steps =
     if steps.stays_open && is_none (fault_of longest_payload (rest longest_payload stream))
     then record { shared = steps.shared; link = record { stream = stream; connection = steps.connection }; outputs = steps.outputs; stays_open = true }
-    else record { shared = steps.shared; link = link; outputs = steps.outputs ++ end_of number ∷ []; stays_open = false }
+    else record { shared = steps.shared; link = link; outputs = steps.outputs ++ end_of connection_id ∷ []; stays_open = false }
 
-module _ {S : Type 0} (m : Meaning S) (number moment : ℕ) where
+module _ {S : Type 0} (authenticator : Meaning S) (connection_id moment : ℕ) where
   -- a piece: the payloads that it adds to the stream, in order
   unfoldable pub piece_step : SharedState S → LinkState → List ℕ → PieceStep S
   piece_step shared link piece =
-      closed_by number link (link.stream ++ piece) (payload_steps m number moment shared link.connection (added_payloads link.stream piece))
+      closed_by connection_id link (link.stream ++ piece) (payload_steps authenticator connection_id moment shared link.connection (added_payloads link.stream piece))
 
   -- what is shared after the first k requests of a piece
   unfoldable pub shared_after_piece : SharedState S → LinkState → List ℕ → ℕ → SharedState S
   shared_after_piece shared link piece k =
-      shared_after_some m number moment shared link.connection (added_payloads link.stream piece) k
+      shared_after_some authenticator connection_id moment shared link.connection (added_payloads link.stream piece) k
 
   -- how many requests of a piece are performed
   unfoldable pub count_in_piece : SharedState S → LinkState → List ℕ → ℕ
   count_in_piece shared link piece =
-      count_in_all m number moment shared link.connection (added_payloads link.stream piece)
+      count_in_all authenticator connection_id moment shared link.connection (added_payloads link.stream piece)

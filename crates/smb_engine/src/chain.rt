@@ -4,8 +4,9 @@ ghost use Rattle.std.specs.Prelude.{ℕ, List, ◌≡◌, ◌≤◌, ◌<◌, �
 ghost use Rattle.std.specs.List.{list_any, flat_map};
 ghost use Rattle.smb_head.specs.Headers.{header_of};
 ghost use Rattle.smb_head.specs.Replies.{Reply, rounded_up};
-ghost use Rattle.smb_head.specs.Placed.{placed, written};
+ghost use Rattle.smb_head.specs.Placed.{placed, replies_written};
 ghost use Rattle.smb_session.specs.Window.{credits_granted, without_ids};
+ghost use Rattle.smb_request.specs.Context.{first_context};
 ghost use Rattle.smb_request.specs.Request.{performed};
 ghost use Rattle.std.specs.Bool.{OnTrue, OnFalse};
 ghost use Rattle.smb_head.specs.Replies.{joined_replies};
@@ -14,10 +15,11 @@ ghost use Rattle.smb_request.specs.State.{hello_of};
 ghost use Rattle.smb_request.specs.Smb1.{reply_to_smb1};
 ghost use Rattle.smb_engine.specs.Chain.{is_negotiate_request, message_ids, keeps_negotiate_rule, admitted, reply_to, turn_after, turn_after_all, step_of, first_negotiate, first_step, count_in_first, chain_step, shared_after_chain, count_in_chain, payload_step, shared_after, count_in};
 ghost use Rattle.smb_request.specs.Held.{is_performed};
-ghost use Rattle.smb_engine.specs.Output.{reply_frame, bytes_of};
+ghost use Rattle.smb_engine.specs.Output.{reply_frame, output_bytes};
 ghost use Rattle.smb_engine.specs.InPlace.{turn_behind, chain_behind, payload_behind};
 
 use super::connection::Connection;
+use super::fault::RanOut;
 use arrayvec::ArrayVec;
 use bitflags::Flags;
 use smb_body::{Smb1Dialects, read_smb1_negotiate};
@@ -105,7 +107,7 @@ fn admit<'a>(connection: &mut Connection, payload: &'a [u8]) -> Option<Chain<'a>
 fn reply_header(header: &Header, answered: Answered, credits: u16) -> Header
     requires { credits < 2 ^ 16 }
     ensures { (request body : List ℕ) → header.now ≡ header_of request →
-        result ≡ (reply_to request (record { status = answered.status; under = answered.under; body = body }) credits).header }
+        result ≡ (reply_to request (record { status = answered.status; ids = answered.ids; body = body }) credits).header }
 {
     let related = header.flags.contains(HeaderFlags::RELATED);
     Header {
@@ -117,8 +119,8 @@ fn reply_header(header: &Header, answered: Answered, credits: u16) -> Header
         next_command: 0,
         message_id: header.message_id,
         reserved: header.reserved,
-        tree_id: answered.under.tree_id,
-        session_id: answered.under.session_id,
+        tree_id: answered.ids.tree_id,
+        session_id: answered.ids.session_id,
         signature: [0; 16],
     }
 }
@@ -139,7 +141,7 @@ fn first_negotiate(connection: &Connection, payload: &[u8]) -> Option<Smb1Dialec
 #[tactic(auto, unfolding(crate::specs::Chain::turn_after))]
 fn turn<A: Authenticator + Drop, T: Tree + Drop, O: Opens + Drop>(
     shared: &mut Shared<A, T, O>,
-    number: u64,
+    connection_id: u64,
     moment: u64,
     connection: &mut Connection,
     context: &mut Context,
@@ -152,9 +154,9 @@ fn turn<A: Authenticator + Drop, T: Tree + Drop, O: Opens + Drop>(
     requires order { writer.old.base ≤ writer.old.last }
     requires within { writer.old.last ≤ length out.old.items }
     requires room { rounded_up (length out.old.items - writer.old.base) + 65616 < 2 ^ 24 }
-    ensures ok { (front : List ℕ) (before : List Reply) → writer.old ≡ placed front before → out.old.items ≡ written front before →
+    ensures ok { (front : List ℕ) (before : List Reply) → writer.old ≡ placed front before → out.old.items ≡ replies_written front before →
         OnOk result (record { shared = shared.new; connection = connection.new; context = context.new; writer = writer.new; out = out.new.items }
-        ≡ turn_behind front (turn_after A.meaning number moment (record { shared = shared.old; connection = connection.old; context = context.old; replies = before }) request.now)) }
+        ≡ turn_behind front (turn_after A.meaning connection_id moment (record { shared = shared.old; connection = connection.old; context = context.old; replies = before }) request.now)) }
     ensures order { writer.new.base ≤ writer.new.last }
     ensures base { writer.new.base ≡ writer.old.base }
     ensures within { OnOk result (writer.new.last ≤ length out.new.items) }
@@ -162,13 +164,13 @@ fn turn<A: Authenticator + Drop, T: Tree + Drop, O: Opens + Drop>(
     ensures kept { take writer.old.base out.new.items ≡ take writer.old.base out.old.items }
     ensures known { shared.new.sessions.table.connections ≡ shared.old.sessions.table.connections }
     ensures err { IfErr result (λ unanswered. shared.new
-        ≡ (if is_performed unanswered then (performed A.meaning number moment shared.old connection.old.dialect context.old request.now).shared else shared.old)) }
+        ≡ (if is_performed unanswered then (performed A.meaning connection_id moment shared.old connection.old.dialect context.old request.now).shared else shared.old)) }
 {
     let Ok(reply) = writer.open_reply(out) else {
         return Err(Unanswered::NotPerformed);
     };
     let answered = match shared.perform(
-        number,
+        connection_id,
         moment,
         &mut connection.dialect,
         context,
@@ -204,31 +206,28 @@ fn done_behind(others: usize, unanswered: Unanswered) -> usize
 /// performed.
 fn perform_chain<A: Authenticator + Drop, T: Tree + Drop, O: Opens + Drop>(
     shared: &mut Shared<A, T, O>,
-    number: u64,
+    connection_id: u64,
     moment: u64,
     connection: &mut Connection,
     chain: &Chain<'_>,
     out: &mut Vec<u8>,
-) -> Result<(), usize>
+) -> Result<(), RanOut>
     requires few { length chain.now ≤ 16 }
     ensures ok { OnOk result (record { shared = shared.new; connection = connection.new; out = out.new.items }
-        ≡ chain_behind out.old.items (turn_after_all A.meaning number moment (record { shared = shared.old; connection = connection.old; context = record { session_id = 0; tree_id = 0 }; replies = [] }) chain.now)) }
+        ≡ chain_behind out.old.items (turn_after_all A.meaning connection_id moment (record { shared = shared.old; connection = connection.old; context = first_context; replies = [] }) chain.now)) }
     ensures len { OnOk result (length out.new.items ≤ length out.old.items + 1049856) }
     ensures kept { take (length out.old.items) out.new.items ≡ out.old.items }
     ensures known { shared.new.sessions.table.connections ≡ shared.old.sessions.table.connections }
-    ensures err { IfErr result (λ done. (done ≤ length chain.now) × (shared.new
-        ≡ (turn_after_all A.meaning number moment (record { shared = shared.old; connection = connection.old; context = record { session_id = 0; tree_id = 0 }; replies = [] }) (take done chain.now)).shared)) }
+    ensures err { IfErr result (λ ran_out. (ran_out.done ≤ length chain.now) × (shared.new
+        ≡ (turn_after_all A.meaning connection_id moment (record { shared = shared.old; connection = connection.old; context = first_context; replies = [] }) (take ran_out.done chain.now)).shared)) }
 {
     let mut writer = ReplyWriter::begin(out);
-    let mut context = Context {
-        session_id: 0,
-        tree_id: 0,
-    };
+    let mut context = Context::first();
     for i in 0..chain.len() {
         let (header, request) = request_at(chain, i);
         match turn(
             shared,
-            number,
+            connection_id,
             moment,
             connection,
             &mut context,
@@ -238,7 +237,10 @@ fn perform_chain<A: Authenticator + Drop, T: Tree + Drop, O: Opens + Drop>(
             out,
         ) {
             Ok(()) => {}
-            Err(unanswered) => return Err(done_behind(i, unanswered)),
+            Err(unanswered) => {
+                let done = done_behind(i, unanswered);
+                return Err(RanOut { done });
+            }
         }
     }
     Ok(())
@@ -249,7 +251,7 @@ fn end_frame(start: usize, out: &mut Vec<u8>)
     requires within { start + 4 ≤ length out.old.items }
     requires fits { length out.old.items < start + 4 + 2 ^ 24 }
     ensures { (before payload : List ℕ) → start ≡ length before → out.old.items ≡ (before ++ replicate 4 0) ++ payload →
-        out.new.items ≡ before ++ flat_map bytes_of (reply_frame 0 payload) }
+        out.new.items ≡ before ++ flat_map output_bytes (reply_frame 0 payload) }
 {
     if out.len() == start + 4 {
         out.truncate(start);
@@ -262,31 +264,31 @@ fn end_frame(start: usize, out: &mut Vec<u8>)
 /// how many were performed, and leaves `out` as it was.
 fn frame_chain<A: Authenticator + Drop, T: Tree + Drop, O: Opens + Drop>(
     shared: &mut Shared<A, T, O>,
-    number: u64,
+    connection_id: u64,
     moment: u64,
     connection: &mut Connection,
     chain: &Chain<'_>,
     out: &mut Vec<u8>,
-) -> Result<(), usize>
+) -> Result<(), RanOut>
     requires few { length chain.now ≤ 16 }
     ensures ok { OnOk result (record { shared = shared.new; connection = connection.new; goes_on = true; out = out.new.items }
-        ≡ payload_behind out.old.items (step_of (turn_after_all A.meaning number moment (record { shared = shared.old; connection = connection.old; context = record { session_id = 0; tree_id = 0 }; replies = [] }) chain.now))) }
+        ≡ payload_behind out.old.items (step_of (turn_after_all A.meaning connection_id moment (record { shared = shared.old; connection = connection.old; context = first_context; replies = [] }) chain.now))) }
     ensures kept { OnErr result (out.new.items ≡ out.old.items) }
     ensures known { shared.new.sessions.table.connections ≡ shared.old.sessions.table.connections }
-    ensures err { IfErr result (λ done. (done ≤ length chain.now) × (shared.new
-        ≡ (turn_after_all A.meaning number moment (record { shared = shared.old; connection = connection.old; context = record { session_id = 0; tree_id = 0 }; replies = [] }) (take done chain.now)).shared)) }
+    ensures err { IfErr result (λ ran_out. (ran_out.done ≤ length chain.now) × (shared.new
+        ≡ (turn_after_all A.meaning connection_id moment (record { shared = shared.old; connection = connection.old; context = first_context; replies = [] }) (take ran_out.done chain.now)).shared)) }
 {
     let Ok(start) = open_frame(out) else {
-        return Err(0);
+        return Err(RanOut { done: 0 });
     };
-    match perform_chain(shared, number, moment, connection, chain, out) {
+    match perform_chain(shared, connection_id, moment, connection, chain, out) {
         Ok(()) => {
             end_frame(start, out);
             Ok(())
         }
-        Err(done) => {
+        Err(ran_out) => {
             out.truncate(start);
-            Err(done)
+            Err(ran_out)
         }
     }
 }
@@ -297,24 +299,24 @@ fn frame_chain<A: Authenticator + Drop, T: Tree + Drop, O: Opens + Drop>(
 #[tactic(auto, unfolding(crate::specs::Chain::chain_step, crate::specs::Chain::shared_after_chain, crate::specs::Chain::count_in_chain))]
 fn chain_payload<A: Authenticator + Drop, T: Tree + Drop, O: Opens + Drop>(
     shared: &mut Shared<A, T, O>,
-    number: u64,
+    connection_id: u64,
     moment: u64,
     connection: &mut Connection,
     payload: &[u8],
     out: &mut Vec<u8>,
-) -> Result<Option<usize>, usize>
+) -> Result<Option<usize>, RanOut>
     ensures ok { IfOk result (λ count. record { shared = shared.new; connection = connection.new; goes_on = is_some count; out = out.new.items }
-        ≡ payload_behind out.old.items (chain_step A.meaning number moment shared.old connection.old payload.now)) }
-    ensures count { IfOk result (λ count. IfSome count (λ n. count_in_chain A.meaning number moment shared.old connection.old payload.now ≡ n)) }
+        ≡ payload_behind out.old.items (chain_step A.meaning connection_id moment shared.old connection.old payload.now)) }
+    ensures count { IfOk result (λ count. IfSome count (λ n. count_in_chain A.meaning connection_id moment shared.old connection.old payload.now ≡ n)) }
     ensures kept { OnErr result (out.new.items ≡ out.old.items) }
-    ensures err { IfErr result (λ done. (done ≤ count_in_chain A.meaning number moment shared.old connection.old payload.now)
-        × (shared.new ≡ shared_after_chain A.meaning number moment shared.old connection.old payload.now done)) }
+    ensures err { IfErr result (λ ran_out. (ran_out.done ≤ count_in_chain A.meaning connection_id moment shared.old connection.old payload.now)
+        × (shared.new ≡ shared_after_chain A.meaning connection_id moment shared.old connection.old payload.now ran_out.done)) }
     ensures known { shared.new.sessions.table.connections ≡ shared.old.sessions.table.connections }
 {
     let Some(chain) = admit(connection, payload) else {
         return Ok(None);
     };
-    frame_chain(shared, number, moment, connection, &chain, out)?;
+    frame_chain(shared, connection_id, moment, connection, &chain, out)?;
     Ok(Some(chain.len()))
 }
 
@@ -327,7 +329,7 @@ fn frame_smb1<A: Authenticator + Drop, T: Tree + Drop, O: Opens + Drop>(
     out: &mut Vec<u8>,
 ) -> bool
     ensures ok { OnTrue result (out.new.items ≡ out.old.items
-        ++ flat_map bytes_of (reply_frame 0 (joined_replies (reply_to_smb1 (negotiate_answer shared.now.settings.guid (hello_of A.meaning shared.now) moment dialect_revision) ∷ [])))) }
+        ++ flat_map output_bytes (reply_frame 0 (joined_replies (reply_to_smb1 (negotiate_answer shared.now.settings.guid (hello_of A.meaning shared.now) moment dialect_revision) ∷ [])))) }
     ensures kept { OnFalse result (out.new.items ≡ out.old.items) }
 {
     let Ok(start) = open_frame(out) else {
@@ -356,18 +358,18 @@ fn first_payload<A: Authenticator + Drop, T: Tree + Drop, O: Opens + Drop>(
     connection: &mut Connection,
     dialects: Smb1Dialects,
     out: &mut Vec<u8>,
-) -> Result<Option<usize>, usize>
+) -> Result<Option<usize>, RanOut>
     ensures ok { IfOk result (λ count. record { shared = shared.now; connection = connection.new; goes_on = is_some count; out = out.new.items }
         ≡ payload_behind out.old.items (first_step A.meaning moment shared.now connection.old dialects)) }
     ensures count { IfOk result (λ count. IfSome count (λ n. count_in_first dialects ≡ n)) }
-    ensures err { IfErr result (λ done. done ≡ 0) }
+    ensures err { IfErr result (λ ran_out. ran_out.done ≡ 0) }
     ensures kept { OnErr result (out.new.items ≡ out.old.items) }
 {
     let Some(answer) = smb1::answer(dialects) else {
         return Ok(None);
     };
     if !frame_smb1(shared, moment, answer.dialect_revision, out) {
-        return Err(0);
+        return Err(RanOut { done: 0 });
     }
     connection.payload_came = true;
     connection.dialect = answer.dialect;
@@ -381,23 +383,23 @@ fn first_payload<A: Authenticator + Drop, T: Tree + Drop, O: Opens + Drop>(
 #[tactic(auto, unfolding(crate::specs::Chain::payload_step, crate::specs::Chain::shared_after, crate::specs::Chain::count_in))]
 pub(crate) fn perform_payload<A: Authenticator + Drop, T: Tree + Drop, O: Opens + Drop>(
     shared: &mut Shared<A, T, O>,
-    number: u64,
+    connection_id: u64,
     moment: u64,
     connection: &mut Connection,
     payload: &[u8],
     out: &mut Vec<u8>,
-) -> Result<Option<usize>, usize>
+) -> Result<Option<usize>, RanOut>
     ensures ok { IfOk result (λ count. record { shared = shared.new; connection = connection.new; goes_on = is_some count; out = out.new.items }
-        ≡ payload_behind out.old.items (payload_step A.meaning number moment shared.old connection.old payload.now)) }
-    ensures few { count_in A.meaning number moment shared.old connection.old payload.now ≤ length payload.now }
-    ensures count { IfOk result (λ count. IfSome count (λ n. count_in A.meaning number moment shared.old connection.old payload.now ≡ n)) }
+        ≡ payload_behind out.old.items (payload_step A.meaning connection_id moment shared.old connection.old payload.now)) }
+    ensures few { count_in A.meaning connection_id moment shared.old connection.old payload.now ≤ length payload.now }
+    ensures count { IfOk result (λ count. IfSome count (λ n. count_in A.meaning connection_id moment shared.old connection.old payload.now ≡ n)) }
     ensures kept { OnErr result (out.new.items ≡ out.old.items) }
-    ensures err { IfErr result (λ done. (done ≤ count_in A.meaning number moment shared.old connection.old payload.now)
-        × (shared.new ≡ shared_after A.meaning number moment shared.old connection.old payload.now done)) }
+    ensures err { IfErr result (λ ran_out. (ran_out.done ≤ count_in A.meaning connection_id moment shared.old connection.old payload.now)
+        × (shared.new ≡ shared_after A.meaning connection_id moment shared.old connection.old payload.now ran_out.done)) }
     ensures known { shared.new.sessions.table.connections ≡ shared.old.sessions.table.connections }
 {
     match first_negotiate(connection, payload) {
-        None => chain_payload(shared, number, moment, connection, payload, out),
+        None => chain_payload(shared, connection_id, moment, connection, payload, out),
         Some(dialects) => first_payload(shared, moment, connection, dialects, out),
     }
 }

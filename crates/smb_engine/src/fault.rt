@@ -20,6 +20,12 @@ pub enum ServeFault {
     BadConfig,
 }
 
+/// Memory ran out, and so many requests had been performed.
+#[derive(Clone, Copy, Debug, PartialEq, Eq)]
+pub(crate) struct RanOut {
+    pub(crate) done: usize,
+}
+
 /// Where a run stopped, and why.
 #[derive(Clone, Copy, Debug, PartialEq, Eq)]
 pub struct RunFault {

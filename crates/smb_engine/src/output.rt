@@ -2,7 +2,7 @@
 
 ghost use Rattle.std.specs.Prelude.{◌≡◌, ◌++◌, ◌∷◌, [], OnOk, OnErr, length, take, List, ℕ};
 ghost use Rattle.std.specs.List.{flat_map};
-ghost use Rattle.smb_engine.specs.Output.{bytes_of, end_of, reply_frame};
+ghost use Rattle.smb_engine.specs.Output.{output_bytes, end_of, reply_frame};
 
 use std::alloc::{AllocError, Global};
 use std::mem;
@@ -46,7 +46,7 @@ pub(crate) trait Sink {
 
     /// Takes the vector back with the frame of a payload's replies behind what it held, where there are any.
     fn give_frame(&mut self, connection: u64, bytes: Vec<u8>) -> Result<(), AllocError>
-        ensures ok { (before replies : List ℕ) → lends self.old before → bytes.items ≡ before ++ flat_map bytes_of (reply_frame 0 replies) →
+        ensures ok { (before replies : List ℕ) → lends self.old before → bytes.items ≡ before ++ flat_map output_bytes (reply_frame 0 replies) →
             OnOk result (content self.new ≡ with_bytes self.old before ++ flat_map hears (reply_frame connection replies)) }
         ensures err { (before : List ℕ) → lends self.old before → OnErr result (content self.new ≡ with_bytes self.old before) };
 

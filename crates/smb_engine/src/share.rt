@@ -9,13 +9,13 @@ ghost use Rattle.smb_tree.specs.Content.{new_content};
 ghost use Rattle.smb_request.specs.Settings.{settings_of, is_lawful};
 ghost use Rattle.smb_request.specs.State.{shared_opened};
 ghost use Rattle.smb_engine.specs.Event.{text_of, events_of};
-ghost use Rattle.smb_engine.specs.Output.{bytes_of, outputs_of};
+ghost use Rattle.smb_engine.specs.Output.{output_bytes, outputs_of};
 ghost use Rattle.smb_engine.specs.Share.{MakingRefused, new_share, link_of, new_link, opened, ended, opening_refusal, bytes_step, is_open_after, stopped, count_on, unread, OpeningRefused, PieceStopped, GoodState};
 ghost use Rattle.smb_engine.specs.Run.{unknown_refusal, event_refusal, event_step, run, run_behind, EventStopped, RunStopped};
 
 use super::connection::{Connection, LONGEST_PAYLOAD, Link};
 use super::event::{Event, Fate};
-use super::fault::{RunFault, ServeFault};
+use super::fault::{RanOut, RunFault, ServeFault};
 use super::output::{Answer, Sink};
 use super::stream::take_piece;
 use smb_frame::FrameBuffer;
@@ -65,39 +65,39 @@ fn fresh_link(alloc: Global) -> Link
 }
 
 /// Adds a connection's stream.
-fn put_link(links: &mut BTreeMap<u64, Link>, number: u64, link: Link) -> Result<(), AllocError>
-    ensures ok { OnOk result (links.new.entries ≡ insert_entry nat_cmp links.old.entries number link) }
+fn put_link(links: &mut BTreeMap<u64, Link>, connection: u64, link: Link) -> Result<(), AllocError>
+    ensures ok { OnOk result (links.new.entries ≡ insert_entry nat_cmp links.old.entries connection link) }
     ensures err { OnErr result (links.new.entries ≡ links.old.entries) }
 {
-    links.insert(number, link)?;
+    links.insert(connection, link)?;
     Ok(())
 }
 
 /// Takes a connection's stream out.
-fn drop_link(links: &mut BTreeMap<u64, Link>, number: u64)
-    ensures { links.new.entries ≡ remove_entry (is_at (nat_cmp number)) links.old.entries }
+fn drop_link(links: &mut BTreeMap<u64, Link>, connection: u64)
+    ensures { links.new.entries ≡ remove_entry (is_at (nat_cmp connection)) links.old.entries }
 {
-    let _ = links.remove(&number);
+    let _ = links.remove(&connection);
 }
 
 /// Adds a connection, which may begin sessions from now on. An error changes nothing.
 fn add_connection<A: Authenticator + Drop, T: Tree + Drop, O: Opens + Drop>(
     shared: &mut Shared<A, T, O>,
     links: &mut BTreeMap<u64, Link>,
-    number: u64,
+    connection: u64,
     link: Link,
 ) -> Result<(), AllocError>
-    requires { AllByRecursion (λ entry. entry.0 < number) links.old.entries }
-    ensures shared { OnOk result (shared.new ≡ shared_opened shared.old number) }
-    ensures links { OnOk result (links.new.entries ≡ insert_entry nat_cmp links.old.entries number link) }
+    requires { AllByRecursion (λ entry. entry.0 < connection) links.old.entries }
+    ensures shared { OnOk result (shared.new ≡ shared_opened shared.old connection) }
+    ensures links { OnOk result (links.new.entries ≡ insert_entry nat_cmp links.old.entries connection link) }
     ensures err_shared { OnErr result (shared.new ≡ shared.old) }
     ensures err_links { OnErr result (links.new.entries ≡ links.old.entries) }
 {
-    put_link(links, number, link)?;
-    match shared.connect(number) {
+    put_link(links, connection, link)?;
+    match shared.connect(connection) {
         Ok(()) => Ok(()),
         Err(fault) => {
-            drop_link(links, number);
+            drop_link(links, connection);
             Err(fault)
         }
     }
@@ -148,17 +148,17 @@ impl<A: Authenticator + Drop, T: Tree + Drop, O: Opens + Drop> Share<A, T, O> {
         ensures err { IfErr result (OpeningRefused self.old) }
         ensures kept { OnErr result (self.new ≡ self.old) }
     {
-        let number = self.next;
-        if self.links.len() >= CONNECTION_LIMIT || number == u64::MAX {
+        let connection = self.next;
+        if self.links.len() >= CONNECTION_LIMIT || connection == u64::MAX {
             return Err(ServeFault::TooManyConnections);
         }
         let link = fresh_link(self.shared.allocator());
-        match add_connection(&mut self.shared, &mut self.links, number, link) {
+        match add_connection(&mut self.shared, &mut self.links, connection, link) {
             Ok(()) => {}
             Err(_) => return Err(ServeFault::NoMemory { done: 0 }),
         }
-        self.next = number + 1;
-        Ok(number)
+        self.next = connection + 1;
+        Ok(connection)
     }
 
     /// Whether a connection is open.
@@ -178,12 +178,12 @@ impl<A: Authenticator + Drop, T: Tree + Drop, O: Opens + Drop> Share<A, T, O> {
         moment: u64,
         piece: &[u8],
         out: &mut K,
-    ) -> Result<Fate, usize>
+    ) -> Result<Fate, RanOut>
         ensures state { OnOk result (self.new ≡ unread (bytes_step A.meaning self.old connection moment piece.now).state) }
         ensures outputs { OnOk result (K.content out.new ≡ K.content out.old ++ flat_map K.hears (bytes_step A.meaning self.old connection moment piece.now).outputs) }
         ensures fate { IfOk result (λ fate. fate ≡ (if is_open_after A.meaning self.old connection moment piece.now then Fate.Open else Fate.Ended)) }
-        ensures err { IfErr result (λ k. self.new ≡ unread (stopped A.meaning self.old connection moment piece.now k)) }
-        ensures within { IfErr result (λ k. k ≤ count_on A.meaning self.old connection moment piece.now) }
+        ensures err { IfErr result (λ ran_out. self.new ≡ unread (stopped A.meaning self.old connection moment piece.now ran_out.done)) }
+        ensures within { IfErr result (λ ran_out. ran_out.done ≤ count_on A.meaning self.old connection moment piece.now) }
         ensures open { OnErr result (is_some (link_of connection self.old.links) ≡ true) }
         ensures kept { OnErr result (K.content out.new ≡ K.content out.old) }
     {
@@ -198,10 +198,10 @@ impl<A: Authenticator + Drop, T: Tree + Drop, O: Opens + Drop> Share<A, T, O> {
                 self.links.remove(&connection);
                 Ok(Fate::Ended)
             }
-            Err(done) => {
+            Err(ran_out) => {
                 self.shared.disconnect(connection);
                 self.links.remove(&connection);
-                Err(done)
+                Err(ran_out)
             }
         }
     }
@@ -230,7 +230,7 @@ impl<A: Authenticator + Drop, T: Tree + Drop, O: Opens + Drop> Share<A, T, O> {
     ) -> Result<Fate, ServeFault>
         requires { IsSome (link_of connection self.old.links) }
         ensures state { OnOk result (self.new ≡ unread (bytes_step A.meaning self.old connection moment piece.now).state) }
-        ensures outputs { OnOk result (out.new.items ≡ out.old.items ++ flat_map bytes_of (bytes_step A.meaning self.old connection moment piece.now).outputs) }
+        ensures outputs { OnOk result (out.new.items ≡ out.old.items ++ flat_map output_bytes (bytes_step A.meaning self.old connection moment piece.now).outputs) }
         ensures fate { IfOk result (λ fate. fate ≡ (if is_open_after A.meaning self.old connection moment piece.now then Fate.Open else Fate.Ended)) }
         ensures err { IfErr result (λ fault. PieceStopped A.meaning self.old connection moment piece.now fault self.new) }
         ensures kept { OnErr result (out.new.items ≡ out.old.items) }
@@ -240,7 +240,7 @@ impl<A: Authenticator + Drop, T: Tree + Drop, O: Opens + Drop> Share<A, T, O> {
         self.good();
         match taken {
             Ok(fate) => Ok(fate),
-            Err(done) => Err(ServeFault::NoMemory { done }),
+            Err(RanOut { done }) => Err(ServeFault::NoMemory { done }),
         }
     }
 
@@ -251,17 +251,17 @@ impl<A: Authenticator + Drop, T: Tree + Drop, O: Opens + Drop> Share<A, T, O> {
         moment: u64,
         piece: &[u8],
         answers: &mut Vec<Answer>,
-    ) -> Result<(), usize>
+    ) -> Result<(), RanOut>
         ensures state { OnOk result (self.new ≡ unread (bytes_step A.meaning self.old connection moment piece.now).state) }
         ensures outputs { OnOk result (outputs_of answers.new.items ≡ outputs_of answers.old.items ++ (bytes_step A.meaning self.old connection moment piece.now).outputs) }
-        ensures err { IfErr result (λ k. self.new ≡ unread (stopped A.meaning self.old connection moment piece.now k)) }
-        ensures within { IfErr result (λ k. k ≤ count_on A.meaning self.old connection moment piece.now) }
+        ensures err { IfErr result (λ ran_out. self.new ≡ unread (stopped A.meaning self.old connection moment piece.now ran_out.done)) }
+        ensures within { IfErr result (λ ran_out. ran_out.done ≤ count_on A.meaning self.old connection moment piece.now) }
         ensures open { OnErr result (is_some (link_of connection self.old.links) ≡ true) }
         ensures kept { OnErr result (outputs_of answers.new.items ≡ outputs_of answers.old.items) }
     {
         match self.take(connection, moment, piece, answers) {
             Ok(_) => Ok(()),
-            Err(done) => Err(done),
+            Err(ran_out) => Err(ran_out),
         }
     }
 
@@ -282,8 +282,8 @@ impl<A: Authenticator + Drop, T: Tree + Drop, O: Opens + Drop> Share<A, T, O> {
     {
         let _ = &self.shared;
         match event {
-            Event::Opened(number) => {
-                if *number != self.next {
+            Event::Opened(connection) => {
+                if *connection != self.next {
                     return Err(ServeFault::BadEvent);
                 }
                 match self.opened() {
@@ -301,7 +301,7 @@ impl<A: Authenticator + Drop, T: Tree + Drop, O: Opens + Drop> Share<A, T, O> {
                 }
                 match self.answer(*connection, *moment, piece, answers) {
                     Ok(()) => Ok(()),
-                    Err(done) => Err(ServeFault::NoMemory { done }),
+                    Err(RanOut { done }) => Err(ServeFault::NoMemory { done }),
                 }
             }
             Event::Ended(connection) => {

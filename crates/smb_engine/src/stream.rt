@@ -10,6 +10,7 @@ ghost use Rattle.smb_engine.specs.InPlace.{payload_heard};
 
 use super::chain::perform_payload;
 use super::connection::{Connection, Link};
+use super::fault::RanOut;
 use super::output::Sink;
 use smb_frame::FrameBuffer;
 use smb_opens::Opens;
@@ -22,33 +23,40 @@ use smb_tree::Tree;
 fn put_payload<A: Authenticator + Drop, T: Tree + Drop, O: Opens + Drop, K: Sink>(
     shared: &mut Shared<A, T, O>,
     connection: &mut Connection,
-    number: u64,
+    connection_id: u64,
     moment: u64,
     payload: &[u8],
     out: &mut K,
-) -> Result<Option<usize>, usize>
+) -> Result<Option<usize>, RanOut>
     ensures ok { IfOk result (λ count. record { shared = shared.new; connection = connection.new; goes_on = is_some count; heard = K.content out.new }
-        ≡ payload_heard K.hears (K.content out.old) number (payload_step A.meaning number moment shared.old connection.old payload.now)) }
-    ensures few { count_in A.meaning number moment shared.old connection.old payload.now ≤ length payload.now }
-    ensures count { IfOk result (λ count. IfSome count (λ n. count_in A.meaning number moment shared.old connection.old payload.now ≡ n)) }
-    ensures err { IfErr result (λ done. (done ≤ count_in A.meaning number moment shared.old connection.old payload.now)
-        × (shared.new ≡ shared_after A.meaning number moment shared.old connection.old payload.now done)) }
+        ≡ payload_heard K.hears (K.content out.old) connection_id (payload_step A.meaning connection_id moment shared.old connection.old payload.now)) }
+    ensures few { count_in A.meaning connection_id moment shared.old connection.old payload.now ≤ length payload.now }
+    ensures count { IfOk result (λ count. IfSome count (λ n. count_in A.meaning connection_id moment shared.old connection.old payload.now ≡ n)) }
+    ensures err { IfErr result (λ ran_out. (ran_out.done ≤ count_in A.meaning connection_id moment shared.old connection.old payload.now)
+        × (shared.new ≡ shared_after A.meaning connection_id moment shared.old connection.old payload.now ran_out.done)) }
     ensures kept { OnErr result (K.content out.new ≡ K.content out.old) }
     ensures known { shared.new.sessions.table.connections ≡ shared.old.sessions.table.connections }
 {
     let mut bytes = out.take_bytes(shared.allocator());
-    match perform_payload(shared, number, moment, connection, payload, &mut bytes) {
-        Ok(Some(count)) => match out.give_frame(number, bytes) {
+    match perform_payload(
+        shared,
+        connection_id,
+        moment,
+        connection,
+        payload,
+        &mut bytes,
+    ) {
+        Ok(Some(count)) => match out.give_frame(connection_id, bytes) {
             Ok(()) => Ok(Some(count)),
-            Err(_) => Err(count),
+            Err(_) => Err(RanOut { done: count }),
         },
         Ok(None) => {
             out.give_back(bytes);
             Ok(None)
         }
-        Err(done) => {
+        Err(ran_out) => {
             out.give_back(bytes);
-            Err(done)
+            Err(ran_out)
         }
     }
 }
@@ -59,18 +67,18 @@ fn take_payloads<A: Authenticator + Drop, T: Tree + Drop, O: Opens + Drop, K: Si
     shared: &mut Shared<A, T, O>,
     buffer: &mut FrameBuffer,
     connection: &mut Connection,
-    number: u64,
+    connection_id: u64,
     moment: u64,
     out: &mut K,
-) -> Result<(bool, usize), usize>
+) -> Result<(bool, usize), RanOut>
     requires { buffer.old.limit ≡ longest_payload }
     ensures ok { IfOk result (λ r. record { shared = shared.new; connection = connection.new; heard = K.content out.new; stays_open = r.0 }
-        ≡ steps_heard K.hears (K.content out.old) (payload_steps A.meaning number moment shared.old connection.old (payloads longest_payload buffer.old.bytes))) }
+        ≡ steps_heard K.hears (K.content out.old) (payload_steps A.meaning connection_id moment shared.old connection.old (payloads longest_payload buffer.old.bytes))) }
     ensures rest { IfOk result (λ r. IsTrue r.0 → (buffer.new.bytes ≡ rest longest_payload buffer.old.bytes) × (first longest_payload buffer.new.bytes ≡ None)) }
-    ensures done { IfOk result (λ r. shared.new ≡ shared_after_some A.meaning number moment shared.old connection.old (payloads longest_payload buffer.old.bytes) r.1) }
-    ensures count { IfOk result (λ r. r.1 ≤ count_in_all A.meaning number moment shared.old connection.old (payloads longest_payload buffer.old.bytes)) }
-    ensures err { IfErr result (λ k. shared.new ≡ shared_after_some A.meaning number moment shared.old connection.old (payloads longest_payload buffer.old.bytes) k) }
-    ensures within { IfErr result (λ k. k ≤ count_in_all A.meaning number moment shared.old connection.old (payloads longest_payload buffer.old.bytes)) }
+    ensures done { IfOk result (λ r. shared.new ≡ shared_after_some A.meaning connection_id moment shared.old connection.old (payloads longest_payload buffer.old.bytes) r.1) }
+    ensures count { IfOk result (λ r. r.1 ≤ count_in_all A.meaning connection_id moment shared.old connection.old (payloads longest_payload buffer.old.bytes)) }
+    ensures err { IfErr result (λ ran_out. shared.new ≡ shared_after_some A.meaning connection_id moment shared.old connection.old (payloads longest_payload buffer.old.bytes) ran_out.done) }
+    ensures within { IfErr result (λ ran_out. ran_out.done ≤ count_in_all A.meaning connection_id moment shared.old connection.old (payloads longest_payload buffer.old.bytes)) }
     ensures kept { take (length (K.content out.old)) (K.content out.new) ≡ K.content out.old }
     ensures limit { buffer.new.limit ≡ longest_payload }
     ensures known { shared.new.sessions.table.connections ≡ shared.old.sessions.table.connections }
@@ -78,8 +86,11 @@ fn take_payloads<A: Authenticator + Drop, T: Tree + Drop, O: Opens + Drop, K: Si
     let _length = buffer.len();
     let mut done = 0;
     while let Some(payload) = buffer.next() {
-        match put_payload(shared, connection, number, moment, payload, out) {
-            Err(k) => return Err(done + k),
+        match put_payload(shared, connection, connection_id, moment, payload, out) {
+            Err(ran_out) => {
+                let done = done + ran_out.done;
+                return Err(RanOut { done });
+            }
             Ok(None) => return Ok((false, done)),
             Ok(Some(count)) => {
                 done += count;
@@ -105,47 +116,47 @@ fn stays_open(open_still: bool, buffer: &FrameBuffer) -> bool
 pub(crate) fn take_piece<A: Authenticator + Drop, T: Tree + Drop, O: Opens + Drop, K: Sink>(
     shared: &mut Shared<A, T, O>,
     link: &mut Link,
-    number: u64,
+    connection_id: u64,
     moment: u64,
     piece: &[u8],
     out: &mut K,
-) -> Result<bool, usize>
+) -> Result<bool, RanOut>
     requires { Waits link.old }
-    ensures ok { IfOk result (λ stays_open. IsPieceHeld (piece_step A.meaning number moment shared.old link.old piece.now) shared.new link.new stays_open) }
-    ensures outputs { OnOk result (K.content out.new ≡ K.content out.old ++ flat_map K.hears (piece_step A.meaning number moment shared.old link.old piece.now).outputs) }
-    ensures err { IfErr result (λ k. shared.new ≡ shared_after_piece A.meaning number moment shared.old link.old piece.now k) }
-    ensures within { IfErr result (λ k. k ≤ count_in_piece A.meaning number moment shared.old link.old piece.now) }
+    ensures ok { IfOk result (λ stays_open. IsPieceHeld (piece_step A.meaning connection_id moment shared.old link.old piece.now) shared.new link.new stays_open) }
+    ensures outputs { OnOk result (K.content out.new ≡ K.content out.old ++ flat_map K.hears (piece_step A.meaning connection_id moment shared.old link.old piece.now).outputs) }
+    ensures err { IfErr result (λ ran_out. shared.new ≡ shared_after_piece A.meaning connection_id moment shared.old link.old piece.now ran_out.done) }
+    ensures within { IfErr result (λ ran_out. ran_out.done ≤ count_in_piece A.meaning connection_id moment shared.old link.old piece.now) }
     ensures kept { OnErr result (K.content out.new ≡ K.content out.old) }
     ensures known { shared.new.sessions.table.connections ≡ shared.old.sessions.table.connections }
 {
     let before = out.mark();
     match link.buffer.push(piece) {
         Ok(()) => {}
-        Err(_) => return Err(0),
+        Err(_) => return Err(RanOut { done: 0 }),
     }
     let (open_still, done) = match take_payloads(
         shared,
         &mut link.buffer,
         &mut link.connection,
-        number,
+        connection_id,
         moment,
         out,
     ) {
         Ok(taken) => taken,
-        Err(done) => {
+        Err(ran_out) => {
             out.cut_back(before);
-            return Err(done);
+            return Err(ran_out);
         }
     };
     if stays_open(open_still, &link.buffer) {
         link.connection.window.good();
         return Ok(true);
     }
-    match out.put_end(number) {
+    match out.put_end(connection_id) {
         Ok(()) => {}
         Err(_) => {
             out.cut_back(before);
-            return Err(done);
+            return Err(RanOut { done });
         }
     }
     Ok(false)

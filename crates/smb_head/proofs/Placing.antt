@@ -3,7 +3,7 @@ use Rattle.std.proofs.Common.{◌≡◌, ℕ, ◌+◌, ◌-◌, ◌<◌, ◌≤�
 use Rattle.std.proofs.Math.Seq.{drop-append-add}
 use Rattle.std.proofs.lemmas.List.{take_at, drop_at, length-take, take-take, take-append-le, drop-drop, replicate-append-replicate}
 use Rattle.smb_head.specs.Replies.{Reply, Held, reply_bytes, rounded_up, padded, joined_replies, last_place, so_far}
-use Rattle.smb_head.specs.Placed.{placed, written, with_open_reply}
+use Rattle.smb_head.specs.Placed.{placed, replies_written, with_open_reply}
 use Rattle.smb_head.proofs.Joining.{patched, patched_behind, length-padded, push_more, push_first, last_after, holds_none}
 
 -- bytes put over those at a place
@@ -37,7 +37,7 @@ header_over one two header old mid new place m n h e a b =
     both ∙ ap (λ (k : ℕ). take place old ++ ((one ++ two) ++ drop k old)) size ∙ ap (λ (l : List ℕ). take place old ++ (l ++ drop (place + 64) old)) e
 
 -- a reply is opened
-pub open_is : (before out new : List ℕ) (replies : List Reply) (base end up : ℕ) → base ≡ length before → out ≡ written before replies → end ≡ length out →
+pub open_is : (before out new : List ℕ) (replies : List Reply) (base end up : ℕ) → base ≡ length before → out ≡ replies_written before replies → end ≡ length out →
     up ≡ rounded_up (end - base) → new ≡ out ++ replicate (base + up - end + 64) 0 → new ≡ with_open_reply before replies
 open_is before out new replies base end up b o e u n =
     let held : List ℕ = joined_replies replies in
@@ -67,7 +67,7 @@ filled before body header out mid replies place p o m =
 pub close_more : (before mid new : List ℕ) (replies : List Reply) (reply : Reply) (base last place : ℕ) → base ≡ length before → last ≡ length before + last_place replies →
     place ≡ length before + rounded_up (length (joined_replies replies)) → base < place →
     mid ≡ before ++ (padded (joined_replies replies) ++ reply_bytes 0 reply) → new ≡ patched (place - last) last mid →
-    new ≡ written before (replies ++ reply ∷ [])
+    new ≡ replies_written before (replies ++ reply ∷ [])
 close_more before mid new replies reply base last place b l p more m n =
     let held : List ℕ = joined_replies replies in
     let zeros : List ℕ = replicate (rounded_up (length held) - length held) 0 in
@@ -83,7 +83,7 @@ close_more before mid new replies reply base last place b l p more m n =
 
 pub close_first : (before mid : List ℕ) (replies : List Reply) (reply : Reply) (base place : ℕ) → base ≡ length before →
     place ≡ length before + rounded_up (length (joined_replies replies)) → place ≤ base →
-    mid ≡ before ++ (padded (joined_replies replies) ++ reply_bytes 0 reply) → mid ≡ written before (replies ++ reply ∷ [])
+    mid ≡ before ++ (padded (joined_replies replies) ++ reply_bytes 0 reply) → mid ≡ replies_written before (replies ++ reply ∷ [])
 close_first before mid replies reply base place b p none m =
     let held : List ℕ = joined_replies replies in
     let zeros : List ℕ = replicate (rounded_up (length held) - length held) 0 in
@@ -106,7 +106,7 @@ pub kept_once : (base place : ℕ) (old mid more : List ℕ) → base ≤ place 
 kept_once base place old mid more b p m = rw m (kept_front base place old more b p)
 
 -- whether there are replies
-pub empty_is : (before out : List ℕ) (replies : List Reply) (base : ℕ) → base ≡ length before → out ≡ written before replies →
+pub empty_is : (before out : List ℕ) (replies : List Reply) (base : ℕ) → base ≡ length before → out ≡ replies_written before replies →
     (length out ≡ base → replies ≡ []) × (replies ≡ [] → length out ≡ base)
 empty_is before out replies base b o =
     let both = holds_none replies (joined_replies replies) refl in

@@ -64,8 +64,8 @@ EachHeaderHasOneReading =
     × ((header : Header) → SpellsHeader bytes header → (header_fault bytes ≡ None) × (header ≡ header_of bytes))
 
 -- a header whose numbers fit their fields is read where it was written, whatever follows
-abbrev pub WhatIsWrittenIsRead : Type 0
-WhatIsWrittenIsRead =
+abbrev pub AWrittenHeaderIsRead : Type 0
+AWrittenHeaderIsRead =
     (header : Header) (rest : List ℕ) → AllFit (fields header) →
     (header_fault (joined (fields header) ++ rest) ≡ None) × (header_of (joined (fields header) ++ rest) ≡ header)
 

@@ -5,8 +5,8 @@ use Rattle.smb_head.specs.declared.writer.OpenReply.{OpenReply}
 use Rattle.smb_head.specs.Replies.{Reply, rounded_up, padded, joined_replies, last_place}
 
 -- replies behind other bytes
-abbrev pub written : List ℕ → List Reply → List ℕ
-written before replies = before ++ joined_replies replies
+abbrev pub replies_written : List ℕ → List Reply → List ℕ
+replies_written before replies = before ++ joined_replies replies
 
 -- where they stand
 abbrev pub placed : List ℕ → List Reply → ReplyWriter

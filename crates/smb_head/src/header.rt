@@ -2,7 +2,7 @@
 
 ghost use Rattle.std.specs.Prelude.{⊤, ◌≡◌, ◌≤◌, ◌+◌, ◌∷◌, [], OnOk, OnErr, IfOk, IfErr, codes, length, take};
 ghost use Rattle.smb_wire.specs.Fields.{AllFit, appended};
-ghost use Rattle.smb_head.specs.Headers.{fields, header_of, header_fault, EachHeaderHasOneReading, WhatIsWrittenIsRead, WhatIsReadIsWritten};
+ghost use Rattle.smb_head.specs.Headers.{fields, header_of, header_fault, EachHeaderHasOneReading, AWrittenHeaderIsRead, WhatIsReadIsWritten};
 
 use super::fault::HeadFault;
 use bitflags::{Flag, Flags, bitflag_items};
@@ -178,6 +178,6 @@ pub fn each_header_fits(header: Header)
 /// The laws of headers: the contract is the statement, and the body does nothing.
 pub fn laws_of_headers()
     ensures one { EachHeaderHasOneReading }
-    ensures written { WhatIsWrittenIsRead }
+    ensures written { AWrittenHeaderIsRead }
     ensures read { WhatIsReadIsWritten }
 {}

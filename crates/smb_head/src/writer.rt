@@ -6,7 +6,7 @@ ghost use Rattle.smb_wire.specs.Number.{spelling};
 ghost use Rattle.smb_wire.specs.Fields.{joined};
 ghost use Rattle.smb_head.specs.Headers.{fields, protocol_id};
 ghost use Rattle.smb_head.specs.Replies.{Reply, reply_bytes, rounded_up};
-ghost use Rattle.smb_head.specs.Placed.{placed, written, with_open_reply, open_place};
+ghost use Rattle.smb_head.specs.Placed.{placed, replies_written, with_open_reply, open_place};
 
 use super::fault::HeadFault;
 use super::header::Header;
@@ -113,7 +113,7 @@ impl ReplyWriter {
 
     /// Whether there is no reply.
     pub fn is_empty(&self, out: &Vec<u8>) -> bool
-        ensures { (before : List ℕ) (replies : List Reply) → self.now ≡ placed before replies → out.now.items ≡ written before replies →
+        ensures { (before : List ℕ) (replies : List Reply) → self.now ≡ placed before replies → out.now.items ≡ replies_written before replies →
             IsTrue result ↔ (replies ≡ []) }
     {
         out.len() == self.base
@@ -134,9 +134,9 @@ impl ReplyWriter {
     pub fn open_reply(&self, out: &mut Vec<u8>) -> Result<OpenReply, HeadFault>
         requires within { self.now.base ≤ length out.old.items }
         requires room { length out.old.items < self.now.base + 2 ^ 24 }
-        ensures opened { (before : List ℕ) (replies : List Reply) → self.now ≡ placed before replies → out.old.items ≡ written before replies →
+        ensures opened { (before : List ℕ) (replies : List Reply) → self.now ≡ placed before replies → out.old.items ≡ replies_written before replies →
             OnOk result (out.new.items ≡ with_open_reply before replies) }
-        ensures place { (before : List ℕ) (replies : List Reply) → self.now ≡ placed before replies → out.old.items ≡ written before replies →
+        ensures place { (before : List ℕ) (replies : List Reply) → self.now ≡ placed before replies → out.old.items ≡ replies_written before replies →
             IfOk result (λ reply. reply ≡ open_place before replies) }
         ensures behind { IfOk result (λ reply. reply.place ≡ self.now.base + rounded_up (length out.old.items - self.now.base)) }
         ensures end { IfOk result (λ reply. reply.end ≡ length out.old.items) }
@@ -161,7 +161,7 @@ impl ReplyWriter {
         requires within { reply.place + 64 ≤ length out.old.items }
         ensures closed { (before : List ℕ) (replies : List Reply) (body : List ℕ) → self.old ≡ placed before replies →
             reply ≡ open_place before replies → out.old.items ≡ with_open_reply before replies ++ body →
-            out.new.items ≡ written before (replies ++ record { header = header.now; body = body } ∷ []) }
+            out.new.items ≡ replies_written before (replies ++ record { header = header.now; body = body } ∷ []) }
         ensures placed { (before : List ℕ) (replies : List Reply) (body : List ℕ) → self.old ≡ placed before replies →
             reply ≡ open_place before replies →
             self.new ≡ placed before (replies ++ record { header = header.now; body = body } ∷ []) }
@@ -182,7 +182,7 @@ impl ReplyWriter {
         ensures cut { out.new.items ≡ take reply.end out.old.items }
         ensures len { reply.end ≤ length out.old.items → length out.new.items ≡ reply.end }
         ensures dropped { (before : List ℕ) (replies : List Reply) (body : List ℕ) → reply ≡ open_place before replies →
-            out.old.items ≡ with_open_reply before replies ++ body → out.new.items ≡ written before replies }
+            out.old.items ≡ with_open_reply before replies ++ body → out.new.items ≡ replies_written before replies }
     {
         out.truncate(reply.end);
     }

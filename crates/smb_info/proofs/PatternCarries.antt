@@ -5,7 +5,7 @@ use Rattle.std.proofs.lemmas.Bool.{cases_eq, false≢true}
 use Rattle.std.proofs.lemmas.Bool.Decides.{Decides-like, Decides-and}
 use Rattle.std.proofs.lemmas.List.{drop_all, drop_more, length-set}
 use Rattle.smb_info.specs.Patterns.{symbol_of, Takes, Matches}
-use Rattle.smb_info.specs.PatternRows.{IsRow, IsPlace, answer_of}
+use Rattle.smb_info.specs.PatternRows.{IsRow, IsPatternPlace, answer_of}
 use Rattle.smb_info.specs.declared.matching.Place.{Place}
 use Rattle.smb_info.specs.declared.matching.Known.{Known}
 use Rattle.smb_info.specs.declared.symbol.Symbol.{Symbol}
@@ -90,7 +90,7 @@ carried_none ps us u n row moves r f e q = record {
   behind = subst (λ (x : Bool). Decides x (Matches (drop n ps) us)) (sym q) (r.each n (omega arith));
 }
 
-pub carried_more : (ps us : List ℕ) (place : Place) (n i : ℕ) (row : List Bool) (known : Known) (b : Bool) → n ≡ i + 1 → CarriedTo ps us place.unit n row known.moves → IsPlace place us → i < length ps → length ps < 256 → known.stays ≡ get_or row i false → known.skips ≡ get_or row (i + 1) false → b ≡ answer_of (symbol_of (get_or ps i 0)) place known → CarriedTo ps us place.unit i (set row i b) known.stays
+pub carried_more : (ps us : List ℕ) (place : Place) (n i : ℕ) (row : List Bool) (known : Known) (b : Bool) → n ≡ i + 1 → CarriedTo ps us place.unit n row known.moves → IsPatternPlace place us → i < length ps → length ps < 256 → known.stays ≡ get_or row i false → known.skips ≡ get_or row (i + 1) false → b ≡ answer_of (symbol_of (get_or ps i 0)) place known → CarriedTo ps us place.unit i (set row i b) known.stays
 carried_more ps us place n i row known b w c p h f stays skips q =
     let s : Symbol = symbol_of (get_or ps i 0) in
     let back : List ℕ = drop (i + 1) ps in

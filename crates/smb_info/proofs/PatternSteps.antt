@@ -6,7 +6,7 @@ use Rattle.std.proofs.lemmas.Bool.Decides.{Decides-like, Decides-or, Decides-and
 use Rattle.std.proofs.lemmas.List.{nil_from_length}
 use Rattle.smb_wire.specs.Names.{folded, folded_unit}
 use Rattle.smb_info.specs.Patterns.{has_dot, Takes, Matches}
-use Rattle.smb_info.specs.PatternRows.{IsPlace, answer_of}
+use Rattle.smb_info.specs.PatternRows.{IsPatternPlace, answer_of}
 use Rattle.smb_info.specs.declared.matching.Place.{Place}
 use Rattle.smb_info.specs.declared.matching.Known.{Known}
 use Rattle.smb_info.specs.declared.symbol.Symbol.{Symbol}
@@ -186,7 +186,7 @@ literal_at v ps u us k moves =
     (Decides-and (folded_unit u == folded_unit v) k.moves (Decides-eqb (folded_unit u) (folded_unit v)) moves)
 
 -- the answer for a symbol is right where the answers that it goes by are
-pub answered : (s : Symbol) (ps : List ℕ) (place : Place) (us : List ℕ) (k : Known) → IsPlace place us → Decides k.stays (Taken s ps us) → Decides k.moves (Matches ps us) → Decides k.skips (Matches ps (place.unit ∷ us)) → Decides (answer_of s place k) (Taken s ps (place.unit ∷ us))
+pub answered : (s : Symbol) (ps : List ℕ) (place : Place) (us : List ℕ) (k : Known) → IsPatternPlace place us → Decides k.stays (Taken s ps us) → Decides k.moves (Matches ps us) → Decides k.skips (Matches ps (place.unit ∷ us)) → Decides (answer_of s place k) (Taken s ps (place.unit ∷ us))
 answered Asterisk ps place us k p stays moves skips = asterisk_at ps place.unit us k stays skips
 answered QuestionMark ps place us k p stays moves skips = question_at ps place.unit us k moves
 answered DosStar ps place us k p stays moves skips = dos_star_at ps place.unit us k place.is_last_dot p stays skips

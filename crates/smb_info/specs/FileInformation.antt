@@ -1,11 +1,10 @@
 -- What is told of a file or a folder ([MS-FSCC] 2.4). A row is a field: its offset, its width, its value.
-use Rattle.std.specs.Prelude.{ℕ, ◌+◌, List, [], ◌∷◌, ◌++◌, length, Bool, true, false, ◌==◌, if◌then◌else◌, bit_or, Option, None, Some}
+use Rattle.std.specs.Prelude.{ℕ, ◌+◌, List, [], ◌∷◌, ◌++◌, length, Bool, true, false, ◌==◌, if◌then◌else◌, Option, None, Some}
 use Rattle.std.specs.Option.{option_map}
 use Rattle.smb_wire.specs.Fields.{Field, num, raw}
 use Rattle.smb_tree.specs.declared.entry.Basic.{Basic}
 use Rattle.smb_tree.specs.declared.entry.Kind.{Kind}
-use Rattle.smb_tree.specs.declared.entry.Kind.TheVariants.{File, Folder}
-use Rattle.smb_tree.specs.Entries.{is_folder_kind, allocation_size}
+use Rattle.smb_tree.specs.Entries.{is_folder_kind, allocation_size, shown_attributes}
 use Rattle.smb_info.specs.Information.{Information}
 use Rattle.smb_info.specs.declared.file_class.FileInformationClass.{FileInformationClass}
 use Rattle.smb_info.specs.declared.file_class.FileInformationClass.TheVariants.{FileBasic, FileStandard, FileInternal, FileEa, FileAccess, FilePosition, FileMode, FileAlignment, FileAll, FileNetworkOpen, FileAttributeTag}
@@ -35,12 +34,7 @@ file_class number =
     if number == 34 then Some FileNetworkOpen else
     if number == 35 then Some FileAttributeTag else None
 
--- the attributes that are shown: of a folder DIRECTORY 0x10 besides the kept ones, of a file that keeps none
--- NORMAL 0x80 ([MS-FSCC] 2.6)
-abbrev pub shown_attributes : Kind → ℕ → ℕ
-shown_attributes Folder attributes = bit_or attributes 0x10
-shown_attributes File attributes = if attributes == 0 then 0x80 else attributes
-
+-- the attributes that are shown of an entry
 abbrev pub attributes_of : EntryFacts → ℕ
 attributes_of e = shown_attributes e.kind e.basic.attributes
 

@@ -17,8 +17,8 @@ pub record VolumeFacts : Type 0 where
   pub used : ℕ
 
 -- a label: up to 32 characters from 0x20 to 0x7E
-abbrev pub is_label : List ℕ → Bool
-is_label label = nat_le (length label) 32 && list_all (λ character. nat_le 0x20 character && nat_le character 0x7E) label
+abbrev pub is_volume_label : List ℕ → Bool
+is_volume_label label = nat_le (length label) 32 && list_all (λ character. nat_le 0x20 character && nat_le character 0x7E) label
 
 -- the classes that are told, by their numbers
 abbrev pub fs_class : ℕ → Option FileSystemInformationClass

@@ -31,11 +31,11 @@ told None room = []
 told (Some info) room = take room (whole info)
 
 -- whether that is all
-abbrev pub written : Option Information → ℕ → Written
-written None room = Whole
-written (Some info) room = written_of room (length (whole info))
+abbrev pub information_written : Option Information → ℕ → Written
+information_written None room = Whole
+information_written (Some info) room = written_of room (length (whole info))
 
 -- each field of the fixed part is read at its offset of these bytes
-abbrev pub Stands : Option Information → List ℕ → Type 0
-Stands None bytes = Unit {0}
-Stands (Some info) bytes = AllStand bytes info.fields
+abbrev pub FieldsStand : Option Information → List ℕ → Type 0
+FieldsStand None bytes = Unit {0}
+FieldsStand (Some info) bytes = AllStand bytes info.fields

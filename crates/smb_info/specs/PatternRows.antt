@@ -14,13 +14,13 @@ pub record IsRow (pattern units : List ℕ) (row : List Bool) : Type 0 where
   pub each : (i : ℕ) → i ≤ length pattern → (slice_index_or row i false ≡ true) ↔ Matches (drop i pattern) units
 
 -- a place of a name with these units behind it
-abbrev pub IsPlace : Place → List ℕ → Type 0
-IsPlace place units = place.is_last_dot ≡ ((place.unit == 46) && not (has_dot units))
+abbrev pub IsPatternPlace : Place → List ℕ → Type 0
+IsPatternPlace place units = place.is_last_dot ≡ ((place.unit == 46) && not (has_dot units))
 
 -- a row at some units becomes the row at one unit more in front of them
 abbrev pub CarriesRow : List ℕ → Place → List Bool → List Bool → Type 0
 CarriesRow pattern place old new =
-    (units : List ℕ) → IsPlace place units → IsRow pattern units old → IsRow pattern (place.unit ∷ units) new
+    (units : List ℕ) → IsPatternPlace place units → IsRow pattern units old → IsRow pattern (place.unit ∷ units) new
 
 -- the answer for a symbol at a unit, by the answers that are known
 abbrev pub answer_of : Symbol → Place → Known → Bool

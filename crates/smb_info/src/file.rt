@@ -3,7 +3,7 @@
 ghost use Rattle.std.specs.Prelude.{◌≡◌, ◌≢◌, ◌++◌, None, Some, length, drop, IfOk, OnOk, OnErr, IfErr};
 ghost use Rattle.smb_info.specs.EntryCopies.{entry_facts};
 ghost use Rattle.smb_info.specs.FileInformation.{file_information};
-ghost use Rattle.smb_info.specs.Information.{told, written, info_fault, Stands};
+ghost use Rattle.smb_info.specs.Information.{told, information_written, info_fault, FieldsStand};
 ghost use Rattle.smb_info.specs.declared.fault.InfoFault.TheVariants.{NoMemory};
 
 use super::entry_copy::EntryCopy;
@@ -28,8 +28,8 @@ pub fn file_info(
     ensures ok { OnOk result (out.new.items ≡
         out.old.items ++ told (file_information class (entry_facts entry.now) access) room) }
     ensures stand { OnOk result
-        (Stands (file_information class (entry_facts entry.now) access) (drop (length out.old.items) out.new.items)) }
-    ensures written { IfOk result (λ w. w ≡ written (file_information class (entry_facts entry.now) access) room) }
+        (FieldsStand (file_information class (entry_facts entry.now) access) (drop (length out.old.items) out.new.items)) }
+    ensures written { IfOk result (λ w. w ≡ information_written (file_information class (entry_facts entry.now) access) room) }
     ensures lawful { OnOk result (info_fault (file_information class (entry_facts entry.now) access) room ≡ None) }
     ensures err { OnErr result (out.new.items ≡ out.old.items) }
     ensures why { IfErr result (λ fault. fault ≢ NoMemory →

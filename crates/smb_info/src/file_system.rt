@@ -1,8 +1,8 @@
 //! What is told of a share as a file system ([MS-FSCC] 2.5).
 
 ghost use Rattle.std.specs.Prelude.{◌≡◌, ◌≢◌, ◌≤◌, ◌++◌, None, Some, true, length, drop, IfOk, OnOk, OnErr, IfErr};
-ghost use Rattle.smb_info.specs.Information.{told, written, info_fault, Stands};
-ghost use Rattle.smb_info.specs.FileSystemInformation.{fs_information, is_label};
+ghost use Rattle.smb_info.specs.Information.{told, information_written, info_fault, FieldsStand};
+ghost use Rattle.smb_info.specs.FileSystemInformation.{fs_information, is_volume_label};
 ghost use Rattle.smb_info.specs.Volumes.{volume_facts};
 ghost use Rattle.smb_info.specs.declared.fault.InfoFault.TheVariants.{NoMemory};
 
@@ -24,13 +24,13 @@ pub fn fs_info(
     room: usize,
     out: &mut Vec<u8>,
 ) -> Result<Written, InfoFault>
-    requires label { is_label volume.now.label.now ≡ true }
+    requires label { is_volume_label volume.now.label.now ≡ true }
     requires used { volume.now.used ≤ volume.now.capacity }
     ensures ok { OnOk result (out.new.items ≡
         out.old.items ++ told (fs_information class (volume_facts volume.now)) room) }
     ensures stand { OnOk result
-        (Stands (fs_information class (volume_facts volume.now)) (drop (length out.old.items) out.new.items)) }
-    ensures written { IfOk result (λ w. w ≡ written (fs_information class (volume_facts volume.now)) room) }
+        (FieldsStand (fs_information class (volume_facts volume.now)) (drop (length out.old.items) out.new.items)) }
+    ensures written { IfOk result (λ w. w ≡ information_written (fs_information class (volume_facts volume.now)) room) }
     ensures lawful { OnOk result (info_fault (fs_information class (volume_facts volume.now)) room ≡ None) }
     ensures err { OnErr result (out.new.items ≡ out.old.items) }
     ensures why { IfErr result (λ fault. fault ≢ NoMemory →

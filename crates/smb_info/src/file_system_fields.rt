@@ -4,7 +4,7 @@ ghost use Rattle.std.specs.Prelude.{◌≡◌, ◌≤◌, ◌++◌, true, length
 ghost use Rattle.smb_wire.specs.Fields.{AllFit, appended};
 ghost use Rattle.smb_wire.specs.Pairs.{unit_bytes};
 ghost use Rattle.smb_info.specs.Information.{whole};
-ghost use Rattle.smb_info.specs.FileSystemInformation.{fs_information_of, volume_fields, size_fields, device_fields, attribute_fields, full_size_fields, is_label};
+ghost use Rattle.smb_info.specs.FileSystemInformation.{fs_information_of, volume_fields, size_fields, device_fields, attribute_fields, full_size_fields, is_volume_label};
 ghost use Rattle.smb_info.specs.Volumes.{volume_facts};
 
 use super::file_system_class::FileSystemInformationClass;
@@ -20,7 +20,7 @@ pub(crate) fn put_information(
     volume: &Volume<'_>,
     out: &mut Vec<u8>,
 ) -> Result<(), WireFault>
-    requires label { is_label volume.now.label.now ≡ true }
+    requires label { is_volume_label volume.now.label.now ≡ true }
     requires used { volume.now.used ≤ volume.now.capacity }
     ensures ok { OnOk result (out.new.items ≡
         out.old.items ++ whole (fs_information_of class (volume_facts volume.now))) }
@@ -55,7 +55,7 @@ fn put_ascii(text: &[u8], out: &mut Vec<u8>) -> Result<(), WireFault>
 }
 
 fn put_volume(volume: &Volume<'_>, out: &mut Vec<u8>) -> Result<(), WireFault>
-    requires { is_label volume.now.label.now ≡ true }
+    requires { is_volume_label volume.now.label.now ≡ true }
     ensures ok { OnOk result (out.new.items ≡
         appended out.old.items (volume_fields (volume_facts volume.now))) }
     ensures fits { OnOk result (AllFit (volume_fields (volume_facts volume.now))) }

@@ -10,7 +10,7 @@ use Rattle.smb_locks.specs.declared.ask.LockAsk.{LockAsk}
 use Rattle.smb_locks.specs.declared.fault.LockFault.{LockFault}
 use Rattle.smb_locks.specs.declared.lock.Lock.{Lock}
 use Rattle.smb_locks.specs.Asks.{are_locks, are_unlocks, locks_asked, range_asked}
-use Rattle.smb_locks.specs.Good.{GoodTable}
+use Rattle.smb_locks.specs.Good.{GoodLockTable}
 use Rattle.smb_locks.specs.Locking.{locks_fault, lock_all_fault}
 use Rattle.smb_locks.specs.Ranges.{is_past_the_end}
 use Rattle.smb_locks.specs.Table.{Table, locks_on, with_locks, locked, unlocked}
@@ -26,7 +26,7 @@ pub none_on : (table : Table) (file : ℕ) → lookup (is_at (nat_cmp file)) tab
 none_on table file h = ap (λ (o : Option (List Lock)). unwrap_or o []) h
 
 -- a write of some locks
-with_set : (table : Table) (file : ℕ) (old new : List Lock) → GoodTable table → lookup (is_at (nat_cmp file)) table ≡ Some old → 0 < length new → set_value (is_at (nat_cmp file)) table new ≡ with_locks table file new
+with_set : (table : Table) (file : ℕ) (old new : List Lock) → GoodLockTable table → lookup (is_at (nat_cmp file)) table ≡ Some old → 0 < length new → set_value (is_at (nat_cmp file)) table new ≡ with_locks table file new
 with_set table file old [] good found some = absurd (omega arith)
 with_set table file old (lock ∷ new) good found some = set-inserted file (lock ∷ new) table old good.rising found
 
@@ -35,7 +35,7 @@ with_first table file [] some = absurd (omega arith)
 with_first table file (lock ∷ new) some = refl
 
 -- locking, where the file has locks
-pub locked_found : (table : Table) (file holder : ℕ) (asks : List LockAsk) (old new : List Lock) → GoodTable table → lookup (is_at (nat_cmp file)) table ≡ Some old → new ≡ old ++ locks_asked holder asks →
+pub locked_found : (table : Table) (file holder : ℕ) (asks : List LockAsk) (old new : List Lock) → GoodLockTable table → lookup (is_at (nat_cmp file)) table ≡ Some old → new ≡ old ++ locks_asked holder asks →
     set_value (is_at (nat_cmp file)) table new ≡ locked table file holder asks
 locked_found table file holder asks old new good found e =
     let some = found-all (λ ls. 0 < length ls) file old table good.listed found in
@@ -65,8 +65,8 @@ lock_refusal table file holder asks old o flags e h = rw (flags, e) h
 pub written_back : (table : Table) (file : ℕ) (old new : List Lock) → lookup (is_at (nat_cmp file)) table ≡ Some old → new ≡ old → set_value (is_at (nat_cmp file)) table new ≡ table
 written_back table file old new found e = ap (set_value (is_at (nat_cmp file)) table) e ∙ set_value_same (is_at (nat_cmp file)) table old found
 
-pub good_tried : {T E : Type 0} (r : Result T E) (table : Table) (file holder : ℕ) (asks : List LockAsk) (old new : List Lock) → GoodTable table → are_locks asks ≡ true → lookup (is_at (nat_cmp file)) table ≡ Some old →
-    OnOk r (new ≡ old ++ locks_asked holder asks) → OnOk r (locks_fault old (locks_asked holder asks) ≡ None) → OnErr r (new ≡ old) → GoodTable (set_value (is_at (nat_cmp file)) table new)
+pub good_tried : {T E : Type 0} (r : Result T E) (table : Table) (file holder : ℕ) (asks : List LockAsk) (old new : List Lock) → GoodLockTable table → are_locks asks ≡ true → lookup (is_at (nat_cmp file)) table ≡ Some old →
+    OnOk r (new ≡ old ++ locks_asked holder asks) → OnOk r (locks_fault old (locks_asked holder asks) ≡ None) → OnErr r (new ≡ old) → GoodLockTable (set_value (is_at (nat_cmp file)) table new)
 good_tried (Ok x) table file holder asks old new good flags found ok lawful err =
     rw (locked_found table file holder asks old new good found ok) (good_locked table file holder asks good (lock_refusal table file holder asks old None flags (found_on table file old found) lawful))
 good_tried (Err x) table file holder asks old new good flags found ok lawful err = rw (written_back table file old new found err) good
@@ -92,7 +92,7 @@ left_on : (table : Table) (file holder : ℕ) (asks : List LockAsk) (old new : L
 left_on table file holder asks old new flags found e =
     by_flags table file holder asks flags ∙ ap (with_locks table file) (ap (λ (ls : List Lock). left_by holder ls asks) (found_on table file old found) ∙ sym e)
 
-pub unlocked_some : (table : Table) (file holder : ℕ) (asks : List LockAsk) (old new : List Lock) → GoodTable table → are_unlocks asks ≡ true → lookup (is_at (nat_cmp file)) table ≡ Some old → new ≡ left_by holder old asks → (length new == 0) ≡ false →
+pub unlocked_some : (table : Table) (file holder : ℕ) (asks : List LockAsk) (old new : List Lock) → GoodLockTable table → are_unlocks asks ≡ true → lookup (is_at (nat_cmp file)) table ≡ Some old → new ≡ left_by holder old asks → (length new == 0) ≡ false →
     set_value (is_at (nat_cmp file)) table new ≡ unlocked table file holder asks
 unlocked_some table file holder asks old new good flags found e some =
     let apart = eqb-false (length new) 0 some in

@@ -6,7 +6,7 @@ use Rattle.std.specs.List.{AllByRecursion}
 use Rattle.std.specs.Map.{lookup, set_value, remove_entry}
 use Rattle.std.specs.BTreeMap.{is_at, insert_entry}
 use Rattle.std.specs.Ordering.{nat_cmp}
-use Rattle.smb_locks.specs.Good.{IsRising}
+use Rattle.smb_locks.specs.Good.{IsAscending}
 use Rattle.smb_locks.proofs.Alls.{all-weaker}
 
 -- the test of a query by number
@@ -72,24 +72,24 @@ module _ {X : Type 0} where
   above-removed m n (e ∷ es) h = above_removed_at m n e es (is_at (nat_cmp n) e.0) refl h.0 h.1 (above-removed m n es h.1)
 
   -- and rising
-  rising_inserted_at : (n : ℕ) (x : X) (e : ℕ × X) (es : List (ℕ × X)) (b c : Bool) → nat_lt n e.0 ≡ b → (n == e.0) ≡ c → AllByRecursion (λ k. e.0 < k) (keys es) → IsRising (keys es) →
-      IsRising (keys (insert_entry nat_cmp es n x)) → IsRising (keys (insert_entry nat_cmp (e ∷ es) n x))
+  rising_inserted_at : (n : ℕ) (x : X) (e : ℕ × X) (es : List (ℕ × X)) (b c : Bool) → nat_lt n e.0 ≡ b → (n == e.0) ≡ c → AllByRecursion (λ k. e.0 < k) (keys es) → IsAscending (keys es) →
+      IsAscending (keys (insert_entry nat_cmp es n x)) → IsAscending (keys (insert_entry nat_cmp (e ∷ es) n x))
   rising_inserted_at n x e es true c t s above h ih =
       let lt = ltb-true n e.0 t in
       rw t ((lt, all-weaker _ _ (keys es) (λ k l. omega arith) above), (above, h))
   rising_inserted_at n x e es false true t s above h ih = rw (t, s) (above, h)
   rising_inserted_at n x e es false false t s above h ih = rw (t, s) (above-inserted e.0 n x es (between n e.0 t s) above, ih)
 
-  pub rising-inserted : (n : ℕ) (x : X) (es : List (ℕ × X)) → IsRising (keys es) → IsRising (keys (insert_entry nat_cmp es n x))
+  pub rising-inserted : (n : ℕ) (x : X) (es : List (ℕ × X)) → IsAscending (keys es) → IsAscending (keys (insert_entry nat_cmp es n x))
   rising-inserted n x [] h = (tt, tt)
   rising-inserted n x (e ∷ es) h = rising_inserted_at n x e es (nat_lt n e.0) (n == e.0) refl refl h.0 h.1 (rising-inserted n x es h.1)
 
-  rising_removed_at : (n : ℕ) (e : ℕ × X) (es : List (ℕ × X)) (b : Bool) → is_at (nat_cmp n) e.0 ≡ b → AllByRecursion (λ k. e.0 < k) (keys es) → IsRising (keys es) →
-      IsRising (keys (remove_entry (is_at (nat_cmp n)) es)) → IsRising (keys (remove_entry (is_at (nat_cmp n)) (e ∷ es)))
+  rising_removed_at : (n : ℕ) (e : ℕ × X) (es : List (ℕ × X)) (b : Bool) → is_at (nat_cmp n) e.0 ≡ b → AllByRecursion (λ k. e.0 < k) (keys es) → IsAscending (keys es) →
+      IsAscending (keys (remove_entry (is_at (nat_cmp n)) es)) → IsAscending (keys (remove_entry (is_at (nat_cmp n)) (e ∷ es)))
   rising_removed_at n e es true t above h ih = rw t h
   rising_removed_at n e es false t above h ih = rw t (above-removed e.0 n es above, ih)
 
-  pub rising-removed : (n : ℕ) (es : List (ℕ × X)) → IsRising (keys es) → IsRising (keys (remove_entry (is_at (nat_cmp n)) es))
+  pub rising-removed : (n : ℕ) (es : List (ℕ × X)) → IsAscending (keys es) → IsAscending (keys (remove_entry (is_at (nat_cmp n)) es))
   rising-removed n [] h = tt
   rising-removed n (e ∷ es) h = rising_removed_at n e es (is_at (nat_cmp n) e.0) refl h.0 h.1 (rising-removed n es h.1)
 
@@ -135,7 +135,7 @@ module _ {X : Type 0} where
       rw t (lookup-above n es (rw (← same) at above))
   found_removed_at n e es false t above ih = rw (t, t) ih
 
-  pub found-removed : (n : ℕ) (es : List (ℕ × X)) → IsRising (keys es) → lookup (is_at (nat_cmp n)) (remove_entry (is_at (nat_cmp n)) es) ≡ None
+  pub found-removed : (n : ℕ) (es : List (ℕ × X)) → IsAscending (keys es) → lookup (is_at (nat_cmp n)) (remove_entry (is_at (nat_cmp n)) es) ≡ None
   found-removed n [] h = refl
   found-removed n (e ∷ es) h = found_removed_at n e es (is_at (nat_cmp n) e.0) refl h.0 (found-removed n es h.1)
 
@@ -187,7 +187,7 @@ module _ {X : Type 0} where
       found_behind n v [] m above h = cc
       found_behind n v (e ∷ es) m above h = behind_at n v e es m (is_at (nat_cmp n) e.0) refl above.0 (found_behind n v es m above.1) h
 
-  pub set-inserted : (n : ℕ) (w : X) (es : List (ℕ × X)) (v : X) → IsRising (keys es) → lookup (is_at (nat_cmp n)) es ≡ Some v → set_value (is_at (nat_cmp n)) es w ≡ insert_entry nat_cmp es n w
+  pub set-inserted : (n : ℕ) (w : X) (es : List (ℕ × X)) (v : X) → IsAscending (keys es) → lookup (is_at (nat_cmp n)) es ≡ Some v → set_value (is_at (nat_cmp n)) es w ≡ insert_entry nat_cmp es n w
   set-inserted n w [] v r h = cc
   set-inserted n w (e ∷ es) v r h = set_at n w e es v (is_at (nat_cmp n) e.0) refl r.0 (set-inserted n w es v r.1) h
 

@@ -10,7 +10,7 @@ use Rattle.std.specs.Ordering.{nat_cmp}
 use Rattle.smb_locks.specs.declared.ask.LockAsk.{LockAsk}
 use Rattle.smb_locks.specs.declared.lock.Lock.{Lock}
 use Rattle.smb_locks.specs.Asks.{locks_asked, are_unlocks}
-use Rattle.smb_locks.specs.Good.{AreCompatible, AreAllCompatible, GoodLocks, GoodTable, IsRising}
+use Rattle.smb_locks.specs.Good.{AreCompatible, AreAllCompatible, GoodLocks, GoodLockTable, IsAscending}
 use Rattle.smb_locks.specs.Locking.{lock_all_fault}
 use Rattle.smb_locks.specs.Table.{Table, locks_on, with_locks, locked, unlocked, others_locks, without_holder}
 use Rattle.smb_locks.specs.Unlocking.{left_by}
@@ -20,7 +20,7 @@ use Rattle.smb_locks.proofs.Keeping.{good_none, good_more, good_left, good_other
 use Rattle.smb_locks.proofs.Parts.{locks_granted}
 
 -- nothing is good
-pub good_empty : GoodTable []
+pub good_empty : GoodLockTable []
 good_empty = record { rising = tt; listed = tt; good = tt }
 
 -- the locks of a file are good
@@ -28,11 +28,11 @@ good_found : (table : Table) (file : ℕ) (found : Option (List Lock)) → AllBy
 good_found table file None good h = good_none
 good_found table file (Some locks) good h = found-all GoodLocks file locks table good h
 
-pub good_on : (table : Table) (file : ℕ) → GoodTable table → GoodLocks (locks_on table file)
+pub good_on : (table : Table) (file : ℕ) → GoodLockTable table → GoodLocks (locks_on table file)
 good_on table file good = good_found table file (lookup (is_at (nat_cmp file)) table) good.good refl
 
 -- a file's locks are others
-pub good_with : (table : Table) (file : ℕ) (locks : List Lock) → GoodTable table → GoodLocks locks → GoodTable (with_locks table file locks)
+pub good_with : (table : Table) (file : ℕ) (locks : List Lock) → GoodLockTable table → GoodLocks locks → GoodLockTable (with_locks table file locks)
 good_with table file [] good own = record {
   rising = rising-removed file table good.rising;
   listed = all-removed (λ locks. 0 < length locks) file table good.listed;
@@ -44,7 +44,7 @@ good_with table file (lock ∷ locks) good own = record {
   good = all-inserted GoodLocks file (lock ∷ locks) table own good.good;
 }
 
-pub on_with : (table : Table) (file : ℕ) (locks : List Lock) → GoodTable table → locks_on (with_locks table file locks) file ≡ locks
+pub on_with : (table : Table) (file : ℕ) (locks : List Lock) → GoodLockTable table → locks_on (with_locks table file locks) file ≡ locks
 on_with table file [] good = ap (λ (o : Option (List Lock)). unwrap_or o []) (found-removed file table good.rising)
 on_with table file (lock ∷ locks) good = ap (λ (o : Option (List Lock)). unwrap_or o []) (found-inserted file (lock ∷ locks) table)
 
@@ -52,17 +52,17 @@ pub on_other : (table : Table) (file other : ℕ) (locks : List Lock) → other 
 on_other table file other [] apart = ap (λ (o : Option (List Lock)). unwrap_or o []) (other-removed file other table (ne_eqb other file apart))
 on_other table file other (lock ∷ locks) apart = ap (λ (o : Option (List Lock)). unwrap_or o []) (other-inserted file other (lock ∷ locks) table (ne_eqb other file apart))
 
-pub good_locked : (table : Table) (file holder : ℕ) (asks : List LockAsk) → GoodTable table → lock_all_fault (locks_on table file) holder asks ≡ None → GoodTable (locked table file holder asks)
+pub good_locked : (table : Table) (file holder : ℕ) (asks : List LockAsk) → GoodLockTable table → lock_all_fault (locks_on table file) holder asks ≡ None → GoodLockTable (locked table file holder asks)
 good_locked table file holder asks good h =
     good_with table file (locks_on table file ++ locks_asked holder asks) good
     (good_more (locks_asked holder asks) (locks_on table file) (good_on table file good) (locks_granted (locks_on table file) holder asks h))
 
-unlocked_at : (table : Table) (file holder : ℕ) (asks : List LockAsk) (b : Bool) → are_unlocks asks ≡ b → GoodTable table → GoodTable (unlocked table file holder asks)
+unlocked_at : (table : Table) (file holder : ℕ) (asks : List LockAsk) (b : Bool) → are_unlocks asks ≡ b → GoodLockTable table → GoodLockTable (unlocked table file holder asks)
 unlocked_at table file holder asks true t good =
     rw t (good_with table file (left_by holder (locks_on table file) asks) good (good_left holder asks (locks_on table file) (good_on table file good)))
 unlocked_at table file holder asks false t good = rw t good
 
-pub good_unlocked : (table : Table) (file holder : ℕ) (asks : List LockAsk) → GoodTable table → GoodTable (unlocked table file holder asks)
+pub good_unlocked : (table : Table) (file holder : ℕ) (asks : List LockAsk) → GoodLockTable table → GoodLockTable (unlocked table file holder asks)
 good_unlocked table file holder asks good = unlocked_at table file holder asks (are_unlocks asks) refl good
 
 -- an open is dropped
@@ -76,12 +76,12 @@ module _ (holder : ℕ) where
   above_dropped m [] h = tt
   above_dropped m (entry ∷ table) h = above_at m entry table (nat_lt 0 (length (others_locks holder entry.1))) refl h.0 (above_dropped m table h.1)
 
-  rising_at : (entry : ℕ × List Lock) (table : Table) (b : Bool) → nat_lt 0 (length (others_locks holder entry.1)) ≡ b → AllByRecursion (λ k. entry.0 < k) (map (λ e. e.0) (without_holder holder table)) → IsRising (map (λ e. e.0) (without_holder holder table)) →
-      IsRising (map (λ e. e.0) (without_holder holder (entry ∷ table)))
+  rising_at : (entry : ℕ × List Lock) (table : Table) (b : Bool) → nat_lt 0 (length (others_locks holder entry.1)) ≡ b → AllByRecursion (λ k. entry.0 < k) (map (λ e. e.0) (without_holder holder table)) → IsAscending (map (λ e. e.0) (without_holder holder table)) →
+      IsAscending (map (λ e. e.0) (without_holder holder (entry ∷ table)))
   rising_at entry table true t above ih = rw t (above, ih)
   rising_at entry table false t above ih = rw t ih
 
-  rising_dropped : (table : Table) → IsRising (map (λ e. e.0) table) → IsRising (map (λ e. e.0) (without_holder holder table))
+  rising_dropped : (table : Table) → IsAscending (map (λ e. e.0) table) → IsAscending (map (λ e. e.0) (without_holder holder table))
   rising_dropped [] h = tt
   rising_dropped (entry ∷ table) h = rising_at entry table (nat_lt 0 (length (others_locks holder entry.1))) refl (above_dropped entry.0 table h.0) (rising_dropped table h.1)
 
@@ -98,7 +98,7 @@ module _ (holder : ℕ) where
   all_dropped [] h = tt
   all_dropped (entry ∷ table) h = all_at GoodLocks entry table (nat_lt 0 (length (others_locks holder entry.1))) refl (λ l. good_others holder entry.1 h.0) (all_dropped table h.1)
 
-  pub good_dropped : (table : Table) → GoodTable table → GoodTable (without_holder holder table)
+  pub good_dropped : (table : Table) → GoodLockTable table → GoodLockTable (without_holder holder table)
   good_dropped table good = record {
     rising = rising_dropped table good.rising;
     listed = listed_dropped table;
@@ -116,7 +116,7 @@ module _ (holder : ℕ) where
       rw (t, s, none) (sym no_lock)
   on_at file entry table false false t s above ih = rw (t, s) ih
 
-  pub on_dropped : (file : ℕ) (table : Table) → IsRising (map (λ e. e.0) table) → locks_on (without_holder holder table) file ≡ others_locks holder (locks_on table file)
+  pub on_dropped : (file : ℕ) (table : Table) → IsAscending (map (λ e. e.0) table) → locks_on (without_holder holder table) file ≡ others_locks holder (locks_on table file)
   on_dropped file [] h = refl
   on_dropped file (entry ∷ table) h = on_at file entry table (nat_lt 0 (length (others_locks holder entry.1))) (is_at (nat_cmp file) entry.0) refl refl h.0 (on_dropped file table h.1)
 

@@ -30,8 +30,8 @@ abbrev pub range_asked : LockAsk → ByteRange
 range_asked ask = record { offset = ask.offset; length = ask.length }
 
 -- the lock that an open asks for
-abbrev pub lock_asked : ℕ → LockAsk → Lock
-lock_asked holder ask = record { holder = holder; range = range_asked ask; exclusive = bit_and ask.flags.0 0x2 == 0x2 }
+abbrev pub lock_by : ℕ → LockAsk → Lock
+lock_by holder ask = record { holder = holder; range = range_asked ask; exclusive = bit_and ask.flags.0 0x2 == 0x2 }
 
 abbrev pub locks_asked : ℕ → List LockAsk → List Lock
-locks_asked holder = map (lock_asked holder)
+locks_asked holder = map (lock_by holder)

@@ -22,12 +22,12 @@ pub record GoodLocks (locks : List Lock) : Type 0 where
   pub within : AllByRecursion (λ lock. is_past_the_end lock.range ≡ false) locks
 
 -- each number is below those behind it
-abbrev pub IsRising : List ℕ → Type 0
-IsRising [] = Unit {0}
-IsRising (number ∷ numbers) = AllByRecursion (λ later. number < later) numbers × IsRising numbers
+abbrev pub IsAscending : List ℕ → Type 0
+IsAscending [] = Unit {0}
+IsAscending (number ∷ numbers) = AllByRecursion (λ later. number < later) numbers × IsAscending numbers
 
 -- a table: its files in rising number, each with some locks, which are good
-pub record GoodTable (table : Table) : Type 0 where
-  pub rising : IsRising (map (λ entry. entry.0) table)
+pub record GoodLockTable (table : Table) : Type 0 where
+  pub rising : IsAscending (map (λ entry. entry.0) table)
   pub listed : AllByRecursion (λ entry. 0 < length entry.1) table
   pub good : AllByRecursion (λ entry. GoodLocks entry.1) table

@@ -4,7 +4,7 @@ use Rattle.smb_locks.specs.declared.ask.LockAsk.{LockAsk}
 use Rattle.smb_locks.specs.declared.lock.Lock.{Lock}
 use Rattle.smb_locks.specs.declared.range.ByteRange.{ByteRange}
 use Rattle.smb_locks.specs.Conflicts.{Conflicts, conflicts, BarsRead, BarsWrite, is_read_barred, is_write_barred}
-use Rattle.smb_locks.specs.Good.{GoodTable}
+use Rattle.smb_locks.specs.Good.{GoodLockTable}
 use Rattle.smb_locks.specs.Locking.{lock_all_fault}
 use Rattle.smb_locks.specs.Ranges.{Overlap, overlaps}
 use Rattle.smb_locks.specs.Table.{Table, locks_on, with_locks, locked, unlocked, others_locks, without_holder}
@@ -34,35 +34,35 @@ BarsAreByOverlap =
 -- no two overlapping locks of different opens of a file have an exclusive one among them
 abbrev pub NoTwoConflict : Type 0
 NoTwoConflict =
-    (table : Table) (file : ℕ) (a b : Lock) → GoodTable table → Contains (locks_on table file) a →
+    (table : Table) (file : ℕ) (a b : Lock) → GoodLockTable table → Contains (locks_on table file) a →
     Contains (locks_on table file) b → a.holder ≢ b.holder → Overlap a.range b.range →
     (a.exclusive ≡ false) × (b.exclusive ≡ false)
 
 -- a file has the locks that it was given, and every other file those that it had
 abbrev pub EachFileHasItsLocks : Type 0
 EachFileHasItsLocks =
-    (table : Table) (file : ℕ) (locks : List Lock) → GoodTable table →
+    (table : Table) (file : ℕ) (locks : List Lock) → GoodLockTable table →
     (locks_on (with_locks table file locks) file ≡ locks) ×
     ((other : ℕ) → other ≢ file → locks_on (with_locks table file locks) other ≡ locks_on table other)
 
 -- an open that is dropped holds nothing, and every other lock stays, in order
 abbrev pub ADroppedOpenHoldsNothing : Type 0
 ADroppedOpenHoldsNothing =
-    (table : Table) (holder file : ℕ) → GoodTable table →
+    (table : Table) (holder file : ℕ) → GoodLockTable table →
     locks_on (without_holder holder table) file ≡ others_locks holder (locks_on table file)
 
 -- a table is good at first, and stays so
 abbrev pub NoLocksAreGood : Type 0
-NoLocksAreGood = GoodTable []
+NoLocksAreGood = GoodLockTable []
 
 abbrev pub LockingKeepsGood : Type 0
 LockingKeepsGood =
-    (table : Table) (file holder : ℕ) (asks : List LockAsk) → GoodTable table →
-    lock_all_fault (locks_on table file) holder asks ≡ None → GoodTable (locked table file holder asks)
+    (table : Table) (file holder : ℕ) (asks : List LockAsk) → GoodLockTable table →
+    lock_all_fault (locks_on table file) holder asks ≡ None → GoodLockTable (locked table file holder asks)
 
 abbrev pub UnlockingKeepsGood : Type 0
 UnlockingKeepsGood =
-    (table : Table) (file holder : ℕ) (asks : List LockAsk) → GoodTable table → GoodTable (unlocked table file holder asks)
+    (table : Table) (file holder : ℕ) (asks : List LockAsk) → GoodLockTable table → GoodLockTable (unlocked table file holder asks)
 
 abbrev pub DroppingKeepsGood : Type 0
-DroppingKeepsGood = (table : Table) (holder : ℕ) → GoodTable table → GoodTable (without_holder holder table)
+DroppingKeepsGood = (table : Table) (holder : ℕ) → GoodLockTable table → GoodLockTable (without_holder holder table)

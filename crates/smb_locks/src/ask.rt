@@ -1,7 +1,7 @@
 //! What the elements of a LOCK request ask.
 
 ghost use Rattle.std.specs.Prelude.{◌≡◌, ◌&&◌, ◌||◌};
-ghost use Rattle.smb_locks.specs.Asks.{is_immediate, may_wait, is_unlock, are_locks, are_unlocks, range_asked, lock_asked};
+ghost use Rattle.smb_locks.specs.Asks.{is_immediate, may_wait, is_unlock, are_locks, are_unlocks, range_asked, lock_by};
 
 use super::flags::LockFlags;
 use super::lock::Lock;
@@ -31,7 +31,7 @@ impl LockAsk {
 
     // The lock that is asked for by an open.
     pub(crate) fn lock(self, holder: u64) -> Lock
-        ensures { result ≡ lock_asked holder self }
+        ensures { result ≡ lock_by holder self }
     {
         Lock {
             holder,

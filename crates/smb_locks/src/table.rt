@@ -5,7 +5,7 @@ ghost use Rattle.std.specs.BTreeMap.{insert_entry, is_at};
 ghost use Rattle.std.specs.Map.{remove_entry};
 ghost use Rattle.std.specs.Ordering.{nat_cmp};
 ghost use Rattle.smb_locks.specs.Conflicts.{is_read_barred, is_write_barred};
-ghost use Rattle.smb_locks.specs.Good.{GoodTable};
+ghost use Rattle.smb_locks.specs.Good.{GoodLockTable};
 ghost use Rattle.smb_locks.specs.Locking.{lock_all_fault};
 ghost use Rattle.smb_locks.specs.Table.{locks_on, locked, unlocked, without_holder};
 ghost use Rattle.smb_locks.specs.Unlocking.{unlock_all_error};
@@ -32,13 +32,13 @@ pub struct LockTable {
 
 impl Model for LockTable {
     ghost use Rattle.smb_locks.specs.Table.{Table};
-    ghost use Rattle.smb_locks.specs.Good.{GoodTable};
+    ghost use Rattle.smb_locks.specs.Good.{GoodLockTable};
 
     ghost Value = { Table };
 
     ghost view = { λ t. t.files.entries };
 
-    ghost invariant = { λ t. GoodTable t.files.entries };
+    ghost invariant = { λ t. GoodLockTable t.files.entries };
 }
 
 // Adds the locks of a file that has none.
@@ -167,7 +167,7 @@ impl LockTable {
     /// What holds of every table between calls: no two overlapping locks of different opens of a file have an exclusive
     /// one among them, and a file has at most 256. (The body does nothing.)
     pub fn good(&self)
-        ensures { GoodTable self.now }
+        ensures { GoodLockTable self.now }
     {
         let _ = &self.files;
     }

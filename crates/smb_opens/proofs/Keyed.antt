@@ -1,10 +1,10 @@
 -- A map whose keys are its opens' numbers, which rise.
-use Rattle.std.proofs.Common.{◌≡◌, ◌==◌, ◌<◌, ℕ, List, [], ◌∷◌, ◌++◌, true, false, cond, None, refl, ap, arith, ◌∙◌}
+use Rattle.std.proofs.Common.{◌≡◌, ◌==◌, ◌<◌, ◌≤◌, ◌+◌, ◌&&◌, ℕ, zero, suc, List, [], ◌∷◌, ◌++◌, drop, length, slice_get, nat_lt, true, false, cond, Option, None, Some, is_some, refl, sym, ap, arith, ◌∙◌}
 use Rattle.std.proofs.lemmas.Bool.Decides.{nat_tests}
 use Rattle.std.specs.List.{AllByRecursion}
 use Rattle.std.specs.Map.{lookup, values_of, remove_entry}
 use Rattle.smb_opens.specs.declared.open_row.OpenRow.{OpenRow}
-use Rattle.smb_opens.specs.Opens.{open_of, without_open, AreAllBelow}
+use Rattle.smb_opens.specs.Opens.{open_of, without_open, open_on_entry_after, AreAllBelow}
 use Rattle.smb_opens.specs.Plain.{AreKeyed}
 
 pub lookup_open_of : (es : List (ℕ × OpenRow)) (n : ℕ) → AreKeyed es → lookup (λ k. n == k) es ≡ open_of (values_of es) n
@@ -49,3 +49,57 @@ open_of_above (row ∷ rows) n h = grind (arith, nat_tests, h.0, open_of_above r
 -- an open whose number is above all is put last
 pub put_last : (es : List (ℕ × OpenRow)) (row : OpenRow) → AreKeyed es → AreAllBelow row.number (values_of es) → lookup (λ k. row.number == k) es ≡ None
 put_last es row h b = lookup_open_of es row.number h ∙ open_of_above (values_of es) row.number b
+
+-- the opens before the one of a number have lesser numbers, so none of them is the next above it
+above_at : (es : List (ℕ × OpenRow)) (m p : ℕ) (row : OpenRow) → AreKeyed es → AllByRecursion (λ later. m < later.0) es → slice_get (values_of es) p ≡ Some row → m < row.number
+above_at [] m p row k h e = cc
+above_at (x ∷ es) m zero row k h e = (let same : x.1 ≡ row = cc in let number : x.1.number ≡ row.number = ap (λ (r : OpenRow). r.number) same in omega (arith, k.0, h.0, number))
+above_at (x ∷ es) m (suc p) row k h e = above_at es m p row k.2 h.1 e
+
+skip_at : (es : List (ℕ × OpenRow)) (n p entry : ℕ) (row : OpenRow) → AreKeyed es → slice_get (values_of es) p ≡ Some row → row.number ≡ n → open_on_entry_after (drop p (values_of es)) entry n ≡ open_on_entry_after (values_of es) entry n
+skip_at [] n p entry row k e f = cc
+skip_at (x ∷ es) n zero entry row k e f = refl
+skip_at (x ∷ es) n (suc p) entry row k e f =
+    let above : x.0 < row.number = above_at es x.0 p row k.2 k.1 e in
+    let not_above : nat_lt n x.1.number ≡ false = (let key = k.0 in grind (arith, nat_tests, above, key, f)) in
+    let off : (x.1.entry == entry && nat_lt n x.1.number) ≡ false = grind (arith, not_above) in
+    rw off (skip_at es n p entry row k.2 e f)
+
+number_is : (rows : List OpenRow) (n : ℕ) (row : OpenRow) → open_of rows n ≡ Some row → row.number ≡ n
+number_is [] n row h = cc
+number_is (x ∷ rows) n row h = grind (arith, nat_tests, h, number_is rows n row)
+
+-- from the place of a number on are all opens above it
+pub skip_to : (es : List (ℕ × OpenRow)) (n p entry : ℕ) (found : Option OpenRow) → AreKeyed es → found ≡ lookup (λ k. n == k) es → slice_get (values_of es) p ≡ found → true ≡ is_some found → open_on_entry_after (drop p (values_of es)) entry n ≡ open_on_entry_after (values_of es) entry n
+skip_to es n p entry None k l e s = cc
+skip_to es n p entry (Some row) k l e s = skip_at es n p entry row k e (number_is (values_of es) n row (sym (lookup_open_of es n k) ∙ sym l))
+
+-- a step through the opens from a place on
+pub taken_at : (rows : List OpenRow) (p entry n : ℕ) (row : OpenRow) → slice_get rows p ≡ Some row → (row.entry == entry && nat_lt n row.number) ≡ true → Some row.number ≡ open_on_entry_after (drop p rows) entry n
+taken_at [] p entry n row e t = cc
+taken_at (x ∷ rows) zero entry n row e t = (let same : x ≡ row = cc in let test : (x.entry == entry && nat_lt n x.number) ≡ true = ap (λ (r : OpenRow). r.entry == entry && nat_lt n r.number) same ∙ t in rw test (ap (λ (r : OpenRow). Some r.number) (sym same)))
+taken_at (x ∷ rows) (suc p) entry n row e t = taken_at rows p entry n row e t
+
+passed_by : (rows : List OpenRow) (p entry n : ℕ) (row : OpenRow) → slice_get rows p ≡ Some row → (row.entry == entry && nat_lt n row.number) ≡ false → open_on_entry_after (drop (suc p) rows) entry n ≡ open_on_entry_after (drop p rows) entry n
+passed_by [] p entry n row e t = cc
+passed_by (x ∷ rows) zero entry n row e t = (let same : x ≡ row = cc in let test : (x.entry == entry && nat_lt n x.number) ≡ false = ap (λ (r : OpenRow). r.entry == entry && nat_lt n r.number) same ∙ t in rw test refl)
+passed_by (x ∷ rows) (suc p) entry n row e t = passed_by rows p entry n row e t
+
+pub passed_at : (rows : List OpenRow) (p entry n : ℕ) (row : OpenRow) → slice_get rows p ≡ Some row → (row.entry == entry && nat_lt n row.number) ≡ false → open_on_entry_after (drop (p + 1) rows) entry n ≡ open_on_entry_after (drop p rows) entry n
+passed_at rows p entry n row e t = ap (λ (m : ℕ). open_on_entry_after (drop m rows) entry n) (let one : p + 1 ≡ suc p = omega arith in one) ∙ passed_by rows p entry n row e t
+
+pub none_at : (rows : List OpenRow) (p entry n : ℕ) → length rows ≤ p → None ≡ open_on_entry_after (drop p rows) entry n
+none_at [] zero entry n h = refl
+none_at [] (suc p) entry n h = refl
+none_at (x ∷ rows) zero entry n h = absurd (omega (arith, h))
+none_at (x ∷ rows) (suc p) entry n h = none_at rows p entry n (omega (arith, h))
+
+pub length-values : (es : List (ℕ × OpenRow)) → length (values_of es) ≡ length es
+length-values [] = refl
+length-values (x ∷ es) = grind (arith, length-values es)
+
+-- a row of the map at a place
+pub value_at : (es : List (ℕ × OpenRow)) (p : ℕ) (key : ℕ) (row : OpenRow) → Some (key, row) ≡ slice_get es p → slice_get (values_of es) p ≡ Some row
+value_at [] p key row e = cc
+value_at (x ∷ es) zero key row e = (let same : x ≡ (key, row) = cc in ap (λ (y : ℕ × OpenRow). Some y.1) same)
+value_at (x ∷ es) (suc p) key row e = value_at es p key row e

@@ -1,15 +1,15 @@
 -- A store in which an entry was added or opened, and one in which that was undone.
-use Rattle.std.proofs.Common.{◌≡◌, ◌<◌, ℕ, ◌+◌, List, [], ◌∷◌, ◌++◌, length, true, false, cond, Option, None, Some, is_some, refl, sym, ap, arith, ◌∙◌, length-append}
+use Rattle.std.proofs.Common.{◌≡◌, ◌<◌, ℕ, ◌+◌, List, [], ◌∷◌, ◌++◌, length, true, false, cond, if◌then◌else◌, bit_or, Option, None, Some, is_some, refl, sym, ap, arith, ◌∙◌, length-append}
 use Rattle.std.proofs.lemmas.Grind.{common_steps}
 use Rattle.std.proofs.lemmas.Bool.Decides.{nat_tests}
 use Rattle.std.specs.Option.{option_map}
 use Rattle.smb_wire.specs.Paths.{path_spelled, folded_path}
 use Rattle.smb_tree.specs.declared.entry.Kind.{Kind}
 use Rattle.smb_tree.specs.Entries.{Entry, new_entry}
-use Rattle.smb_tree.specs.Content.{Path, Row, Content, entry_at, numbered, added, next_number}
+use Rattle.smb_tree.specs.Content.{Path, Row, Content, entry_at, numbered, parent, changed, added, next_number}
 use Rattle.smb_tree.specs.Faults.{add_fault}
 use Rattle.smb_tree.specs.Laws.{AreApart}
-use Rattle.smb_tree.proofs.Apart.{numbered-from_at, numbered-changed}
+use Rattle.smb_tree.proofs.Apart.{numbered-from_at, numbered-changed, numbered-fresh}
 use Rattle.smb_opens.specs.declared.open_row.OpenRow.{OpenRow}
 use Rattle.smb_opens.specs.declared.found.Target.{Target}
 use Rattle.smb_opens.specs.declared.view.View.{View}
@@ -18,16 +18,24 @@ use Rattle.smb_wire.specs.declared.create_action.CreateAction.TheVariants.{Creat
 use Rattle.smb_opens.specs.declared.view.Created.{Created as CreatedOpen}
 use Rattle.smb_wire.specs.declared.access.Access.{Access}
 use Rattle.smb_wire.specs.Dispositions.{overwrites_by}
-use Rattle.smb_opens.specs.Asked.{FileAsked, kind_asked, attributes_asked}
+use Rattle.smb_opens.specs.Asked.{FileAsked, share_asked, kind_asked, attributes_asked}
 use Rattle.smb_opens.specs.Effect.{overwritten, overwritten_tree, standing_tree, entry_after, create_result_by, created_by, opened_by, action_on}
-use Rattle.smb_opens.specs.Found.{has_all_opens}
-use Rattle.smb_opens.specs.Looked.{target_of}
-use Rattle.smb_opens.specs.Good.{GoodTree, GoodStore, IsKept, ArePresent}
+use Rattle.smb_opens.specs.Found.{has_all_opens, is_marked}
+use Rattle.smb_opens.specs.Looked.{target_of, is_read_only_target, target_conflicts}
+use Rattle.smb_opens.specs.Good.{GoodTree, GoodStore, IsKept, ArePresent, AreMarksDue}
 use Rattle.smb_opens.specs.Opens.{without_open, AreAllBelow}
+use Rattle.smb_opens.specs.Access.{granted}
+use Rattle.smb_opens.specs.Close.{has_mark}
+use Rattle.smb_opens.specs.Create.{use_asked}
+use Rattle.smb_opens.specs.Sharing.{use_of, has_conflict}
+use Rattle.smb_wire.specs.Access.{FILE_WRITE_DATA}
+use Rattle.smb_opens.proofs.Conflicts.{compatible_pushed, fresh_conflict, less_conflict}
+use Rattle.smb_opens.proofs.Marks.{mark_pushed, mark_changed, deletable_pushed, deletable_changed, open_pushed_too}
+use Rattle.smb_opens.proofs.Mores.{more_conflicts, or_has}
 use Rattle.smb_opens.specs.State.{StoreState}
 use Rattle.smb_opens.specs.Views.{view_of, view_at}
 use Rattle.smb_opens.proofs.Rows.{all_push, rising_push, below_push, without_last}
-use Rattle.smb_opens.proofs.Changes.{free_path, good_push, present_push, numbered-last, good_changed, present_changed, length-changed}
+use Rattle.smb_opens.proofs.Changes.{free_path, good_push, present_push, numbered-last, good_changed, keeps_of, present_changed, length-changed}
 use Rattle.smb_opens.proofs.Overwrites.{empties}
 
 -- an open that was added last is taken out again
@@ -41,13 +49,15 @@ room_left : (state : StoreState) → has_all_opens state ≡ false → length st
 room_left state e = grind (arith, nat_tests, common_steps, e)
 
 -- one more open, of an entry that stands
-pub good_opened : (state : StoreState) (tree : Content) (row : OpenRow) → GoodStore state → GoodTree tree → ArePresent tree.rows state.opens → is_some (numbered tree.rows row.entry) ≡ true → row.number ≡ state.next → has_all_opens state ≡ false → GoodStore (record { tree = tree; opens = state.opens ++ row ∷ []; next = state.next + 1 })
-good_opened state tree row good fine present stands number room = record {
+pub good_opened : (state : StoreState) (tree : Content) (row : OpenRow) → GoodStore state → GoodTree tree → ArePresent tree.rows state.opens → is_some (numbered tree.rows row.entry) ≡ true → row.number ≡ state.next → has_all_opens state ≡ false → has_conflict state.opens row.entry (use_of row) ≡ false → AreMarksDue tree.rows (state.opens ++ row ∷ []) → GoodStore (record { tree = tree; opens = state.opens ++ row ∷ []; next = state.next + 1 })
+good_opened state tree row good fine present stands number room alone due = record {
   tree = fine;
   present = all_push (λ (o : OpenRow). is_some (numbered tree.rows o.entry) ≡ true) state.opens row present stands;
   rising = rising_push state.opens row good.rising (rw number good.below);
   below = below_push state.next state.opens row good.below number;
   few = omega (arith, room_left state room, length-append state.opens (row ∷ []));
+  compatible = compatible_pushed state.opens row good.compatible alone;
+  marked = due;
 }
 
 -- the tree to which an entry was added is good
@@ -55,12 +65,21 @@ pub good_added : (tree : Content) (parts : List (List ℕ)) (kind : Kind) (attri
 good_added tree parts kind attributes moment good free =
     good_push tree (folded_path parts) (new_entry tree.next parts kind attributes moment) (free_path tree (folded_path parts) free) refl refl good
 
-pub kept_added : (state : StoreState) (opens_count entries_count : ℕ) (parts : List (List ℕ)) (kind : Kind) (attributes moment : ℕ) (row : OpenRow) → IsKept state.tree state.opens state.next opens_count entries_count → add_fault state.tree (folded_path parts) ≡ None → has_all_opens state ≡ false → row.number ≡ state.next → row.entry ≡ state.tree.next → IsKept (added state.tree parts kind attributes moment) (state.opens ++ row ∷ []) (state.next + 1) (opens_count + 1) (entries_count + 1)
-kept_added state opens_count entries_count parts kind attributes moment row kept free room number entry =
+-- what is marked after an addition to a folder that is not
+due_added : (state : StoreState) (new : Row) (row : OpenRow) → GoodStore state → new.1.mark ≡ false → is_marked (entry_at state.tree.rows (parent new.0)) ≡ false → AreMarksDue (state.tree.rows ++ new ∷ []) (state.opens ++ row ∷ [])
+due_added state new row good k above m h =
+    let marked : has_mark state.tree.rows m ≡ true = sym (mark_pushed state.tree.rows new m k) ∙ h in
+    let due = good.marked m marked in
+    (deletable_pushed state.tree.rows new m good.tree.apart marked above due.0, open_pushed_too state.opens row m due.1)
+
+pub kept_added : (state : StoreState) (opens_count entries_count : ℕ) (parts : List (List ℕ)) (kind : Kind) (attributes moment : ℕ) (row : OpenRow) → IsKept state.tree state.opens state.next opens_count entries_count → add_fault state.tree (folded_path parts) ≡ None → is_marked (entry_at state.tree.rows (parent (folded_path parts))) ≡ false → has_all_opens state ≡ false → row.number ≡ state.next → row.entry ≡ state.tree.next → IsKept (added state.tree parts kind attributes moment) (state.opens ++ row ∷ []) (state.next + 1) (opens_count + 1) (entries_count + 1)
+kept_added state opens_count entries_count parts kind attributes moment row kept free above room number entry =
     let new : Row = (folded_path parts, new_entry state.tree.next parts kind attributes moment) in
     let last : is_some (numbered (state.tree.rows ++ new ∷ []) row.entry) ≡ true = rw (entry, numbered-last state.tree new kept.good.tree refl) refl in
+    let absent : numbered state.tree.rows row.entry ≡ None = ap (numbered state.tree.rows) entry ∙ numbered-fresh state.tree.rows state.tree.next kept.good.tree.below in
+    let fresh : has_conflict state.opens row.entry (use_of row) ≡ false = fresh_conflict state.tree.rows state.opens row.entry (use_of row) kept.good.present absent in
     record {
-      good = good_opened state (added state.tree parts kind attributes moment) row kept.good (good_added state.tree parts kind attributes moment kept.good.tree free) (present_push state.tree.rows new state.opens kept.good.present) last number room;
+      good = good_opened state (added state.tree parts kind attributes moment) row kept.good (good_added state.tree parts kind attributes moment kept.good.tree free) (present_push state.tree.rows new state.opens kept.good.present) last number room fresh (due_added state new row kept.good refl above);
       opens_counted = omega (arith, kept.opens_counted, length-append state.opens (row ∷ []));
       entries_counted = omega (arith, kept.entries_counted, length-append state.tree.rows (new ∷ []));
     }
@@ -108,7 +127,7 @@ good_standing tree ask moment number row h good =
 
 pub present_standing : (tree : Content) (ask : FileAsked) (moment number : ℕ) (opens : List OpenRow) → ArePresent tree.rows opens → ArePresent (standing_tree tree ask moment number).rows opens
 present_standing tree ask moment number opens h =
-    elim (overwrites_by ask.disposition) as (λ b. ArePresent (let x : Content = cond b (overwritten_tree tree ask moment number) tree in x).rows opens) [ true ↦ present_changed (overwritten ask moment) tree.rows number opens (empties ask moment) h | false ↦ h ]
+    elim (overwrites_by ask.disposition) as (λ b. ArePresent (let x : Content = cond b (overwritten_tree tree ask moment number) tree in x).rows opens) [ true ↦ present_changed (overwritten ask moment) tree.rows number opens (keeps_of (overwritten ask moment) (empties ask moment)) h | false ↦ h ]
 
 numbered_standing : (tree : Content) (ask : FileAsked) (moment number : ℕ) (path : Path) (entry : Entry) → numbered tree.rows number ≡ Some (path, entry) → numbered (standing_tree tree ask moment number).rows number ≡ Some (path, entry_after tree ask moment (Some entry))
 numbered_standing tree ask moment number path entry h =
@@ -126,12 +145,39 @@ length-standing : (tree : Content) (ask : FileAsked) (moment number : ℕ) → l
 length-standing tree ask moment number =
     elim (overwrites_by ask.disposition) as (λ b. length (let x : Content = cond b (overwritten_tree tree ask moment number) tree in x).rows ≡ length tree.rows) [ true ↦ length-changed (overwritten ask moment) tree.rows number | false ↦ refl ]
 
-pub kept_standing : (state : StoreState) (ask : FileAsked) (moment opens_count entries_count : ℕ) (row : OpenRow) (number : ℕ) (path : Path) (entry : Entry) → IsKept state.tree state.opens state.next opens_count entries_count → numbered state.tree.rows number ≡ Some (path, entry) → has_all_opens state ≡ false → row.number ≡ state.next → row.entry ≡ number → IsKept (standing_tree state.tree ask moment number) (state.opens ++ row ∷ []) (state.next + 1) (opens_count + 1) entries_count
-kept_standing state ask moment opens_count entries_count row number path entry kept h room n e =
+-- what is marked after an entry was dealt with
+due_changed : (state : StoreState) (ask : FileAsked) (moment number : ℕ) (row : OpenRow) → GoodStore state → AreMarksDue (changed (overwritten ask moment) state.tree.rows number) (state.opens ++ row ∷ [])
+due_changed state ask moment number row good m h =
+    let marked : has_mark state.tree.rows m ≡ true = sym (mark_changed (overwritten ask moment) state.tree.rows number m (λ _. refl) (λ _. refl)) ∙ h in
+    let due = good.marked m marked in
+    (deletable_changed (overwritten ask moment) state.tree.rows number m (λ _. refl) ∙ due.0, open_pushed_too state.opens row m due.1)
+
+due_same : (state : StoreState) (row : OpenRow) → GoodStore state → AreMarksDue state.tree.rows (state.opens ++ row ∷ [])
+due_same state row good m h = (let due = good.marked m h in (due.0, open_pushed_too state.opens row m due.1))
+
+due_standing : (state : StoreState) (ask : FileAsked) (moment number : ℕ) (row : OpenRow) → GoodStore state → AreMarksDue (standing_tree state.tree ask moment number).rows (state.opens ++ row ∷ [])
+due_standing state ask moment number row good =
+    elim (overwrites_by ask.disposition) as (λ b. AreMarksDue (let x : Content = cond b (overwritten_tree state.tree ask moment number) state.tree in x).rows (state.opens ++ row ∷ [])) [ true ↦ due_changed state ask moment number row good | false ↦ due_same state row good ]
+
+alone_by : (opens : List OpenRow) (ask : FileAsked) (entry : ℕ) (access : Access) → has_conflict opens entry (use_asked ask access) ≡ false → has_conflict opens entry (access, share_asked ask) ≡ false
+alone_by opens ask entry access h =
+    elim (overwrites_by ask.disposition) as (λ b. has_conflict opens entry (let x : Access = if b then record { 0 = bit_or access.0 FILE_WRITE_DATA } else access in x, share_asked ask) ≡ false → has_conflict opens entry (access, share_asked ask) ≡ false) [
+      | true ↦ λ q. (let more : Access = record { 0 = bit_or access.0 FILE_WRITE_DATA } in less_conflict opens entry (access, share_asked ask) (more, share_asked ask) (λ other c. more_conflicts access more (share_asked ask) other (or_has access.0 FILE_WRITE_DATA) c) q)
+      | false ↦ λ q. q
+    ] h
+
+-- an open conflicts with none where what was asked for does not
+pub alone_opened : (opens : List OpenRow) (ask : FileAsked) (n : ℕ) (target : Target) (access : Access) (row : OpenRow) → access ≡ granted ask.access (is_read_only_target (Some target)) → row ≡ opened_by ask n target.number access → target_conflicts opens ask (Some target) ≡ false → has_conflict opens row.entry (use_of row) ≡ false
+alone_opened opens ask n target access row g r h =
+    let asked_for : has_conflict opens target.number (use_asked ask access) ≡ false = ap (λ (a : Access). has_conflict opens target.number (use_asked ask a)) g ∙ h in
+    ap (λ (o : OpenRow). has_conflict opens o.entry (use_of o)) r ∙ alone_by opens ask target.number access asked_for
+
+pub kept_standing : (state : StoreState) (ask : FileAsked) (moment opens_count entries_count : ℕ) (row : OpenRow) (number : ℕ) (path : Path) (entry : Entry) → IsKept state.tree state.opens state.next opens_count entries_count → numbered state.tree.rows number ≡ Some (path, entry) → has_all_opens state ≡ false → has_conflict state.opens row.entry (use_of row) ≡ false → row.number ≡ state.next → row.entry ≡ number → IsKept (standing_tree state.tree ask moment number) (state.opens ++ row ∷ []) (state.next + 1) (opens_count + 1) entries_count
+kept_standing state ask moment opens_count entries_count row number path entry kept h room alone n e =
     let tree : Content = standing_tree state.tree ask moment number in
     let stands : is_some (numbered tree.rows row.entry) ≡ true = rw (e, numbered_standing state.tree ask moment number path entry h) refl in
     record {
-      good = good_opened state tree row kept.good (good_standing state.tree ask moment number (path, entry) h kept.good.tree) (present_standing state.tree ask moment number state.opens kept.good.present) stands n room;
+      good = good_opened state tree row kept.good (good_standing state.tree ask moment number (path, entry) h kept.good.tree) (present_standing state.tree ask moment number state.opens kept.good.present) stands n room alone (due_standing state ask moment number row kept.good);
       opens_counted = omega (arith, kept.opens_counted, length-append state.opens (row ∷ []));
       entries_counted = kept.entries_counted ∙ sym (length-standing state.tree ask moment number);
     }

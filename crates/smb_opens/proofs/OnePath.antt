@@ -1,18 +1,22 @@
 -- A new tree, and what a CREATE leaves elsewhere.
-use Rattle.std.proofs.Common.{lit<, lit≤, ◌≡◌, ℕ, List, [], ◌∷◌, ◌++◌, true, false, cond, if◌then◌else◌, Option, None, Some, refl, ap, arith, ◌∙◌}
-use Rattle.smb_tree.specs.Entries.{Entry}
+use Rattle.std.proofs.Common.{lit<, lit≤, ◌≡◌, ◌==◌, ℕ, List, [], ◌∷◌, ◌++◌, true, false, cond, if◌then◌else◌, Option, None, Some, refl, ap, arith, ◌∙◌}
+use Rattle.std.proofs.lemmas.Grind.{common_steps}
+use Rattle.std.specs.Option.{option_map_or}
+use Rattle.smb_tree.specs.declared.entry.Kind.TheVariants.{Folder}
+use Rattle.smb_tree.specs.Entries.{Entry, new_entry}
 use Rattle.smb_tree.specs.Content.{Path, Row, Content, is_same_path, entry_at, changed, new_content}
-use Rattle.smb_tree.proofs.Apart.{at-changed, numbered-from_at}
+use Rattle.smb_tree.proofs.Apart.{at-changed, at-push, numbered-from_at}
 use Rattle.smb_wire.specs.Dispositions.{overwrites_by}
 use Rattle.smb_opens.specs.Asked.{FileAsked}
 use Rattle.smb_opens.specs.Effect.{overwritten, overwritten_tree, tree_after, entry_after, created}
 use Rattle.smb_opens.specs.Found.{path_asked, entry_asked}
-use Rattle.smb_opens.specs.Good.{GoodTree, GoodStore}
+use Rattle.smb_opens.specs.Good.{GoodTree, UnmarkedTree, GoodStore}
 use Rattle.smb_opens.specs.State.{StoreState}
 
-pub new_tree : (moment capacity : ℕ) → GoodTree (new_content moment capacity)
-new_tree moment capacity = record {
+good_new : (moment capacity : ℕ) → GoodTree (new_content moment capacity)
+good_new moment capacity = record {
   root = refl;
+  first = refl;
   parents = (refl, tt);
   apart = (refl, refl, tt);
   below = (lit< tt, tt);
@@ -22,6 +26,13 @@ new_tree moment capacity = record {
   small = (lit≤ tt, tt);
   bare = ((λ _. refl), tt);
   fits = omega arith;
+}
+
+-- a new tree is good, and its root is not marked
+pub new_tree : (moment capacity : ℕ) → UnmarkedTree (new_content moment capacity)
+new_tree moment capacity = record {
+  good = good_new moment capacity;
+  unmarked = λ number. elim (1 == number) as (λ b. option_map_or (λ (row : Row). row.1.mark) (cond b (Some (let root : Row = ([], new_entry 1 [] Folder 0 moment) in root)) None) false ≡ false) [ true ↦ refl | false ↦ refl ];
 }
 
 elsewhere_added : (rows : List Row) (path other : Path) (entry : Entry) → is_same_path path other ≡ false → entry_at (rows ++ (path, entry) ∷ []) other ≡ entry_at rows other
@@ -41,3 +52,11 @@ elsewhere tree ask moment other (Some entry) good e h =
 
 pub one_path : (state : StoreState) (ask : FileAsked) (moment : ℕ) (path : Path) → GoodStore state → is_same_path (path_asked ask) path ≡ false → entry_at (created state ask moment).tree.rows path ≡ entry_at state.tree.rows path
 one_path state ask moment path good h = elsewhere state.tree ask moment path (entry_asked state ask) good.tree refl h
+
+-- a CREATE that does not overwrite leaves every entry that exists
+kept_at : (tree : Content) (ask : FileAsked) (moment : ℕ) (path : Path) (entry : Entry) (stood : Option Entry) → overwrites_by ask.disposition ≡ false → entry_at tree.rows path ≡ Some entry → entry_at (tree_after tree ask moment stood).rows path ≡ Some entry
+kept_at tree ask moment path entry None o h = (let more = at-push tree.rows (path_asked ask) path (entry_after tree ask moment None) in grind (arith, common_steps, more, h))
+kept_at tree ask moment path entry (Some stood) o h = rw o h
+
+pub opened_leaves : (state : StoreState) (ask : FileAsked) (moment : ℕ) (path : Path) (entry : Entry) → overwrites_by ask.disposition ≡ false → entry_at state.tree.rows path ≡ Some entry → entry_at (created state ask moment).tree.rows path ≡ Some entry
+opened_leaves state ask moment path entry o h = kept_at state.tree ask moment path entry (entry_asked state ask) o h

@@ -20,7 +20,7 @@ use Rattle.smb_opens.specs.Effect.{overwritten, overwritten_basic, overwritten_t
 use Rattle.smb_opens.specs.Faults.{refusal_of}
 use Rattle.smb_opens.specs.Looked.{target_of}
 use Rattle.smb_opens.specs.Good.{GoodTree}
-use Rattle.smb_opens.proofs.Changes.{Empties, space_within_changed}
+use Rattle.smb_opens.proofs.Changes.{Shrinks, space_within_changed}
 
 -- the row of a target
 pub target_row : (rows : List Row) (n : ℕ) (target : Target) → option_map (λ row. target_of row.1) (numbered rows n) ≡ Some target → (row : Row) × (numbered rows n ≡ Some row) × (target_of row.1 ≡ target)
@@ -57,11 +57,11 @@ basic_free content n target e =
     let here = numbered-changed (λ entry. record entry { bytes = resized 0 entry.bytes }) content.rows n n (λ _. refl) in
     grind (arith, nat_tests, common_steps, here, t.1)
 
-changed-changed : (f g : Entry → Entry) (rows : List Row) (n : ℕ) → ((e : Entry) → (g e).number ≡ e.number) → changed f (changed g rows n) n ≡ changed (λ e. f (g e)) rows n
+pub changed-changed : (f g : Entry → Entry) (rows : List Row) (n : ℕ) → ((e : Entry) → (g e).number ≡ e.number) → changed f (changed g rows n) n ≡ changed (λ e. f (g e)) rows n
 changed-changed f g [] n k = refl
 changed-changed f g (row ∷ rows) n k = grind (arith, k row.1, changed-changed f g rows n k)
 
-changed-same : (f h : Entry → Entry) (rows : List Row) (n : ℕ) (row : Row) → numbered rows n ≡ Some row → f row.1 ≡ h row.1 → changed f rows n ≡ changed h rows n
+pub changed-same : (f h : Entry → Entry) (rows : List Row) (n : ℕ) (row : Row) → numbered rows n ≡ Some row → f row.1 ≡ h row.1 → changed f rows n ≡ changed h rows n
 changed-same f h [] n row e s = refl
 changed-same f h (x ∷ rows) n row e s =
     elim (x.1.number == n) as (λ b. (cond b (Some x) (numbered rows n)) ≡ Some row → (cond b ((x.0, f x.1) ∷ rows) (x ∷ changed f rows n)) ≡ (cond b ((x.0, h x.1) ∷ rows) (x ∷ changed h rows n))) [
@@ -83,8 +83,8 @@ overwritten_done content ask moment n target basic e k =
     overwritten_at content ask moment n t.0 basic t.1 (k ∙ ap (λ (x : Target). overwritten_basic ask moment x.basic) (sym t.2))
 
 -- an overwritten file has no bytes
-pub empties : (ask : FileAsked) (moment : ℕ) → Empties (overwritten ask moment)
-empties ask moment = record { number = λ _. refl; kind = λ _. refl; bytes = λ _. refl }
+pub empties : (ask : FileAsked) (moment : ℕ) → Shrinks (overwritten ask moment)
+empties ask moment = record { number = λ _. refl; kind = λ _. refl; bytes = λ e. omega arith }
 
 -- a refusal of the tree that is want of memory is told as that
 pub told_memory : {X : Type 0} (r : Result X StoreFault) (fault : TreeFault) → fault ≡ NoMemory → IsErrAnd r (λ e. e ≡ refusal_of fault) → IfErr r (λ e. e ≡ NoRoom)

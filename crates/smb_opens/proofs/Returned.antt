@@ -5,7 +5,6 @@ use Rattle.smb_wire.specs.declared.access.Access.{Access}
 use Rattle.smb_wire.specs.Dispositions.{overwrites_by}
 use Rattle.smb_wire.specs.Paths.{path_spelled}
 use Rattle.smb_tree.specs.Entries.{Entry}
-use Rattle.smb_tree.specs.Content.{Content, Row, numbered}
 use Rattle.smb_tree.proofs.Apart.{numbered-from_at}
 use Rattle.smb_opens.specs.declared.open_row.OpenRow.{OpenRow}
 use Rattle.smb_opens.specs.Asked.{FileAsked, kind_asked, attributes_asked}

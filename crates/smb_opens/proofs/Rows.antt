@@ -48,7 +48,7 @@ rising_without n (row ∷ rows) h =
     ]
 
 -- none of the later opens has this number
-kept_above : (n : ℕ) (rows : List OpenRow) → AllByRecursion (λ k. n < k) (open_numbers rows) → without_open n rows ≡ rows
+pub kept_above : (n : ℕ) (rows : List OpenRow) → AllByRecursion (λ k. n < k) (open_numbers rows) → without_open n rows ≡ rows
 kept_above n [] h = refl
 kept_above n (row ∷ rows) h = grind (arith, nat_tests, h.0, kept_above n rows h.1)
 

@@ -1,5 +1,5 @@
 -- What stands in a good tree: paths and numbers lead to the same entries, and the nearest folder decides.
-use Rattle.std.proofs.Common.{◌≡◌, ◌==◌, ◌<◌, ◌≤◌, ℕ, ◌+◌, ◌-◌, List, [], ◌∷◌, ◌++◌, length, take, Bool, true, false, cond, ◌&&◌, Option, None, Some, map, refl, sym, ap, subst, arith, suc, zero, ◌∙◌, length-take, length-append, zero-add, suc-add}
+use Rattle.std.proofs.Common.{◌≡◌, ◌==◌, ◌≤◌, ℕ, ◌+◌, ◌-◌, List, [], ◌∷◌, ◌++◌, length, take, Bool, true, false, cond, ◌&&◌, Option, None, Some, map, refl, sym, ap, subst, arith, suc, zero, ◌∙◌, length-take, length-append, zero-add, suc-add}
 use Rattle.std.proofs.lemmas.Grind.{common_steps}
 use Rattle.std.proofs.lemmas.List.{length-map, append-nil, take-map}
 use Rattle.std.specs.List.{AllByRecursion, list_all}
@@ -79,13 +79,23 @@ folder_target : (o : Option Entry) → is_folder_target (option_map target_of o)
 folder_target None = refl
 folder_target (Some entry) = refl
 
+-- the folder around the entry at a path, by the path's front
+pub above_told : (rows : List Row) (parts : List (List ℕ)) (depth : ℕ) → depth ≡ length parts → option_map target_of (entry_at rows (folded_path (take (depth - 1) parts))) ≡ option_map target_of (entry_at rows (parent (folded_path parts)))
+above_told rows parts depth e =
+    let same : folded_path (take (depth - 1) parts) ≡ parent (folded_path parts) = rw e (rw (length-map parts folded) (sym (take-map folded (length parts - 1) parts))) in
+    ap (λ (path : Path). option_map target_of (entry_at rows path)) same
+
+-- the root is in itself
+pub above_root : (rows : List Row) (parts : List (List ℕ)) → 0 ≡ length parts → option_map target_of (entry_at rows (folded_path parts)) ≡ option_map target_of (entry_at rows (parent (folded_path parts)))
+above_root rows [] e = refl
+above_root rows (part ∷ parts) e = absurd (omega (arith, e))
+
 -- the nearest folder decides whether a path is reached
-pub reached_told : (content : Content) → GoodTree content → (parts : List (List ℕ)) (depth : ℕ) → depth ≡ length parts → 0 < depth → is_folder_target (option_map target_of (entry_at content.rows (folded_path (take (depth - 1) parts)))) ≡ is_reached content.rows (folded_path parts)
-reached_told content good [] depth e h = absurd (omega (arith, e, h))
-reached_told content good (part ∷ parts) depth e h =
-    let above : Path = parent (folded_path (part ∷ parts)) in
-    let same : folded_path (take (depth - 1) (part ∷ parts)) ≡ above = rw e (rw (length-map (part ∷ parts) folded) (sym (take-map folded (length (part ∷ parts) - 1) (part ∷ parts)))) in
-    rw same (folder_target (entry_at content.rows above) ∙ sym (nearest (λ path. is_folder (entry_at content.rows path)) (λ p q t. above_at content good (length q) p q refl t) (folded part) (folded_path parts)))
+pub reached_told : (content : Content) → GoodTree content → (path : Path) (above : Option Target) → above ≡ option_map target_of (entry_at content.rows (parent path)) → is_folder_target above ≡ is_reached content.rows path
+reached_told content good [] above e = ap is_folder_target e ∙ folder_target (entry_at content.rows []) ∙ good.root
+reached_told content good (part ∷ parts) above e =
+    ap is_folder_target e ∙ folder_target (entry_at content.rows (parent (part ∷ parts)))
+    ∙ sym (nearest (λ path. is_folder (entry_at content.rows path)) (λ p q t. above_at content good (length q) p q refl t) part parts)
 
 -- a path that is reached and has no entry stands in a folder
 pub reached_folder : (content : Content) → GoodTree content → (path : Path) → is_reached content.rows path ≡ true → entry_at content.rows path ≡ None → is_folder (entry_at content.rows (parent path)) ≡ true
@@ -95,7 +105,7 @@ reached_folder content good (part ∷ parts) h e =
 
 -- of what a tree shows of an entry, what decides
 abbrev pub seen_target : Shown → Target
-seen_target seen = record { number = seen.number; kind = seen.kind; basic = seen.basic }
+seen_target seen = record { number = seen.number; kind = seen.kind; basic = seen.basic; mark = seen.mark }
 
 -- the entry that is shown under the number at a path is the one there
 pub target_seen : (rows : List Row) (path : Path) (number : ℕ) → AreApart rows → number_at rows path ≡ Some number → option_map seen_target (entry_shown rows number) ≡ option_map target_of (entry_at rows path)

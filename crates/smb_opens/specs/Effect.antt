@@ -1,5 +1,5 @@
 -- What a CREATE that succeeds does ([MS-SMB2] 3.3.5.9).
-use Rattle.std.specs.Prelude.{ℕ, ◌+◌, false, [], ◌∷◌, ◌++◌, if◌then◌else◌, bit_and, Option, None, Some}
+use Rattle.std.specs.Prelude.{ℕ, ◌+◌, [], ◌∷◌, ◌++◌, if◌then◌else◌, Option, None, Some}
 use Rattle.smb_wire.specs.Paths.{path_spelled}
 use Rattle.smb_tree.specs.declared.entry.Basic.{Basic}
 use Rattle.smb_tree.specs.declared.entry.Kind.TheVariants.{File}
@@ -10,9 +10,8 @@ use Rattle.smb_wire.specs.declared.create_action.CreateAction.{CreateAction}
 use Rattle.smb_wire.specs.declared.create_action.CreateAction.TheVariants.{Superseded, Opened, Created, Overwritten}
 use Rattle.smb_opens.specs.declared.view.Created.{Created as CreatedOpen}
 use Rattle.smb_wire.specs.Dispositions.{supersedes_by, overwrites_by}
-use Rattle.smb_wire.specs.Access.{FILE_SHARE_ALL}
 use Rattle.smb_wire.specs.declared.access.Access.{Access}
-use Rattle.smb_opens.specs.Asked.{FileAsked, kind_asked, attributes_asked}
+use Rattle.smb_opens.specs.Asked.{FileAsked, share_asked, asks_delete, kind_asked, attributes_asked}
 use Rattle.smb_opens.specs.Create.{access_granted}
 use Rattle.smb_opens.specs.Found.{entry_asked}
 use Rattle.smb_opens.specs.State.{StoreState}
@@ -63,7 +62,7 @@ abbrev pub action_taken : FileAsked → Option Entry → CreateAction
 action_taken ask None = Created
 action_taken ask (Some entry) = action_on ask.disposition
 
--- the open that is made of an entry ([MS-SMB2] 3.3.1.10); of the sharing asked for three bits count
+-- the open that is made of an entry ([MS-SMB2] 3.3.1.10)
 abbrev pub opened_by : FileAsked → ℕ → ℕ → Access → OpenRow
 opened_by ask number entry access = record {
   number = number;
@@ -71,8 +70,8 @@ opened_by ask number entry access = record {
   session = ask.session;
   tree = ask.tree;
   access = access;
-  share = record { 0 = bit_and ask.share FILE_SHARE_ALL };
-  delete_on_close = false;
+  share = share_asked ask;
+  delete_on_close = asks_delete ask;
 }
 
 -- the store afterwards, of an entry that stood or did not

@@ -1,19 +1,22 @@
 -- Good stores: what holds between any two requests.
-use Rattle.std.specs.Prelude.{◌≡◌, ℕ, ◌<◌, ◌≤◌, ◌^◌, true, List, [], length, is_some}
+use Rattle.std.specs.Prelude.{◌≡◌, ℕ, ◌<◌, ◌≤◌, ◌^◌, true, List, [], length, is_some, false, Some}
 use Rattle.std.specs.List.{AllByRecursion}
 use Rattle.smb_tree.specs.Entries.{is_folder, is_folder_kind}
-use Rattle.smb_tree.specs.Content.{Row, Content, entry_at, numbered, parent, used_space}
+use Rattle.smb_tree.specs.Content.{Row, Content, entry_at, number_at, numbered, parent, used_space}
 use Rattle.smb_tree.specs.Laws.{AreApart, AreBelow}
 use Rattle.smb_opens.specs.declared.open_row.OpenRow.{OpenRow}
+use Rattle.smb_opens.specs.Close.{is_deletable, has_mark}
 use Rattle.smb_opens.specs.Numbers.{AreRising}
-use Rattle.smb_opens.specs.Opens.{open_numbers, AreAllBelow}
+use Rattle.smb_opens.specs.Opens.{open_numbers, has_open, AreAllBelow}
+use Rattle.smb_opens.specs.Sharing.{AreCompatible}
 use Rattle.smb_opens.specs.State.{StoreState}
 
--- a good tree: the root is a folder, and the parent of each entry stands and is a folder; nothing stands
+-- a good tree: the root is a folder of number 1, and the parent of each entry stands and is a folder; nothing stands
 -- twice; the numbers are below the next; at most 4,096 entries besides the root, of at most 32 components;
 -- files of at most 16,777,216 bytes, folders of none; and the space used is there
 pub record GoodTree (content : Content) : Type 0 where
   pub root : is_folder (entry_at content.rows []) ≡ true
+  pub first : number_at content.rows [] ≡ Some 1
   pub parents : AllByRecursion (λ row. is_folder (entry_at content.rows (parent row.0)) ≡ true) content.rows
   pub apart : AreApart content.rows
   pub below : AreBelow content.rows content.next
@@ -28,14 +31,26 @@ pub record GoodTree (content : Content) : Type 0 where
 abbrev pub ArePresent : List Row → List OpenRow → Type 0
 ArePresent rows = AllByRecursion (λ row. is_some (numbered rows row.entry) ≡ true)
 
--- a good store: its tree is good, and its opens are at most 1,024, of entries that stand, in rising number
--- below the next
+-- each marked entry can be deleted, so is not the root, and has an open
+abbrev pub AreMarksDue : List Row → List OpenRow → Type 0
+AreMarksDue rows opens =
+    (number : ℕ) → has_mark rows number ≡ true → (is_deletable rows number ≡ true) × (has_open opens number ≡ true)
+
+-- a good tree in which no entry is marked: a store may begin with it
+pub record UnmarkedTree (content : Content) : Type 0 where
+  pub good : GoodTree content
+  pub unmarked : (number : ℕ) → has_mark content.rows number ≡ false
+
+-- a good store: its tree is good, its opens are at most 1,024, of entries that stand, in rising number below the
+-- next, no two opens of one entry conflict, and each marked entry can be deleted and has an open
 pub record GoodStore (state : StoreState) : Type 0 where
   pub tree : GoodTree state.tree
   pub present : ArePresent state.tree.rows state.opens
   pub rising : AreRising (open_numbers state.opens)
   pub below : AreAllBelow state.next state.opens
   pub few : length state.opens ≤ 1024
+  pub compatible : AreCompatible state.opens
+  pub marked : AreMarksDue state.tree.rows state.opens
 
 -- a good store, kept with the numbers of its opens and its entries
 pub record IsKept (content : Content) (rows : List OpenRow) (number opens_count entries_count : ℕ) : Type 0 where

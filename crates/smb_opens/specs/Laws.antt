@@ -1,16 +1,25 @@
 -- What follows from the definitions.
-use Rattle.std.specs.Prelude.{◌≡◌, ℕ, false, Some}
-use Rattle.smb_tree.specs.Content.{Path, entry_at, is_same_path, new_content}
+use Rattle.std.specs.Prelude.{◌≡◌, ℕ, ◌==◌, true, false, bit_and, Some, ◌≢◌, List, length}
+use Rattle.smb_wire.specs.Dispositions.{overwrites_by}
+use Rattle.smb_wire.specs.declared.access.Access.{Access}
+use Rattle.smb_wire.specs.declared.access.ShareAccess.{ShareAccess}
+use Rattle.smb_tree.specs.Entries.{Entry}
+use Rattle.smb_tree.specs.Content.{Path, Row, entry_at, numbered, is_same_path, new_content}
 use Rattle.smb_opens.specs.Asked.{FileAsked}
+use Rattle.smb_opens.specs.Bytes.{file_bytes, written_to}
+use Rattle.smb_opens.specs.Close.{closed}
 use Rattle.smb_opens.specs.Effect.{created, create_result}
 use Rattle.smb_opens.specs.Found.{path_asked}
-use Rattle.smb_opens.specs.Good.{GoodTree, GoodStore}
+use Rattle.smb_opens.specs.Good.{UnmarkedTree, GoodStore}
+use Rattle.smb_opens.specs.Opens.{open_of}
+use Rattle.smb_opens.specs.Sharing.{Use, is_conflict}
 use Rattle.smb_opens.specs.State.{StoreState}
 use Rattle.smb_opens.specs.Views.{open_view}
+use Rattle.smb_opens.specs.declared.open_row.OpenRow.{OpenRow}
 
--- a tree that has the root alone is good
+-- a tree that has the root alone is good, and has no mark
 abbrev pub ANewTreeIsGood : Type 0
-ANewTreeIsGood = (moment capacity : ℕ) → GoodTree (new_content moment capacity)
+ANewTreeIsGood = (moment capacity : ℕ) → UnmarkedTree (new_content moment capacity)
 
 -- at every path but its own, a CREATE leaves the entry as it stands
 abbrev pub ACreateIsAtOnePath : Type 0
@@ -19,8 +28,51 @@ ACreateIsAtOnePath =
     is_same_path (path_asked ask) path ≡ false →
     entry_at (created state ask moment).tree.rows path ≡ entry_at state.tree.rows path
 
+-- a CREATE that does not overwrite leaves every entry that exists as it is
+abbrev pub AnOpenLeavesEntries : Type 0
+AnOpenLeavesEntries =
+    (state : StoreState) (ask : FileAsked) (moment : ℕ) (path : Path) (entry : Entry) → overwrites_by ask.disposition ≡ false →
+    entry_at state.tree.rows path ≡ Some entry → entry_at (created state ask moment).tree.rows path ≡ Some entry
+
 -- the view that a CREATE returns is what its open shows afterwards
 abbrev pub ACreateReturnsWhatIsShown : Type 0
 ACreateReturnsWhatIsShown =
     (state : StoreState) (ask : FileAsked) (moment : ℕ) → GoodStore state →
     open_view (created state ask moment) (create_result state ask moment).number ≡ Some (create_result state ask moment).view
+
+-- a conflict is one both ways
+abbrev pub AConflictIsMutual : Type 0
+AConflictIsMutual = (one other : Use) → is_conflict one other ≡ is_conflict other one
+
+-- more access never removes a conflict
+abbrev pub MoreAccessKeepsAConflict : Type 0
+MoreAccessKeepsAConflict =
+    (access more : Access) (share : ShareAccess) (other : Use) → bit_and access.0 more.0 ≡ access.0 →
+    is_conflict (access, share) other ≡ true → is_conflict (more, share) other ≡ true
+
+-- a CLOSE leaves every entry but its own as it is
+abbrev pub ACloseIsOfOneEntry : Type 0
+ACloseIsOfOneEntry =
+    (state : StoreState) (number : ℕ) (row : OpenRow) (entry : ℕ) → GoodStore state → open_of state.opens number ≡ Some row →
+    entry == row.entry ≡ false → numbered (closed state number).tree.rows entry ≡ numbered state.tree.rows entry
+
+-- of its own entry, where this is not removed, a CLOSE leaves the path, the bytes, and the times and attributes
+abbrev pub ACloseKeepsBytesAndTimes : Type 0
+ACloseKeepsBytesAndTimes =
+    (state : StoreState) (number : ℕ) (row : OpenRow) (before after : Row) → GoodStore state → open_of state.opens number ≡ Some row →
+    numbered state.tree.rows row.entry ≡ Some before → numbered (closed state number).tree.rows row.entry ≡ Some after →
+    (after.0 ≡ before.0) × (after.1.bytes ≡ before.1.bytes) × (after.1.basic ≡ before.1.basic)
+
+-- what a WRITE put at an offset is what a READ of that range gives afterwards, through any open of the same file
+abbrev pub WhatIsWrittenIsReadAgain : Type 0
+WhatIsWrittenIsReadAgain =
+    (state : StoreState) (number other offset : ℕ) (buffer : List ℕ) (moment : ℕ) (writer reader : OpenRow) → GoodStore state →
+    open_of state.opens number ≡ Some writer → open_of state.opens other ≡ Some reader → writer.entry ≡ reader.entry →
+    file_bytes (written_to state number offset buffer moment) other offset (length buffer) ≡ buffer
+
+-- a WRITE leaves every other entry as it is, and all opens
+abbrev pub AWriteIsOfOneFile : Type 0
+AWriteIsOfOneFile =
+    (state : StoreState) (number offset : ℕ) (buffer : List ℕ) (moment : ℕ) (writer : OpenRow) → open_of state.opens number ≡ Some writer →
+    ((written_to state number offset buffer moment).opens ≡ state.opens)
+    × ((other : ℕ) → other ≢ writer.entry → numbered (written_to state number offset buffer moment).tree.rows other ≡ numbered state.tree.rows other)

@@ -5,9 +5,11 @@ pub mod State
 pub mod Access
 pub mod Asked
 pub mod Found
+pub mod Sharing
 pub mod Create
 pub mod Looked
 pub mod Views
+pub mod Bytes
 pub mod Effect
 pub mod Close
 pub mod Good

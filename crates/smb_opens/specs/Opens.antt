@@ -1,6 +1,7 @@
 -- The opens that stand, in rising number.
-use Rattle.std.specs.Prelude.{ℕ, ◌==◌, ◌&&◌, not, Bool, List, map, filter, find, Option, slice_get}
+use Rattle.std.specs.Prelude.{ℕ, ◌==◌, ◌&&◌, not, nat_lt, Bool, List, map, filter, find, Option, slice_get}
 use Rattle.smb_opens.specs.Numbers.{AreNumbersBelow}
+use Rattle.std.specs.List.{list_any}
 use Rattle.std.specs.Option.{option_map}
 use Rattle.smb_opens.specs.declared.open_row.OpenRow.{OpenRow}
 use Rattle.smb_opens.specs.declared.open_row.Owner.{Owner}
@@ -34,6 +35,14 @@ without_open number = filter (λ row. not (has_number number row))
 -- the number of an entry's open at a place among its opens
 abbrev pub open_on_entry : List OpenRow → ℕ → ℕ → Option ℕ
 open_on_entry rows entry i = number_of (slice_get (filter (is_on_entry entry) rows) i)
+
+-- the least number of an entry's opens that is above a given one
+abbrev pub open_on_entry_after : List OpenRow → ℕ → ℕ → Option ℕ
+open_on_entry_after rows entry number = number_of (find (λ row. is_on_entry entry row && nat_lt number row.number) rows)
+
+-- an entry has an open
+abbrev pub has_open : List OpenRow → ℕ → Bool
+has_open rows entry = list_any (is_on_entry entry) rows
 
 -- the least number of an owner's opens
 abbrev pub first_held_by : Owner → List OpenRow → Option ℕ

@@ -1,23 +1,14 @@
 -- What is shown of an entry that is open ([MS-FSCC] 2.4.2, 2.4.27).
-use Rattle.std.specs.Prelude.{ℕ, ◌==◌, List, length, if◌then◌else◌, bit_or, Option, None, Some}
+use Rattle.std.specs.Prelude.{ℕ, List, length, Option, None, Some}
 use Rattle.std.specs.Option.{option_map}
 use Rattle.smb_wire.specs.declared.access.Access.{Access}
-use Rattle.smb_wire.specs.Attributes.{FILE_ATTRIBUTE_DIRECTORY, FILE_ATTRIBUTE_NORMAL}
-use Rattle.smb_tree.specs.declared.entry.Kind.{Kind}
-use Rattle.smb_tree.specs.declared.entry.Kind.TheVariants.{File, Folder}
-use Rattle.smb_tree.specs.Entries.{Entry, allocation_size}
+use Rattle.smb_tree.specs.Entries.{Entry, allocation_size, shown_attributes}
 use Rattle.smb_tree.specs.Content.{Row, numbered}
 use Rattle.smb_tree.specs.Views.{Shown}
 use Rattle.smb_opens.specs.declared.open_row.OpenRow.{OpenRow}
 use Rattle.smb_opens.specs.declared.view.View.{View}
 use Rattle.smb_opens.specs.Opens.{open_of}
 use Rattle.smb_opens.specs.State.{StoreState}
-
--- the attributes that are shown: of a folder FILE_ATTRIBUTE_DIRECTORY besides the kept ones, of a file that keeps none
--- FILE_ATTRIBUTE_NORMAL ([MS-FSCC] 2.6)
-abbrev pub shown_attributes : Kind → ℕ → ℕ
-shown_attributes Folder attributes = bit_or attributes FILE_ATTRIBUTE_DIRECTORY
-shown_attributes File attributes = if attributes == 0 then FILE_ATTRIBUTE_NORMAL else attributes
 
 -- an entry through an open with this access
 abbrev pub view_of : Access → Entry → View

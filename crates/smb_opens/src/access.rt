@@ -1,7 +1,7 @@
 //! Access that is asked for and access that is granted.
 
 ghost use Rattle.std.specs.Prelude.{◌≡◌};
-ghost use Rattle.smb_opens.specs.Access.{is_bad_access, rights_for, granted, is_writing};
+ghost use Rattle.smb_opens.specs.Access.{is_bad_access, rights_for, granted, is_reading, is_writing, is_deleting};
 
 use bitflags::Flags;
 use smb_wire::Access;
@@ -17,6 +17,20 @@ pub(crate) fn is_bad_access(access: Access) -> bool
     ensures { result ≡ is_bad_access access.0 }
 {
     access.0 == 0 || access.0 & KNOWN_ACCESS.0 != access.0
+}
+
+/// Whether a file's bytes may be read with this access.
+pub(crate) fn is_reading(access: Access) -> bool
+    ensures { result ≡ is_reading access }
+{
+    access.intersects(Access::READ_DATA) || access.intersects(Access::EXECUTE)
+}
+
+/// Whether an entry may be deleted with this access.
+pub(crate) fn is_deleting(access: Access) -> bool
+    ensures { result ≡ is_deleting access }
+{
+    access.intersects(Access::DELETE)
 }
 
 /// Whether a file's bytes may be written with this access.

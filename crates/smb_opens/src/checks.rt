@@ -1,24 +1,26 @@
 //! The rows of CREATE's table ([MS-SMB2] 3.3.5.9).
 
-ghost use Rattle.std.specs.Prelude.{◌≡◌, ◌≢◌, ◌++◌, List, None, slice_index, IfOk, IfErr, OnOk};
+ghost use Rattle.std.specs.Prelude.{◌||◌, ◌&&◌, not, ◌≡◌, ◌≢◌, ◌++◌, List, None, slice_index, IfOk, IfErr, OnOk};
 ghost use Rattle.smb_wire.specs.Paths.{is_separator, path_fault, path_spelled};
 ghost use Rattle.smb_wire.specs.PathViews.{parts_of};
 ghost use Rattle.smb_wire.specs.Units.{units_of};
-ghost use Rattle.smb_opens.specs.Asked.{asked, asks_folder, asks_file, asks_unsupported};
+ghost use Rattle.smb_opens.specs.Asked.{asked, asks_folder, asks_file, asks_by_number, asks_delete, asks_read_only};
 ghost use Rattle.smb_wire.specs.Dispositions.{disposition_code};
 ghost use Rattle.smb_wire.specs.NtStatus.{STATUS_SUCCESS};
+ghost use Rattle.smb_opens.specs.Access.{is_bad_access, is_deleting, granted};
 ghost use Rattle.smb_opens.specs.Create.{StatusRow, first_status};
-ghost use Rattle.smb_opens.specs.Looked.{asked_rows, found_rows, is_file_target, is_folder_target, is_read_only_target};
+ghost use Rattle.smb_opens.specs.Looked.{asked_rows, place_rows, kind_rows, room_rows, is_file_target, is_folder_target, is_read_only_target, is_marked_target, is_root_target, target_becomes_read_only};
 
-use super::access::{granted, is_bad_access, is_writing};
+use super::access::{granted, is_bad_access, is_deleting, is_writing};
 use super::ask::CreateAsk;
-use super::found::{Found, Target};
+use super::found::{Found, ROOT, Target};
 use bitflags::Flags;
 use smb_wire::nt_status::{
-    STATUS_ACCESS_DENIED, STATUS_DISK_FULL, STATUS_FILE_IS_A_DIRECTORY, STATUS_INVALID_PARAMETER,
-    STATUS_NOT_A_DIRECTORY, STATUS_NOT_SUPPORTED, STATUS_OBJECT_NAME_COLLISION,
-    STATUS_OBJECT_NAME_INVALID, STATUS_OBJECT_NAME_NOT_FOUND, STATUS_OBJECT_PATH_NOT_FOUND,
-    STATUS_SUCCESS, STATUS_TOO_MANY_OPENED_FILES,
+    STATUS_ACCESS_DENIED, STATUS_CANNOT_DELETE, STATUS_DELETE_PENDING, STATUS_DISK_FULL,
+    STATUS_FILE_IS_A_DIRECTORY, STATUS_INVALID_PARAMETER, STATUS_NOT_A_DIRECTORY,
+    STATUS_NOT_SUPPORTED, STATUS_OBJECT_NAME_COLLISION, STATUS_OBJECT_NAME_INVALID,
+    STATUS_OBJECT_NAME_NOT_FOUND, STATUS_OBJECT_PATH_NOT_FOUND, STATUS_SUCCESS,
+    STATUS_TOO_MANY_OPENED_FILES,
 };
 use smb_wire::{CreateDisposition, CreateOptions, FileAttributes, PathView, Units, split_path};
 
@@ -38,12 +40,25 @@ fn asks_file(ask: &CreateAsk<'_>) -> bool
     ask.options.intersects(CreateOptions::NON_DIRECTORY_FILE)
 }
 
-// Whether something is asked for that is not supported.
-fn asks_unsupported(ask: &CreateAsk<'_>) -> bool
-    ensures { result ≡ asks_unsupported (asked ask.now) }
+// Whether an entry is asked for by its number.
+fn asks_by_number(ask: &CreateAsk<'_>) -> bool
+    ensures { result ≡ asks_by_number (asked ask.now) }
+{
+    ask.options.intersects(CreateOptions::OPEN_BY_FILE_ID)
+}
+
+/// Whether the entry is to be deleted when the open is closed.
+pub(crate) fn asks_delete(ask: &CreateAsk<'_>) -> bool
+    ensures { result ≡ asks_delete (asked ask.now) }
 {
     ask.options.intersects(CreateOptions::DELETE_ON_CLOSE)
-        || ask.options.intersects(CreateOptions::OPEN_BY_FILE_ID)
+}
+
+// Whether the attribute of a read-only file is given.
+fn asks_read_only(ask: &CreateAsk<'_>) -> bool
+    ensures { result ≡ asks_read_only (asked ask.now) }
+{
+    ask.attributes.intersects(FileAttributes::READONLY)
 }
 
 // Whether a name begins with a separator.
@@ -86,6 +101,50 @@ pub(crate) fn is_read_only_target(target: &Option<Target>) -> bool
     }
 }
 
+// Whether a marked entry stands there.
+fn is_marked_target(target: &Option<Target>) -> bool
+    ensures { result ≡ is_marked_target target.now }
+{
+    match target {
+        Some(target) => target.mark,
+        None => false,
+    }
+}
+
+/// Whether what stands there is marked, or the folder that it is in.
+pub(crate) fn is_pending(target: &Option<Target>, above: &Option<Target>) -> bool
+    ensures { result ≡ (is_marked_target target.now || is_marked_target above.now) }
+{
+    is_marked_target(target) || is_marked_target(above)
+}
+
+// Whether the root stands there.
+fn is_root_target(target: &Option<Target>) -> bool
+    ensures { result ≡ is_root_target target.now }
+{
+    match target {
+        Some(target) => target.number == ROOT,
+        None => false,
+    }
+}
+
+// Whether a read-only file stands there once the request is performed, and none did before.
+fn target_becomes_read_only(
+    ask: &CreateAsk<'_>,
+    disposition: CreateDisposition,
+    target: &Option<Target>,
+) -> bool
+    requires { disposition_code disposition ≡ ask.now.disposition.0 }
+    ensures { result ≡ target_becomes_read_only (asked ask.now) target.now }
+{
+    match target {
+        Some(target) => {
+            disposition.overwrites() && asks_read_only(ask) && !target.kind.is_folder()
+        }
+        None => !asks_folder(ask) && asks_read_only(ask),
+    }
+}
+
 /// The disposition and the path that a request names, or the status that answers it whatever stands.
 pub(crate) fn asked_path<'a>(ask: &CreateAsk<'a>) -> Result<(CreateDisposition, PathView<'a>), u32>
     ensures disposition { IfOk result (λ pair. disposition_code pair.0 ≡ ask.now.disposition.0) }
@@ -104,7 +163,7 @@ pub(crate) fn asked_path<'a>(ask: &CreateAsk<'a>) -> Result<(CreateDisposition, 
     if begins_with_separator(ask.name) {
         return Err(STATUS_INVALID_PARAMETER);
     }
-    if asks_unsupported(ask) {
+    if asks_by_number(ask) {
         return Err(STATUS_NOT_SUPPORTED);
     }
     match split_path(ask.name) {
@@ -113,43 +172,84 @@ pub(crate) fn asked_path<'a>(ask: &CreateAsk<'a>) -> Result<(CreateDisposition, 
     }
 }
 
-/// The status of a request by what stands.
-pub(crate) fn found_status(
+// Whether no access is asked for, or an unknown one, or DELETE is needed and not granted.
+fn is_denied(ask: &CreateAsk<'_>, target: &Option<Target>) -> bool
+    ensures { result ≡ (is_bad_access ask.now.access.0 || asks_delete (asked ask.now) && not (is_deleting (granted ask.now.access.0 (is_read_only_target target.now)))) }
+{
+    if is_bad_access(ask.access) {
+        return true;
+    }
+    asks_delete(ask) && !is_deleting(granted(ask.access, is_read_only_target(target)))
+}
+
+/// Whether an entry may be where a request names it, or the status that answers it.
+pub(crate) fn check_place(
     ask: &CreateAsk<'_>,
     disposition: CreateDisposition,
     found: &Found,
-) -> u32
+) -> Result<(), u32>
     requires { disposition_code disposition ≡ ask.now.disposition.0 }
-    ensures { result ≡ first_status (found_rows (asked ask.now) found.now) }
+    ensures lawful { OnOk result ((rows : List StatusRow) → first_status (place_rows (asked ask.now) found.now ++ rows) ≡ first_status rows) }
+    ensures err { IfErr result (λ status. (rows : List StatusRow) → first_status (place_rows (asked ask.now) found.now ++ rows) ≡ status) }
 {
     let exists = found.target.is_some();
-    let overwrites = disposition.overwrites();
-    let read_only = is_read_only_target(&found.target);
-    if is_bad_access(ask.access) {
-        return STATUS_ACCESS_DENIED;
+    if is_denied(ask, &found.target) {
+        return Err(STATUS_ACCESS_DENIED);
     }
     if !found.reached {
-        return STATUS_OBJECT_PATH_NOT_FOUND;
+        return Err(STATUS_OBJECT_PATH_NOT_FOUND);
+    }
+    if found.pending {
+        return Err(STATUS_DELETE_PENDING);
     }
     if !exists && disposition.must_exist() {
-        return STATUS_OBJECT_NAME_NOT_FOUND;
+        return Err(STATUS_OBJECT_NAME_NOT_FOUND);
     }
     if exists && disposition.must_be_new() {
-        return STATUS_OBJECT_NAME_COLLISION;
+        return Err(STATUS_OBJECT_NAME_COLLISION);
     }
-    if is_folder_target(&found.target) && (asks_file(ask) || overwrites) {
-        return STATUS_FILE_IS_A_DIRECTORY;
+    Ok(())
+}
+
+/// Whether what a request asks for suits the entry that it found, or the status that answers it.
+pub(crate) fn check_kind(
+    ask: &CreateAsk<'_>,
+    disposition: CreateDisposition,
+    target: &Option<Target>,
+) -> Result<(), u32>
+    requires { disposition_code disposition ≡ ask.now.disposition.0 }
+    ensures lawful { OnOk result ((rows : List StatusRow) → first_status (kind_rows (asked ask.now) target.now ++ rows) ≡ first_status rows) }
+    ensures err { IfErr result (λ status. (rows : List StatusRow) → first_status (kind_rows (asked ask.now) target.now ++ rows) ≡ status) }
+{
+    let overwrites = disposition.overwrites();
+    let read_only = is_read_only_target(target);
+    if is_folder_target(target) && (asks_file(ask) || overwrites) {
+        return Err(STATUS_FILE_IS_A_DIRECTORY);
     }
-    if is_file_target(&found.target) && asks_folder(ask) {
-        return STATUS_NOT_A_DIRECTORY;
+    if is_file_target(target) && asks_folder(ask) {
+        return Err(STATUS_NOT_A_DIRECTORY);
     }
     if read_only && (overwrites || is_writing(granted(ask.access, read_only))) {
-        return STATUS_ACCESS_DENIED;
+        return Err(STATUS_ACCESS_DENIED);
     }
+    if asks_delete(ask)
+        && (is_root_target(target)
+            || read_only
+            || target_becomes_read_only(ask, disposition, target))
+    {
+        return Err(STATUS_CANNOT_DELETE);
+    }
+    Ok(())
+}
+
+/// The status of a request by whether there is room.
+pub(crate) fn room_status(found: &Found) -> u32
+    ensures { result ≡ first_status (room_rows found.now) }
+{
     if found.opens_full {
         return STATUS_TOO_MANY_OPENED_FILES;
     }
-    if !exists && found.entries_full {
+    if found.target.is_none() && found.entries_full {
         return STATUS_DISK_FULL;
     }
     STATUS_SUCCESS

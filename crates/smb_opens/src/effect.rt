@@ -12,15 +12,13 @@ ghost use Rattle.smb_opens.specs.Good.{GoodTree};
 ghost use Rattle.smb_opens.specs.declared.fault.StoreFault.TheVariants.{NoMemory};
 
 use super::ask::CreateAsk;
-use super::checks::asks_folder;
+use super::checks::{asks_delete, asks_folder};
 use super::fault::StoreFault;
 use super::found::Target;
 use super::open_row::{OpenNo, OpenRow};
+use super::sharing::share_asked;
 use smb_tree::{Basic, EntryNo, Kind, Tree};
-use smb_wire::{Access, CreateAction, CreateDisposition, FileAttributes, ShareAccess};
-
-/// The bits of sharing that have a name.
-const SHARING: u32 = 0x7;
+use smb_wire::{Access, CreateAction, CreateDisposition, FileAttributes};
 
 /// What an entry becomes that is added.
 pub(crate) fn kind_asked(ask: &CreateAsk<'_>) -> Kind
@@ -71,8 +69,8 @@ pub(crate) fn opened_by(
         session: ask.session,
         tree: ask.tree,
         access,
-        share: ShareAccess(ask.share.0 & SHARING),
-        delete_on_close: false,
+        share: share_asked(ask),
+        delete_on_close: asks_delete(ask),
     }
 }
 

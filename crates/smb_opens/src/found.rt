@@ -2,12 +2,16 @@
 
 use smb_tree::{Basic, EntryNo, Kind};
 
+/// The number of the root.
+pub(crate) const ROOT: EntryNo = 1;
+
 /// Of the entry that a request names, what decides.
 #[derive(Clone, Copy, Debug)]
 pub(crate) struct Target {
     pub number: EntryNo,
     pub kind: Kind,
     pub basic: Basic,
+    pub mark: bool,
 }
 
 /// What stands where a request looks.
@@ -17,6 +21,8 @@ pub(crate) struct Found {
     pub target: Option<Target>,
     /// Each entry above it is a folder.
     pub reached: bool,
+    /// The entry, or the folder that it is in, is marked.
+    pub pending: bool,
     /// No open can be added.
     pub opens_full: bool,
     /// No entry can be added.

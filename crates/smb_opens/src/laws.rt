@@ -1,11 +1,21 @@
 //! The laws of stores.
 
-ghost use Rattle.smb_opens.specs.Laws.{ANewTreeIsGood, ACreateIsAtOnePath, ACreateReturnsWhatIsShown};
+ghost use Rattle.smb_opens.specs.Laws.{ANewTreeIsGood, ACreateIsAtOnePath, AnOpenLeavesEntries, ACreateReturnsWhatIsShown, AConflictIsMutual, MoreAccessKeepsAConflict, ACloseIsOfOneEntry, ACloseKeepsBytesAndTimes, WhatIsWrittenIsReadAgain, AWriteIsOfOneFile};
 
-/// A new tree is good, so a store can be made of it; a CREATE changes at most the entry at its own path, and returns
-/// what its open shows: the contract is the statement, and the body does nothing.
+/// A new tree is good, so a store can be made of it; a CREATE changes at most the entry at its own path, and none where it
+/// doesn't overwrite, and returns what its open shows; a conflict is one both ways, and more access never removes one; a
+/// CLOSE leaves every entry but its own, and of its own the bytes and times while it exists. What a WRITE put is read
+/// again through any open of the file, and it leaves all other entries and all opens. The contract is the statement, and
+/// the body does nothing.
 pub fn laws_of_stores()
     ensures new_tree { ANewTreeIsGood }
     ensures one_path { ACreateIsAtOnePath }
+    ensures leaves { AnOpenLeavesEntries }
     ensures shown { ACreateReturnsWhatIsShown }
+    ensures mutual_conflict { AConflictIsMutual }
+    ensures more_access { MoreAccessKeepsAConflict }
+    ensures one_entry { ACloseIsOfOneEntry }
+    ensures kept_bytes { ACloseKeepsBytesAndTimes }
+    ensures again { WhatIsWrittenIsReadAgain }
+    ensures one_file { AWriteIsOfOneFile }
 {}

@@ -1,4 +1,4 @@
-//! Opens of files and folders, and the store that joins them to a tree ([MS-SMB2] 3.3.5.9, 3.3.5.10).
+//! Opens of files and folders, and the store that joins them to a tree ([MS-SMB2] 3.3.5.9 to 3.3.5.13).
 //!
 //! An open is an entry, who opened it and what for: an [`OpenRow`]. [`Opens`] is any list of them in rising
 //! number, and [`PlainOpens`] the plain one. A [`Store`] is a tree and its opens; its state is
@@ -6,16 +6,21 @@
 //!
 //! [`Store::create`] answers a CREATE: with the status that the table of `specs/Create.antt` gives; or, where no row holds, with what
 //! `specs/Effect.antt` does: one entry at most is added or overwritten, and one open comes last. A refusal changes
-//! nothing. [`Store::close`] and [`Store::close_all`] take opens away, as `specs/Close.antt` says, and take no
-//! memory.
+//! nothing. Two opens of one entry never conflict, as `specs/Sharing.antt` says it. [`Store::close`] and
+//! [`Store::close_all`] take opens away, and with its last open an entry that is marked, as `specs/Close.antt` says;
+//! they take no memory.
 //!
-//! A CREATE looks its path up and goes through what is stored for an overwritten file; all else takes time as
-//! the tree and the opens say.
+//! [`Store::read`] and [`Store::write`] read and write the bytes of a file, as `specs/Bytes.antt` says; they are copied once.
+//!
+//! A CREATE looks its path and its folder up, goes through the opens of its entry, and through what is stored for an
+//! overwritten file; all else takes time as the tree and the opens say.
 #![tactic(auto)]
 
 mod access;
 mod ask;
+mod bytes;
 mod checks;
+mod close;
 mod effect;
 mod fault;
 mod found;
@@ -24,6 +29,7 @@ mod look;
 mod open_row;
 mod opens;
 mod plain;
+mod sharing;
 mod store;
 mod view;
 

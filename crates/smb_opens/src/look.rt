@@ -4,14 +4,14 @@ ghost use Rattle.std.specs.Prelude.{◌≡◌, ◌≤◌, length};
 ghost use Rattle.std.specs.Option.{option_map};
 ghost use Rattle.smb_wire.specs.Paths.{folded_path};
 ghost use Rattle.smb_wire.specs.PathViews.{parts_of};
-ghost use Rattle.smb_tree.specs.Content.{entry_at};
+ghost use Rattle.smb_tree.specs.Content.{entry_at, parent};
 ghost use Rattle.smb_tree.specs.Views.{shown};
 ghost use Rattle.smb_opens.specs.Found.{is_reached};
-ghost use Rattle.smb_opens.specs.Looked.{target_of};
+ghost use Rattle.smb_opens.specs.Looked.{target_of, is_folder_target};
 ghost use Rattle.smb_opens.specs.Good.{GoodTree};
-ghost use Rattle.smb_opens.specs.Views.{view_shown, view_at, shown_attributes};
+ghost use Rattle.smb_opens.specs.Views.{view_shown, view_at};
+ghost use Rattle.smb_tree.specs.Entries.{shown_attributes};
 
-use super::checks::is_folder_target;
 use super::found::Target;
 use super::view::View;
 use smb_tree::{EntryNo, EntryView, Kind, Tree};
@@ -30,20 +30,22 @@ pub(crate) fn find_target<T: Tree>(tree: &T, path: &PathView<'_>) -> Option<Targ
         number: entry.number,
         kind: entry.kind,
         basic: entry.basic,
+        mark: entry.mark,
     })
 }
 
-/// Whether each entry above a path is a folder. In a good tree the nearest decides.
-pub(crate) fn is_reached<T: Tree>(tree: &T, path: &PathView<'_>) -> bool
+/// Of the folder that the entry at a path is in, what decides, or None where none stands; the root is in itself. In a good
+/// tree each entry above the path is a folder where this one is.
+pub(crate) fn find_above<T: Tree>(tree: &T, path: &PathView<'_>) -> Option<Target>
     requires { GoodTree (T.content tree.now) }
-    ensures { result ≡ is_reached (T.content tree.now).rows (folded_path (parts_of path.now)) }
+    ensures above { result ≡ option_map target_of (entry_at (T.content tree.now).rows (parent (folded_path (parts_of path.now)))) }
+    ensures reached { is_folder_target result ≡ is_reached (T.content tree.now).rows (folded_path (parts_of path.now)) }
 {
     let depth = path.len();
     if depth == 0 {
-        return true;
+        return find_target(tree, path);
     }
-    let above = find_target(tree, &path.front(depth - 1));
-    is_folder_target(&above)
+    find_target(tree, &path.front(depth - 1))
 }
 
 // The attributes that are shown of an entry that keeps these.

@@ -1,7 +1,7 @@
 //! The opens that every layer above speaks to.
 
 ghost use Rattle.std.specs.Prelude.{◌≡◌, ◌++◌, ◌∷◌, [], OnOk, OnErr, option_copied};
-ghost use Rattle.smb_opens.specs.Opens.{open_of, without_open, open_on_entry, first_held_by, AreAllBelow};
+ghost use Rattle.smb_opens.specs.Opens.{open_of, without_open, open_on_entry, open_on_entry_after, first_held_by, AreAllBelow};
 
 use super::open_row::{OpenNo, OpenRow, Owner};
 use smb_tree::EntryNo;
@@ -31,6 +31,10 @@ pub trait Opens {
     /// The number of the `i`-th open of an entry, counted from 0 in rising number, or None.
     fn on_entry(&self, entry: EntryNo, i: usize) -> Option<OpenNo>
         ensures { result ≡ open_on_entry (content self.now) entry i };
+
+    /// The least number of an entry's opens above a number, or None.
+    fn on_entry_after(&self, entry: EntryNo, number: OpenNo) -> Option<OpenNo>
+        ensures { result ≡ open_on_entry_after (content self.now) entry number };
 
     /// The least number of an owner's opens, or None.
     fn of_owner(&self, owner: Owner) -> Option<OpenNo>

@@ -1,8 +1,9 @@
 //! The opens as a map in the order of their numbers.
 
-ghost use Rattle.std.specs.Prelude.{◌≡◌, [], option_copied, slice_get, filter};
+ghost use Rattle.std.specs.Prelude.{ℕ, ◌≡◌, ◌&&◌, nat_lt, [], option_copied, slice_get, drop, filter};
 ghost use Rattle.indexmap.specs.IndexMap.{values};
-ghost use Rattle.smb_opens.specs.Opens.{is_on_entry};
+ghost use Rattle.smb_opens.specs.Opens.{is_on_entry, open_on_entry_after};
+ghost use Rattle.smb_opens.specs.Plain.{AreKeyed};
 
 use super::open_row::{OpenNo, OpenRow, Owner};
 use super::opens::Opens;
@@ -12,7 +13,8 @@ use std::alloc::{AllocError, Global};
 use std::marker::Model;
 
 /// The opens under their numbers. A look-up by number takes constant time, one by entry or owner goes through
-/// all of them.
+/// all of them; one for the next open of an entry goes on from the place of the last, so that to go through the k opens of an
+/// entry takes one pass over all opens and k look-ups.
 #[derive(Drop)]
 pub struct PlainOpens {
     rows: IndexMap<OpenNo, OpenRow>,
@@ -59,6 +61,44 @@ fn row_on_entry(rows: &IndexMap<OpenNo, OpenRow>, entry: EntryNo, i: usize) -> O
     None
 }
 
+// A place from which on all opens are that have a number above this one.
+fn place_after(rows: &IndexMap<OpenNo, OpenRow>, number: OpenNo) -> usize
+    requires { AreKeyed rows.now.entries }
+    ensures { (entry : ℕ) → open_on_entry_after (drop result (values rows.now)) entry number ≡ open_on_entry_after (values rows.now) entry number }
+{
+    match rows.get_index_of(&number) {
+        Some(place) => place,
+        None => 0,
+    }
+}
+
+// Whether an open is one of an entry, with a number above another one.
+fn is_after(row: &OpenRow, entry: EntryNo, number: OpenNo) -> bool
+    ensures { result ≡ (is_on_entry entry row.now && nat_lt number row.now.number) }
+{
+    row.entry == entry && row.number > number
+}
+
+// The first number above another one among an entry's opens from a place on.
+fn number_from(
+    rows: &IndexMap<OpenNo, OpenRow>,
+    begin: usize,
+    entry: EntryNo,
+    number: OpenNo,
+) -> Option<OpenNo>
+    ensures { result ≡ open_on_entry_after (drop begin (values rows.now)) entry number }
+{
+    for place in begin..rows.len() {
+        let Some((_, row)) = rows.get_index(place) else {
+            unreachable!();
+        };
+        if is_after(row, entry, number) {
+            return Some(row.number);
+        }
+    }
+    None
+}
+
 impl Opens for PlainOpens {
     ghost content = { λ opens. opens };
 
@@ -78,6 +118,11 @@ impl Opens for PlainOpens {
     fn on_entry(&self, entry: EntryNo, i: usize) -> Option<OpenNo> {
         let row = row_on_entry(&self.rows, entry, i)?;
         Some(row.number)
+    }
+
+    fn on_entry_after(&self, entry: EntryNo, number: OpenNo) -> Option<OpenNo> {
+        let begin = place_after(&self.rows, number);
+        number_from(&self.rows, begin, entry, number)
     }
 
     fn of_owner(&self, owner: Owner) -> Option<OpenNo> {

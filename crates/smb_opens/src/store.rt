@@ -6,34 +6,40 @@ ghost use Rattle.smb_wire.specs.Paths.{path_spelled, folded_path};
 ghost use Rattle.smb_wire.specs.PathViews.{parts_of};
 ghost use Rattle.smb_wire.specs.Units.{units_of};
 ghost use Rattle.smb_tree.specs.Entries.{is_folder_kind};
+ghost use Rattle.smb_tree.specs.Content.{entry_at, parent};
 ghost use Rattle.smb_tree.specs.Faults.{add_fault};
 ghost use Rattle.smb_opens.specs.Access.{granted};
 ghost use Rattle.smb_wire.specs.Dispositions.{disposition_code, overwrites_by};
 ghost use Rattle.smb_wire.specs.NtStatus.{STATUS_SUCCESS};
 ghost use Rattle.smb_opens.specs.Asked.{asked};
-ghost use Rattle.smb_opens.specs.Close.{closed, closed_all};
-ghost use Rattle.smb_opens.specs.Create.{create_status};
+ghost use Rattle.smb_opens.specs.Close.{closed, closed_all, is_removed_with};
+ghost use Rattle.smb_opens.specs.Create.{create_status, first_status};
 ghost use Rattle.smb_opens.specs.Effect.{created, created_by, create_result, create_result_by};
 ghost use Rattle.smb_opens.specs.Faults.{IsRefusal};
-ghost use Rattle.smb_opens.specs.Found.{entry_asked, has_all_opens};
-ghost use Rattle.smb_opens.specs.Looked.{found_at, is_read_only_target, target_of};
-ghost use Rattle.smb_opens.specs.Good.{GoodTree, GoodStore};
+ghost use Rattle.smb_opens.specs.Found.{entry_asked, has_all_opens, has_all_entries, is_marked};
+ghost use Rattle.smb_opens.specs.Looked.{found_at, found_rows, is_read_only_target, target_conflicts, target_of};
+ghost use Rattle.smb_opens.specs.Good.{UnmarkedTree, GoodStore};
 ghost use Rattle.smb_opens.specs.Opens.{open_of, is_held_by};
 ghost use Rattle.smb_opens.specs.Views.{open_view};
 ghost use Rattle.smb_opens.specs.declared.fault.StoreFault.TheVariants.{NoMemory};
 
 use super::access::granted;
 use super::ask::CreateAsk;
-use super::checks::{asked_path, found_status, is_read_only_target};
+use super::checks::{
+    asked_path, check_kind, check_place, is_folder_target, is_pending, is_read_only_target,
+    room_status,
+};
+use super::close::{clear, mark_closed};
 use super::effect::{action_on, affect, attributes_asked, kind_asked, opened_by};
 use super::fault::StoreFault;
 use super::found::{Found, Target};
-use super::look::{count_entries, entry_view, find_target, is_reached};
+use super::look::{count_entries, entry_view, find_above, find_target};
 use super::open_row::{OpenNo, Owner};
 use super::opens::Opens;
+use super::sharing::conflicts;
 use super::view::{Closed, Created, View};
 use smb_tree::{EntryNo, Tree};
-use smb_wire::nt_status::STATUS_SUCCESS;
+use smb_wire::nt_status::{STATUS_SHARING_VIOLATION, STATUS_SUCCESS};
 use smb_wire::{CreateAction, CreateDisposition, PathView};
 use std::marker::Model;
 
@@ -45,11 +51,11 @@ const MOST_ENTRIES: usize = 4096;
 /// number, and the number of the next open.
 #[derive(Drop)]
 pub struct Store<T: Tree + Drop, O: Opens + Drop> {
-    tree: T,
-    opens: O,
-    next: OpenNo,
-    opens_count: usize,
-    entries_count: usize,
+    pub(crate) tree: T,
+    pub(crate) opens: O,
+    pub(crate) next: OpenNo,
+    pub(crate) opens_count: usize,
+    pub(crate) entries_count: usize,
 }
 
 impl<T: Tree + Drop, O: Opens + Drop> Model for Store<T, O> {
@@ -65,9 +71,9 @@ impl<T: Tree + Drop, O: Opens + Drop> Model for Store<T, O> {
 }
 
 impl<T: Tree + Drop, O: Opens + Drop> Store<T, O> {
-    /// Joins a good tree and opens, of which none stands yet.
+    /// Joins a good tree, in which no entry is marked, and opens, of which none stands yet.
     pub fn new(tree: T, opens: O) -> Self
-        requires tree { GoodTree (T.content tree) }
+        requires tree { UnmarkedTree (T.content tree) }
         requires opens { O.content opens ≡ [] }
         ensures { result ≡ record { tree = T.content tree; opens = []; next = 1 } }
     {
@@ -129,7 +135,7 @@ impl<T: Tree + Drop, O: Opens + Drop> Store<T, O> {
             Err(status) => return Err(StoreFault::Status(status)),
         };
         let found = self.find(&path);
-        let status = found_status(ask, disposition, &found);
+        let status = self.found_status(ask, disposition, &found);
         if status != STATUS_SUCCESS {
             return Err(StoreFault::Status(status));
         }
@@ -143,12 +149,51 @@ impl<T: Tree + Drop, O: Opens + Drop> Store<T, O> {
     fn find(&self, path: &PathView<'_>) -> Found
         ensures { result ≡ found_at self.now (folded_path (parts_of path.now)) }
     {
+        let target = find_target(&self.tree, path);
+        let above = find_above(&self.tree, path);
         Found {
-            target: find_target(&self.tree, path),
-            reached: is_reached(&self.tree, path),
-            opens_full: self.opens_count >= MOST_OPENS || self.next == OpenNo::MAX,
-            entries_full: self.entries_count - 1 >= MOST_ENTRIES || self.tree.next_no().is_none(),
+            target,
+            reached: is_folder_target(&above),
+            pending: is_pending(&target, &above),
+            opens_full: self.has_all_opens(),
+            entries_full: self.has_all_entries(),
         }
+    }
+
+    // Whether no open can be added.
+    fn has_all_opens(&self) -> bool
+        ensures { result ≡ has_all_opens self.now }
+    {
+        self.opens_count >= MOST_OPENS || self.next == OpenNo::MAX
+    }
+
+    // Whether no entry can be added.
+    fn has_all_entries(&self) -> bool
+        ensures { result ≡ has_all_entries self.now }
+    {
+        self.entries_count - 1 >= MOST_ENTRIES || self.tree.next_no().is_none()
+    }
+
+    // The status of a request by what was found.
+    fn found_status(
+        &self,
+        ask: &CreateAsk<'_>,
+        disposition: CreateDisposition,
+        found: &Found,
+    ) -> u32
+        requires { disposition_code disposition ≡ ask.now.disposition.0 }
+        ensures { result ≡ first_status (found_rows self.now.opens (asked ask.now) found.now) }
+    {
+        if let Err(status) = check_place(ask, disposition, found) {
+            return status;
+        }
+        if let Err(status) = check_kind(ask, disposition, &found.target) {
+            return status;
+        }
+        if conflicts(&self.opens, ask, disposition, &found.target) {
+            return STATUS_SHARING_VIOLATION;
+        }
+        room_status(found)
     }
 
     // Adds an entry at a path where none stands, and opens it.
@@ -160,6 +205,7 @@ impl<T: Tree + Drop, O: Opens + Drop> Store<T, O> {
     ) -> Result<Created, StoreFault>
         requires path { parts_of path.now ≡ path_spelled (units_of ask.now.name) }
         requires free { add_fault self.old.tree (folded_path (parts_of path.now)) ≡ None }
+        requires above { is_marked (entry_at self.old.tree.rows (parent (folded_path (parts_of path.now)))) ≡ false }
         requires room { has_all_opens self.old ≡ false }
         ensures store { OnOk result (self.new ≡ created_by self.old (asked ask.now) moment (granted ask.now.access.0 false) None) }
         ensures told { IfOk result (λ done. done ≡ create_result_by self.old (asked ask.now) moment (granted ask.now.access.0 false) None) }
@@ -204,6 +250,7 @@ impl<T: Tree + Drop, O: Opens + Drop> Store<T, O> {
         requires disposition { disposition_code disposition ≡ ask.now.disposition.0 }
         requires target { option_map target_of (entry_asked self.old (asked ask.now)) ≡ Some target }
         requires file { overwrites_by ask.now.disposition.0 ≡ true → is_folder_kind target.kind ≡ false }
+        requires alone { target_conflicts self.old.opens (asked ask.now) (Some target) ≡ false }
         requires room { has_all_opens self.old ≡ false }
         ensures store { OnOk result (self.new ≡ created_by self.old (asked ask.now) moment (granted ask.now.access.0 (is_read_only_target (Some target))) (entry_asked self.old (asked ask.now))) }
         ensures told { IfOk result (λ done. done ≡ create_result_by self.old (asked ask.now) moment (granted ask.now.access.0 (is_read_only_target (Some target))) (entry_asked self.old (asked ask.now))) }
@@ -230,25 +277,33 @@ impl<T: Tree + Drop, O: Opens + Drop> Store<T, O> {
         })
     }
 
-    /// Closes the open of a number, which stands ([MS-SMB2] 3.3.5.10), and tells what it showed before.
+    /// Closes the open of a number, which stands ([MS-SMB2] 3.3.5.10), and tells what it showed before. Its entry is
+    /// marked where the open was to delete it, and it can be deleted; a marked entry goes with its last open. It takes no
+    /// memory.
     pub fn close(&mut self, number: OpenNo) -> Closed
         requires { IsSome (open_of self.old.opens number) }
         ensures store { self.new ≡ closed self.old number }
         ensures view { Some result.view ≡ open_view self.old number }
-        ensures removed { result.removed ≡ false }
+        ensures removed { result.removed ≡ is_removed_with self.old number }
     {
-        let Some(view) = self.view(number) else {
+        let Some(row) = self.opens.get(number) else {
+            unreachable!();
+        };
+        let row = *row;
+        let Some(view) = entry_view(&self.tree, row.entry, row.access) else {
             unreachable!();
         };
         self.opens.remove(number);
         self.opens_count -= 1;
-        Closed {
-            view,
-            removed: false,
+        mark_closed(&mut self.tree, &row);
+        let removed = clear(&mut self.tree, &self.opens, row.entry);
+        if removed {
+            self.entries_count -= 1;
         }
+        Closed { view, removed }
     }
 
-    /// Closes all opens of an owner, in rising number.
+    /// Closes all opens of an owner, in rising number. It takes no memory.
     pub fn close_all(&mut self, owner: Owner)
         ensures store { self.new ≡ closed_all self.old owner }
         ensures left { self.new.opens ≡ filter (λ row. not (is_held_by owner row)) self.old.opens }

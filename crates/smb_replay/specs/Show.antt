@@ -29,30 +29,30 @@ abbrev pub stream_of : List ℕ → Option (List ℕ)
 stream_of text = result_ok (decode_of (filter (λ c. not (is_white c)) text))
 
 -- a command's name ([MS-SMB2] 2.2.1.2)
-abbrev pub name_of : Command → List ℕ
-name_of Negotiate = codes "NEGOTIATE"
-name_of SessionSetup = codes "SESSION_SETUP"
-name_of Logoff = codes "LOGOFF"
-name_of TreeConnect = codes "TREE_CONNECT"
-name_of TreeDisconnect = codes "TREE_DISCONNECT"
-name_of Create = codes "CREATE"
-name_of Close = codes "CLOSE"
-name_of Flush = codes "FLUSH"
-name_of Read = codes "READ"
-name_of Write = codes "WRITE"
-name_of Lock = codes "LOCK"
-name_of Ioctl = codes "IOCTL"
-name_of Cancel = codes "CANCEL"
-name_of Echo = codes "ECHO"
-name_of QueryDirectory = codes "QUERY_DIRECTORY"
-name_of ChangeNotify = codes "CHANGE_NOTIFY"
-name_of QueryInfo = codes "QUERY_INFO"
-name_of SetInfo = codes "SET_INFO"
-name_of OplockBreak = codes "OPLOCK_BREAK"
+abbrev pub command_name : Command → List ℕ
+command_name Negotiate = codes "NEGOTIATE"
+command_name SessionSetup = codes "SESSION_SETUP"
+command_name Logoff = codes "LOGOFF"
+command_name TreeConnect = codes "TREE_CONNECT"
+command_name TreeDisconnect = codes "TREE_DISCONNECT"
+command_name Create = codes "CREATE"
+command_name Close = codes "CLOSE"
+command_name Flush = codes "FLUSH"
+command_name Read = codes "READ"
+command_name Write = codes "WRITE"
+command_name Lock = codes "LOCK"
+command_name Ioctl = codes "IOCTL"
+command_name Cancel = codes "CANCEL"
+command_name Echo = codes "ECHO"
+command_name QueryDirectory = codes "QUERY_DIRECTORY"
+command_name ChangeNotify = codes "CHANGE_NOTIFY"
+command_name QueryInfo = codes "QUERY_INFO"
+command_name SetInfo = codes "SET_INFO"
+command_name OplockBreak = codes "OPLOCK_BREAK"
 
 -- what a code is called; past the last command by its number
 abbrev pub called : ℕ → List ℕ
-called code = option_map_or name_of (known_command code) (codes "COMMAND" ++ decimal code)
+called code = option_map_or command_name (known_command code) (codes "COMMAND" ++ decimal code)
 
 -- ` unreadable` and the line's end, or the line's end alone
 abbrev pub line_end : Bool → List ℕ

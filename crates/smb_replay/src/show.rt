@@ -6,7 +6,7 @@ ghost use Rattle.std.specs.Option.{option_map};
 ghost use Rattle.smb_head.specs.Headers.{header_of};
 ghost use Rattle.smb_body.specs.Requests.{request_of};
 ghost use Rattle.smb_engine.specs.Stream.{longest_payload};
-ghost use Rattle.smb_replay.specs.Show.{is_white, stream_of, name_of, called, line_end, request_line, request_lines, payload_lines, frame_fault_number, rest_lines, show_of, listing_text};
+ghost use Rattle.smb_replay.specs.Show.{is_white, stream_of, command_name, called, line_end, request_line, request_lines, payload_lines, frame_fault_number, rest_lines, show_of, listing_text};
 
 use crate::input::{CommandFault, read_input};
 use hex::FromHexError;
@@ -54,8 +54,8 @@ fn read_stream(alloc: Global, mut text: Vec<u8>) -> Result<Option<Vec<u8>>, Allo
 }
 
 /// A command's name.
-fn name_of(command: Command) -> &'static str
-    ensures { result.now ≡ name_of command }
+fn command_name(command: Command) -> &'static str
+    ensures { result.now ≡ command_name command }
 {
     match command {
         Command::Negotiate => "NEGOTIATE",
@@ -85,7 +85,7 @@ fn put_name(code: CommandCode, text: &mut String) -> Result<(), AllocError>
     ensures { OnOk result (string_bytes text.new ≡ string_bytes text.old ++ called code.0) }
 {
     match code.known() {
-        Some(command) => text.push_str(name_of(command)),
+        Some(command) => text.push_str(command_name(command)),
         None => {
             let number = code.0;
             write!(text, "COMMAND{number}")

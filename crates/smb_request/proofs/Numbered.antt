@@ -1,5 +1,5 @@
 -- Entries by their number.
-use Rattle.std.proofs.Common.{◌≡◌, ℕ, ◌<◌, ⊎_elim, eqb, true, false, sym, ap, ◌∙◌, is_eq, arith}
+use Rattle.std.proofs.Common.{Option, None, Some, is_some, IsSome, refl, ◌≡◌, ℕ, ◌<◌, ⊎_elim, eqb, true, false, sym, ap, ◌∙◌, is_eq, arith}
 use Rattle.std.proofs.lemmas.Bool.{cases_order, eq-eqb, ne_eqb}
 use Rattle.std.specs.declared.cmp.Ordering.TheVariants.{Less, Equal, Greater}
 use Rattle.std.specs.BTreeMap.{is_at}
@@ -24,3 +24,8 @@ at_is n k = ⊎_elim
     (λ e. at_same n k e ∙ sym (eq-eqb k n (sym e)))
     (λ o. ⊎_elim (λ p. at_below n k p ∙ sym (ne_eqb k n (λ e. omega (arith, p, e)))) (λ p. at_above n k p ∙ sym (ne_eqb k n (λ e. omega (arith, p, e)))) o)
     (cases_order n k)
+
+-- what is there is something
+pub is_there : {X : Type 0} (o : Option X) → IsSome o → is_some o ≡ true
+is_there None h = cc
+is_there (Some x) h = refl

@@ -18,8 +18,8 @@ command_row TreeDisconnect = record { needs = Tree; handling = Built }
 command_row Create = record { needs = Tree; handling = Built }
 command_row Close = record { needs = Open; handling = Built }
 command_row Flush = record { needs = Open; handling = Built }
-command_row Read = record { needs = Open; handling = NotBuilt }
-command_row Write = record { needs = Open; handling = NotBuilt }
+command_row Read = record { needs = Open; handling = Built }
+command_row Write = record { needs = Open; handling = Built }
 command_row Lock = record { needs = Open; handling = NotBuilt }
 command_row Ioctl = record { needs = Open; handling = NotBuilt }
 command_row Cancel = record { needs = Nothing; handling = Passed }

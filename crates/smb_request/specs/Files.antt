@@ -18,13 +18,13 @@ use Rattle.smb_opens.specs.Create.{create_status}
 use Rattle.smb_opens.specs.Effect.{created, create_result}
 use Rattle.smb_opens.specs.Views.{open_view}
 use Rattle.smb_opens.specs.Close.{closed}
-use Rattle.smb_request.specs.declared.status.Status.TheVariants.{Store}
-use Rattle.smb_request.specs.declared.context.Context.{Context}
+use Rattle.smb_request.specs.declared.status.Status.TheVariants.{FileClosed, Store}
+use Rattle.smb_request.specs.declared.context.Under.{Under}
 use Rattle.smb_request.specs.State.{SharedState, with_store}
 use Rattle.smb_request.specs.Response.{CommandStep, success, refused}
 
 -- what a CREATE asks of the files, under a session and a tree
-abbrev pub file_asked : Context → CreateAsked → FileAsked
+abbrev pub file_asked : Under → CreateAsked → FileAsked
 file_asked under asked = record {
   name = asked.name;
   access = asked.desired_access.0;
@@ -53,7 +53,7 @@ create_response done = record {
 }
 
 -- CREATE (3.3.5.9), by the status that the store gives it
-abbrev pub created_by_status : {S : Type 0} → ℕ → SharedState S → Context → FileAsked → ℕ → CommandStep S
+abbrev pub created_by_status : {S : Type 0} → ℕ → SharedState S → Under → FileAsked → ℕ → CommandStep S
 created_by_status moment shared under asked status =
     if status == STATUS_SUCCESS
     then record {
@@ -62,12 +62,12 @@ created_by_status moment shared under asked status =
     }
     else refused shared under (Store status)
 
-unfoldable pub file_created : {S : Type 0} → ℕ → SharedState S → Context → CreateAsked → CommandStep S
+unfoldable pub file_created : {S : Type 0} → ℕ → SharedState S → Under → CreateAsked → CommandStep S
 file_created moment shared under asked =
     created_by_status moment shared under (file_asked under asked) (create_status shared.store (file_asked under asked))
 
 -- a FileId names an open of this session and tree: both its halves are the open's number (3.3.5.10)
-abbrev pub names_open : List OpenRow → Context → FileId → Bool
+abbrev pub names_open : List OpenRow → Under → FileId → Bool
 names_open opens under id =
     id.persistent == id.volatile
     && option_map_or (is_held_by (Tree under.session_id under.tree_id)) (open_of opens id.persistent) false
@@ -98,17 +98,21 @@ close_shows_nothing = record {
 }
 
 -- what a CLOSE is answered: with POSTQUERY_ATTRIB (1) set, what the open showed before (2.2.16)
-abbrev pub close_response : CloseFlags → Option View → CloseResponse
-close_response flags None = close_shows_nothing
-close_response flags (Some view) = if bit_and flags.0 1 == 0 then close_shows_nothing else close_shows view
+abbrev pub close_response : CloseFlags → View → CloseResponse
+close_response flags view = if bit_and flags.0 1 == 0 then close_shows_nothing else close_shows view
 
--- CLOSE (3.3.5.10) of the open of a number
-unfoldable pub file_closed : {S : Type 0} → SharedState S → Context → ℕ → CloseFlags → CommandStep S
-file_closed shared under open_number flags = record {
+-- CLOSE (3.3.5.10) of the open of a number, by what it shows
+abbrev pub closed_by_view : {S : Type 0} → SharedState S → Under → ℕ → CloseFlags → Option View → CommandStep S
+closed_by_view shared under open_number flags None = refused shared under FileClosed
+closed_by_view shared under open_number flags (Some view) = record {
   shared = with_store shared (closed shared.store open_number);
-  response = success under (answers_close (close_response flags (open_view shared.store open_number)));
+  response = success under (answers_close (close_response flags view));
 }
 
+unfoldable pub file_closed : {S : Type 0} → SharedState S → Under → ℕ → CloseFlags → CommandStep S
+file_closed shared under open_number flags =
+    closed_by_view shared under open_number flags (open_view shared.store open_number)
+
 -- FLUSH (3.3.5.11) of an open: what was written is in the store already
-abbrev pub file_flushed : {S : Type 0} → SharedState S → Context → CommandStep S
+abbrev pub file_flushed : {S : Type 0} → SharedState S → Under → CommandStep S
 file_flushed shared under = record { shared = shared; response = success under answers_flush }

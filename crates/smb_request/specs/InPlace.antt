@@ -3,6 +3,7 @@ use Rattle.std.specs.Prelude.{ℕ, List, ◌++◌, Option}
 use Rattle.std.specs.Option.{option_map}
 use Rattle.smb_wire.specs.declared.dialect.Dialect.{Dialect}
 use Rattle.smb_request.specs.declared.status.Status.{Status}
+use Rattle.smb_request.specs.declared.context.ResponseIds.{ResponseIds}
 use Rattle.smb_request.specs.declared.context.Context.{Context}
 use Rattle.smb_request.specs.declared.response.Answered.{Answered}
 use Rattle.smb_request.specs.State.{SharedState}
@@ -11,15 +12,15 @@ use Rattle.smb_request.specs.Response.{ResponseState, Performed}
 -- a response, with all that stands where its body was added
 pub record AnswerHeld : Type 0 where
   pub status : Status
-  pub under : Context
+  pub ids : ResponseIds
   pub out : List ℕ
 
 abbrev pub answer_held : Answered → List ℕ → AnswerHeld
-answer_held answered out = record { status = answered.status; under = answered.under; out = out }
+answer_held answered out = record { status = answered.status; ids = answered.ids; out = out }
 
 -- a response behind a front
 abbrev pub answer_behind : List ℕ → ResponseState → AnswerHeld
-answer_behind front response = record { status = response.status; under = response.under; out = front ++ response.body }
+answer_behind front response = record { status = response.status; ids = response.ids; out = front ++ response.body }
 
 -- a request's step, with its body behind a front
 pub record PerformedHeld (S : Type 0) : Type 0 where

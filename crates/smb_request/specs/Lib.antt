@@ -3,9 +3,11 @@ pub mod Settings
 pub mod Negotiate
 pub mod State
 pub mod Owners
+pub mod Context
 pub mod Response
 pub mod Smb1
 pub mod Session
+pub mod Bytes
 pub mod Files
 pub mod Request
 pub mod Held

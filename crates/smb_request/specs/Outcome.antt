@@ -1,22 +1,26 @@
 -- For the proofs; nothing here need be believed.
 -- What a command gives, as a response.
-use Rattle.std.specs.Prelude.{ℕ, ◌≤◌, List, length, Option, None, Some}
+use Rattle.std.specs.Prelude.{◌≡◌, ℕ, ◌≤◌, List, length, Option, None, Some}
 use Rattle.smb_wire.specs.declared.dialect.Dialect.{Dialect}
-use Rattle.smb_body.specs.Replies.{ReplyValue, answers_session_setup, answers_logoff, answers_tree_connect, answers_tree_disconnect, answers_create, answers_close, answers_flush, answers_echo}
+use Rattle.smb_body.specs.Replies.{ReplyValue, answers_error, answers_session_setup, answers_logoff, answers_tree_connect, answers_tree_disconnect, answers_create, answers_close, answers_flush, answers_read, answers_write, answers_echo}
 use Rattle.smb_session.specs.Authenticator.{Meaning}
+use Rattle.smb_wire.specs.NtStatus.{STATUS_SUCCESS}
+use Rattle.smb_opens.specs.Bytes.{read_status, file_bytes}
 use Rattle.smb_wire.specs.Dialects.{revision_of}
-use Rattle.smb_request.specs.declared.context.Context.{Context}
+use Rattle.smb_request.specs.declared.context.ResponseIds.{ResponseIds}
 use Rattle.smb_request.specs.declared.outcome.SetupTold.{SetupTold}
 use Rattle.smb_request.specs.declared.outcome.Success.{Success}
-use Rattle.smb_request.specs.declared.outcome.Success.TheVariants.{Negotiate, SessionSetup, Logoff, TreeConnect, TreeDisconnect, Create, Close, Flush, Echo}
+use Rattle.smb_request.specs.declared.outcome.ReadAsk.{ReadAsk}
+use Rattle.smb_request.specs.declared.outcome.Success.TheVariants.{Negotiate, SessionSetup, Logoff, TreeConnect, TreeDisconnect, Create, Close, Flush, Write, Echo}
 use Rattle.smb_request.specs.declared.outcome.Outcome.{Outcome}
-use Rattle.smb_request.specs.declared.outcome.Outcome.TheVariants.{Succeeded, GoesOn, Failed}
+use Rattle.smb_request.specs.declared.outcome.Outcome.TheVariants.{Succeeded, Reads, GoesOn, Failed}
 use Rattle.smb_request.specs.declared.outcome.Told.{Told}
+use Rattle.smb_request.specs.declared.status.Status.{Status}
 use Rattle.smb_request.specs.declared.status.Status.TheVariants.{MoreProcessingRequired}
 use Rattle.smb_request.specs.Negotiate.{negotiate_answer}
 use Rattle.smb_request.specs.Session.{tree_response}
 use Rattle.smb_request.specs.State.{SharedState, hello_of}
-use Rattle.smb_request.specs.Response.{ResponseState, Performed, with_body, success, failure, answered}
+use Rattle.smb_request.specs.Response.{ResponseState, RequestStep, with_body, answered}
 
 -- the body of a SESSION_SETUP that goes on or is in (2.2.6)
 abbrev pub setup_value : SetupTold → ReplyValue
@@ -24,36 +28,46 @@ setup_value told = answers_session_setup (record { session_flags = told.session_
 
 -- the body of each command's success
 abbrev pub success_value : {S : Type 0} → Meaning S → SharedState S → Success → ReplyValue
-success_value m shared (Negotiate moment dialect) = negotiate_answer shared.settings.guid (hello_of m shared) moment (revision_of dialect)
-success_value m shared (SessionSetup told) = setup_value told
-success_value m shared Logoff = answers_logoff
-success_value m shared TreeConnect = answers_tree_connect tree_response
-success_value m shared TreeDisconnect = answers_tree_disconnect
-success_value m shared (Create response) = answers_create response
-success_value m shared (Close response) = answers_close response
-success_value m shared Flush = answers_flush
-success_value m shared Echo = answers_echo
+success_value authenticator shared (Negotiate moment dialect) = negotiate_answer shared.settings.guid (hello_of authenticator shared) moment (revision_of dialect)
+success_value authenticator shared (SessionSetup told) = setup_value told
+success_value authenticator shared Logoff = answers_logoff
+success_value authenticator shared TreeConnect = answers_tree_connect tree_response
+success_value authenticator shared TreeDisconnect = answers_tree_disconnect
+success_value authenticator shared (Create response) = answers_create response
+success_value authenticator shared (Close response) = answers_close response
+success_value authenticator shared Flush = answers_flush
+success_value authenticator shared (Write response) = answers_write response
+success_value authenticator shared Echo = answers_echo
 
 -- the response to a command, from what is shared after it
-abbrev pub outcome_response : {S : Type 0} → Meaning S → SharedState S → Context → Outcome → ResponseState
-outcome_response m shared under (Succeeded told) = success under (success_value m shared told)
-outcome_response m shared under (GoesOn told) = with_body under MoreProcessingRequired (setup_value told)
-outcome_response m shared under (Failed status) = failure under status
+abbrev pub outcome_response : {S : Type 0} → Meaning S → SharedState S → ResponseIds → Outcome → ResponseState
+outcome_response authenticator shared ids (Succeeded told) = with_body ids Status.Success (success_value authenticator shared told)
+outcome_response authenticator shared ids (Reads ask) =
+    with_body ids Status.Success (answers_read (file_bytes shared.store ask.open_number ask.offset ask.length))
+outcome_response authenticator shared ids (GoesOn told) = with_body ids MoreProcessingRequired (setup_value told)
+outcome_response authenticator shared ids (Failed status) = with_body ids status answers_error
 
 abbrev pub told_response : {S : Type 0} → Meaning S → SharedState S → Told → ResponseState
-told_response m shared told = outcome_response m shared told.under told.outcome
+told_response authenticator shared told = outcome_response authenticator shared told.ids told.outcome
 
 -- what a request leaves, from what is shared after it; None has no answer
-abbrev pub told_step : {S : Type 0} → Meaning S → SharedState S → Option Dialect → Context → Option Told → Performed S
-told_step m shared dialect under None = record { shared = shared; dialect = dialect; context = under; response = None }
-told_step m shared dialect under (Some told) = answered dialect (record { shared = shared; response = told_response m shared told })
+abbrev pub told_step : {S : Type 0} → Meaning S → SharedState S → Option Dialect → Option Told → RequestStep S
+told_step authenticator shared dialect None = record { shared = shared; dialect = dialect; response = None }
+told_step authenticator shared dialect (Some told) = answered dialect (record { shared = shared; response = told_response authenticator shared told })
 
 -- a token is short enough for a response
 abbrev pub IsShortSuccess : Success → Type 0
 IsShortSuccess (SessionSetup told) = length told.token.items ≤ 4096
 IsShortSuccess other = Unit {0}
 
-abbrev pub IsShort : Outcome → Type 0
-IsShort (Succeeded told) = IsShortSuccess told
-IsShort (GoesOn told) = length told.token.items ≤ 4096
-IsShort (Failed status) = Unit {0}
+-- a READ is answered by so many bytes
+pub record IsReadable {S : Type 0} (shared : SharedState S) (ask : ReadAsk) : Type 0 where
+  pub lawful : read_status shared.store ask.open_number ask.offset ask.length ask.minimum_count ≡ STATUS_SUCCESS
+  pub there : ask.there ≡ length (file_bytes shared.store ask.open_number ask.offset ask.length)
+
+-- what comes of a command can be spelled: a token is short enough for a response, and a READ is answered by bytes
+abbrev pub CanBeSpelled : {S : Type 0} → SharedState S → Outcome → Type 0
+CanBeSpelled shared (Succeeded told) = IsShortSuccess told
+CanBeSpelled shared (Reads ask) = IsReadable shared ask
+CanBeSpelled shared (GoesOn told) = length told.token.items ≤ 4096
+CanBeSpelled shared (Failed status) = Unit {0}

@@ -2,7 +2,7 @@
 use Rattle.std.specs.Prelude.{ℕ, List, Option, Some, None}
 use Rattle.std.specs.Option.{option_map_or}
 use Rattle.smb_wire.specs.Access.{FILE_ALL_ACCESS}
-use Rattle.smb_body.specs.Replies.{ReplyValue, answers_session_setup, answers_logoff, answers_tree_connect, answers_tree_disconnect}
+use Rattle.smb_body.specs.Replies.{ReplyValue, answers_error, answers_session_setup, answers_logoff, answers_tree_connect, answers_tree_disconnect}
 use Rattle.smb_body.specs.SessionSetup.{SessionSetupAsked}
 use Rattle.smb_body.specs.declared.tree_connect.TreeConnectResponse.{TreeConnectResponse}
 use Rattle.smb_session.specs.Authenticator.{Meaning}
@@ -19,9 +19,11 @@ use Rattle.smb_opens.specs.Close.{closed_all}
 use Rattle.smb_opens.specs.State.{StoreState}
 use Rattle.smb_request.specs.declared.status.Status.{Status}
 use Rattle.smb_request.specs.declared.status.Status.TheVariants.{NotSupported, NetworkNameDeleted, BadNetworkName, RequestNotAccepted, UserSessionDeleted}
-use Rattle.smb_request.specs.declared.context.Context.{Context}
+use Rattle.smb_request.specs.declared.context.Under.{Under}
+use Rattle.smb_request.specs.declared.context.ResponseIds.{ResponseIds}
+use Rattle.smb_request.specs.Context.{ids_of}
 use Rattle.smb_request.specs.State.{SharedState, with_table, with_store}
-use Rattle.smb_request.specs.Response.{ResponseState, CommandStep, with_body, success, failure, refused}
+use Rattle.smb_request.specs.Response.{ResponseState, CommandStep, with_body, success, refused}
 
 -- the status of a refusal (want of memory is none: no definition refuses for it)
 abbrev pub status_of_refusal : SessionFault → Status
@@ -37,10 +39,10 @@ status_of_refusal NoMemory = RequestNotAccepted
 abbrev pub setup_body : SetupResult → ReplyValue
 setup_body told = answers_session_setup (record { session_flags = record { 0 = told.flags }; security_buffer = told.token })
 
-abbrev pub setup_response : Context → SetupResult → SetupStatus → ResponseState
-setup_response under told Success = success under (setup_body told)
-setup_response under told MoreProcessingRequired = with_body under Status.MoreProcessingRequired (setup_body told)
-setup_response under told LogonFailure = failure under Status.LogonFailure
+abbrev pub setup_response : ResponseIds → SetupResult → SetupStatus → ResponseState
+setup_response ids told Success = with_body ids Status.Success (setup_body told)
+setup_response ids told MoreProcessingRequired = with_body ids Status.MoreProcessingRequired (setup_body told)
+setup_response ids told LogonFailure = with_body ids Status.LogonFailure answers_error
 
 -- where a session ended, its opens are closed
 abbrev pub closed_for : StoreState → Option ℕ → StoreState
@@ -48,27 +50,27 @@ closed_for store None = store
 closed_for store (Some session) = closed_all store (Session session)
 
 -- SESSION_SETUP (3.3.5.5): the previous session ends with its opens
-abbrev pub setup_answered : {S : Type 0} → SharedState S → Context → SetupStep S → CommandStep S
+abbrev pub setup_answered : {S : Type 0} → SharedState S → Under → SetupStep S → CommandStep S
 setup_answered shared under step = record {
   shared = record shared { sessions = step.state; store = closed_for shared.store step.told.ended };
-  response = setup_response (record under { session_id = step.told.session }) step.told step.told.status;
+  response = setup_response (record (ids_of under) { session_id = step.told.session }) step.told step.told.status;
 }
 
-unfoldable pub session_set_up : {S : Type 0} → Meaning S → ℕ → SharedState S → Context → SessionSetupAsked → CommandStep S
-session_set_up m number shared under asked = option_map_or
+unfoldable pub session_set_up : {S : Type 0} → Meaning S → ℕ → SharedState S → Under → SessionSetupAsked → CommandStep S
+session_set_up authenticator connection shared under asked = option_map_or
     (λ fault. refused shared under (status_of_refusal fault))
-    (setup_refusal shared.sessions.table number under.session_id asked.flags.0)
-    (setup_answered shared under (setup_step m shared.sessions number under.session_id asked.previous_session_id asked.security_buffer))
+    (setup_refusal shared.sessions.table connection under.session_id asked.flags.0)
+    (setup_answered shared under (setup_step authenticator shared.sessions connection under.session_id asked.previous_session_id asked.security_buffer))
 
 -- what is shared where the opens of an owner are closed
 abbrev pub with_closed : {S : Type 0} → SharedState S → Owner → SharedState S
 with_closed shared owner = with_store shared (closed_all shared.store owner)
 
 -- LOGOFF (3.3.5.6): the session ends with its trees, and their opens
-unfoldable pub session_logged_off : {S : Type 0} → ℕ → SharedState S → Context → CommandStep S
-session_logged_off number shared under = option_map_or
+unfoldable pub session_logged_off : {S : Type 0} → ℕ → SharedState S → Under → CommandStep S
+session_logged_off connection shared under = option_map_or
     (λ fault. refused shared under (status_of_refusal fault))
-    (logoff_refusal shared.sessions.table number under.session_id)
+    (logoff_refusal shared.sessions.table connection under.session_id)
     (record {
       shared = with_closed (with_table shared (session_ended shared.sessions.table under.session_id)) (Session under.session_id);
       response = success under answers_logoff;
@@ -84,20 +86,22 @@ tree_response = record {
 }
 
 -- TREE_CONNECT (3.3.5.7): the answer tells the new tree's number
-unfoldable pub tree_joined : {S : Type 0} → ℕ → SharedState S → Context → List ℕ → CommandStep S
-tree_joined number shared under path = option_map_or
+unfoldable pub tree_joined : {S : Type 0} → ℕ → SharedState S → Under → List ℕ → CommandStep S
+tree_joined connection shared under path = option_map_or
     (λ fault. refused shared under (status_of_refusal fault))
-    (tree_connect_refusal shared.sessions number under.session_id path)
+    (tree_connect_refusal shared.sessions connection under.session_id path)
     (record {
       shared = with_table shared (tree_connected shared.sessions.table under.session_id);
-      response = success (record under { tree_id = next_tree_of shared.sessions.table under.session_id }) (answers_tree_connect tree_response);
+      response = with_body
+          (record (ids_of under) { tree_id = next_tree_of shared.sessions.table under.session_id })
+          Status.Success (answers_tree_connect tree_response);
     })
 
 -- TREE_DISCONNECT (3.3.5.8): the tree is gone, with its opens
-unfoldable pub tree_left : {S : Type 0} → ℕ → SharedState S → Context → CommandStep S
-tree_left number shared under = option_map_or
+unfoldable pub tree_left : {S : Type 0} → ℕ → SharedState S → Under → CommandStep S
+tree_left connection shared under = option_map_or
     (λ fault. refused shared under (status_of_refusal fault))
-    (tree_disconnect_refusal shared.sessions.table number under.session_id under.tree_id)
+    (tree_disconnect_refusal shared.sessions.table connection under.session_id under.tree_id)
     (record {
       shared = with_closed
           (with_table shared (tree_disconnected shared.sessions.table under.session_id under.tree_id))

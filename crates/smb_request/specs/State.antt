@@ -27,7 +27,7 @@ new_shared settings authenticator = record {
 
 -- the token that the authenticator offers first
 abbrev pub hello_of : {S : Type 0} → Meaning S → SharedState S → List ℕ
-hello_of m shared = m.hello shared.sessions.authenticator
+hello_of authenticator shared = authenticator.hello shared.sessions.authenticator
 
 abbrev pub with_table : {S : Type 0} → SharedState S → TableState → SharedState S
 with_table shared table = record shared { sessions = record shared.sessions { table = table } }
@@ -37,7 +37,7 @@ with_store shared store = record shared { store = store }
 
 -- a connection may begin sessions from now on
 abbrev pub shared_opened : {S : Type 0} → SharedState S → ℕ → SharedState S
-shared_opened shared number = with_table shared (connected shared.sessions.table number)
+shared_opened shared connection = with_table shared (connected shared.sessions.table connection)
 
 -- sessions end one after the other: each one's opens are closed (3.3.7.1)
 abbrev pub closed_with : StoreState → List ℕ → StoreState
@@ -46,13 +46,13 @@ closed_with store (session ∷ sessions) = closed_with (closed_all store (Sessio
 
 -- a connection is gone, and its sessions with their trees (3.3.7.1)
 abbrev pub without_connection : TableState → ℕ → TableState
-without_connection table number = record table {
-  connections = without_number table.connections number;
-  sessions = filter (λ e. not (e.1.connection == number)) table.sessions;
+without_connection table connection = record table {
+  connections = without_number table.connections connection;
+  sessions = filter (λ e. not (e.1.connection == connection)) table.sessions;
 }
 
 -- and with them their opens, session by session in rising number
 unfoldable pub shared_ended : {S : Type 0} → SharedState S → ℕ → SharedState S
-shared_ended shared number = record (with_table shared (without_connection shared.sessions.table number)) {
-  store = closed_with shared.store (numbers_on shared.sessions.table.sessions number);
+shared_ended shared connection = record (with_table shared (without_connection shared.sessions.table connection)) {
+  store = closed_with shared.store (numbers_on shared.sessions.table.sessions connection);
 }

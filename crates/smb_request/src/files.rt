@@ -1,14 +1,14 @@
 //! CREATE and CLOSE ([MS-SMB2] 3.3.5.9, 3.3.5.10).
 
-ghost use Rattle.std.specs.Prelude.{◌≡◌, true, Some, IsSome, IfOk, OnErr};
+ghost use Rattle.std.specs.Prelude.{◌≡◌, true, IsSome, IfOk, OnErr};
 ghost use Rattle.smb_opens.specs.Opens.{open_of};
 ghost use Rattle.smb_body.specs.Create.{create_asked};
 ghost use Rattle.smb_opens.specs.Asked.{asked};
 ghost use Rattle.smb_request.specs.Owners.{stands};
 ghost use Rattle.smb_request.specs.Files.{file_asked, create_response, file_created, names_open, close_response, file_closed};
-ghost use Rattle.smb_request.specs.Outcome.{told_response, IsShort};
+ghost use Rattle.smb_request.specs.Outcome.{told_response, CanBeSpelled};
 
-use super::context::Context;
+use super::context::Under;
 use super::outcome::{Success, Told};
 use super::shared::Shared;
 use super::status::Status;
@@ -20,7 +20,7 @@ use smb_wire::{FileAttributes, FileId};
 use std::alloc::AllocError;
 
 /// What a CREATE asks of the files, under a session and a tree.
-fn file_asked<'a>(under: Context, request: &CreateRequest<'a>) -> CreateAsk<'a>
+fn file_asked<'a>(under: Under, request: &CreateRequest<'a>) -> CreateAsk<'a>
     ensures { asked result ≡ file_asked under (create_asked request.now) }
 {
     CreateAsk {
@@ -70,7 +70,7 @@ const CLOSE_SHOWS_NOTHING: CloseResponse = CloseResponse {
 
 /// The response to a CLOSE of an open that showed this ([MS-SMB2] 2.2.16).
 fn close_response(flags: CloseFlags, view: &View) -> CloseResponse
-    ensures { result ≡ close_response flags (Some view.now) }
+    ensures { result ≡ close_response flags view.now }
 {
     if flags.0 & CloseFlags::POSTQUERY_ATTRIB.0 == 0 {
         return CLOSE_SHOWS_NOTHING;
@@ -89,7 +89,7 @@ fn close_response(flags: CloseFlags, view: &View) -> CloseResponse
 
 impl<A: Authenticator + Drop, T: Tree + Drop, O: Opens + Drop> Shared<A, T, O> {
     /// Whether a FileId names an open of this session and tree.
-    pub(crate) fn names_open(&self, under: Context, id: FileId) -> bool
+    pub(crate) fn names_open(&self, under: Under, id: FileId) -> bool
         ensures { result ≡ names_open self.now.store.opens under id }
     {
         if id.persistent != id.volatile {
@@ -106,13 +106,13 @@ impl<A: Authenticator + Drop, T: Tree + Drop, O: Opens + Drop> Shared<A, T, O> {
     pub(crate) fn create_file(
         &mut self,
         moment: u64,
-        under: Context,
+        under: Under,
         request: &CreateRequest<'_>,
     ) -> Result<Told, AllocError>
         requires { stands self.old.sessions.table under.session_id under.tree_id ≡ true }
         ensures ok { IfOk result (λ told. record { shared = self.new; response = told_response A.meaning self.new told }
             ≡ file_created moment self.old under (create_asked request.now)) }
-        ensures short { IfOk result (λ told. IsShort told.outcome) }
+        ensures spelled { IfOk result (λ told. CanBeSpelled self.new told.outcome) }
         ensures err { OnErr result (self.new ≡ self.old) }
         ensures known { self.new.sessions.table.connections ≡ self.old.sessions.table.connections }
     {
@@ -128,10 +128,10 @@ impl<A: Authenticator + Drop, T: Tree + Drop, O: Opens + Drop> Shared<A, T, O> {
 
     /// CLOSE ([MS-SMB2] 3.3.5.10) of the open of a number.
     #[tactic(auto, unfolding(crate::specs::Files::file_closed))]
-    pub(crate) fn close_file(&mut self, under: Context, open_number: u64, flags: CloseFlags) -> Told
+    pub(crate) fn close_file(&mut self, under: Under, open_number: u64, flags: CloseFlags) -> Told
         requires { IsSome (open_of self.old.store.opens open_number) }
         ensures closed { record { shared = self.new; response = told_response A.meaning self.new result } ≡ file_closed self.old under open_number flags }
-        ensures short { IsShort result.outcome }
+        ensures spelled { CanBeSpelled self.new result.outcome }
         ensures known { self.new.sessions.table.connections ≡ self.old.sessions.table.connections }
     {
         let closed = self.store.close(open_number);

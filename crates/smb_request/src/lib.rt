@@ -11,6 +11,7 @@
 //! Want of memory is an [`Unanswered`], which tells whether the request was performed.
 #![tactic(auto)]
 
+mod bytes;
 mod command_row;
 mod config;
 mod context;
@@ -25,7 +26,7 @@ pub mod smb1;
 mod status;
 
 pub use config::Config;
-pub use context::Context;
+pub use context::{Context, ResponseIds, Under};
 pub use response::{Answered, Unanswered};
 pub use shared::Shared;
 pub use status::Status;

@@ -3,15 +3,18 @@
 ghost use Rattle.std.specs.Prelude.{◌≡◌, ◌≤◌, ◌+◌, IfOk, OnOk, OnErr, length, take};
 ghost use Rattle.smb_body.specs.Replies.{reply_value, reply_length};
 ghost use Rattle.smb_wire.specs.Dialects.{revision_of};
+ghost use Rattle.smb_request.specs.Context.{ids_of};
 ghost use Rattle.smb_request.specs.InPlace.{answer_held, answer_behind};
-ghost use Rattle.smb_request.specs.Outcome.{setup_value, success_value, told_response, IsShortSuccess, IsShort};
+ghost use Rattle.smb_request.specs.Outcome.{setup_value, success_value, told_response, IsShortSuccess, CanBeSpelled};
 
-use super::context::Context;
+use super::context::{ResponseIds, Under};
 use super::response::{Answered, put_response};
 use super::session::TREE;
 use super::shared::Shared;
 use super::status::Status;
-use smb_body::{CloseResponse, CreateResponse, Reply, SessionFlags, SessionSetupResponse};
+use smb_body::{
+    CloseResponse, CreateResponse, Reply, SessionFlags, SessionSetupResponse, WriteResponse,
+};
 use smb_opens::Opens;
 use smb_session::Authenticator;
 use smb_tree::Tree;
@@ -36,7 +39,19 @@ pub(crate) enum Success {
     Create(CreateResponse),
     Close(CloseResponse),
     Flush,
+    Write(WriteResponse),
     Echo,
+}
+
+/// A READ that is answered by bytes.
+#[derive(Clone, Copy, Debug)]
+pub(crate) struct ReadAsk {
+    pub(crate) open_number: u64,
+    pub(crate) offset: u64,
+    pub(crate) length: u32,
+    pub(crate) minimum_count: u32,
+    /// How many bytes there are.
+    pub(crate) there: u32,
 }
 
 /// What comes of a command.
@@ -44,6 +59,8 @@ pub(crate) enum Success {
 pub(crate) enum Outcome {
     /// STATUS_SUCCESS.
     Succeeded(Success),
+    /// STATUS_SUCCESS, with bytes of a file, which go from the file tree straight into the response.
+    Reads(ReadAsk),
     /// STATUS_MORE_PROCESSING_REQUIRED: the client is to send a further token.
     GoesOn(SetupTold),
     /// Another status, with the error body.
@@ -53,25 +70,27 @@ pub(crate) enum Outcome {
 /// What comes of a command, and the session and the tree that its response tells.
 #[derive(Debug, Drop)]
 pub(crate) struct Told {
-    pub(crate) under: Context,
+    pub(crate) ids: ResponseIds,
     pub(crate) outcome: Outcome,
 }
 
 impl Told {
     /// A command that succeeded.
-    pub(crate) fn succeeded(under: Context, success: Success) -> Told
-        ensures { result ≡ record { under = under; outcome = Outcome.Succeeded success } }
+    pub(crate) fn succeeded(under: Under, success: Success) -> Told
+        ensures { result ≡ record { ids = ids_of under; outcome = Outcome.Succeeded success } }
     {
+        let ids = ResponseIds::of(under);
         let outcome = Outcome::Succeeded(success);
-        Told { under, outcome }
+        Told { ids, outcome }
     }
 
     /// A command that failed, or a request that is refused.
-    pub(crate) fn failed(under: Context, status: Status) -> Told
-        ensures { result ≡ record { under = under; outcome = Outcome.Failed status } }
+    pub(crate) fn failed(under: Under, status: Status) -> Told
+        ensures { result ≡ record { ids = ids_of under; outcome = Outcome.Failed status } }
     {
+        let ids = ResponseIds::of(under);
         let outcome = Outcome::Failed(status);
-        Told { under, outcome }
+        Told { ids, outcome }
     }
 }
 
@@ -105,6 +124,7 @@ impl<A: Authenticator + Drop, T: Tree + Drop, O: Opens + Drop> Shared<A, T, O> {
             Success::Create(response) => Reply::Create(*response),
             Success::Close(response) => Reply::Close(*response),
             Success::Flush => Reply::Flush,
+            Success::Write(response) => Reply::Write(*response),
             Success::Echo => Reply::Echo,
         }
     }
@@ -112,24 +132,25 @@ impl<A: Authenticator + Drop, T: Tree + Drop, O: Opens + Drop> Shared<A, T, O> {
     /// Adds the body of what a command tells to `out`: the one place where a response is spelled. After an error `out`
     /// is as it was.
     pub(crate) fn put_told(&self, told: &Told, out: &mut Vec<u8>) -> Result<Answered, AllocError>
-        requires { IsShort told.now.outcome }
+        requires { CanBeSpelled self.now told.now.outcome }
         ensures ok { IfOk result (λ r. answer_held r out.new.items ≡ answer_behind out.old.items (told_response A.meaning self.now told.now)) }
         ensures len { OnOk result (length out.new.items ≤ length out.old.items + 65552) }
         ensures err { OnErr result (out.new.items ≡ out.old.items) }
         ensures kept { take (length out.old.items) out.new.items ≡ out.old.items }
     {
-        let under = told.under;
+        let ids = told.ids;
         match &told.outcome {
             Outcome::Succeeded(success) => {
-                put_response(Status::Success, under, &self.success_reply(success), out)
+                put_response(Status::Success, ids, &self.success_reply(success), out)
             }
+            Outcome::Reads(ask) => self.put_read(ids, ask, out),
             Outcome::GoesOn(told) => put_response(
                 Status::MoreProcessingRequired,
-                under,
+                ids,
                 &setup_reply(told),
                 out,
             ),
-            Outcome::Failed(status) => put_response(*status, under, &Reply::Error, out),
+            Outcome::Failed(status) => put_response(*status, ids, &Reply::Error, out),
         }
     }
 }

@@ -11,11 +11,11 @@ ghost use Rattle.smb_request.specs.Response.{answered};
 ghost use Rattle.smb_request.specs.Request.{acts_under, missing_refusal, negotiated, acted, by_body, by_command, performed};
 ghost use Rattle.smb_request.specs.Held.{is_performed};
 ghost use Rattle.smb_request.specs.InPlace.{answer_held, performed_behind};
-ghost use Rattle.smb_request.specs.Outcome.{told_response, told_step, IsShort};
+ghost use Rattle.smb_request.specs.Outcome.{told_response, told_step, CanBeSpelled};
 ghost use Rattle.smb_request.specs.Commands.{needs_session, needs_tree};
 
 use super::command_row::{Handling, Needs, needs_of, row_of};
-use super::context::Context;
+use super::context::{Context, Under};
 use super::outcome::{Success, Told};
 use super::response::{Answered, Unanswered};
 use super::shared::Shared;
@@ -30,13 +30,13 @@ use smb_wire::{Command, Dialect};
 use std::alloc::AllocError;
 
 /// The session and the tree that a request acts under: its own, or for a related one the context's.
-fn acts_under(context: Context, header: &Header) -> Context
+fn acts_under(context: Context, header: &Header) -> Under
     ensures { (request : List ℕ) → header.now ≡ header_of request → result ≡ acts_under context request }
 {
     if header.flags.contains(HeaderFlags::RELATED) {
-        context
+        context.under
     } else {
-        Context {
+        Under {
             session_id: header.session_id,
             tree_id: header.tree_id,
         }
@@ -65,17 +65,22 @@ fn needs_tree(needs: Needs) -> bool
 
 impl<A: Authenticator + Drop, T: Tree + Drop, O: Opens + Drop> Shared<A, T, O> {
     /// Why a request is refused whose session, tree or open does not stand.
-    fn standing_refusal(&self, number: u64, under: Context, request: &Request<'_>) -> Option<Status>
-        ensures { result ≡ missing_refusal self.now number under (request_value request.now) }
+    fn standing_refusal(
+        &self,
+        connection: u64,
+        under: Under,
+        request: &Request<'_>,
+    ) -> Option<Status>
+        ensures { result ≡ missing_refusal self.now connection under (request_value request.now) }
     {
         let needs = needs_of(request);
-        if needs_session(needs) && !self.sessions.knows(number, under.session_id, None) {
+        if needs_session(needs) && !self.sessions.knows(connection, under.session_id, None) {
             return Some(Status::UserSessionDeleted);
         }
         if needs_tree(needs)
             && !self
                 .sessions
-                .knows(number, under.session_id, Some(under.tree_id))
+                .knows(connection, under.session_id, Some(under.tree_id))
         {
             return Some(Status::NetworkNameDeleted);
         }
@@ -86,10 +91,10 @@ impl<A: Authenticator + Drop, T: Tree + Drop, O: Opens + Drop> Shared<A, T, O> {
     }
 
     /// The greatest dialect of the share that a list has.
-    fn best_dialect(&self, number: u64, dialects: Dialects<'_>) -> Option<Dialect>
+    fn best_dialect(&self, connection: u64, dialects: Dialects<'_>) -> Option<Dialect>
         ensures { result ≡ best_of (dialects_of dialects.entry) }
     {
-        match self.sessions.negotiate(number, dialects.bytes()) {
+        match self.sessions.negotiate(connection, dialects.bytes()) {
             Ok(best) => Some(best),
             Err(_) => None,
         }
@@ -99,17 +104,17 @@ impl<A: Authenticator + Drop, T: Tree + Drop, O: Opens + Drop> Shared<A, T, O> {
     #[tactic(auto, unfolding(crate::specs::Request::negotiated))]
     fn negotiated(
         &self,
-        number: u64,
+        connection: u64,
         moment: u64,
         dialect: &mut Option<Dialect>,
-        under: Context,
+        under: Under,
         dialects: Dialects<'_>,
     ) -> Told
         ensures told { answered dialect.new (record { shared = self.now; response = told_response A.meaning self.now result })
             ≡ negotiated A.meaning moment self.now dialect.old under (dialects_of dialects.entry) }
-        ensures short { IsShort result.outcome }
+        ensures spelled { CanBeSpelled self.now result.outcome }
     {
-        let Some(best) = self.best_dialect(number, dialects) else {
+        let Some(best) = self.best_dialect(connection, dialects) else {
             return Told::failed(under, Status::NotSupported);
         };
         *dialect = Some(best);
@@ -124,34 +129,42 @@ impl<A: Authenticator + Drop, T: Tree + Drop, O: Opens + Drop> Shared<A, T, O> {
     /// all is as it was.
     fn act(
         &mut self,
-        number: u64,
+        connection: u64,
         moment: u64,
         dialect: &mut Option<Dialect>,
-        under: Context,
+        under: Under,
         request: &Request<'_>,
     ) -> Result<Told, AllocError>
-        requires { missing_refusal self.old number under (request_value request.now) ≡ None }
+        requires { missing_refusal self.old connection under (request_value request.now) ≡ None }
         ensures ok { IfOk result (λ told. answered dialect.new (record { shared = self.new; response = told_response A.meaning self.new told })
-            ≡ acted A.meaning number moment self.old dialect.old under (request_value request.now)) }
-        ensures short { IfOk result (λ told. IsShort told.outcome) }
+            ≡ acted A.meaning connection moment self.old dialect.old under (request_value request.now)) }
+        ensures spelled { IfOk result (λ told. CanBeSpelled self.new told.outcome) }
         ensures err { OnErr result (self.new ≡ self.old) }
         ensures known { self.new.sessions.table.connections ≡ self.old.sessions.table.connections }
     {
         match request {
             Request::Negotiate(asked) => {
-                Ok(self.negotiated(number, moment, dialect, under, asked.dialects))
+                Ok(self.negotiated(connection, moment, dialect, under, asked.dialects))
             }
-            Request::SessionSetup(asked) => self.set_up(number, under, asked),
-            Request::Logoff(_) => self.log_off(number, under),
-            Request::TreeConnect(asked) => self.connect_tree(number, under, asked.path),
-            Request::TreeDisconnect(_) => self.disconnect_tree(number, under),
+            Request::SessionSetup(asked) => self.set_up(connection, under, asked),
+            Request::Logoff(_) => self.log_off(connection, under),
+            Request::TreeConnect(asked) => self.connect_tree(connection, under, asked.path),
+            Request::TreeDisconnect(_) => self.disconnect_tree(connection, under),
             Request::Create(asked) => self.create_file(moment, under, asked),
             Request::Close(asked) => {
                 Ok(self.close_file(under, asked.file_id.persistent, asked.flags))
             }
             Request::Flush(_) => Ok(Told::succeeded(under, Success::Flush)),
+            Request::Read(asked) => Ok(self.read_file(under, asked.file_id.persistent, asked)),
+            Request::Write(asked) => {
+                self.write_file(moment, under, asked.file_id.persistent, asked)
+            }
             Request::Echo(_) => Ok(Told::succeeded(under, Success::Echo)),
-            _ => Ok(Told::failed(under, Status::NotSupported)),
+            Request::Lock(_)
+            | Request::Cancel(_)
+            | Request::QueryDirectory(_)
+            | Request::QueryInfo(_)
+            | Request::SetInfo(_) => Ok(Told::failed(under, Status::NotSupported)),
         }
     }
 
@@ -159,16 +172,16 @@ impl<A: Authenticator + Drop, T: Tree + Drop, O: Opens + Drop> Shared<A, T, O> {
     #[tactic(auto, unfolding(crate::specs::Request::by_body))]
     fn by_body(
         &mut self,
-        number: u64,
+        connection: u64,
         moment: u64,
         dialect: &mut Option<Dialect>,
-        under: Context,
+        under: Under,
         command: Command,
         request: &[u8],
     ) -> Result<Told, AllocError>
         ensures ok { IfOk result (λ told. answered dialect.new (record { shared = self.new; response = told_response A.meaning self.new told })
-            ≡ by_body A.meaning number moment self.old dialect.old under (request_of (code_of command) request.now)) }
-        ensures short { IfOk result (λ told. IsShort told.outcome) }
+            ≡ by_body A.meaning connection moment self.old dialect.old under (request_of (code_of command) request.now)) }
+        ensures spelled { IfOk result (λ told. CanBeSpelled self.new told.outcome) }
         ensures err { OnErr result (self.new ≡ self.old) }
         ensures known { self.new.sessions.table.connections ≡ self.old.sessions.table.connections }
     {
@@ -177,9 +190,9 @@ impl<A: Authenticator + Drop, T: Tree + Drop, O: Opens + Drop> Shared<A, T, O> {
             Ok(request) => request,
             Err(_) => return Ok(Told::failed(under, Status::InvalidParameter)),
         };
-        match self.standing_refusal(number, under, &request) {
+        match self.standing_refusal(connection, under, &request) {
             Some(status) => Ok(Told::failed(under, status)),
-            None => self.act(number, moment, dialect, under, &request),
+            None => self.act(connection, moment, dialect, under, &request),
         }
     }
 
@@ -187,16 +200,16 @@ impl<A: Authenticator + Drop, T: Tree + Drop, O: Opens + Drop> Shared<A, T, O> {
     /// memory, all is as it was.
     fn by_command(
         &mut self,
-        number: u64,
+        connection: u64,
         moment: u64,
         dialect: &mut Option<Dialect>,
-        under: Context,
+        under: Under,
         command: Option<Command>,
         request: &[u8],
     ) -> Result<Option<Told>, AllocError>
-        ensures ok { IfOk result (λ told. told_step A.meaning self.new dialect.new under told
-            ≡ by_command A.meaning number moment self.old dialect.old under request.now command) }
-        ensures short { IfOk result (λ told. IfSome told (λ t. IsShort t.outcome)) }
+        ensures ok { IfOk result (λ told. told_step A.meaning self.new dialect.new told
+            ≡ by_command A.meaning connection moment self.old dialect.old under request.now command) }
+        ensures spelled { IfOk result (λ told. IfSome told (λ t. CanBeSpelled self.new t.outcome)) }
         ensures err { OnErr result (self.new ≡ self.old) }
         ensures known { self.new.sessions.table.connections ≡ self.old.sessions.table.connections }
     {
@@ -206,7 +219,7 @@ impl<A: Authenticator + Drop, T: Tree + Drop, O: Opens + Drop> Shared<A, T, O> {
         };
         match row_of(command).handling {
             Handling::Built => {
-                let told = self.by_body(number, moment, dialect, under, command, request)?;
+                let told = self.by_body(connection, moment, dialect, under, command, request)?;
                 Ok(Some(told))
             }
             Handling::NotBuilt => Ok(Some(Told::failed(under, Status::NotSupported))),
@@ -221,7 +234,7 @@ impl<A: Authenticator + Drop, T: Tree + Drop, O: Opens + Drop> Shared<A, T, O> {
     #[tactic(auto, unfolding(crate::specs::Request::performed))]
     pub fn perform(
         &mut self,
-        number: u64,
+        connection: u64,
         moment: u64,
         dialect: &mut Option<Dialect>,
         context: &mut Context,
@@ -231,25 +244,23 @@ impl<A: Authenticator + Drop, T: Tree + Drop, O: Opens + Drop> Shared<A, T, O> {
     ) -> Result<Option<Answered>, Unanswered>
         requires { header.now ≡ header_of request.now }
         ensures ok { IfOk result (λ r. record { shared = self.new; dialect = dialect.new; context = context.new; response = option_map (λ a. answer_held a out.new.items) r }
-            ≡ performed_behind out.old.items (performed A.meaning number moment self.old dialect.old context.old request.now)) }
+            ≡ performed_behind out.old.items (performed A.meaning connection moment self.old dialect.old context.old request.now)) }
         ensures none { IfOk result (λ r. IfNone r (out.new.items ≡ out.old.items)) }
         ensures len { OnOk result (length out.new.items ≤ length out.old.items + 65552) }
         ensures err { IfErr result (λ unanswered. self.new
-            ≡ (if is_performed unanswered then (performed A.meaning number moment self.old dialect.old context.old request.now).shared else self.old)) }
+            ≡ (if is_performed unanswered then (performed A.meaning connection moment self.old dialect.old context.old request.now).shared else self.old)) }
         ensures kept { take (length out.old.items) out.new.items ≡ out.old.items }
         ensures known { self.new.sessions.table.connections ≡ self.old.sessions.table.connections }
     {
         let under = acts_under(*context, header);
         let command = header.command.known();
-        let told = match self.by_command(number, moment, dialect, under, command, request) {
-            Ok(Some(told)) => told,
-            Ok(None) => {
-                *context = under;
-                return Ok(None);
-            }
-            Err(_) => return Err(Unanswered::NotPerformed),
+        let Ok(told) = self.by_command(connection, moment, dialect, under, command, request) else {
+            return Err(Unanswered::NotPerformed);
         };
-        *context = told.under;
+        *context = Context::after(under, told.as_ref().map(|told| told.ids));
+        let Some(told) = told else {
+            return Ok(None);
+        };
         match self.put_told(&told, out) {
             Ok(answered) => Ok(Some(answered)),
             Err(_) => Err(Unanswered::Performed),

@@ -5,7 +5,7 @@ ghost use Rattle.smb_body.specs.Replies.{reply_value, reply_length};
 ghost use Rattle.smb_request.specs.Response.{with_body};
 ghost use Rattle.smb_request.specs.InPlace.{answer_held, answer_behind};
 
-use super::context::Context;
+use super::context::ResponseIds;
 use super::status::Status;
 use smb_body::{Reply, write_reply};
 use std::alloc::AllocError;
@@ -15,7 +15,7 @@ use std::alloc::AllocError;
 #[derive(Clone, Copy, Debug, PartialEq, Eq)]
 pub struct Answered {
     pub status: Status,
-    pub under: Context,
+    pub ids: ResponseIds,
 }
 
 /// Where memory ran out in a request.
@@ -30,18 +30,18 @@ pub enum Unanswered {
 /// Adds the body of this reply to `out`, for a response of this status. After an error `out` is as it was.
 pub(crate) fn put_response(
     status: Status,
-    under: Context,
+    ids: ResponseIds,
     reply: &Reply<'_>,
     out: &mut Vec<u8>,
 ) -> Result<Answered, AllocError>
     requires { reply_length (reply_value reply.now) ≤ 65552 }
-    ensures ok { IfOk result (λ r. answer_held r out.new.items ≡ answer_behind out.old.items (with_body under status (reply_value reply.now))) }
+    ensures ok { IfOk result (λ r. answer_held r out.new.items ≡ answer_behind out.old.items (with_body ids status (reply_value reply.now))) }
     ensures len { OnOk result (length out.new.items ≤ length out.old.items + 65552) }
     ensures err { OnErr result (out.new.items ≡ out.old.items) }
     ensures kept { take (length out.old.items) out.new.items ≡ out.old.items }
 {
     match write_reply(reply, out) {
-        Ok(()) => Ok(Answered { status, under }),
+        Ok(()) => Ok(Answered { status, ids }),
         Err(_) => Err(AllocError),
     }
 }

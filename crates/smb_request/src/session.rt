@@ -6,10 +6,11 @@ ghost use Rattle.std.specs.Prelude.{◌≡◌, ◌≢◌, ◌≤◌, IfOk, OnErr
 ghost use Rattle.smb_wire.specs.Units.{units_of};
 ghost use Rattle.smb_body.specs.SessionSetup.{session_setup_asked};
 ghost use Rattle.smb_request.specs.Session.{closed_for, status_of_refusal, session_set_up, session_logged_off, tree_response, tree_joined, tree_left};
+ghost use Rattle.smb_request.specs.Context.{ids_of};
 ghost use Rattle.smb_request.specs.Held.{opens_left, setup_outcome};
-ghost use Rattle.smb_request.specs.Outcome.{told_response, IsShort};
+ghost use Rattle.smb_request.specs.Outcome.{told_response, CanBeSpelled};
 
-use super::context::Context;
+use super::context::{ResponseIds, Under};
 use super::outcome::{Outcome, SetupTold, Success, Told};
 use super::shared::Shared;
 use super::status::Status;
@@ -31,8 +32,8 @@ pub(crate) const TREE: TreeConnectResponse = TreeConnectResponse {
 };
 
 /// What comes of a request that the sessions refuse. Want of memory is no refusal: nothing was performed.
-fn refused_by(under: Context, fault: SessionFault) -> Result<Told, AllocError>
-    ensures ok { IfOk result (λ told. told ≡ record { under = under; outcome = Outcome.Failed (status_of_refusal fault) }) }
+fn refused_by(under: Under, fault: SessionFault) -> Result<Told, AllocError>
+    ensures ok { IfOk result (λ told. told ≡ record { ids = ids_of under; outcome = Outcome.Failed (status_of_refusal fault) }) }
     ensures memory { IfOk result (λ told. fault ≢ SessionFault.NoMemory) }
     ensures err { OnErr result (fault ≡ SessionFault.NoMemory) }
 {
@@ -77,13 +78,13 @@ impl<A: Authenticator + Drop, T: Tree + Drop, O: Opens + Drop> Shared<A, T, O> {
     #[tactic(auto, unfolding(crate::specs::Session::session_set_up))]
     pub(crate) fn set_up(
         &mut self,
-        number: u64,
-        under: Context,
+        connection: u64,
+        under: Under,
         asked: &SessionSetupRequest<'_>,
     ) -> Result<Told, AllocError>
         ensures ok { IfOk result (λ told. record { shared = self.new; response = told_response A.meaning self.new told }
-            ≡ session_set_up A.meaning number self.old under (session_setup_asked asked.now)) }
-        ensures short { IfOk result (λ told. IsShort told.outcome) }
+            ≡ session_set_up A.meaning connection self.old under (session_setup_asked asked.now)) }
+        ensures spelled { IfOk result (λ told. CanBeSpelled self.new told.outcome) }
         ensures err { OnErr result (self.new ≡ self.old) }
         ensures known { self.new.sessions.table.connections ≡ self.old.sessions.table.connections }
     {
@@ -93,29 +94,29 @@ impl<A: Authenticator + Drop, T: Tree + Drop, O: Opens + Drop> Shared<A, T, O> {
             previous_session: asked.previous_session_id,
             token: asked.security_buffer,
         };
-        let done = match self.sessions.setup(number, under.session_id, &ask) {
+        let done = match self.sessions.setup(connection, under.session_id, &ask) {
             Ok(done) => done,
             Err(fault) => return refused_by(under, fault),
         };
         close_ended(&mut self.store, done.ended);
-        let under = Context {
+        let ids = ResponseIds {
             session_id: done.session,
-            ..under
+            ..ResponseIds::of(under)
         };
         let outcome = setup_outcome(done);
-        Ok(Told { under, outcome })
+        Ok(Told { ids, outcome })
     }
 
     /// LOGOFF ([MS-SMB2] 3.3.5.6).
     #[tactic(auto, unfolding(crate::specs::Session::session_logged_off))]
-    pub(crate) fn log_off(&mut self, number: u64, under: Context) -> Result<Told, AllocError>
+    pub(crate) fn log_off(&mut self, connection: u64, under: Under) -> Result<Told, AllocError>
         ensures ok { IfOk result (λ told. record { shared = self.new; response = told_response A.meaning self.new told }
-            ≡ session_logged_off number self.old under) }
-        ensures short { IfOk result (λ told. IsShort told.outcome) }
+            ≡ session_logged_off connection self.old under) }
+        ensures spelled { IfOk result (λ told. CanBeSpelled self.new told.outcome) }
         ensures err { OnErr result (self.new ≡ self.old) }
         ensures known { self.new.sessions.table.connections ≡ self.old.sessions.table.connections }
     {
-        match self.sessions.logoff(number, under.session_id) {
+        match self.sessions.logoff(connection, under.session_id) {
             Ok(()) => {
                 self.store.close_all(Owner::Session(under.session_id));
                 Ok(Told::succeeded(under, Success::Logoff))
@@ -128,40 +129,47 @@ impl<A: Authenticator + Drop, T: Tree + Drop, O: Opens + Drop> Shared<A, T, O> {
     #[tactic(auto, unfolding(crate::specs::Session::tree_joined))]
     pub(crate) fn connect_tree(
         &mut self,
-        number: u64,
-        under: Context,
+        connection: u64,
+        under: Under,
         path: Units<'_>,
     ) -> Result<Told, AllocError>
         ensures ok { IfOk result (λ told. record { shared = self.new; response = told_response A.meaning self.new told }
-            ≡ tree_joined number self.old under (units_of path.entry)) }
-        ensures short { IfOk result (λ told. IsShort told.outcome) }
+            ≡ tree_joined connection self.old under (units_of path.entry)) }
+        ensures spelled { IfOk result (λ told. CanBeSpelled self.new told.outcome) }
         ensures err { OnErr result (self.new ≡ self.old) }
         ensures known { self.new.sessions.table.connections ≡ self.old.sessions.table.connections }
     {
-        let tree_id = match self.sessions.tree_connect(number, under.session_id, path) {
+        let tree_id = match self
+            .sessions
+            .tree_connect(connection, under.session_id, path)
+        {
             Ok(tree_id) => tree_id,
             Err(fault) => return refused_by(under, fault),
         };
-        let under = Context { tree_id, ..under };
-        Ok(Told::succeeded(under, Success::TreeConnect))
+        let ids = ResponseIds {
+            tree_id,
+            ..ResponseIds::of(under)
+        };
+        let outcome = Outcome::Succeeded(Success::TreeConnect);
+        Ok(Told { ids, outcome })
     }
 
     /// TREE_DISCONNECT ([MS-SMB2] 3.3.5.8).
     #[tactic(auto, unfolding(crate::specs::Session::tree_left))]
     pub(crate) fn disconnect_tree(
         &mut self,
-        number: u64,
-        under: Context,
+        connection: u64,
+        under: Under,
     ) -> Result<Told, AllocError>
         ensures ok { IfOk result (λ told. record { shared = self.new; response = told_response A.meaning self.new told }
-            ≡ tree_left number self.old under) }
-        ensures short { IfOk result (λ told. IsShort told.outcome) }
+            ≡ tree_left connection self.old under) }
+        ensures spelled { IfOk result (λ told. CanBeSpelled self.new told.outcome) }
         ensures err { OnErr result (self.new ≡ self.old) }
         ensures known { self.new.sessions.table.connections ≡ self.old.sessions.table.connections }
     {
         match self
             .sessions
-            .tree_disconnect(number, under.session_id, under.tree_id)
+            .tree_disconnect(connection, under.session_id, under.tree_id)
         {
             Ok(()) => {
                 self.store

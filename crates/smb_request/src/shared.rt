@@ -130,11 +130,11 @@ impl<A: Authenticator + Drop, T: Tree + Drop, O: Opens + Drop> Shared<A, T, O> {
     }
 
     /// Lets a connection begin sessions from now on. An error changes nothing.
-    pub fn connect(&mut self, number: u64) -> Result<(), AllocError>
-        ensures ok { OnOk result (self.new ≡ shared_opened self.old number) }
+    pub fn connect(&mut self, connection: u64) -> Result<(), AllocError>
+        ensures ok { OnOk result (self.new ≡ shared_opened self.old connection) }
         ensures err { OnErr result (self.new ≡ self.old) }
     {
-        match self.sessions.connect(number) {
+        match self.sessions.connect(connection) {
             Ok(()) => {}
             Err(_) => return Err(AllocError),
         }
@@ -143,13 +143,13 @@ impl<A: Authenticator + Drop, T: Tree + Drop, O: Opens + Drop> Shared<A, T, O> {
 
     /// Ends the least session of a connection, with its opens; false where it has none and is forgotten.
     #[tactic(auto, unfolding(crate::specs::State::shared_ended))]
-    fn end_one(&mut self, number: u64) -> bool
-        ensures ended { OnTrue result (shared_ended self.new number ≡ shared_ended self.old number) }
-        ensures fewer { OnTrue result (length (numbers_on self.new.sessions.table.sessions number) < length (numbers_on self.old.sessions.table.sessions number)) }
-        ensures none { OnFalse result (self.new ≡ shared_ended self.old number) }
+    fn end_one(&mut self, connection: u64) -> bool
+        ensures ended { OnTrue result (shared_ended self.new connection ≡ shared_ended self.old connection) }
+        ensures fewer { OnTrue result (length (numbers_on self.new.sessions.table.sessions connection) < length (numbers_on self.old.sessions.table.sessions connection)) }
+        ensures none { OnFalse result (self.new ≡ shared_ended self.old connection) }
     {
         self.sessions.good();
-        let Some(session) = self.sessions.end_connection(number) else {
+        let Some(session) = self.sessions.end_connection(connection) else {
             return false;
         };
         self.store.close_all(Owner::Session(session));
@@ -157,12 +157,12 @@ impl<A: Authenticator + Drop, T: Tree + Drop, O: Opens + Drop> Shared<A, T, O> {
     }
 
     /// Ends a connection's sessions in rising number, and forgets it. It takes no memory.
-    pub fn disconnect(&mut self, number: u64)
-        ensures ended { self.new ≡ shared_ended self.old number }
+    pub fn disconnect(&mut self, connection: u64)
+        ensures ended { self.new ≡ shared_ended self.old connection }
         ensures rising { IsRising self.old.sessions.table.connections }
     {
         self.sessions.good();
-        while self.end_one(number) {}
+        while self.end_one(connection) {}
     }
 
     /// Adds the body of the response to an SMB_COM_NEGOTIATE to `out`: an SMB2 NEGOTIATE response. After an error `out`

@@ -24,28 +24,28 @@ pub record SetupStep (S : Type 0) : Type 0 where
   pub state : SessionsState S
   pub told : SetupResult
 
-module _ {S : Type 0} (m : Meaning S) where
+module _ {S : Type 0} (authenticator : Meaning S) where
   -- the authenticator is asked once about a session that stands, and its answer performed and told (3.3.5.5.3)
   abbrev pub asked_step : SessionsState S → ℕ → ℕ → List ℕ → SetupStep S
-  asked_step s number previous token = record {
+  asked_step s session previous token = record {
     state = record s {
-      authenticator = m.next s.authenticator number token;
-      table = table_answered s.table number previous (m.answer s.authenticator number token);
+      authenticator = authenticator.next s.authenticator session token;
+      table = table_answered s.table session previous (authenticator.answer s.authenticator session token);
     };
-    told = setup_result s.table number previous (m.answer s.authenticator number token);
+    told = setup_result s.table session previous (authenticator.answer s.authenticator session token);
   }
 
   -- a SESSION_SETUP that is not refused
   abbrev pub setup_step : SessionsState S → ℕ → ℕ → ℕ → List ℕ → SetupStep S
-  setup_step s connection number previous token =
-      asked_step (record s { table = setup_table s.table connection number }) (setup_number s.table number) previous token
+  setup_step s connection session previous token =
+      asked_step (record s { table = setup_table s.table connection session }) (setup_number s.table session) previous token
 
 -- TREE_CONNECT: the session, the share that the path names, and then room for a tree (3.3.5.7)
 abbrev pub tree_connect_refusal : {S : Type 0} → SessionsState S → ℕ → ℕ → List ℕ → Option SessionFault
-tree_connect_refusal s connection number path =
-    if not (knows_session s.table connection number) then Some UnknownSession else
+tree_connect_refusal s connection session path =
+    if not (knows_session s.table connection session) then Some UnknownSession else
     if not (leads_to s.share path) then Some NoShare else
-    if option_map_or has_all_trees (session_at s.table number) true then Some NotAccepted else None
+    if option_map_or has_all_trees (session_at s.table session) true then Some NotAccepted else None
 
 -- a refusal is the one that the definition gives; want of memory comes only where it gives none
 abbrev pub IsRefused : Option SessionFault → SessionFault → Type 0

@@ -20,29 +20,29 @@ has_all_sessions table connection =
 
 -- why a session that stands is not set up further: it is another connection's, or finished
 abbrev pub known_session_refusal : ℕ → SessionState → Option SessionFault
-known_session_refusal connection session =
-    if not (session.connection == connection) then Some UnknownSession else
-    if is_some session.user then Some NotAccepted else None
+known_session_refusal connection state =
+    if not (state.connection == connection) then Some UnknownSession else
+    if is_some state.user then Some NotAccepted else None
 
 -- why the authenticator is not asked, the first that holds: BINDING (0x01) is set; SessionId 0 asks for a session that cannot begin;
 -- SessionId names none of this connection, or a finished one
 abbrev pub setup_refusal : TableState → ℕ → ℕ → ℕ → Option SessionFault
-setup_refusal table connection number flags =
+setup_refusal table connection session flags =
     if not (bit_and flags 1 == 0) then Some NotAccepted else
-    if number == 0 then (if has_all_sessions table connection then Some NotAccepted else None) else
-    option_map_or (known_session_refusal connection) (session_at table number) (Some UnknownSession)
+    if session == 0 then (if has_all_sessions table connection then Some NotAccepted else None) else
+    option_map_or (known_session_refusal connection) (session_at table session) (Some UnknownSession)
 
 -- the session that is set up: SessionId 0 asks for a new one
 abbrev pub setup_number : TableState → ℕ → ℕ
-setup_number table number = if number == 0 then table.next else number
+setup_number table session = if session == 0 then table.next else session
 
 -- the table as the authenticator is asked: a new session has begun (3.3.5.5.1)
 abbrev pub setup_table : TableState → ℕ → ℕ → TableState
-setup_table table connection number = if number == 0 then begun table connection else table
+setup_table table connection session = if session == 0 then begun table connection else table
 
 -- a session that is finished, by this user
 abbrev pub is_of_user : List ℕ → SessionState → Bool
-is_of_user user session = option_eq bytes_eq session.user (Some user)
+is_of_user user state = option_eq bytes_eq state.user (Some user)
 
 -- the session that an accepted one ends: that of PreviousSessionId, where it is finished and of the same user, on whatever
 -- connection. It is another one, since the one that is accepted was not finished before (3.3.5.5.3)
@@ -52,14 +52,14 @@ previous_ended table user previous =
 
 -- an accepted session is finished, and the previous one ends
 abbrev pub accepted : TableState → ℕ → List ℕ → ℕ → TableState
-accepted table number user previous =
-    session_changed (finished_by user) (option_map_or (session_ended table) (previous_ended table user previous) table) number
+accepted table session user previous =
+    session_changed (finished_by user) (option_map_or (session_ended table) (previous_ended table user previous) table) session
 
 -- the table after an answer about a session
 abbrev pub table_answered : TableState → ℕ → ℕ → Answered → TableState
-table_answered table number previous (continues token) = table
-table_answered table number previous (accepts user flags token) = accepted table number user previous
-table_answered table number previous denies = session_ended table number
+table_answered table session previous (continues token) = table
+table_answered table session previous (accepts user flags token) = accepted table session user previous
+table_answered table session previous denies = session_ended table session
 
 -- what is told of an answer: the session's number, the status, session flags, a token, and the session that ended
 pub record SetupResult : Type 0 where
@@ -71,9 +71,9 @@ pub record SetupResult : Type 0 where
 
 -- and by each answer
 abbrev pub setup_result : TableState → ℕ → ℕ → Answered → SetupResult
-setup_result table number previous (continues token) =
-    record { session = number; status = MoreProcessingRequired; flags = 0; token = token; ended = None }
-setup_result table number previous (accepts user flags token) =
-    record { session = number; status = Success; flags = flags; token = token; ended = previous_ended table user previous }
-setup_result table number previous denies =
-    record { session = number; status = LogonFailure; flags = 0; token = []; ended = None }
+setup_result table session previous (continues token) =
+    record { session = session; status = MoreProcessingRequired; flags = 0; token = token; ended = None }
+setup_result table session previous (accepts user flags token) =
+    record { session = session; status = Success; flags = flags; token = token; ended = previous_ended table user previous }
+setup_result table session previous denies =
+    record { session = session; status = LogonFailure; flags = 0; token = []; ended = None }

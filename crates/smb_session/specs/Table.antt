@@ -21,7 +21,7 @@ no_sessions = record { connections = []; sessions = []; next = 1 }
 
 -- the session of a number
 abbrev pub session_at : TableState → ℕ → Option SessionState
-session_at table number = lookup (is_at (nat_cmp number)) table.sessions
+session_at table session = lookup (is_at (nat_cmp session)) table.sessions
 
 -- the numbers of a connection's sessions
 abbrev pub numbers_on : List (ℕ × SessionState) → ℕ → List ℕ
@@ -41,7 +41,7 @@ begun table connection =
 
 -- a session and its trees are gone
 abbrev pub session_ended : TableState → ℕ → TableState
-session_ended table number = record table { sessions = remove_entry (is_at (nat_cmp number)) table.sessions }
+session_ended table session = record table { sessions = remove_entry (is_at (nat_cmp session)) table.sessions }
 
 -- what stands at a number is changed, where something does
 abbrev pub changed_at : {X : Type 0} → (X → X) → ℕ → List (ℕ × X) → List (ℕ × X)
@@ -51,39 +51,39 @@ changed_at change number (e ∷ entries) =
 
 -- the session of a number is changed, where there is one
 abbrev pub session_changed : (SessionState → SessionState) → TableState → ℕ → TableState
-session_changed change table number = record table { sessions = changed_at change number table.sessions }
+session_changed change table session = record table { sessions = changed_at change session table.sessions }
 
 -- whether a number is that of a finished session of this connection (3.3.5.2.9)
 abbrev pub knows_session : TableState → ℕ → ℕ → Bool
-knows_session table connection number =
-    option_map_or (λ session. (session.connection == connection) && is_some session.user) (session_at table number) false
+knows_session table connection session =
+    option_map_or (λ state. (state.connection == connection) && is_some state.user) (session_at table session) false
 
 -- whether a session is connected to a tree (3.3.5.2.11)
 abbrev pub knows_tree : TableState → ℕ → ℕ → Bool
-knows_tree table number tree = option_map_or (λ session. contains session.trees tree) (session_at table number) false
+knows_tree table session tree = option_map_or (λ state. contains state.trees tree) (session_at table session) false
 
 -- both, or where no tree is named the first alone
 abbrev pub knows : TableState → ℕ → ℕ → Option ℕ → Bool
-knows table connection number None = knows_session table connection number
-knows table connection number (Some tree) = knows_session table connection number && knows_tree table number tree
+knows table connection session None = knows_session table connection session
+knows table connection session (Some tree) = knows_session table connection session && knows_tree table session tree
 
 -- LOGOFF: only a finished session of the connection is logged off (3.3.5.6)
 abbrev pub logoff_refusal : TableState → ℕ → ℕ → Option SessionFault
-logoff_refusal table connection number = if knows_session table connection number then None else Some UnknownSession
+logoff_refusal table connection session = if knows_session table connection session then None else Some UnknownSession
 
 -- TREE_DISCONNECT: the session, then the tree (3.3.5.8)
 abbrev pub tree_disconnect_refusal : TableState → ℕ → ℕ → ℕ → Option SessionFault
-tree_disconnect_refusal table connection number tree =
-    if not (knows_session table connection number) then Some UnknownSession else
-    if knows_tree table number tree then None else Some UnknownTree
+tree_disconnect_refusal table connection session tree =
+    if not (knows_session table connection session) then Some UnknownSession else
+    if knows_tree table session tree then None else Some UnknownTree
 
 -- and then the tree is gone
 abbrev pub tree_disconnected : TableState → ℕ → ℕ → TableState
-tree_disconnected table number tree = session_changed (without_tree tree) table number
+tree_disconnected table session tree = session_changed (without_tree tree) table session
 
 -- TREE_CONNECT: the tree that a session is given, which is its next one (3.3.5.7)
 abbrev pub next_tree_of : TableState → ℕ → ℕ
-next_tree_of table number = option_map_or (λ session. session.next_tree) (session_at table number) 0
+next_tree_of table session = option_map_or (λ state. state.next_tree) (session_at table session) 0
 
 -- and the table with it
 abbrev pub tree_connected : TableState → ℕ → TableState
@@ -97,6 +97,6 @@ pub record EndStep : Type 0 where
 -- the end of a connection: its least session ends and is told; where it has none, the connection is known no longer (3.3.7.1)
 abbrev pub end_connection_step : TableState → ℕ → EndStep
 end_connection_step table connection = option_map_or
-    (λ number. record { table = session_ended table number; told = Some number })
+    (λ session. record { table = session_ended table session; told = Some session })
     (slice_get (numbers_on table.sessions connection) 0)
     (record { table = record table { connections = without_number table.connections connection }; told = None })

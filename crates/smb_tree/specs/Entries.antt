@@ -1,5 +1,6 @@
 -- Entries: files and folders, and the space that they use.
-use Rattle.std.specs.Prelude.{ℕ, ◌+◌, ◌-◌, ◌*◌, ◌/◌, List, [], length, slice_index_or, Bool, true, false, Option, None, Some, bit_and}
+use Rattle.std.specs.Prelude.{ℕ, ◌+◌, ◌-◌, ◌*◌, ◌/◌, List, [], length, slice_index_or, Bool, true, false, Option, None, Some, bit_and, bit_or, ◌==◌, if◌then◌else◌}
+use Rattle.smb_wire.specs.Attributes.{FILE_ATTRIBUTE_DIRECTORY, FILE_ATTRIBUTE_NORMAL}
 use Rattle.smb_tree.specs.declared.entry.Basic.{Basic}
 use Rattle.smb_tree.specs.declared.entry.Kind.{Kind}
 use Rattle.smb_tree.specs.declared.entry.Kind.TheVariants.{File, Folder}
@@ -26,6 +27,12 @@ is_folder (Some entry) = is_folder_kind entry.kind
 -- READONLY 1, HIDDEN 2, SYSTEM 4 and ARCHIVE 0x20 are kept, other attributes dropped ([MS-FSCC] 2.6)
 abbrev pub kept_attributes : ℕ → ℕ
 kept_attributes attributes = bit_and attributes 39
+
+-- the attributes that are shown: of a folder FILE_ATTRIBUTE_DIRECTORY besides the kept ones, of a file that keeps none
+-- FILE_ATTRIBUTE_NORMAL ([MS-FSCC] 2.6)
+abbrev pub shown_attributes : Kind → ℕ → ℕ
+shown_attributes Folder attributes = bit_or attributes FILE_ATTRIBUTE_DIRECTORY
+shown_attributes File attributes = if attributes == 0 then FILE_ATTRIBUTE_NORMAL else attributes
 
 -- times and attributes as they are kept
 abbrev pub kept_basic : Basic → Basic

@@ -3,7 +3,7 @@ use Rattle.std.proofs.Common.{◌≡◌, ℕ, zero, suc, ◌+◌, ◌*◌, ◌/�
 use Rattle.std.proofs.Math.Nat.{pow-succ'}
 use Rattle.std.proofs.lemmas.List.{take_at, drop_at}
 use Rattle.std.proofs.lemmas.Bool.{le-leb}
-use Rattle.smb_wire.specs.Number.{IsBytes, number, Spells, spelling, number_at}
+use Rattle.smb_wire.specs.Number.{IsBytes, number, Spells, spelling, number_spelled}
 
 pub length-spelling : (w n : ℕ) → length (spelling w n) ≡ w
 unfolding spelling
@@ -48,7 +48,7 @@ spells_only w n bytes s = sym (spelling_of_number bytes s.each) ∙ rw (s.width,
 pub spells_below : (w n : ℕ) (bytes : List ℕ) → Spells w n bytes → n < 256 ^ w
 spells_below w n bytes s = rw (← s.sum, ← s.width) (number_below bytes s.each)
 
-pub put_is_read : (front rest : List ℕ) (w n : ℕ) → n < 256 ^ w → number_at w (front ++ spelling w n ++ rest) (length front) ≡ Some n
+pub put_is_read : (front rest : List ℕ) (w n : ℕ) → n < 256 ^ w → number_spelled w (front ++ spelling w n ++ rest) (length front) ≡ Some n
 put_is_read front rest w n h =
     let long = length-spelling w n in
     let fits = le-leb (length front + w) (length (front ++ spelling w n ++ rest)) (omega (arith, long, length-append (front ++ spelling w n) rest, length-append front (spelling w n))) in

@@ -5,11 +5,20 @@ use Rattle.std.specs.Prelude.{ℕ, Bool, not, ◌==◌, bit_and}
 abbrev pub has_any : ℕ → ℕ → Bool
 has_any bits mask = not (bit_and bits mask == 0)
 
+abbrev pub FILE_READ_DATA : ℕ
+FILE_READ_DATA = 0x1
+
 abbrev pub FILE_WRITE_DATA : ℕ
 FILE_WRITE_DATA = 0x2
 
 abbrev pub FILE_APPEND_DATA : ℕ
 FILE_APPEND_DATA = 0x4
+
+abbrev pub FILE_EXECUTE : ℕ
+FILE_EXECUTE = 0x20
+
+abbrev pub DELETE : ℕ
+DELETE = 0x10000
 
 abbrev pub MAXIMUM_ALLOWED : ℕ
 MAXIMUM_ALLOWED = 0x2000000
@@ -42,6 +51,15 @@ FILE_GENERIC_WRITE = 0x120116
 abbrev pub FILE_GENERIC_READ : ℕ
 FILE_GENERIC_READ = 0x120089
 
--- what an open shares: reading 1, writing 2, deleting 4 (2.2.13)
+-- what an open shares (2.2.13): reading, writing, deleting, and the three of them
+abbrev pub FILE_SHARE_READ : ℕ
+FILE_SHARE_READ = 0x1
+
+abbrev pub FILE_SHARE_WRITE : ℕ
+FILE_SHARE_WRITE = 0x2
+
+abbrev pub FILE_SHARE_DELETE : ℕ
+FILE_SHARE_DELETE = 0x4
+
 abbrev pub FILE_SHARE_ALL : ℕ
 FILE_SHARE_ALL = 0x7

@@ -54,11 +54,12 @@ AllFit [] = Unit {0}
 AllFit (num p w n ∷ fields) = (n < 256 ^ w) × AllFit fields
 AllFit (raw p w text ∷ fields) = (length text ≡ w) × AllFit fields
 
--- fields in order that fit are read where they were written, behind any front and before any rest
+-- fields in order that fit are read where they were written, behind any front and before any rest: their places count
+-- from the table's first byte
 abbrev pub WhatIsJoinedStands : Type 0
 WhatIsJoinedStands =
-    (front : List ℕ) (fields : List Field) (rest : List ℕ) → InOrder (length front) fields → AllFit fields →
-    AllStand (front ++ (joined fields ++ rest)) fields
+    (front : List ℕ) (fields : List Field) (rest : List ℕ) → InOrder 0 fields → AllFit fields →
+    AllStand (drop (length front) (front ++ (joined fields ++ rest))) fields
 
 -- putting fields one after the other is putting them joined
 abbrev pub AppendedIsJoined : Type 0

@@ -26,8 +26,8 @@ abbrev pub field_at : ℕ → List ℕ → ℕ → Option (List ℕ)
 field_at w bytes place = if nat_le (place + w) (length bytes) then Some (take w (drop place bytes)) else None
 
 -- the number that the w bytes at a place spell; none where they pass the end
-abbrev pub number_at : ℕ → List ℕ → ℕ → Option ℕ
-number_at w bytes place = if nat_le (place + w) (length bytes) then Some (number (take w (drop place bytes))) else None
+abbrev pub number_spelled : ℕ → List ℕ → ℕ → Option ℕ
+number_spelled w bytes place = if nat_le (place + w) (length bytes) then Some (number (take w (drop place bytes))) else None
 
 -- each number below 256 ^ w has a spelling of w bytes, and no other one
 abbrev pub EachNumberHasOneSpelling : Type 0
@@ -41,4 +41,4 @@ EachSpellingIsBelow = (w n : ℕ) (bytes : List ℕ) → Spells w n bytes → n 
 -- what was put between any bytes is read there
 abbrev pub WhatIsPutIsRead : Type 0
 WhatIsPutIsRead =
-    (front rest : List ℕ) (w n : ℕ) → n < 256 ^ w → number_at w (front ++ spelling w n ++ rest) (length front) ≡ Some n
+    (front rest : List ℕ) (w n : ℕ) → n < 256 ^ w → number_spelled w (front ++ spelling w n ++ rest) (length front) ≡ Some n

@@ -2,7 +2,7 @@
 
 ghost use Rattle.std.specs.Prelude.{◌≡◌, ◌++◌, ◌+◌, OnOk, OnErr, length};
 ghost use Rattle.std.specs.Option.{option_map};
-ghost use Rattle.smb_wire.specs.Number.{field_at, number_at, spelling, EachNumberHasOneSpelling, EachSpellingIsBelow, WhatIsPutIsRead};
+ghost use Rattle.smb_wire.specs.Number.{field_at, number_spelled, spelling, EachNumberHasOneSpelling, EachSpellingIsBelow, WhatIsPutIsRead};
 
 use super::fault::WireFault;
 use byteorder::{ByteOrder, LittleEndian};
@@ -19,7 +19,7 @@ fn bytes_at(bytes: &[u8], at: usize, width: usize) -> Option<&[u8]>
 
 /// The 16-bit number in the 2 bytes from `at` on, or None where they pass the end.
 pub fn u16_at(bytes: &[u8], at: usize) -> Option<u16>
-    ensures { result ≡ number_at 2 bytes.now at }
+    ensures { result ≡ number_spelled 2 bytes.now at }
 {
     let field = bytes_at(bytes, at, 2)?;
     Some(LittleEndian::read_u16(field))
@@ -27,7 +27,7 @@ pub fn u16_at(bytes: &[u8], at: usize) -> Option<u16>
 
 /// The 32-bit number in the 4 bytes from `at` on, or None where they pass the end.
 pub fn u32_at(bytes: &[u8], at: usize) -> Option<u32>
-    ensures { result ≡ number_at 4 bytes.now at }
+    ensures { result ≡ number_spelled 4 bytes.now at }
 {
     let field = bytes_at(bytes, at, 4)?;
     Some(LittleEndian::read_u32(field))
@@ -35,7 +35,7 @@ pub fn u32_at(bytes: &[u8], at: usize) -> Option<u32>
 
 /// The 64-bit number in the 8 bytes from `at` on, or None where they pass the end.
 pub fn u64_at(bytes: &[u8], at: usize) -> Option<u64>
-    ensures { result ≡ number_at 8 bytes.now at }
+    ensures { result ≡ number_spelled 8 bytes.now at }
 {
     let field = bytes_at(bytes, at, 8)?;
     Some(LittleEndian::read_u64(field))

@@ -1,7 +1,7 @@
 use Rattle.std.proofs.Common.{◌≡◌, ℕ, List, [], ◌∷◌, ◌++◌, sym, ap, ◌∙◌, append-nil, replicate}
 use Rattle.smb_body.specs.Replies.{reply_spelling}
 use Rattle.smb_head.specs.Replies.{joined_replies}
-use Rattle.smb_head.specs.Placed.{written}
+use Rattle.smb_head.specs.Placed.{replies_written}
 use Rattle.smb_request.specs.Negotiate.{negotiate_answer}
 use Rattle.smb_request.specs.State.{hello_of}
 use Rattle.smb_engine.proofs.chain.frame_smb1.Goals as goal
@@ -11,7 +11,7 @@ unfolding joined_replies
 returns-clause-ok g c =
     let before : List ℕ = c.open_frame.new.out.items in
     let response = negotiate_answer c.args.shared.now.settings.guid (hello_of g.A.Authenticator.meaning c.args.shared.now) c.args.moment c.args.dialect_revision in
-    let none : before ≡ written before [] = sym (append-nil before) in
+    let none : before ≡ replies_written before [] = sym (append-nil before) in
     let opened = c.in-Ok-open_reply.ensures.opened before [] c.begin-writer.ensures.placed none in
     let place = c.in-Ok-open_reply.ensures.place before [] c.begin-writer.ensures.placed none in
     let body = c.in-Ok-put_smb1_body.ensures.ok in

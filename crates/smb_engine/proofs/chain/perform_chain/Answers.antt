@@ -5,7 +5,7 @@ use Rattle.smb_engine.proofs.chain.perform_chain.Goals as goal
 
 pub loop-i-init : goal.loop-i-init
 loop-i-init g c = record {
-  so_far = chain_begins g.A.Authenticator.meaning _ _ _ _ _ _ refl refl refl refl c.begin-writer.ensures.placed refl;
+  so_far = chain_begins g.A.Authenticator.meaning _ _ _ _ _ _ refl refl refl c.first-context.ensures c.begin-writer.ensures.placed refl;
   known = refl;
   base = c.begin-writer.ensures.base;
   order = omega (arith, c.begin-writer.ensures.base, c.begin-writer.ensures.last);
@@ -16,8 +16,8 @@ loop-i-init g c = record {
 
 pub returns-in-Err-clause-err : goal.returns-in-Err-clause-err
 returns-in-Err-clause-err g c = (
-  omega (arith, c.len-i-end.ensures.len, done_least c.in-Err.unanswered c.loop-i.i c.done_behind.result c.done_behind.ensures, c.loop-i-test.true),
-  rw c.done_behind.ensures
+  omega (arith, c.len-i-end.ensures.len, done_least c.in-Err.unanswered c.loop-i.i c.done_behind-done.result c.done_behind-done.ensures, c.loop-i-test.true),
+  rw c.done_behind-done.ensures
       (chain_stopped g.A.Authenticator.meaning _ _ _ _ _ _ _ _ _ c.in-Err.unanswered c.loop-i.invariant.so_far c.request_at.ensures.request c.in-Err.ensures.err),
 )
 

@@ -9,6 +9,6 @@ returns-in-Err-give_frame-clause-err g c =
     let m = g.A.Authenticator.meaning in (
       omega (arith, n),
       ap (λ p. p.shared) c.in-Ok-Some.ensures.ok
-          ∙ sym (shared_after-all m c.args.number c.args.moment c.args.shared.now c.args.connection.now c.args.payload.now)
-          ∙ ap (shared_after m c.args.number c.args.moment c.args.shared.now c.args.connection.now c.args.payload.now) n,
+          ∙ sym (shared_after-all m c.args.connection_id c.args.moment c.args.shared.now c.args.connection.now c.args.payload.now)
+          ∙ ap (shared_after m c.args.connection_id c.args.moment c.args.shared.now c.args.connection.now c.args.payload.now) n,
     )

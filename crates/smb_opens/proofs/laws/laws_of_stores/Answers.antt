@@ -1,6 +1,26 @@
-use Rattle.smb_opens.proofs.OnePath.{new_tree, one_path}
+use Rattle.std.proofs.Common.{◌≡◌, true, is_some}
+use Rattle.smb_tree.specs.Content.{numbered}
+use Rattle.smb_opens.proofs.Again.{read_again, others_left, opens_left, entry_there}
+use Rattle.smb_opens.proofs.Rows.{found}
+use Rattle.smb_opens.proofs.OnePath.{new_tree, one_path, opened_leaves}
+use Rattle.smb_opens.proofs.Conflicts.{conflict_mutual}
+use Rattle.smb_opens.proofs.Mores.{more_conflicts}
+use Rattle.smb_opens.proofs.Elsewhere.{closed_elsewhere, closed_here}
 use Rattle.smb_opens.proofs.Returned.{returned_shown}
 use Rattle.smb_opens.proofs.laws.laws_of_stores.Goals as goal
 
 pub returns : goal.returns
-returns c = record { new_tree = new_tree; one_path = one_path; shown = returned_shown }
+returns c = record {
+  new_tree = new_tree;
+  one_path = one_path;
+  leaves = opened_leaves;
+  shown = returned_shown;
+  mutual_conflict = conflict_mutual;
+  more_access = more_conflicts;
+  one_entry = closed_elsewhere;
+  kept_bytes = closed_here;
+  again = λ state number other offset buffer moment writer reader good one two same.
+      let row = entry_there state.tree.rows writer.entry (found (λ row. is_some (numbered state.tree.rows row.entry) ≡ true) state.opens number writer good.present one) in
+      read_again state number other offset buffer moment writer reader row.0 one two same row.1;
+  one_file = λ state number offset buffer moment writer one. (opens_left state number offset buffer moment, λ other apart. others_left state number offset buffer moment writer other one apart);
+}

@@ -1,8 +1,9 @@
 use Rattle.std.proofs.Common.{sym, ap, ◌∙◌, arith}
 use Rattle.smb_opens.specs.Opens.{first_held_by}
 use Rattle.smb_opens.specs.State.{StoreState}
-use Rattle.smb_opens.proofs.Kept.{good_closed, closed_first, closed_last, some_of}
-use Rattle.smb_opens.proofs.Rows.{first_stands, length-without, others_closed, others_all}
+use Rattle.smb_opens.proofs.Closing.{good_closed, opens_closed}
+use Rattle.smb_opens.proofs.Kept.{closed_first, closed_last, some_of}
+use Rattle.smb_opens.proofs.Rows.{others, first_stands, length-without, others_closed, others_all}
 use Rattle.smb_opens.proofs.store.Store.close_all.Goals as goal
 
 pub close-requires : goal.close-requires
@@ -14,7 +15,7 @@ pub loop-number-smaller : goal.loop-number-smaller
 loop-number-smaller g c =
     let held = sym (c.in-Some.ensures ∙ ap (λ (s : StoreState). first_held_by c.args.owner s.opens) c.self-in-loop-number.view_is) in
     let less = length-without c.in-Some.number c.loop-number.self.opens c.loop-number.invariant.good.rising (first_stands c.args.owner c.loop-number.self.opens c.in-Some.number held) in
-    rw c.close.ensures.store (omega (arith, less))
+    rw (c.close.ensures.store, opens_closed c.loop-number.self c.in-Some.number (first_stands c.args.owner c.loop-number.self.opens c.in-Some.number held)) (omega (arith, less))
 
 pub loop-number-preserved : goal.loop-number-preserved
 loop-number-preserved g c =
@@ -22,7 +23,7 @@ loop-number-preserved g c =
     rw c.close.ensures.store (record {
       good = good_closed c.loop-number.self c.in-Some.number c.loop-number.invariant.good (first_stands c.args.owner c.loop-number.self.opens c.in-Some.number held);
       store = closed_first c.loop-number.self c.args.owner c.in-Some.number c.loop-number.invariant.good held ∙ c.loop-number.invariant.store;
-      left = others_closed c.args.owner c.loop-number.self.opens c.in-Some.number c.loop-number.invariant.good.rising held ∙ c.loop-number.invariant.left;
+      left = ap (others c.args.owner) (opens_closed c.loop-number.self c.in-Some.number (first_stands c.args.owner c.loop-number.self.opens c.in-Some.number held)) ∙ others_closed c.args.owner c.loop-number.self.opens c.in-Some.number c.loop-number.invariant.good.rising held ∙ c.loop-number.invariant.left;
     })
 
 pub returns-clause-store : goal.returns-clause-store

@@ -1,9 +1,10 @@
 use Rattle.std.proofs.Common.{sym, ap, ◌∙◌}
 use Rattle.smb_wire.specs.Paths.{folded_path}
 use Rattle.smb_wire.specs.PathViews.{parts_of}
+use Rattle.smb_tree.specs.Content.{entry_at, parent}
 use Rattle.smb_tree.specs.Faults.{add_fault}
 use Rattle.smb_opens.specs.Asked.{asked}
-use Rattle.smb_opens.specs.Found.{has_all_opens}
+use Rattle.smb_opens.specs.Found.{has_all_opens, is_marked}
 use Rattle.smb_opens.specs.State.{StoreState}
 use Rattle.smb_opens.specs.declared.open_row.OpenRow.{OpenRow}
 use Rattle.smb_opens.proofs.Counts.{end_some}
@@ -44,7 +45,8 @@ invariant_of-self-2 g c =
     let entry = ap (λ (r : OpenRow). r.entry) c.opened_by.ensures ∙ end_some (g.T.Tree.content c.self.inside.tree) _ (sym c.in-Some.ensures) in
     let free = ap (λ (s : StoreState). add_fault s.tree (folded_path (parts_of c.args.path.now))) c.self.view_is ∙ c.requires.free in
     let room = ap has_all_opens c.self.view_is ∙ c.requires.room in
-    rw (c.in_default-add.ensures.ok, c.in_ok-add.ensures.ok) (kept_added state _ _ _ _ _ _ c.opened_by.result c.self.invariant free room number entry)
+    let above = ap (λ (s : StoreState). is_marked (entry_at s.tree.rows (parent (folded_path (parts_of c.args.path.now))))) c.self.view_is ∙ c.requires.above in
+    rw (c.in_default-add.ensures.ok, c.in_ok-add.ensures.ok) (kept_added state _ _ _ _ _ _ c.opened_by.result c.self.invariant free above room number entry)
 
 pub returns-clause-told : goal.returns-clause-told
 returns-clause-told g c =

@@ -1,14 +1,14 @@
-use Rattle.std.proofs.Common.{ap, ◌∙◌}
+use Rattle.std.proofs.Common.{Some, ap, ◌∙◌}
 use Rattle.std.specs.Option.{option_map}
 use Rattle.smb_opens.specs.Access.{granted}
 use Rattle.smb_opens.specs.Asked.{asked}
 use Rattle.smb_opens.specs.Effect.{action_on}
 use Rattle.smb_opens.specs.Found.{has_all_opens, path_asked, entry_asked}
-use Rattle.smb_opens.specs.Looked.{target_of}
+use Rattle.smb_opens.specs.Looked.{target_of, target_conflicts}
 use Rattle.smb_opens.specs.State.{StoreState}
 use Rattle.smb_opens.specs.declared.open_row.OpenRow.{OpenRow}
 use Rattle.smb_opens.specs.declared.found.Target.{Target}
-use Rattle.smb_opens.proofs.Made.{undone, kept_undone, target_entry, target_numbered, good_standing, shown_standing, kept_standing, told_standing, made_standing, no_view}
+use Rattle.smb_opens.proofs.Made.{alone_opened, undone, kept_undone, target_entry, target_numbered, good_standing, shown_standing, kept_standing, told_standing, made_standing, no_view}
 use Rattle.smb_opens.proofs.store.Store.open_standing.Goals as goal
 
 pub affect-requires-clause-target : goal.affect-requires-clause-target
@@ -49,7 +49,9 @@ invariant_of-self-2 g c =
     let number = ap (λ (r : OpenRow). r.number) c.opened_by.ensures in
     let entry = ap (λ (r : OpenRow). r.entry) c.opened_by.ensures in
     let room = ap has_all_opens c.self.view_is ∙ c.requires.room in
-    rw (c.in_default.ensures.ok, c.in_ok-add.ensures.ok) (kept_standing state (asked c.args.ask.now) c.args.moment _ _ c.opened_by.result c.args.target.number (path_asked (asked c.args.ask.now)) t.0 c.self.invariant t.3 room number entry)
+    let none = ap (λ (s : StoreState). target_conflicts s.opens (asked c.args.ask.now) (Some c.args.target)) c.self.view_is ∙ c.requires.alone in
+    let alone = alone_opened state.opens (asked c.args.ask.now) _ c.args.target c.granted-access.result c.opened_by.result (c.granted-access.ensures ∙ ap (granted c.args.ask.now.access.0) c.is_read_only_target.ensures) c.opened_by.ensures none in
+    rw (c.in_default.ensures.ok, c.in_ok-add.ensures.ok) (kept_standing state (asked c.args.ask.now) c.args.moment _ _ c.opened_by.result c.args.target.number (path_asked (asked c.args.ask.now)) t.0 c.self.invariant t.3 room alone number entry)
 
 pub returns-clause-store : goal.returns-clause-store
 returns-clause-store g c =

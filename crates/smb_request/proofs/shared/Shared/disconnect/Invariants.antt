@@ -4,7 +4,7 @@ use Rattle.smb_request.specs.State.{shared_ended}
 use Rattle.smb_request.proofs.shared.Shared.disconnect.Given as goal
 
 abbrev pub invariant-loop : goal.invariant-loop
-invariant-loop g l = shared_ended l.self l.number ≡ shared_ended l.fn.self l.number
+invariant-loop g l = shared_ended l.self l.connection ≡ shared_ended l.fn.self l.connection
 
 abbrev pub decreases-loop : goal.decreases-loop
-decreases-loop g l = length (numbers_on l.self.sessions.table.sessions l.number)
+decreases-loop g l = length (numbers_on l.self.sessions.table.sessions l.connection)

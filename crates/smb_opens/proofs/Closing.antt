@@ -1,0 +1,293 @@
+-- A CLOSE keeps a good store good.
+use Rattle.std.proofs.Common.{◌≡◌, ◌==◌, ℕ, ◌+◌, ◌-◌, List, [], ◌∷◌, length, Bool, true, false, cond, ◌&&◌, ◌||◌, not, if◌then◌else◌, Option, None, Some, is_some, filter, slice_get, refl, sym, ap, subst, arith, ◌∙◌}
+use Rattle.std.proofs.lemmas.Bool.Decides.{nat_tests}
+use Rattle.std.specs.Option.{option_map, option_map_or, option_and_then, is_none}
+use Rattle.smb_tree.specs.Entries.{Entry}
+use Rattle.smb_tree.specs.Content.{Path, Row, Content, numbered, with_mark, without, removed}
+use Rattle.smb_tree.specs.Laws.{AreApart}
+use Rattle.smb_tree.proofs.Apart.{numbered-changed, number-from_numbered}
+use Rattle.smb_tree.specs.Children.{is_child, has_children, first_by_name, next_child, child_after}
+use Rattle.smb_opens.specs.declared.open_row.OpenRow.{OpenRow}
+use Rattle.smb_opens.specs.declared.view.View.{View}
+use Rattle.smb_opens.specs.Close.{can_be_deleted, is_deletable, has_mark, tree_marked, tree_cleared, is_due, closed_open, closed, removes_entry, is_removed_with}
+use Rattle.smb_opens.specs.Good.{GoodTree, GoodStore, IsKept, ArePresent, AreMarksDue}
+use Rattle.smb_opens.specs.Numbers.{AreRising}
+use Rattle.smb_opens.specs.Opens.{open_of, without_open, open_numbers, has_open, is_on_entry, number_of, open_on_entry}
+use Rattle.smb_opens.specs.State.{StoreState}
+use Rattle.smb_opens.proofs.Changes.{Shrinks, good_changed, length-changed}
+use Rattle.smb_opens.proofs.Conflicts.{compatible_without}
+use Rattle.smb_opens.proofs.Marks.{deletable_changed, mark_elsewhere}
+use Rattle.smb_opens.proofs.Removed.{leaf, good_removed, numbered-removed, length-removed, mark_removed, deletable_removed}
+use Rattle.smb_opens.proofs.Rows.{all_more, all_without, rising_without, below_without, length-without, kept_above}
+
+-- the number of an open
+pub number_found : (rows : List OpenRow) (n : ℕ) (row : OpenRow) → open_of rows n ≡ Some row → row.number ≡ n
+number_found [] n row h = cc
+number_found (x ∷ rows) n row h = grind (arith, nat_tests, h, number_found rows n row)
+
+-- an entry that can be deleted stands
+pub deletable_row : (rows : List Row) (n : ℕ) → is_deletable rows n ≡ true → (row : Row) × (numbered rows n ≡ Some row) × (can_be_deleted rows row ≡ true)
+deletable_row rows n h =
+    elim (numbered rows n) as (λ o. option_map_or (can_be_deleted rows) o false ≡ true → (row : Row) × (o ≡ Some row) × (can_be_deleted rows row ≡ true)) [
+      | None ↦ λ q. absurd (cc)
+      | Some row ↦ λ q. (row, refl, q)
+    ] h
+
+-- a folder has no first child exactly where it has no children
+none_first : (rows : List Row) (path : Path) → is_none (next_child rows path None) ≡ not (has_children rows path)
+none_first [] path = refl
+none_first (x ∷ rows) path =
+    elim (is_child path x) as (λ b. is_none (first_by_name (cond (b && true) (x ∷ filter (λ row. is_child path row && true) rows) (filter (λ row. is_child path row && true) rows))) ≡ not (b || has_children rows path)) [ true ↦ refl | false ↦ none_first rows path ]
+
+none_mapped : (o : Option Row) → is_none (option_map (λ (r : Row). r.1.number) o) ≡ is_none o
+none_mapped None = refl
+none_mapped (Some row) = refl
+
+none_first_of : (rows : List Row) (n : ℕ) (o : Option Row) → numbered rows n ≡ o → is_some o ≡ true → (not (n == 1) && is_none (option_and_then (λ (folder : Row). option_map (λ (row : Row). row.1.number) (next_child rows folder.0 None)) o)) ≡ option_map_or (can_be_deleted rows) o false
+none_first_of rows n None e s = absurd (cc)
+none_first_of rows n (Some row) e s =
+    let number : row.1.number ≡ n = number-from_numbered rows row n e in
+    let none : is_none (option_map (λ (r : Row). r.1.number) (next_child rows row.0 None)) ≡ not (has_children rows row.0) = none_mapped (next_child rows row.0 None) ∙ none_first rows row.0 in
+    rw (number, none) refl
+
+pub deletable_told : (rows : List Row) (n : ℕ) → is_some (numbered rows n) ≡ true → (not (n == 1) && is_none (child_after rows n None)) ≡ is_deletable rows n
+deletable_told rows n s = none_first_of rows n (numbered rows n) refl s
+
+-- other entries keep their opens
+open_elsewhere : (rows : List OpenRow) (n m : ℕ) (row : OpenRow) → AreRising (open_numbers rows) → open_of rows n ≡ Some row → m == row.entry ≡ false → has_open (without_open n rows) m ≡ has_open rows m
+open_elsewhere [] n m row r h e = cc
+open_elsewhere (x ∷ rows) n m row r h e = grind (arith, nat_tests, h, e, kept_above x.number rows r.0, open_elsewhere rows n m row r.1)
+
+-- what a mark changes
+pub record IsMarked (before after : Content) (entry : ℕ) : Type 0 where
+  pub good : GoodTree after
+  pub deletable : (m : ℕ) → is_deletable after.rows m ≡ is_deletable before.rows m
+  pub elsewhere : (m : ℕ) → m == entry ≡ false → has_mark after.rows m ≡ has_mark before.rows m
+  pub here : has_mark after.rows entry ≡ true → is_deletable after.rows entry ≡ true
+  pub present : (m : ℕ) → is_some (numbered after.rows m) ≡ is_some (numbered before.rows m)
+  pub long : length after.rows ≡ length before.rows
+
+marks : Shrinks (λ entry. record entry { mark = true })
+marks = record { number = λ _. refl; kind = λ _. refl; bytes = λ e. omega arith }
+
+present_by : (b : Bool) (o : Option Row) → is_some (if b then option_map (λ (x : Row). let y : Row = (x.0, record x.1 { mark = true }) in y) o else o) ≡ is_some o
+present_by true None = refl
+present_by true (Some row) = refl
+present_by false o = refl
+
+with_mark_marked : (tree : Content) (entry : ℕ) → GoodTree tree → is_deletable tree.rows entry ≡ true → IsMarked tree (with_mark tree entry true) entry
+with_mark_marked tree entry good d =
+    let f : Entry → Entry = λ e. record e { mark = true } in
+    let row = deletable_row tree.rows entry d in
+    record {
+      good = good_changed f tree entry row.0 marks row.1 good;
+      deletable = λ m. deletable_changed f tree.rows entry m (λ _. refl);
+      elsewhere = λ m e. mark_elsewhere f tree.rows entry m (λ _. refl) e;
+      here = λ _. deletable_changed f tree.rows entry entry (λ _. refl) ∙ d;
+      present = λ m. ap is_some (numbered-changed f tree.rows entry m (λ _. refl)) ∙ present_by (m == entry) (numbered tree.rows m);
+      long = length-changed f tree.rows entry;
+    }
+
+same_marked : (tree : Content) (opens : List OpenRow) (row : OpenRow) → GoodTree tree → AreMarksDue tree.rows opens → IsMarked tree tree row.entry
+same_marked tree opens row good due = record {
+  good = good;
+  deletable = λ _. refl;
+  elsewhere = λ _ _. refl;
+  here = λ h. (due row.entry h).0;
+  present = λ _. refl;
+  long = refl;
+}
+
+pub tree_marked_marked : (tree : Content) (opens : List OpenRow) (row : OpenRow) → GoodTree tree → AreMarksDue tree.rows opens → IsMarked tree (tree_marked tree row) row.entry
+tree_marked_marked tree opens row good due =
+    elim (row.delete_on_close) as (λ b. IsMarked tree (if b && is_deletable tree.rows row.entry then with_mark tree row.entry true else tree) row.entry) [
+      | true ↦ elim (is_deletable tree.rows row.entry) as (λ d. is_deletable tree.rows row.entry ≡ d → IsMarked tree (if d then with_mark tree row.entry true else tree) row.entry) [
+        | true ↦ λ e. with_mark_marked tree row.entry good e
+        | false ↦ λ _. same_marked tree opens row good due
+      ] refl
+      | false ↦ same_marked tree opens row good due
+    ]
+
+-- the opens that are left
+left_present : (state : StoreState) (row : OpenRow) (tree : Content) → GoodStore state → IsMarked state.tree tree row.entry → ArePresent tree.rows (without_open row.number state.opens)
+left_present state row tree good m =
+    all_without (λ (o : OpenRow). is_some (numbered tree.rows o.entry) ≡ true) row.number state.opens
+    (all_more (λ (o : OpenRow). is_some (numbered state.tree.rows o.entry) ≡ true) (λ (o : OpenRow). is_some (numbered tree.rows o.entry) ≡ true) state.opens (λ o p. m.present o.entry ∙ p) good.present)
+
+-- of another entry than the closed open's
+left_elsewhere : (state : StoreState) (row : OpenRow) (tree : Content) (m : ℕ) → GoodStore state → IsMarked state.tree tree row.entry → open_of state.opens row.number ≡ Some row → m == row.entry ≡ false → has_mark tree.rows m ≡ true → (is_deletable tree.rows m ≡ true) × (has_open (without_open row.number state.opens) m ≡ true)
+left_elsewhere state row tree m good k s e h =
+    let due = good.marked m (sym (k.elsewhere m e) ∙ h) in
+    (k.deletable m ∙ due.0, open_elsewhere state.opens row.number m row good.rising s e ∙ due.1)
+
+stays : (marked has : Bool) → marked ≡ true → (marked && not has) ≡ false → has ≡ true
+stays marked has m d = grind (arith, m, d)
+
+left_marked : (state : StoreState) (row : OpenRow) (tree : Content) → GoodStore state → IsMarked state.tree tree row.entry → open_of state.opens row.number ≡ Some row → is_due tree (without_open row.number state.opens) row.entry ≡ false → AreMarksDue tree.rows (without_open row.number state.opens)
+left_marked state row tree good k s due m h =
+    elim (m == row.entry) as (λ b. m == row.entry ≡ b → (is_deletable tree.rows m ≡ true) × (has_open (without_open row.number state.opens) m ≡ true)) [
+      | true ↦ λ e. (let same : m ≡ row.entry = grind (arith, nat_tests, e) in let here : has_mark tree.rows row.entry ≡ true = ap (has_mark tree.rows) (sym same) ∙ h in subst (λ (x : ℕ). (is_deletable tree.rows x ≡ true) × (has_open (without_open row.number state.opens) x ≡ true)) (sym same) (k.here here, stays (has_mark tree.rows row.entry) (has_open (without_open row.number state.opens) row.entry) here due))
+      | false ↦ λ e. left_elsewhere state row tree m good k s e h
+    ] refl
+
+pub goes : (marked has : Bool) → (marked && not has) ≡ true → (marked ≡ true) × (has ≡ false)
+goes marked has h = (grind (arith, h), grind (arith, h))
+
+-- what is left where the entry goes
+gone_present : (rows : List Row) (opens : List OpenRow) (entry : ℕ) → AreApart rows → ArePresent rows opens → has_open opens entry ≡ false → ArePresent (without rows entry) opens
+gone_present rows [] entry a p h = tt
+gone_present rows (o ∷ opens) entry a p h = (let here = numbered-removed rows entry o.entry a in (grind (arith, nat_tests, h, p.0, here), gone_present rows opens entry a p.1 (grind (arith, h))))
+
+gone_marked : (state : StoreState) (row : OpenRow) (tree : Content) → GoodStore state → IsMarked state.tree tree row.entry → open_of state.opens row.number ≡ Some row → AreMarksDue (without tree.rows row.entry) (without_open row.number state.opens)
+gone_marked state row tree good k s m h =
+    elim (m == row.entry) as (λ b. m == row.entry ≡ b → (if b then false else has_mark tree.rows m) ≡ true → (is_deletable (without tree.rows row.entry) m ≡ true) × (has_open (without_open row.number state.opens) m ≡ true)) [
+      | true ↦ λ _ q. absurd (cc)
+      | false ↦ λ e q. (let there = left_elsewhere state row tree m good k s e q in (deletable_removed tree.rows row.entry m k.good.apart e there.0, there.1))
+    ] refl (sym (mark_removed tree.rows row.entry m k.good.apart) ∙ h)
+
+-- the store with the open taken out, its entry there or not
+good_by : (state : StoreState) (row : OpenRow) (tree : Content) → GoodStore state → open_of state.opens row.number ≡ Some row → GoodTree tree → ArePresent tree.rows (without_open row.number state.opens) → AreMarksDue tree.rows (without_open row.number state.opens) → GoodStore (record { tree = tree; opens = without_open row.number state.opens; next = state.next })
+good_by state row tree good s t p m = record {
+  tree = t;
+  present = p;
+  rising = rising_without row.number state.opens good.rising;
+  below = below_without state.next row.number state.opens good.below;
+  few = omega (arith, good.few, length-without row.number state.opens good.rising (ap is_some s));
+  compatible = compatible_without row.number state.opens good.compatible;
+  marked = m;
+}
+
+cleared_good : (state : StoreState) (row : OpenRow) (tree : Content) → GoodStore state → IsMarked state.tree tree row.entry → open_of state.opens row.number ≡ Some row → GoodStore (record { tree = tree_cleared tree (without_open row.number state.opens) row.entry; opens = without_open row.number state.opens; next = state.next })
+cleared_good state row tree good k s =
+    elim (is_due tree (without_open row.number state.opens) row.entry) as (λ b. is_due tree (without_open row.number state.opens) row.entry ≡ b → GoodStore (record { tree = if b then removed tree row.entry else tree; opens = without_open row.number state.opens; next = state.next })) [
+      | true ↦ λ e. (let both = goes (has_mark tree.rows row.entry) (has_open (without_open row.number state.opens) row.entry) e in let d = deletable_row tree.rows row.entry (k.here both.0) in good_by state row (removed tree row.entry) good s (good_removed tree row.entry d.0 d.1 d.2 k.good) (gone_present tree.rows (without_open row.number state.opens) row.entry k.good.apart (left_present state row tree good k) both.1) (gone_marked state row tree good k s))
+      | false ↦ λ e. good_by state row tree good s k.good (left_present state row tree good k) (left_marked state row tree good k s e)
+    ] refl
+
+pub good_closed_open : (state : StoreState) (row : OpenRow) → GoodStore state → open_of state.opens row.number ≡ Some row → GoodStore (closed_open state row)
+good_closed_open state row good s = cleared_good state row (tree_marked state.tree row) good (tree_marked_marked state.tree state.opens row good.tree good.marked) s
+
+-- how many entries there are then
+pub length-cleared : (tree : Content) (opens : List OpenRow) (entry : ℕ) → (has_mark tree.rows entry ≡ true → is_deletable tree.rows entry ≡ true) → length (tree_cleared tree opens entry).rows + (if is_due tree opens entry then 1 else 0) ≡ length tree.rows
+length-cleared tree opens entry k =
+    elim (is_due tree opens entry) as (λ b. is_due tree opens entry ≡ b → length (let x : Content = if b then removed tree entry else tree in x).rows + (if b then 1 else 0) ≡ length tree.rows) [
+      | true ↦ λ e. (let both = goes (has_mark tree.rows entry) (has_open opens entry) e in let d = deletable_row tree.rows entry (k both.0) in length-removed tree.rows entry d.0 d.1)
+      | false ↦ λ _. omega arith
+    ] refl
+
+-- the store is that with the open of its number closed
+pub closed_is : (state : StoreState) (number : ℕ) (row : OpenRow) → open_of state.opens number ≡ Some row → closed_open state row ≡ closed state number
+closed_is state number row e = ap (λ (o : Option OpenRow). option_map_or (closed_open state) o state) (sym e)
+
+pub removed_is : (state : StoreState) (number : ℕ) (row : OpenRow) → open_of state.opens number ≡ Some row → removes_entry state row ≡ option_map_or (removes_entry state) (open_of state.opens number) false
+removed_is state number row e = ap (λ (o : Option OpenRow). option_map_or (removes_entry state) o false) (sym e)
+
+pub kept_closed_open : (state : StoreState) (row : OpenRow) (opens_count entries_count rest : ℕ) → IsKept state.tree state.opens state.next opens_count entries_count → open_of state.opens row.number ≡ Some row → rest ≡ entries_count - (if removes_entry state row then 1 else 0) → IsKept (closed_open state row).tree (closed_open state row).opens state.next (opens_count - 1) rest
+kept_closed_open state row opens_count entries_count rest kept s r =
+    let k = tree_marked_marked state.tree state.opens row kept.good.tree kept.good.marked in
+    let long = length-cleared (tree_marked state.tree row) (without_open row.number state.opens) row.entry k.here in
+    record {
+      good = good_closed_open state row kept.good s;
+      opens_counted = omega (arith, kept.opens_counted, length-without row.number state.opens kept.good.rising (ap is_some s));
+      entries_counted = omega (arith, kept.entries_counted, r, k.long, long);
+    }
+
+-- what an open's close takes away, whatever number it is named by
+pub opens_closed : (state : StoreState) (number : ℕ) → is_some (open_of state.opens number) ≡ true → (closed state number).opens ≡ without_open number state.opens
+opens_closed state number s =
+    elim (open_of state.opens number) as (λ o. open_of state.opens number ≡ o → is_some o ≡ true → (option_map_or (closed_open state) o state).opens ≡ without_open number state.opens) [
+      | None ↦ λ _ q. absurd (cc)
+      | Some row ↦ λ e _. ap (λ (n : ℕ). without_open n state.opens) (number_found state.opens number row e)
+    ] refl s
+
+pub good_closed : (state : StoreState) (number : ℕ) → GoodStore state → is_some (open_of state.opens number) ≡ true → GoodStore (closed state number)
+good_closed state number good s =
+    elim (open_of state.opens number) as (λ o. open_of state.opens number ≡ o → is_some o ≡ true → GoodStore (option_map_or (closed_open state) o state)) [
+      | None ↦ λ _ q. absurd (cc)
+      | Some row ↦ λ e _. good_closed_open state row good (ap (open_of state.opens) (number_found state.opens number row e) ∙ e)
+    ] refl s
+
+-- what the code looks at of an entry's opens
+pub first_open : (opens : List OpenRow) (entry : ℕ) → is_some (open_on_entry opens entry 0) ≡ has_open opens entry
+first_open [] entry = refl
+first_open (o ∷ opens) entry =
+    elim (o.entry == entry) as (λ b. is_some (number_of (slice_get (cond b (o ∷ filter (is_on_entry entry) opens) (filter (is_on_entry entry) opens)) 0)) ≡ (b || has_open opens entry)) [ true ↦ refl | false ↦ first_open opens entry ]
+
+off : (b : Bool) → (b && not true) ≡ false
+off true = refl
+off false = refl
+
+pub due_not : (tree : Content) (opens : List OpenRow) (n : ℕ) (first : Option ℕ) → first ≡ open_on_entry opens n 0 → is_some first ≡ true → is_due tree opens n ≡ false
+due_not tree opens n first e s =
+    let has : has_open opens n ≡ true = sym (first_open opens n) ∙ ap is_some (sym e) ∙ s in
+    rw has (off (has_mark tree.rows n))
+
+pub due_so : (tree : Content) (opens : List OpenRow) (n : ℕ) (first : Option ℕ) → first ≡ open_on_entry opens n 0 → is_some first ≡ false → has_mark tree.rows n ≡ true → is_due tree opens n ≡ true
+due_so tree opens n first e s m =
+    let has : has_open opens n ≡ false = sym (first_open opens n) ∙ ap is_some (sym e) ∙ s in
+    rw (has, m) refl
+
+pub cleared_not : (tree : Content) (opens : List OpenRow) (n : ℕ) → is_due tree opens n ≡ false → tree ≡ tree_cleared tree opens n
+cleared_not tree opens n e = rw e refl
+
+pub cleared_so : (tree : Content) (opens : List OpenRow) (n : ℕ) → is_due tree opens n ≡ true → removed tree n ≡ tree_cleared tree opens n
+cleared_so tree opens n e = rw e refl
+
+pub deletable_not_root : (rows : List Row) (n : ℕ) → is_deletable rows n ≡ true → n ≡ 1 → ⊥
+deletable_not_root rows n h e =
+    let d = deletable_row rows n h in
+    let number : d.0.1.number ≡ n = number-from_numbered rows d.0 n d.1 in
+    let leaf_of = leaf rows d.0 d.2 in
+    grind (arith, nat_tests, number, e, leaf_of.number)
+
+pub root_not_deletable : (rows : List Row) (n : ℕ) → n ≡ 1 → false ≡ is_deletable rows n
+root_not_deletable rows n e =
+    elim (is_deletable rows n) as (λ b. is_deletable rows n ≡ b → false ≡ b) [ true ↦ λ d. absurd (deletable_not_root rows n d e) | false ↦ λ _. refl ] refl
+
+none_is : (child : Option ℕ) (none : Bool) → is_some child ≡ not none → none ≡ is_none child
+none_is None true e = refl
+none_is None false e = absurd (grind (arith, e))
+none_is (Some n) true e = absurd (grind (arith, e))
+none_is (Some n) false e = refl
+
+pub deletable_by_child : (rows : List Row) (n : ℕ) (child : Option ℕ) (none : Bool) → is_some (numbered rows n) ≡ true → (n ≡ 1 → ⊥) → child ≡ child_after rows n None → is_some child ≡ not none → none ≡ is_deletable rows n
+deletable_by_child rows n child none s r c e =
+    let other : n == 1 ≡ false = grind (arith, nat_tests, r) in
+    let told : (not (n == 1) && is_none child) ≡ is_deletable rows n = ap (λ (o : Option ℕ). not (n == 1) && is_none o) c ∙ deletable_told rows n s in
+    let here : is_none child ≡ is_deletable rows n = rw other at told in
+    none_is child none e ∙ here
+
+pub no_view : (o v : Option View) → o ≡ None → o ≡ v → is_some v ≡ true → ⊥
+no_view o v e f s = (let none : is_some v ≡ false = ap is_some (sym f ∙ e) in grind (arith, none, s))
+
+-- the code's steps: the open is taken out, its entry marked, and cleared
+left_opens : (state : StoreState) (number : ℕ) (row : OpenRow) (opens : List OpenRow) → open_of state.opens number ≡ Some row → opens ≡ without_open number state.opens → opens ≡ without_open row.number state.opens
+left_opens state number row opens s o = o ∙ ap (λ (n : ℕ). without_open n state.opens) (sym (number_found state.opens number row s))
+
+left_tree : (state : StoreState) (number : ℕ) (row : OpenRow) (marked after : Content) (opens : List OpenRow) → open_of state.opens number ≡ Some row → opens ≡ without_open number state.opens → marked ≡ tree_marked state.tree row → after ≡ tree_cleared marked opens row.entry → after ≡ (closed_open state row).tree
+left_tree state number row marked after opens s o m a =
+    let rest = left_opens state number row opens s o in
+    a ∙ (λ i. tree_cleared (m i) (rest i) row.entry)
+
+left_due : (state : StoreState) (number : ℕ) (row : OpenRow) (marked : Content) (opens : List OpenRow) (removed : Bool) → open_of state.opens number ≡ Some row → opens ≡ without_open number state.opens → marked ≡ tree_marked state.tree row → removed ≡ is_due marked opens row.entry → removed ≡ removes_entry state row
+left_due state number row marked opens removed s o m r =
+    let rest = left_opens state number row opens s o in
+    r ∙ (λ i. is_due (m i) (rest i) row.entry)
+
+pub closed_by : (state : StoreState) (number : ℕ) (row : OpenRow) (marked after : Content) (opens : List OpenRow) → open_of state.opens number ≡ Some row → opens ≡ without_open number state.opens → marked ≡ tree_marked state.tree row → after ≡ tree_cleared marked opens row.entry → (let x : StoreState = record { tree = after; opens = opens; next = state.next } in x) ≡ closed state number
+closed_by state number row marked after opens s o m a =
+    let tree = left_tree state number row marked after opens s o m a in
+    let rest = left_opens state number row opens s o in
+    let here : (let x : StoreState = record { tree = after; opens = opens; next = state.next } in x) ≡ closed_open state row = λ i. record { tree = tree i; opens = rest i; next = state.next } in
+    here ∙ closed_is state number row s
+
+pub removed_by : (state : StoreState) (number : ℕ) (row : OpenRow) (marked : Content) (opens : List OpenRow) (removed : Bool) → open_of state.opens number ≡ Some row → opens ≡ without_open number state.opens → marked ≡ tree_marked state.tree row → removed ≡ is_due marked opens row.entry → removed ≡ is_removed_with state number
+removed_by state number row marked opens removed s o m r = left_due state number row marked opens removed s o m r ∙ removed_is state number row s
+
+pub kept_closed_by : (state : StoreState) (number : ℕ) (row : OpenRow) (marked after : Content) (opens : List OpenRow) (removed : Bool) (opens_count entries_count rest : ℕ) → IsKept state.tree state.opens state.next opens_count entries_count → open_of state.opens number ≡ Some row → opens ≡ without_open number state.opens → marked ≡ tree_marked state.tree row → after ≡ tree_cleared marked opens row.entry → removed ≡ is_due marked opens row.entry → rest ≡ entries_count - (if removed then 1 else 0) → IsKept after opens state.next (opens_count - 1) rest
+kept_closed_by state number row marked after opens removed opens_count entries_count rest kept s o m a r e =
+    let due : removed ≡ removes_entry state row = left_due state number row marked opens removed s o m r in
+    let stands : open_of state.opens row.number ≡ Some row = ap (open_of state.opens) (number_found state.opens number row s) ∙ s in
+    let fewer : rest ≡ entries_count - (if removes_entry state row then 1 else 0) = e ∙ ap (λ (b : Bool). entries_count - (if b then 1 else 0)) due in
+    rw (left_tree state number row marked after opens s o m a, left_opens state number row opens s o)
+    (kept_closed_open state row opens_count entries_count rest kept stands fewer)

@@ -1,0 +1,14 @@
+use Rattle.std.proofs.Common.{sym, ap, ◌∙◌}
+use Rattle.smb_wire.specs.Paths.{folded_path}
+use Rattle.smb_wire.specs.PathViews.{parts_of}
+use Rattle.smb_opens.specs.Found.{has_all_opens, has_all_entries}
+use Rattle.smb_opens.specs.Looked.{found_at}
+use Rattle.smb_opens.specs.State.{StoreState}
+use Rattle.smb_opens.proofs.Passing.{found_is}
+use Rattle.smb_opens.proofs.store.Store.find.Goals as goal
+
+pub returns : goal.returns
+returns g c =
+    let state : StoreState = record { tree = g.T.Tree.content c.self.inside.tree; opens = g.O.Opens.content c.self.inside.opens; next = c.self.inside.next } in
+    found_is state (folded_path (parts_of c.args.path.now)) c.find_target-target.result c.find_above-above.result c.is_folder_target.result c.is_pending.result c.has_all_opens.result c.has_all_entries.result c.find_target-target.ensures c.find_above-above.ensures.above (c.is_folder_target.ensures ∙ c.find_above-above.ensures.reached) c.is_pending.ensures (c.has_all_opens.ensures ∙ ap has_all_opens (sym c.self.view_is)) (c.has_all_entries.ensures ∙ ap has_all_entries (sym c.self.view_is))
+    ∙ ap (λ (s : StoreState). found_at s (folded_path (parts_of c.args.path.now))) c.self.view_is

@@ -1,0 +1,44 @@
+use Rattle.std.proofs.Common.{◌≡◌, ◌==◌, length, sym, ap, ◌∙◌, Option, Some}
+use Rattle.smb_opens.specs.declared.view.View.{View}
+use Rattle.smb_opens.specs.Bytes.{write_status_by}
+use Rattle.smb_opens.specs.State.{StoreState}
+use Rattle.smb_opens.specs.Views.{open_view}
+use Rattle.smb_opens.proofs.Shows.{shown_by}
+use Rattle.smb_opens.proofs.Through.{file_shown, kept_shown, stored, room_shown, lawful_written, why_written}
+use Rattle.smb_opens.proofs.store.Store.write.Goals as goal
+
+pub write_file-requires : goal.write_file-requires
+write_file-requires g c =
+    let state : StoreState = record { tree = g.T.Tree.content c.self.inside.tree; opens = g.O.Opens.content c.self.inside.opens; next = c.self.inside.next } in
+    let shown = shown_by state c.args.number c.in-Some.view (c.in-Some.ensures.value ∙ sym (ap (λ (s : StoreState). open_view s c.args.number) c.self.view_is)) in
+    record { file = file_shown state c.args.number c.in-Some.view shown c.in_default-may_write.ensures.file }
+
+pub invariant_of-self : goal.invariant_of-self
+invariant_of-self g c =
+    let state : StoreState = record { tree = g.T.Tree.content c.self.inside.tree; opens = g.O.Opens.content c.self.inside.opens; next = c.self.inside.next } in
+    let shown = shown_by state c.args.number c.in-Some.view (c.in-Some.ensures.value ∙ sym (ap (λ (s : StoreState). open_view s c.args.number) c.self.view_is)) in
+    kept_shown c.write_file.result state _ _ _ c.args.number c.args.offset c.args.buffer.now c.args.moment c.in-Some.view shown c.in_default-may_write.ensures.file c.write_file.ensures.ok c.write_file.ensures.room c.write_file.ensures.err c.self.invariant
+
+pub returns-clause-store : goal.returns-clause-store
+returns-clause-store g c =
+    let state : StoreState = record { tree = g.T.Tree.content c.self.inside.tree; opens = g.O.Opens.content c.self.inside.opens; next = c.self.inside.next } in
+    let shown = shown_by state c.args.number c.in-Some.view (c.in-Some.ensures.value ∙ sym (ap (λ (s : StoreState). open_view s c.args.number) c.self.view_is)) in
+    rw (← c.self.view_is) (stored c.write_file.result state _ c.args.number c.args.offset c.args.buffer.now c.args.moment c.in-Some.view shown (sym c.is_empty.ensures ∙ c.if-is_empty.false) c.write_file.ensures.ok)
+
+pub returns-clause-lawful : goal.returns-clause-lawful
+returns-clause-lawful g c =
+    let state : StoreState = record { tree = g.T.Tree.content c.self.inside.tree; opens = g.O.Opens.content c.self.inside.opens; next = c.self.inside.next } in
+    let shown = shown_by state c.args.number c.in-Some.view (c.in-Some.ensures.value ∙ sym (ap (λ (s : StoreState). open_view s c.args.number) c.self.view_is)) in
+    let room = room_shown state c.args.number c.in-Some.view c.args.offset c.args.buffer.now c.self.invariant.good.tree shown c.in_default-may_write.ensures.file in
+    rw (← c.self.view_is)
+    (rw (ap (λ (s : StoreState). open_view s c.args.number) c.self.view_is ∙ sym c.in-Some.ensures.value)
+    (lawful_written c.write_file.result state.tree c.in-Some.view c.args.offset c.args.buffer.now c.in_default-may_write.ensures.goes_on room c.write_file.ensures.room))
+
+pub returns-clause-why : goal.returns-clause-why
+returns-clause-why g c =
+    let state : StoreState = record { tree = g.T.Tree.content c.self.inside.tree; opens = g.O.Opens.content c.self.inside.opens; next = c.self.inside.next } in
+    let shown = shown_by state c.args.number c.in-Some.view (c.in-Some.ensures.value ∙ sym (ap (λ (s : StoreState). open_view s c.args.number) c.self.view_is)) in
+    let room = room_shown state c.args.number c.in-Some.view c.args.offset c.args.buffer.now c.self.invariant.good.tree shown c.in_default-may_write.ensures.file in
+    rw (← c.self.view_is)
+    (rw (ap (λ (s : StoreState). open_view s c.args.number) c.self.view_is ∙ sym c.in-Some.ensures.value)
+    (why_written c.write_file.result state.tree c.in-Some.view c.args.offset c.args.buffer.now (sym c.is_empty.ensures ∙ c.if-is_empty.false) c.in_default-may_write.ensures.goes_on room c.write_file.ensures.why))
