@@ -42,6 +42,18 @@ def close(message_id, open_number, session_id=0, tree_id=0):
     return frame(header(6, message_id, session_id=session_id, tree_id=tree_id) + body)
 
 
+def read(message_id, open_number, offset, length, session_id=0, tree_id=0):
+    """A frame of a READ of an open, in a session and a tree."""
+    body = struct.pack('<HBBIQQQIIIHHB', 49, 0, 0, length, offset, open_number, open_number, 0, 0, 0, 0, 0, 0)
+    return frame(header(8, message_id, session_id=session_id, tree_id=tree_id) + body)
+
+
+def write(message_id, open_number, offset, buffer, session_id=0, tree_id=0):
+    """A frame of a WRITE of bytes to an open, in a session and a tree."""
+    body = struct.pack('<HHIQQQIIHHI', 49, 112, len(buffer), offset, open_number, open_number, 0, 0, 0, 0, 0)
+    return frame(header(9, message_id, session_id=session_id, tree_id=tree_id) + body + buffer)
+
+
 def echoes(first, count):
     """A frame of `count` ECHO requests with the MessageIds from `first` on."""
     payload = b''

@@ -9,6 +9,7 @@ use smb_opens::{
 use smb_tree::{Kind, PlainTree, Tree};
 use smb_wire::{
     Access, CreateAction, CreateDispositionCode, CreateOptions, FileAttributes, ShareAccess, Units,
+    split_path,
 };
 use std::alloc::Global;
 
@@ -144,6 +145,59 @@ fn leaves<T: Tree + Drop, O: Opens + Drop>(store: &mut Store<T, O>) -> bool {
 fn access_is_mapped_and_an_owner_leaves(rt: HostRuntime) {
     let is_so = match new_store(rt.alloc()) {
         Some(mut store) => maps(&mut store) && refuses(&mut store) && leaves(&mut store),
+        None => false,
+    };
+    assert!(rt; is_so);
+}
+
+/// Whether session 1 opens a name under a tree connect, so that the entry is deleted when the open is closed.
+fn opens_to_delete<T: Tree + Drop, O: Opens + Drop>(
+    store: &mut Store<T, O>,
+    name: &[u8],
+    options: u32,
+    tree: u32,
+) -> bool {
+    let Some(name) = Units::of(name) else {
+        return false;
+    };
+    let asked = CreateAsk {
+        name,
+        access: Access(0x1_0000),
+        attributes: FileAttributes(0),
+        share: ShareAccess(7),
+        disposition: CreateDispositionCode(3),
+        options: CreateOptions(options | 0x1000),
+        session: 1,
+        tree,
+    };
+    store.create(&asked, MOMENT).is_ok()
+}
+
+/// Whether an entry is at a name's path.
+fn exists<T: Tree>(tree: &T, name: &[u8]) -> bool {
+    match Units::of(name) {
+        Some(name) => match split_path(name) {
+            Ok(path) => tree.find(&path).is_some(),
+            Err(_) => false,
+        },
+        None => false,
+    }
+}
+
+/// Open 1, of tree 2, is to delete a folder, and open 2, of tree 1, the file in it. Whether the folder stays and the file goes as
+/// the session leaves: its opens are closed in rising number, so the file is in the folder as that is closed.
+fn leaves_in_rising_number<T: Tree + Drop, O: Opens + Drop>(store: &mut Store<T, O>) -> bool {
+    if !opens_to_delete(store, b"d\0", 0x1, 2) || !opens_to_delete(store, b"d\0\\\0f\0", 0x40, 1) {
+        return false;
+    }
+    store.close_all(Owner::Session(1));
+    exists(store.tree(), b"d\0") && !exists(store.tree(), b"d\0\\\0f\0")
+}
+
+#[test]
+fn a_session_leaves_in_rising_number(rt: HostRuntime) {
+    let is_so = match new_store(rt.alloc()) {
+        Some(mut store) => leaves_in_rising_number(&mut store),
         None => false,
     };
     assert!(rt; is_so);

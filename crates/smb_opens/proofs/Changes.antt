@@ -106,7 +106,7 @@ folder_push : (rows : List Row) (row : Row) (path : Path) → is_folder (entry_a
 folder_push [] row path h = cc
 folder_push (x ∷ rows) row path h = grind (arith, common_steps, h, folder_push rows row path)
 
-below_push : (rows : List Row) (row : Row) (next : ℕ) → AreBelow rows next → row.1.number ≡ next → AreBelow (rows ++ row ∷ []) (next + 1)
+pub below_push : (rows : List Row) (row : Row) (next : ℕ) → AreBelow rows next → row.1.number ≡ next → AreBelow (rows ++ row ∷ []) (next + 1)
 below_push [] row next h e = (omega (arith, e), tt)
 below_push (x ∷ rows) row next h e = (omega (arith, h.0), below_push rows row next h.1 e)
 

@@ -20,3 +20,5 @@ pub mod Shows
 pub mod Writes
 pub mod Through
 pub mod Again
+pub mod Quiet
+pub mod Leaving

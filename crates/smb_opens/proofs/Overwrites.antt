@@ -3,7 +3,6 @@ use Rattle.std.proofs.Common.{◌≡◌, ◌≢◌, ◌==◌, ℕ, ◌-◌, List
 use Rattle.std.proofs.lemmas.Grind.{common_steps}
 use Rattle.std.proofs.lemmas.Bool.Decides.{nat_tests}
 use Rattle.std.specs.Option.{option_map}
-use Rattle.std.specs.Prelude.{Result, Ok, Err, IfErr, IsErrAnd}
 use Rattle.smb_tree.specs.declared.entry.Basic.{Basic}
 use Rattle.smb_tree.specs.declared.fault.TreeFault.{TreeFault}
 use Rattle.smb_tree.specs.declared.fault.TreeFault.TheVariants.{Absent, ParentAbsent, Exists, NotEmpty, TooDeep, Full, NoMemory}
@@ -12,12 +11,9 @@ use Rattle.smb_tree.specs.Content.{Row, Content, numbered, changed, resized, wit
 use Rattle.smb_tree.specs.Faults.{size_fault, basic_fault}
 use Rattle.smb_tree.proofs.Apart.{numbered-changed}
 use Rattle.smb_opens.specs.declared.found.Target.{Target}
-use Rattle.smb_opens.specs.declared.fault.StoreFault.{StoreFault}
-use Rattle.smb_opens.specs.declared.fault.StoreFault.TheVariants.{NoMemory as NoRoom}
 use Rattle.smb_wire.specs.Dispositions.{overwrites_by}
 use Rattle.smb_opens.specs.Asked.{FileAsked}
 use Rattle.smb_opens.specs.Effect.{overwritten, overwritten_basic, overwritten_tree, standing_tree}
-use Rattle.smb_opens.specs.Faults.{refusal_of}
 use Rattle.smb_opens.specs.Looked.{target_of}
 use Rattle.smb_opens.specs.Good.{GoodTree}
 use Rattle.smb_opens.proofs.Changes.{Shrinks, space_within_changed}
@@ -85,11 +81,6 @@ overwritten_done content ask moment n target basic e k =
 -- an overwritten file has no bytes
 pub empties : (ask : FileAsked) (moment : ℕ) → Shrinks (overwritten ask moment)
 empties ask moment = record { number = λ _. refl; kind = λ _. refl; bytes = λ e. omega arith }
-
--- a refusal of the tree that is want of memory is told as that
-pub told_memory : {X : Type 0} (r : Result X StoreFault) (fault : TreeFault) → fault ≡ NoMemory → IsErrAnd r (λ e. e ≡ refusal_of fault) → IfErr r (λ e. e ≡ NoRoom)
-told_memory (Ok x) fault e h = tt
-told_memory (Err told) fault e h = h ∙ ap refusal_of e
 
 -- what overwrites is done
 pub standing_over : (tree : Content) (ask : FileAsked) (moment number : ℕ) → overwrites_by ask.disposition ≡ true → overwritten_tree tree ask moment number ≡ standing_tree tree ask moment number

@@ -19,7 +19,7 @@ all_removed P [] n h = h
 all_removed P (row ∷ rows) n h =
     elim (row.1.number == n) as (λ b. AllByRecursion P (cond b rows (row ∷ without rows n))) [ true ↦ h.1 | false ↦ (h.0, all_removed P rows n h.1) ]
 
-below_removed : (rows : List Row) (n next : ℕ) → AreBelow rows next → AreBelow (without rows n) next
+pub below_removed : (rows : List Row) (n next : ℕ) → AreBelow rows next → AreBelow (without rows n) next
 below_removed [] n next h = h
 below_removed (row ∷ rows) n next h =
     elim (row.1.number == n) as (λ b. AreBelow (cond b rows (row ∷ without rows n)) next) [ true ↦ h.1 | false ↦ (h.0, below_removed rows n next h.1) ]

@@ -1,5 +1,5 @@
 -- What an open shows is of an open and an entry that exist.
-use Rattle.std.proofs.Common.{◌≡◌, ℕ, List, Option, None, Some, refl, ◌∙◌, sym, ap}
+use Rattle.std.proofs.Common.{◌≡◌, ℕ, List, None, Some, refl, ◌∙◌, ap}
 use Rattle.std.specs.Option.{option_map}
 use Rattle.smb_tree.specs.Content.{Row, numbered}
 use Rattle.smb_tree.specs.Views.{Shown, entry_shown, row_shown}

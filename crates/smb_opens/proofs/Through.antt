@@ -1,25 +1,23 @@
 -- READ and WRITE through an open: what the tree says of the entry that the open shows.
-use Rattle.std.proofs.Common.{◌≡◌, ◌≢◌, ◌==◌, ◌<◌, ◌≤◌, ◌+◌, max, ℕ, List, [], ◌++◌, length, true, false, Bool, ◌&&◌, Option, None, Some, is_some, refl, sym, ap, subst, arith, ◌∙◌}
+use Rattle.std.proofs.Common.{◌≡◌, ◌≢◌, ◌==◌, ◌≤◌, ◌+◌, max, ℕ, List, [], length, true, false, Bool, ◌&&◌, Option, None, Some, is_some, refl, sym, ap, subst, arith, ◌∙◌}
 use Rattle.std.proofs.lemmas.Grind.{common_steps}
 use Rattle.std.proofs.lemmas.Bool.Decides.{nat_tests}
 use Rattle.std.specs.Option.{option_map, option_map_or}
-use Rattle.std.specs.Prelude.{Result, Ok, Err, OnOk, OnErr, IfErr, IsErrAnd, nat_lt, if◌then◌else◌}
+use Rattle.std.specs.Prelude.{Result, Ok, Err, OnOk, OnErr, IfErr, nat_lt, if◌then◌else◌}
 use Rattle.smb_wire.specs.NtStatus.{STATUS_SUCCESS, STATUS_DISK_FULL}
 use Rattle.smb_tree.specs.declared.fault.TreeFault.{TreeFault}
-use Rattle.smb_tree.specs.declared.fault.TreeFault.TheVariants.{NoMemory as WantOfMemory}
 use Rattle.smb_tree.specs.Entries.{Entry, is_folder_kind}
 use Rattle.smb_tree.specs.Content.{Row, Content, numbered, changed, bytes_read}
-use Rattle.smb_tree.specs.Faults.{read_fault, size_fault, write_fault}
-use Rattle.smb_tree.proofs.Changes.{bytes_found, read_fault_is}
+use Rattle.smb_tree.specs.Faults.{size_fault, write_fault}
+use Rattle.smb_tree.proofs.Changes.{bytes_found}
 use Rattle.smb_opens.specs.declared.fault.StoreFault.{StoreFault}
 use Rattle.smb_opens.specs.declared.fault.StoreFault.TheVariants.{Status, NoMemory}
 use Rattle.smb_opens.specs.declared.open_row.OpenRow.{OpenRow}
 use Rattle.smb_opens.specs.declared.view.View.{View}
 use Rattle.smb_opens.specs.Bytes.{file_bytes, write_rows, write_status_by, has_no_room, written_file, written_tree, written_to}
 use Rattle.smb_opens.specs.Create.{first_status}
-use Rattle.smb_opens.specs.Faults.{IsRefusal, refusal_of}
+use Rattle.smb_opens.specs.Faults.{IsRefusal}
 use Rattle.smb_opens.specs.Good.{GoodTree, AreMarksDue, IsKept}
-use Rattle.smb_opens.specs.Opens.{open_of}
 use Rattle.smb_opens.specs.State.{StoreState}
 use Rattle.smb_opens.proofs.Changes.{present_changed, length-changed}
 use Rattle.smb_opens.proofs.Marks.{deletable_changed, mark_changed}
@@ -27,19 +25,8 @@ use Rattle.smb_opens.proofs.Shows.{ShownBy, entry_of}
 use Rattle.smb_opens.proofs.Trees.{of_number}
 use Rattle.smb_opens.proofs.Writes.{writes_keep, good_within, has_room, space_of_bytes}
 
--- a refusal of the tree that is want of memory is told as that, where no row holds
-pub told_want : {X : Type 0} (r : Result X StoreFault) (fault : TreeFault) (status : ℕ) → fault ≡ WantOfMemory → status ≡ STATUS_SUCCESS → IsErrAnd r (λ e. e ≡ refusal_of fault) → IfErr r (λ e. IsRefusal status e)
-told_want (Ok x) fault status e s h = tt
-told_want (Err told) fault status e s h = subst (λ (f : StoreFault). IsRefusal status f) (sym (h ∙ ap refusal_of e)) s
-
 kind_shown : (state : StoreState) (number : ℕ) (view : View) → (s : ShownBy state number view) → is_folder_kind view.kind ≡ false → is_folder_kind s.row.1.kind ≡ false
 kind_shown state number view s file = ap (λ (v : View). is_folder_kind v.kind) (sym s.shown) ∙ file
-
--- a file that is shown can be read
-pub readable : (state : StoreState) (number : ℕ) (view : View) → ShownBy state number view → is_folder_kind view.kind ≡ false → read_fault state.tree view.entry ≡ None
-readable state number view s file =
-    ap (λ (n : ℕ). read_fault state.tree n) (entry_of state number view s)
-    ∙ read_fault_is state.tree.rows s.held.entry s.row false s.at_entry (kind_shown state number view s file)
 
 -- the bytes of the entry that is shown are those read through the open
 pub bytes_shown : (state : StoreState) (number : ℕ) (view : View) (offset count : ℕ) → ShownBy state number view → bytes_read state.tree.rows view.entry offset count ≡ file_bytes state number offset count

@@ -1,17 +1,12 @@
 -- A WRITE of a file: what it leaves, and that a good store stays good.
-use Rattle.std.proofs.Common.{◌≡◌, ◌≢◌, ◌==◌, ◌<◌, ◌≤◌, ℕ, ◌+◌, ◌-◌, List, [], ◌∷◌, length, max, true, false, cond, ◌||◌, Option, None, Some, is_some, refl, sym, ap, subst, arith, ◌∙◌, length-append}
+use Rattle.std.proofs.Common.{◌≡◌, ◌==◌, ◌≤◌, ℕ, ◌+◌, List, [], ◌∷◌, length, max, true, false, cond, None, Some, refl, sym, ap, subst, arith, ◌∙◌}
 use Rattle.std.proofs.lemmas.Grind.{common_steps}
 use Rattle.std.proofs.lemmas.Bool.Decides.{nat_tests}
 use Rattle.std.specs.List.{AllByRecursion}
-use Rattle.std.specs.Option.{option_map}
-use Rattle.std.specs.Prelude.{Result, Ok, Err, OnOk, OnErr, IfErr, IsErrAnd, nat_lt, if◌then◌else◌}
 use Rattle.smb_tree.specs.declared.entry.Basic.{Basic}
-use Rattle.smb_tree.specs.declared.fault.TreeFault.{TreeFault}
-use Rattle.smb_tree.specs.declared.fault.TreeFault.TheVariants.{Absent, Full, NoMemory}
 use Rattle.smb_tree.specs.Entries.{Entry, is_folder, is_folder_kind, allocation_size, kept_basic}
-use Rattle.smb_tree.specs.Content.{Path, Row, Content, entry_at, numbered, parent, changed, resized, written, used_space, bytes_of, with_size, with_basic, with_bytes}
+use Rattle.smb_tree.specs.Content.{Row, Content, entry_at, numbered, parent, changed, resized, written, used_space, with_size, with_basic, with_bytes}
 use Rattle.smb_tree.specs.Faults.{size_fault, basic_fault, write_fault}
-use Rattle.smb_tree.specs.Laws.{AreBelow}
 use Rattle.smb_tree.proofs.Apart.{apart_changed, numbered-changed}
 use Rattle.smb_tree.proofs.Changes.{bytes_found}
 use Rattle.smb_tree.proofs.Parts.{length-written, length-resized}

@@ -1,9 +1,8 @@
 -- READ and WRITE of a file through an open ([MS-SMB2] 3.3.5.12, 3.3.5.13).
 use Rattle.std.specs.Prelude.{ℕ, ◌+◌, ◌-◌, ◌||◌, ◌&&◌, ◌==◌, Bool, not, min, nat_lt, nat_le, List, [], ◌∷◌, length, Option, None, Some, if◌then◌else◌}
 use Rattle.std.specs.Option.{option_map_or}
-use Rattle.smb_wire.specs.Access.{has_any, FILE_READ_DATA, FILE_WRITE_DATA, FILE_EXECUTE}
-use Rattle.smb_wire.specs.NtStatus.{STATUS_SUCCESS, STATUS_INVALID_PARAMETER, STATUS_INVALID_DEVICE_REQUEST, STATUS_ACCESS_DENIED, STATUS_END_OF_FILE, STATUS_DISK_FULL, STATUS_FILE_CLOSED}
-use Rattle.smb_wire.specs.declared.access.Access.{Access}
+use Rattle.smb_wire.specs.Access.{has_any, FILE_WRITE_DATA}
+use Rattle.smb_wire.specs.NtStatus.{STATUS_INVALID_PARAMETER, STATUS_INVALID_DEVICE_REQUEST, STATUS_ACCESS_DENIED, STATUS_END_OF_FILE, STATUS_DISK_FULL, STATUS_FILE_CLOSED}
 use Rattle.smb_tree.specs.declared.entry.Basic.{Basic}
 use Rattle.smb_tree.specs.Entries.{Entry, is_folder_kind, kept_basic}
 use Rattle.smb_tree.specs.Content.{Content, changed, used_space, bytes_read, written, with_bytes}

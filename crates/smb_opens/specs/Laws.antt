@@ -1,5 +1,5 @@
 -- What follows from the definitions.
-use Rattle.std.specs.Prelude.{◌≡◌, ℕ, ◌==◌, true, false, bit_and, Some, ◌≢◌, List, length}
+use Rattle.std.specs.Prelude.{◌≡◌, ℕ, ◌==◌, true, false, bit_and, Some, ◌≢◌, List, length, is_some}
 use Rattle.smb_wire.specs.Dispositions.{overwrites_by}
 use Rattle.smb_wire.specs.declared.access.Access.{Access}
 use Rattle.smb_wire.specs.declared.access.ShareAccess.{ShareAccess}
@@ -14,6 +14,7 @@ use Rattle.smb_opens.specs.Good.{UnmarkedTree, GoodStore}
 use Rattle.smb_opens.specs.Opens.{open_of}
 use Rattle.smb_opens.specs.Sharing.{Use, is_conflict}
 use Rattle.smb_opens.specs.State.{StoreState}
+use Rattle.smb_opens.specs.Steps.{StoreStep, stepped_all, NoneChanges}
 use Rattle.smb_opens.specs.Views.{open_view}
 use Rattle.smb_opens.specs.declared.open_row.OpenRow.{OpenRow}
 
@@ -63,12 +64,15 @@ ACloseKeepsBytesAndTimes =
     numbered state.tree.rows row.entry ≡ Some before → numbered (closed state number).tree.rows row.entry ≡ Some after →
     (after.0 ≡ before.0) × (after.1.bytes ≡ before.1.bytes) × (after.1.basic ≡ before.1.basic)
 
--- what a WRITE put at an offset is what a READ of that range gives afterwards, through any open of the same file
+-- what a WRITE put at an offset is what a READ of that range gives, through any open of the same file and after any
+-- requests, as long as the file exists and no WRITE to it and no CREATE that overwrites it comes between
 abbrev pub WhatIsWrittenIsReadAgain : Type 0
 WhatIsWrittenIsReadAgain =
-    (state : StoreState) (number other offset : ℕ) (buffer : List ℕ) (moment : ℕ) (writer reader : OpenRow) → GoodStore state →
-    open_of state.opens number ≡ Some writer → open_of state.opens other ≡ Some reader → writer.entry ≡ reader.entry →
-    file_bytes (written_to state number offset buffer moment) other offset (length buffer) ≡ buffer
+    (state : StoreState) (number offset : ℕ) (buffer : List ℕ) (moment : ℕ) (steps : List StoreStep) (other : ℕ) (writer reader : OpenRow) →
+    GoodStore state → open_of state.opens number ≡ Some writer → NoneChanges writer.entry (written_to state number offset buffer moment) steps →
+    open_of (stepped_all (written_to state number offset buffer moment) steps).opens other ≡ Some reader → reader.entry ≡ writer.entry →
+    is_some (numbered (stepped_all (written_to state number offset buffer moment) steps).tree.rows writer.entry) ≡ true →
+    file_bytes (stepped_all (written_to state number offset buffer moment) steps) other offset (length buffer) ≡ buffer
 
 -- a WRITE leaves every other entry as it is, and all opens
 abbrev pub AWriteIsOfOneFile : Type 0

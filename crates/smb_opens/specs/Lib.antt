@@ -12,6 +12,7 @@ pub mod Views
 pub mod Bytes
 pub mod Effect
 pub mod Close
+pub mod Steps
 pub mod Good
 pub mod Faults
 pub mod Laws

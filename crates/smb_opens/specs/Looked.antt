@@ -10,6 +10,10 @@ use Rattle.smb_wire.specs.Paths.{is_separator, path_fault}
 use Rattle.smb_tree.specs.Entries.{Entry, is_folder_kind}
 use Rattle.smb_tree.specs.Content.{Path, entry_at}
 use Rattle.smb_opens.specs.declared.open_row.OpenRow.{OpenRow}
+use Rattle.smb_tree.specs.declared.fault.TreeFault.{TreeFault}
+use Rattle.smb_tree.specs.declared.fault.TreeFault.TheVariants.{Absent, ParentAbsent, Exists, NotEmpty, TooDeep, Full, NoMemory}
+use Rattle.smb_opens.specs.declared.fault.StoreFault.{StoreFault}
+use Rattle.smb_opens.specs.declared.fault.StoreFault.TheVariants.{Status, NoMemory as NoRoom}
 use Rattle.smb_opens.specs.declared.found.Target.{Target}
 use Rattle.smb_opens.specs.declared.found.Found.{Found}
 use Rattle.smb_opens.specs.Access.{is_bad_access, granted, is_writing, is_deleting}
@@ -116,3 +120,13 @@ abbrev pub found_rows : List OpenRow → FileAsked → Found → List StatusRow
 found_rows opens ask found =
     place_rows ask found
     ++ (kind_rows ask found.target ++ ((target_conflicts opens ask found.target, STATUS_SHARING_VIOLATION) ∷ room_rows found))
+
+-- a refusal of the tree, as the store tells it
+abbrev pub refusal_of : TreeFault → StoreFault
+refusal_of Full = Status STATUS_DISK_FULL
+refusal_of Absent = NoRoom
+refusal_of ParentAbsent = NoRoom
+refusal_of Exists = NoRoom
+refusal_of NotEmpty = NoRoom
+refusal_of TooDeep = NoRoom
+refusal_of NoMemory = NoRoom

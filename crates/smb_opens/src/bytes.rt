@@ -12,7 +12,7 @@ ghost use Rattle.smb_opens.specs.Faults.{IsRefusal};
 ghost use Rattle.smb_opens.specs.declared.fault.StoreFault.TheVariants.{Status, NoMemory};
 
 use super::access::{is_reading, is_writing};
-use super::fault::StoreFault;
+use super::fault::{StoreFault, refusal_of};
 use super::open_row::OpenNo;
 use super::opens::Opens;
 use super::store::Store;
@@ -117,7 +117,9 @@ fn write_file<T: Tree>(
         unreachable!();
     };
     let basic = written_basic(moment, seen.basic);
-    tree.write(entry, offset, buffer)?;
+    if let Err(fault) = tree.write(entry, offset, buffer) {
+        return Err(refusal_of(fault));
+    }
     match tree.set_basic(entry, basic) {
         Ok(()) => Ok(()),
         Err(_) => unreachable!(),
@@ -170,8 +172,10 @@ impl<T: Tree + Drop, O: Opens + Drop> Store<T, O> {
         if let Err(status) = may_read(&view, offset, count, minimum) {
             return Err(StoreFault::Status(status));
         }
-        self.tree.read(view.entry, offset, u64::from(count), bytes)?;
-        Ok(())
+        match self.tree.read(view.entry, offset, u64::from(count), bytes) {
+            Ok(()) => Ok(()),
+            Err(fault) => Err(refusal_of(fault)),
+        }
     }
 
     /// Answers a WRITE through the open of a number at a moment, in units of 100 ns since 1601 ([MS-SMB2] 3.3.5.13): puts

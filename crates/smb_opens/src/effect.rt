@@ -13,7 +13,7 @@ ghost use Rattle.smb_opens.specs.declared.fault.StoreFault.TheVariants.{NoMemory
 
 use super::ask::CreateAsk;
 use super::checks::{asks_delete, asks_folder};
-use super::fault::StoreFault;
+use super::fault::{StoreFault, refusal_of};
 use super::found::Target;
 use super::open_row::{OpenNo, OpenRow};
 use super::sharing::share_asked;
@@ -122,7 +122,9 @@ pub(crate) fn affect<T: Tree>(
     if !disposition.overwrites() {
         return Ok(());
     }
-    tree.set_size(target.number, 0)?;
+    if let Err(fault) = tree.set_size(target.number, 0) {
+        return Err(refusal_of(fault));
+    }
     let basic = overwritten_basic(ask, disposition, moment, target.basic);
     match tree.set_basic(target.number, basic) {
         Ok(()) => Ok(()),

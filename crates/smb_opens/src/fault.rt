@@ -1,14 +1,11 @@
 //! Why a store refuses.
 
 ghost use Rattle.std.specs.Prelude.{◌≡◌};
-ghost use Rattle.smb_opens.specs.Faults.{refusal_of};
+ghost use Rattle.smb_opens.specs.Looked.{refusal_of};
 ghost use Rattle.smb_opens.specs.declared.fault.StoreFault.TheVariants.{NoMemory};
 
 use smb_tree::TreeFault;
-use smb_wire::nt_status::{
-    STATUS_DIRECTORY_NOT_EMPTY, STATUS_DISK_FULL, STATUS_OBJECT_NAME_COLLISION,
-    STATUS_OBJECT_NAME_INVALID, STATUS_OBJECT_NAME_NOT_FOUND, STATUS_OBJECT_PATH_NOT_FOUND,
-};
+use smb_wire::nt_status::STATUS_DISK_FULL;
 use std::alloc::AllocError;
 use thiserror::Error;
 
@@ -31,18 +28,13 @@ impl From<AllocError> for StoreFault {
     }
 }
 
-impl From<TreeFault> for StoreFault {
-    ghost from_gives = { λ refusal fault. fault ≡ refusal_of refusal };
-
-    fn from(refusal: TreeFault) -> StoreFault {
-        match refusal {
-            TreeFault::Absent => StoreFault::Status(STATUS_OBJECT_NAME_NOT_FOUND),
-            TreeFault::ParentAbsent => StoreFault::Status(STATUS_OBJECT_PATH_NOT_FOUND),
-            TreeFault::Exists => StoreFault::Status(STATUS_OBJECT_NAME_COLLISION),
-            TreeFault::NotEmpty => StoreFault::Status(STATUS_DIRECTORY_NOT_EMPTY),
-            TreeFault::TooDeep => StoreFault::Status(STATUS_OBJECT_NAME_INVALID),
-            TreeFault::Full => StoreFault::Status(STATUS_DISK_FULL),
-            TreeFault::NoMemory => StoreFault::NoMemory,
-        }
+/// What a tree's refusal is to a store. A store asks a tree for nothing that is refused for other reasons than want of room
+/// and of memory.
+pub(crate) fn refusal_of(refusal: TreeFault) -> StoreFault
+    ensures { result ≡ refusal_of refusal }
+{
+    match refusal {
+        TreeFault::Full => StoreFault::Status(STATUS_DISK_FULL),
+        _ => StoreFault::NoMemory,
     }
 }

@@ -5,7 +5,8 @@ ghost use Rattle.smb_opens.specs.Laws.{ANewTreeIsGood, ACreateIsAtOnePath, AnOpe
 /// A new tree is good, so a store can be made of it; a CREATE changes at most the entry at its own path, and none where it
 /// doesn't overwrite, and returns what its open shows; a conflict is one both ways, and more access never removes one; a
 /// CLOSE leaves every entry but its own, and of its own the bytes and times while it exists. What a WRITE put is read
-/// again through any open of the file, and it leaves all other entries and all opens. The contract is the statement, and
+/// again through any open of the file, as long as no WRITE to it and no CREATE that overwrites it comes between; and a
+/// WRITE leaves all other entries and all opens. The contract is the statement, and
 /// the body does nothing.
 pub fn laws_of_stores()
     ensures new_tree { ANewTreeIsGood }

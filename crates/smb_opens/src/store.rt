@@ -31,7 +31,7 @@ use super::checks::{
 };
 use super::close::{clear, mark_closed};
 use super::effect::{action_on, affect, attributes_asked, kind_asked, opened_by};
-use super::fault::StoreFault;
+use super::fault::{StoreFault, refusal_of};
 use super::found::{Found, Target};
 use super::look::{count_entries, entry_view, find_above, find_target};
 use super::open_row::{OpenNo, Owner};
@@ -224,7 +224,7 @@ impl<T: Tree + Drop, O: Opens + Drop> Store<T, O> {
             .add(path, kind, attributes_asked(kind, ask), moment)
         {
             self.opens.remove(number);
-            return Err(StoreFault::from(fault));
+            return Err(refusal_of(fault));
         }
         self.next = number + 1;
         self.opens_count += 1;

@@ -2,3 +2,5 @@ pub mod Numbered
 pub mod Owners
 pub mod Endings
 pub mod Sessions
+pub mod Alone
+pub mod Apart

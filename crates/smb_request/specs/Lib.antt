@@ -14,3 +14,4 @@ pub mod Held
 pub mod InPlace
 pub mod Outcome
 pub mod Commands
+pub mod Laws

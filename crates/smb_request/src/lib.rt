@@ -16,6 +16,7 @@ mod command_row;
 mod config;
 mod context;
 mod files;
+mod laws;
 mod negotiate;
 mod outcome;
 mod request;
@@ -27,6 +28,7 @@ mod status;
 
 pub use config::Config;
 pub use context::{Context, ResponseIds, Under};
+pub use laws::laws_of_connections;
 pub use response::{Answered, Unanswered};
 pub use shared::Shared;
 pub use status::Status;

@@ -1,6 +1,7 @@
 use Rattle.std.proofs.Common.{◌≡◌, true, is_some}
 use Rattle.smb_tree.specs.Content.{numbered}
-use Rattle.smb_opens.proofs.Again.{read_again, others_left, opens_left, entry_there}
+use Rattle.smb_opens.proofs.Again.{others_left, opens_left, entry_there}
+use Rattle.smb_opens.proofs.Quiet.{read_later}
 use Rattle.smb_opens.proofs.Rows.{found}
 use Rattle.smb_opens.proofs.OnePath.{new_tree, one_path, opened_leaves}
 use Rattle.smb_opens.proofs.Conflicts.{conflict_mutual}
@@ -19,8 +20,8 @@ returns c = record {
   more_access = more_conflicts;
   one_entry = closed_elsewhere;
   kept_bytes = closed_here;
-  again = λ state number other offset buffer moment writer reader good one two same.
+  again = λ state number offset buffer moment steps other writer reader good one quiet two same is.
       let row = entry_there state.tree.rows writer.entry (found (λ row. is_some (numbered state.tree.rows row.entry) ≡ true) state.opens number writer good.present one) in
-      read_again state number other offset buffer moment writer reader row.0 one two same row.1;
+      read_later state number offset buffer moment steps other writer reader row.0 good.tree one row.1 quiet two same is;
   one_file = λ state number offset buffer moment writer one. (opens_left state number offset buffer moment, λ other apart. others_left state number offset buffer moment writer other one apart);
 }

@@ -1,6 +1,4 @@
-use Rattle.std.proofs.Common.{◌≡◌, ◌==◌, length, sym, ap, ◌∙◌, Option, Some}
-use Rattle.smb_opens.specs.declared.view.View.{View}
-use Rattle.smb_opens.specs.Bytes.{write_status_by}
+use Rattle.std.proofs.Common.{sym, ap, ◌∙◌}
 use Rattle.smb_opens.specs.State.{StoreState}
 use Rattle.smb_opens.specs.Views.{open_view}
 use Rattle.smb_opens.proofs.Shows.{shown_by}
