@@ -1,6 +1,6 @@
 //! READ, WRITE and FLUSH of a file through an open ([MS-SMB2] 3.3.5.11 to 3.3.5.13).
 
-ghost use Rattle.std.specs.Prelude.{◌≡◌, ◌≢◌, ◌++◌, Bool, true, false, None, Some, is_some, IfOk, IfErr, OnOk, OnErr, nat_lt, ◌&&◌, length, if◌then◌else◌};
+ghost use Rattle.std.specs.Prelude.{◌≡◌, ◌≢◌, ◌++◌, Bool, true, false, None, Some, IsSome, is_some, IfOk, IfErr, OnOk, OnErr, nat_lt, ◌&&◌, length, if◌then◌else◌};
 ghost use Rattle.std.specs.Option.{option_map};
 ghost use Rattle.smb_wire.specs.NtStatus.{STATUS_SUCCESS, STATUS_DISK_FULL};
 ghost use Rattle.smb_tree.specs.Content.{numbered};
@@ -9,6 +9,7 @@ ghost use Rattle.smb_tree.specs.Faults.{write_fault};
 ghost use Rattle.smb_opens.specs.Bytes.{bytes_there, read_rows, read_status, file_bytes, may_not_write, write_rows, write_status, written_basic, written_tree, written_to};
 ghost use Rattle.smb_opens.specs.Create.{first_status};
 ghost use Rattle.smb_opens.specs.Faults.{IsRefusal};
+ghost use Rattle.smb_opens.specs.Opens.{open_of};
 ghost use Rattle.smb_opens.specs.declared.fault.StoreFault.TheVariants.{Status, NoMemory};
 
 use super::access::{is_reading, is_writing};
@@ -206,5 +207,13 @@ impl<T: Tree + Drop, O: Opens + Drop> Store<T, O> {
             return Ok(());
         }
         write_file(&mut self.tree, view.entry, offset, buffer, moment)
+    }
+
+    /// Answers a FLUSH of the open of a number, which exists ([MS-SMB2] 3.3.5.11): what was written is in the store already,
+    /// so nothing is left to do.
+    pub fn flush(&self, number: OpenNo)
+        requires { IsSome (open_of self.now.opens number) }
+    {
+        let _ = self.opens.get(number);
     }
 }

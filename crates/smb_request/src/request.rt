@@ -154,7 +154,10 @@ impl<A: Authenticator + Drop, T: Tree + Drop, O: Opens + Drop> Shared<A, T, O> {
             Request::Close(asked) => {
                 Ok(self.close_file(under, asked.file_id.persistent, asked.flags))
             }
-            Request::Flush(_) => Ok(Told::succeeded(under, Success::Flush)),
+            Request::Flush(asked) => {
+                self.store.flush(asked.file_id.persistent);
+                Ok(Told::succeeded(under, Success::Flush))
+            }
             Request::Read(asked) => Ok(self.read_file(under, asked.file_id.persistent, asked)),
             Request::Write(asked) => {
                 self.write_file(moment, under, asked.file_id.persistent, asked)
