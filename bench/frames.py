@@ -54,6 +54,13 @@ def write(message_id, open_number, offset, buffer, session_id=0, tree_id=0):
     return frame(header(9, message_id, session_id=session_id, tree_id=tree_id) + body + buffer)
 
 
+def lock(message_id, open_number, elements, session_id=0, tree_id=0):
+    """A frame of a LOCK of an open, in a session and a tree; an element is an offset, a length and flags."""
+    body = struct.pack('<HHIQQ', 48, len(elements), 0, open_number, open_number)
+    body += b''.join(struct.pack('<QQII', offset, length, flags, 0) for offset, length, flags in elements)
+    return frame(header(10, message_id, session_id=session_id, tree_id=tree_id) + body)
+
+
 def echoes(first, count):
     """A frame of `count` ECHO requests with the MessageIds from `first` on."""
     payload = b''

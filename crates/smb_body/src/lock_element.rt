@@ -1,6 +1,6 @@
 //! An element of a LOCK.
 
-use super::masks::LockFlags;
+use smb_wire::LockFlags;
 
 /// An element of a LOCK: a range and what to do with it ([MS-SMB2] 2.2.26.1).
 #[derive(Clone, Copy, Debug, PartialEq, Eq)]

@@ -3,8 +3,7 @@
 ghost use Rattle.smb_body.specs.Locks.{AllElements};
 
 use super::lock_element::LockElement;
-use super::masks::LockFlags;
-use smb_wire::{u32_in, u64_in};
+use smb_wire::{LockFlags, u32_in, u64_in};
 
 /// Elements of a LOCK over borrowed bytes, 24 bytes each ([MS-SMB2] 2.2.26).
 #[derive(Clone, Copy, Debug)]

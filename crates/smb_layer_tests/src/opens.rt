@@ -22,7 +22,7 @@ const MOMENT: u64 = CREATED + 36_000_000_000;
 fn new_store(alloc: Global) -> Option<Store<PlainTree, PlainOpens>> {
     let tree = PlainTree::new(alloc, CREATED, 67_108_864).ok()?;
     laws_of_stores();
-    Some(Store::new(tree, PlainOpens::new(alloc)))
+    Some(Store::new(alloc, tree, PlainOpens::new(alloc)))
 }
 
 /// Asks for the entry `a` with this access, disposition and options.

@@ -1,6 +1,6 @@
 -- What the calls of a table do to its entries.
-use Rattle.std.proofs.Common.{◌≡◌, ℕ, ◌<◌, ◌==◌, Bool, true, false, List, [], ◌∷◌, ◌++◌, length, Option, None, Some, Result, Ok, Err, OnOk, OnErr, unwrap_or, refl, sym, ap, ◌∙◌, arith, length-append}
-use Rattle.std.proofs.lemmas.Bool.{eqb-true, eqb-false}
+use Rattle.std.proofs.Common.{◌≡◌, ℕ, ◌<◌, ◌==◌, Bool, true, false, List, [], ◌∷◌, ◌++◌, length, nat_lt, Option, None, Some, Result, Ok, Err, OnOk, OnErr, unwrap_or, refl, sym, ap, ◌∙◌, arith, length-append}
+use Rattle.std.proofs.lemmas.Bool.{eqb-true, eqb-false, ltb-true, ltb-false}
 use Rattle.std.proofs.lemmas.List.{nil_from_length}
 use Rattle.std.proofs.lemmas.Map.Steps.{set_value_same}
 use Rattle.std.specs.Map.{lookup, set_value, remove_entry}
@@ -13,9 +13,10 @@ use Rattle.smb_locks.specs.Asks.{are_locks, are_unlocks, locks_asked, range_aske
 use Rattle.smb_locks.specs.Good.{GoodLockTable}
 use Rattle.smb_locks.specs.Locking.{locks_fault, lock_all_fault}
 use Rattle.smb_locks.specs.Ranges.{is_past_the_end}
-use Rattle.smb_locks.specs.Table.{Table, locks_on, with_locks, locked, unlocked}
+use Rattle.smb_locks.specs.Table.{Table, HoldsNoneElsewhere, locks_on, with_locks, locked, unlocked, others_locks, without_holder}
 use Rattle.smb_locks.specs.Unlocking.{left_by}
 use Rattle.smb_locks.proofs.Entries.{removed-none, set-inserted, removed-set, found-all}
+use Rattle.smb_locks.proofs.Same.{dropped_on}
 use Rattle.smb_locks.proofs.Tables.{good_locked}
 
 -- the locks of a file, by what is found
@@ -102,3 +103,20 @@ pub unlocked_all : (table : Table) (file holder : ℕ) (asks : List LockAsk) (ol
     remove_entry (is_at (nat_cmp file)) (set_value (is_at (nat_cmp file)) table new) ≡ unlocked table file holder asks
 unlocked_all table file holder asks old new flags found e none =
     removed-set file new table ∙ ap (with_locks table file) (sym (nil_from_length new (eqb-true (length new) 0 none))) ∙ sym (left_on table file holder asks old new flags found e)
+
+-- dropping an open that holds none elsewhere
+pub dropped_absent : (table : Table) (file holder : ℕ) → GoodLockTable table → HoldsNoneElsewhere table file holder → lookup (is_at (nat_cmp file)) table ≡ None → table ≡ without_holder holder table
+dropped_absent table file holder good alone found =
+    sym (ap (λ (ls : List Lock). with_locks table file (others_locks holder ls)) (none_on table file found) ∙ removed-none file table found) ∙ dropped_on table file holder good alone
+
+module _ (table : Table) (file holder : ℕ) (old new : List Lock) (good : GoodLockTable table) (alone : HoldsNoneElsewhere table file holder) (found : lookup (is_at (nat_cmp file)) table ≡ Some old) (e : new ≡ others_locks holder old) where
+  others_there : with_locks table file new ≡ without_holder holder table
+  others_there = ap (with_locks table file) (e ∙ ap (others_locks holder) (sym (found_on table file old found))) ∙ dropped_on table file holder good alone
+
+  pub dropped_some : nat_lt 0 (length new) ≡ true → set_value (is_at (nat_cmp file)) table new ≡ without_holder holder table
+  dropped_some some = with_set table file old new good found (ltb-true 0 (length new) some) ∙ others_there
+
+  pub dropped_all : nat_lt 0 (length new) ≡ false → remove_entry (is_at (nat_cmp file)) (set_value (is_at (nat_cmp file)) table new) ≡ without_holder holder table
+  dropped_all none =
+      let l = ltb-false 0 (length new) none in
+      removed-set file new table ∙ ap (with_locks table file) (sym (nil_from_length new (omega arith))) ∙ others_there

@@ -6,3 +6,5 @@ pub mod Entries
 pub mod Tables
 pub mod Steps
 pub mod Changes
+pub mod Members
+pub mod Same

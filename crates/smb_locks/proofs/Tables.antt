@@ -128,7 +128,7 @@ member_cases x xs q c = place c.0 c.1 c.2
     place zero l e = inl e
     place (suc k) l e = inr (k, omega arith, e)
 
-at_member : (P : Lock → Type 0) (xs : List Lock) (q : Lock) → AllByRecursion P xs → Contains xs q → P q
+pub at_member : (P : Lock → Type 0) (xs : List Lock) (q : Lock) → AllByRecursion P xs → Contains xs q → P q
 at_member P xs q h c = All-contains P xs q (All-from_recursion P xs h) c
 
 pair_at : (x : Lock) (xs : List Lock) (a b : Lock) → AllByRecursion (AreCompatible x) xs → (Contains xs a → Contains xs b → AreCompatible a b) → (x ≡ a) ⊎ Contains xs a → (x ≡ b) ⊎ Contains xs b → AreCompatible a b

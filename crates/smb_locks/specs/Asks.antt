@@ -1,22 +1,23 @@
--- What the elements of a LOCK request ask ([MS-SMB2] 2.2.26.1). Flags: SHARED_LOCK 1, EXCLUSIVE_LOCK 2, UNLOCK 4,
--- FAIL_IMMEDIATELY 0x10.
-use Rattle.std.specs.Prelude.{ℕ, ◌==◌, ◌&&◌, ◌||◌, Bool, List, map, length, bit_and}
+-- What the elements of a LOCK request ask ([MS-SMB2] 2.2.26.1).
+use Rattle.std.specs.Prelude.{ℕ, ◌==◌, ◌&&◌, ◌||◌, Bool, List, map, length, bit_and, bit_or}
 use Rattle.std.specs.List.{list_all}
+use Rattle.smb_wire.specs.LockFlags.{SHARED_LOCK, EXCLUSIVE_LOCK, UNLOCK, FAIL_IMMEDIATELY}
 use Rattle.smb_locks.specs.declared.ask.LockAsk.{LockAsk}
 use Rattle.smb_locks.specs.declared.lock.Lock.{Lock}
 use Rattle.smb_locks.specs.declared.range.ByteRange.{ByteRange}
 
 -- a shared or an exclusive lock, refused at once where it cannot be granted
 abbrev pub is_immediate : LockAsk → Bool
-is_immediate ask = ask.flags.0 == 0x11 || ask.flags.0 == 0x12
+is_immediate ask =
+    ask.flags.0 == bit_or SHARED_LOCK FAIL_IMMEDIATELY || ask.flags.0 == bit_or EXCLUSIVE_LOCK FAIL_IMMEDIATELY
 
 -- a shared or an exclusive lock that might be waited for (no lock is: it is refused at once all the same)
 abbrev pub may_wait : LockAsk → Bool
-may_wait ask = ask.flags.0 == 0x1 || ask.flags.0 == 0x2
+may_wait ask = ask.flags.0 == SHARED_LOCK || ask.flags.0 == EXCLUSIVE_LOCK
 
 -- a lock to be taken back
 abbrev pub is_unlock : LockAsk → Bool
-is_unlock ask = ask.flags.0 == 0x4
+is_unlock ask = ask.flags.0 == UNLOCK
 
 -- the elements of a request that locks: none may wait, but for one that is alone (3.3.5.14.2)
 abbrev pub are_locks : List LockAsk → Bool
@@ -31,7 +32,7 @@ range_asked ask = record { offset = ask.offset; length = ask.length }
 
 -- the lock that an open asks for
 abbrev pub lock_by : ℕ → LockAsk → Lock
-lock_by holder ask = record { holder = holder; range = range_asked ask; exclusive = bit_and ask.flags.0 0x2 == 0x2 }
+lock_by holder ask = record { holder = holder; range = range_asked ask; exclusive = bit_and ask.flags.0 EXCLUSIVE_LOCK == EXCLUSIVE_LOCK }
 
 abbrev pub locks_asked : ℕ → List LockAsk → List Lock
 locks_asked holder = map (lock_by holder)

@@ -1,5 +1,5 @@
 -- The locks of all files.
-use Rattle.std.specs.Prelude.{ℕ, ◌++◌, ◌∷◌, [], ◌==◌, List, length, map, filter, not, nat_lt, unwrap_or, if◌then◌else◌}
+use Rattle.std.specs.Prelude.{◌≡◌, ◌≢◌, ℕ, ◌++◌, ◌∷◌, [], ◌==◌, List, length, map, filter, not, nat_lt, unwrap_or, if◌then◌else◌}
 use Rattle.std.specs.BTreeMap.{is_at, insert_entry}
 use Rattle.std.specs.Map.{lookup, remove_entry}
 use Rattle.std.specs.Ordering.{nat_cmp}
@@ -38,3 +38,8 @@ others_locks holder = filter (λ lock. not (lock.holder == holder))
 abbrev pub without_holder : ℕ → Table → Table
 without_holder holder table =
     filter (λ entry. nat_lt 0 (length entry.1)) (map (λ entry. (entry.0, others_locks holder entry.1)) table)
+
+-- an open holds locks on no file but this one: of every other file all locks are others'
+abbrev pub HoldsNoneElsewhere : Table → ℕ → ℕ → Type 0
+HoldsNoneElsewhere table file holder =
+    (other : ℕ) → other ≢ file → others_locks holder (locks_on table other) ≡ locks_on table other

@@ -3,10 +3,20 @@
 ghost use Rattle.std.specs.Prelude.{◌≡◌, ◌&&◌, ◌||◌};
 ghost use Rattle.smb_locks.specs.Asks.{is_immediate, may_wait, is_unlock, are_locks, are_unlocks, range_asked, lock_by};
 
-use super::flags::LockFlags;
 use super::lock::Lock;
 use super::range::ByteRange;
 use bitflags::Flags;
+use smb_wire::LockFlags;
+
+// The flags of a shared lock that is refused at once where it can't be granted.
+const SHARED_AT_ONCE: LockFlags = LockFlags(
+    LockFlags::SHARED_LOCK.0 | LockFlags::FAIL_IMMEDIATELY.0,
+);
+
+// The flags of an exclusive lock that is refused at once where it can't be granted.
+const EXCLUSIVE_AT_ONCE: LockFlags = LockFlags(
+    LockFlags::EXCLUSIVE_LOCK.0 | LockFlags::FAIL_IMMEDIATELY.0,
+);
 
 /// What an element of a LOCK request asks ([MS-SMB2] 2.2.26.1). Every value may be asked: what is wrong is for
 /// [`LockTable`](super::LockTable) to say.
@@ -44,14 +54,14 @@ impl LockAsk {
     fn is_immediate(self) -> bool
         ensures { result ≡ is_immediate self }
     {
-        matches!(self.flags.0, 0x11 | 0x12)
+        self.flags == SHARED_AT_ONCE || self.flags == EXCLUSIVE_AT_ONCE
     }
 
     // Whether a lock is asked for that might be waited for.
     fn may_wait(self) -> bool
         ensures { result ≡ may_wait self }
     {
-        matches!(self.flags.0, 0x1 | 0x2)
+        self.flags == LockFlags::SHARED_LOCK || self.flags == LockFlags::EXCLUSIVE_LOCK
     }
 
     // Whether the element may be in a request that locks, alone or beside others.
@@ -65,7 +75,7 @@ impl LockAsk {
     fn is_unlock(self) -> bool
         ensures { result ≡ is_unlock self }
     {
-        self.flags.0 == 0x4
+        self.flags == LockFlags::UNLOCK
     }
 }
 

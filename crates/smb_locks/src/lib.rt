@@ -13,7 +13,6 @@
 mod ask;
 mod fault;
 mod file_locks;
-mod flags;
 mod laws;
 mod lock;
 mod range;
@@ -22,7 +21,6 @@ mod table;
 pub use ask::LockAsk;
 pub use fault::{LockFault, UnlockError};
 pub use file_locks::LOCK_LIMIT;
-pub use flags::LockFlags;
 pub use laws::laws_of_locks;
 pub use lock::Lock;
 pub use range::ByteRange;

@@ -7,7 +7,7 @@ ghost use Rattle.std.specs.Ordering.{nat_cmp};
 ghost use Rattle.smb_locks.specs.Conflicts.{is_read_barred, is_write_barred};
 ghost use Rattle.smb_locks.specs.Good.{GoodLockTable};
 ghost use Rattle.smb_locks.specs.Locking.{lock_all_fault};
-ghost use Rattle.smb_locks.specs.Table.{locks_on, locked, unlocked, without_holder};
+ghost use Rattle.smb_locks.specs.Table.{HoldsNoneElsewhere, locks_on, locked, unlocked, without_holder};
 ghost use Rattle.smb_locks.specs.Unlocking.{unlock_all_error};
 ghost use Rattle.smb_locks.specs.declared.fault.LockFault.TheVariants.{NoMemory};
 
@@ -162,6 +162,21 @@ impl LockTable {
         ensures { self.new ≡ without_holder holder self.old }
     {
         self.files.retain(|_, locks| locks.release(holder));
+    }
+
+    /// Takes out all locks of an open that holds none on any file but this one. It takes no memory.
+    ///
+    /// The file is found in logarithmic time, and then its locks are gone through once: at most 256.
+    pub fn drop_open_on(&mut self, file: u64, holder: u64)
+        requires { HoldsNoneElsewhere self.old file holder }
+        ensures { self.new ≡ without_holder holder self.old }
+    {
+        let Some(locks) = self.files.get_mut(&file) else {
+            return;
+        };
+        if !locks.release(holder) {
+            take_out(&mut self.files, file);
+        }
     }
 
     /// What holds of every table between calls: no two overlapping locks of different opens of a file have an exclusive

@@ -5,6 +5,8 @@ use Rattle.std.specs.Option.{option_map, option_map_or, option_and_then, is_none
 use Rattle.smb_tree.specs.Entries.{Entry}
 use Rattle.smb_tree.specs.Content.{Path, Row, Content, numbered, with_mark, without, removed}
 use Rattle.smb_tree.specs.Laws.{AreApart}
+use Rattle.smb_locks.specs.Table.{Table, without_holder}
+use Rattle.smb_locks.proofs.Tables.{good_dropped}
 use Rattle.smb_tree.proofs.Apart.{numbered-changed, number-from_numbered}
 use Rattle.smb_tree.specs.Children.{is_child, has_children, first_by_name, next_child, child_after}
 use Rattle.smb_opens.specs.declared.open_row.OpenRow.{OpenRow}
@@ -18,6 +20,7 @@ use Rattle.smb_opens.proofs.Changes.{Shrinks, good_changed, length-changed}
 use Rattle.smb_opens.proofs.Conflicts.{compatible_without}
 use Rattle.smb_opens.proofs.Marks.{deletable_changed, mark_elsewhere}
 use Rattle.smb_opens.proofs.Removed.{leaf, good_removed, numbered-removed, length-removed, mark_removed, deletable_removed}
+use Rattle.smb_opens.proofs.Held.{held_dropped}
 use Rattle.smb_opens.proofs.Rows.{all_more, all_without, rising_without, below_without, length-without, kept_above}
 
 -- the number of an open
@@ -146,7 +149,7 @@ gone_marked state row tree good k s m h =
     ] refl (sym (mark_removed tree.rows row.entry m k.good.apart) ∙ h)
 
 -- the store with the open taken out, its entry there or not
-good_by : (state : StoreState) (row : OpenRow) (tree : Content) → GoodStore state → open_of state.opens row.number ≡ Some row → GoodTree tree → ArePresent tree.rows (without_open row.number state.opens) → AreMarksDue tree.rows (without_open row.number state.opens) → GoodStore (record { tree = tree; opens = without_open row.number state.opens; next = state.next })
+good_by : (state : StoreState) (row : OpenRow) (tree : Content) → GoodStore state → open_of state.opens row.number ≡ Some row → GoodTree tree → ArePresent tree.rows (without_open row.number state.opens) → AreMarksDue tree.rows (without_open row.number state.opens) → GoodStore (record { tree = tree; opens = without_open row.number state.opens; locks = without_holder row.number state.locks; next = state.next })
 good_by state row tree good s t p m = record {
   tree = t;
   present = p;
@@ -155,11 +158,13 @@ good_by state row tree good s t p m = record {
   few = omega (arith, good.few, length-without row.number state.opens good.rising (ap is_some s));
   compatible = compatible_without row.number state.opens good.compatible;
   marked = m;
+  locked = good_dropped row.number state.locks good.locked;
+  held = held_dropped state.locks state.opens row.number good.locked good.held;
 }
 
-cleared_good : (state : StoreState) (row : OpenRow) (tree : Content) → GoodStore state → IsMarked state.tree tree row.entry → open_of state.opens row.number ≡ Some row → GoodStore (record { tree = tree_cleared tree (without_open row.number state.opens) row.entry; opens = without_open row.number state.opens; next = state.next })
+cleared_good : (state : StoreState) (row : OpenRow) (tree : Content) → GoodStore state → IsMarked state.tree tree row.entry → open_of state.opens row.number ≡ Some row → GoodStore (record { tree = tree_cleared tree (without_open row.number state.opens) row.entry; opens = without_open row.number state.opens; locks = without_holder row.number state.locks; next = state.next })
 cleared_good state row tree good k s =
-    elim (is_due tree (without_open row.number state.opens) row.entry) as (λ b. is_due tree (without_open row.number state.opens) row.entry ≡ b → GoodStore (record { tree = if b then removed tree row.entry else tree; opens = without_open row.number state.opens; next = state.next })) [
+    elim (is_due tree (without_open row.number state.opens) row.entry) as (λ b. is_due tree (without_open row.number state.opens) row.entry ≡ b → GoodStore (record { tree = if b then removed tree row.entry else tree; opens = without_open row.number state.opens; locks = without_holder row.number state.locks; next = state.next })) [
       | true ↦ λ e. (let both = goes (has_mark tree.rows row.entry) (has_open (without_open row.number state.opens) row.entry) e in let d = deletable_row tree.rows row.entry (k.here both.0) in good_by state row (removed tree row.entry) good s (good_removed tree row.entry d.0 d.1 d.2 k.good) (gone_present tree.rows (without_open row.number state.opens) row.entry k.good.apart (left_present state row tree good k) both.1) (gone_marked state row tree good k s))
       | false ↦ λ e. good_by state row tree good s k.good (left_present state row tree good k) (left_marked state row tree good k s e)
     ] refl
@@ -182,7 +187,7 @@ closed_is state number row e = ap (λ (o : Option OpenRow). option_map_or (close
 pub removed_is : (state : StoreState) (number : ℕ) (row : OpenRow) → open_of state.opens number ≡ Some row → removes_entry state row ≡ option_map_or (removes_entry state) (open_of state.opens number) false
 removed_is state number row e = ap (λ (o : Option OpenRow). option_map_or (removes_entry state) o false) (sym e)
 
-pub kept_closed_open : (state : StoreState) (row : OpenRow) (opens_count entries_count rest : ℕ) → IsKept state.tree state.opens state.next opens_count entries_count → open_of state.opens row.number ≡ Some row → rest ≡ entries_count - (if removes_entry state row then 1 else 0) → IsKept (closed_open state row).tree (closed_open state row).opens state.next (opens_count - 1) rest
+pub kept_closed_open : (state : StoreState) (row : OpenRow) (opens_count entries_count rest : ℕ) → IsKept state.tree state.opens state.locks state.next opens_count entries_count → open_of state.opens row.number ≡ Some row → rest ≡ entries_count - (if removes_entry state row then 1 else 0) → IsKept (closed_open state row).tree (closed_open state row).opens (closed_open state row).locks state.next (opens_count - 1) rest
 kept_closed_open state row opens_count entries_count rest kept s r =
     let k = tree_marked_marked state.tree state.opens row kept.good.tree kept.good.marked in
     let long = length-cleared (tree_marked state.tree row) (without_open row.number state.opens) row.entry k.here in
@@ -274,20 +279,24 @@ left_due state number row marked opens removed s o m r =
     let rest = left_opens state number row opens s o in
     r ∙ (λ i. is_due (m i) (rest i) row.entry)
 
-pub closed_by : (state : StoreState) (number : ℕ) (row : OpenRow) (marked after : Content) (opens : List OpenRow) → open_of state.opens number ≡ Some row → opens ≡ without_open number state.opens → marked ≡ tree_marked state.tree row → after ≡ tree_cleared marked opens row.entry → (let x : StoreState = record { tree = after; opens = opens; next = state.next } in x) ≡ closed state number
-closed_by state number row marked after opens s o m a =
+left_locks : (state : StoreState) (number : ℕ) (row : OpenRow) (locks : Table) → open_of state.opens number ≡ Some row → locks ≡ without_holder number state.locks → locks ≡ without_holder row.number state.locks
+left_locks state number row locks s l = l ∙ ap (λ (n : ℕ). without_holder n state.locks) (sym (number_found state.opens number row s))
+
+pub closed_by : (state : StoreState) (number : ℕ) (row : OpenRow) (marked after : Content) (opens : List OpenRow) (locks : Table) → open_of state.opens number ≡ Some row → opens ≡ without_open number state.opens → locks ≡ without_holder number state.locks → marked ≡ tree_marked state.tree row → after ≡ tree_cleared marked opens row.entry → (let x : StoreState = record { tree = after; opens = opens; locks = locks; next = state.next } in x) ≡ closed state number
+closed_by state number row marked after opens locks s o l m a =
     let tree = left_tree state number row marked after opens s o m a in
     let rest = left_opens state number row opens s o in
-    let here : (let x : StoreState = record { tree = after; opens = opens; next = state.next } in x) ≡ closed_open state row = λ i. record { tree = tree i; opens = rest i; next = state.next } in
+    let held = left_locks state number row locks s l in
+    let here : (let x : StoreState = record { tree = after; opens = opens; locks = locks; next = state.next } in x) ≡ closed_open state row = λ i. record { tree = tree i; opens = rest i; locks = held i; next = state.next } in
     here ∙ closed_is state number row s
 
 pub removed_by : (state : StoreState) (number : ℕ) (row : OpenRow) (marked : Content) (opens : List OpenRow) (removed : Bool) → open_of state.opens number ≡ Some row → opens ≡ without_open number state.opens → marked ≡ tree_marked state.tree row → removed ≡ is_due marked opens row.entry → removed ≡ is_removed_with state number
 removed_by state number row marked opens removed s o m r = left_due state number row marked opens removed s o m r ∙ removed_is state number row s
 
-pub kept_closed_by : (state : StoreState) (number : ℕ) (row : OpenRow) (marked after : Content) (opens : List OpenRow) (removed : Bool) (opens_count entries_count rest : ℕ) → IsKept state.tree state.opens state.next opens_count entries_count → open_of state.opens number ≡ Some row → opens ≡ without_open number state.opens → marked ≡ tree_marked state.tree row → after ≡ tree_cleared marked opens row.entry → removed ≡ is_due marked opens row.entry → rest ≡ entries_count - (if removed then 1 else 0) → IsKept after opens state.next (opens_count - 1) rest
-kept_closed_by state number row marked after opens removed opens_count entries_count rest kept s o m a r e =
+pub kept_closed_by : (state : StoreState) (number : ℕ) (row : OpenRow) (marked after : Content) (opens : List OpenRow) (locks : Table) (removed : Bool) (opens_count entries_count rest : ℕ) → IsKept state.tree state.opens state.locks state.next opens_count entries_count → open_of state.opens number ≡ Some row → opens ≡ without_open number state.opens → locks ≡ without_holder number state.locks → marked ≡ tree_marked state.tree row → after ≡ tree_cleared marked opens row.entry → removed ≡ is_due marked opens row.entry → rest ≡ entries_count - (if removed then 1 else 0) → IsKept after opens locks state.next (opens_count - 1) rest
+kept_closed_by state number row marked after opens locks removed opens_count entries_count rest kept s o l m a r e =
     let due : removed ≡ removes_entry state row = left_due state number row marked opens removed s o m r in
     let stands : open_of state.opens row.number ≡ Some row = ap (open_of state.opens) (number_found state.opens number row s) ∙ s in
     let fewer : rest ≡ entries_count - (if removes_entry state row then 1 else 0) = e ∙ ap (λ (b : Bool). entries_count - (if b then 1 else 0)) due in
-    rw (left_tree state number row marked after opens s o m a, left_opens state number row opens s o)
+    rw (left_tree state number row marked after opens s o m a, left_opens state number row opens s o, left_locks state number row locks s l)
     (kept_closed_open state row opens_count entries_count rest kept stands fewer)

@@ -1,5 +1,6 @@
 pub mod Keyed
 pub mod Rows
+pub mod Held
 pub mod Trees
 pub mod Counts
 pub mod Changes
@@ -19,6 +20,8 @@ pub mod Kept
 pub mod Shows
 pub mod Writes
 pub mod Through
+pub mod Locking
+pub mod Barred
 pub mod Again
 pub mod Quiet
 pub mod Leaving

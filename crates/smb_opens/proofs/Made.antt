@@ -9,6 +9,7 @@ use Rattle.smb_tree.specs.Entries.{Entry, new_entry}
 use Rattle.smb_tree.specs.Content.{Path, Row, Content, entry_at, numbered, parent, changed, added, next_number}
 use Rattle.smb_tree.specs.Faults.{add_fault}
 use Rattle.smb_tree.specs.Laws.{AreApart}
+use Rattle.smb_locks.specs.Table.{Table}
 use Rattle.smb_tree.proofs.Apart.{numbered-from_at, numbered-changed, numbered-fresh}
 use Rattle.smb_opens.specs.declared.open_row.OpenRow.{OpenRow}
 use Rattle.smb_opens.specs.declared.found.Target.{Target}
@@ -34,6 +35,7 @@ use Rattle.smb_opens.proofs.Marks.{mark_pushed, mark_changed, deletable_pushed, 
 use Rattle.smb_opens.proofs.Mores.{more_conflicts, or_has}
 use Rattle.smb_opens.specs.State.{StoreState}
 use Rattle.smb_opens.specs.Views.{view_of, view_at}
+use Rattle.smb_opens.proofs.Held.{held_pushed}
 use Rattle.smb_opens.proofs.Rows.{all_push, rising_push, below_push, without_last}
 use Rattle.smb_opens.proofs.Changes.{free_path, good_push, present_push, numbered-last, good_changed, keeps_of, present_changed, length-changed}
 use Rattle.smb_opens.proofs.Overwrites.{empties}
@@ -42,14 +44,14 @@ use Rattle.smb_opens.proofs.Overwrites.{empties}
 pub undone : (before with_one after : List OpenRow) (next : ℕ) (row : OpenRow) → AreAllBelow next before → row.number ≡ next → with_one ≡ before ++ row ∷ [] → after ≡ without_open next with_one → after ≡ before
 undone before with_one after next row b e f h = h ∙ ap (without_open next) f ∙ without_last next before row b e
 
-pub kept_undone : (tree tree' : Content) (before after : List OpenRow) (next opens_count entries_count : ℕ) → tree' ≡ tree → after ≡ before → IsKept tree before next opens_count entries_count → IsKept tree' after next opens_count entries_count
-kept_undone tree tree' before after next opens_count entries_count e f kept = rw (e, f) kept
+pub kept_undone : (tree tree' : Content) (before after : List OpenRow) (locks : Table) (next opens_count entries_count : ℕ) → tree' ≡ tree → after ≡ before → IsKept tree before locks next opens_count entries_count → IsKept tree' after locks next opens_count entries_count
+kept_undone tree tree' before after locks next opens_count entries_count e f kept = rw (e, f) kept
 
 room_left : (state : StoreState) → has_all_opens state ≡ false → length state.opens < 1024
 room_left state e = grind (arith, nat_tests, common_steps, e)
 
 -- one more open, of an entry that stands
-pub good_opened : (state : StoreState) (tree : Content) (row : OpenRow) → GoodStore state → GoodTree tree → ArePresent tree.rows state.opens → is_some (numbered tree.rows row.entry) ≡ true → row.number ≡ state.next → has_all_opens state ≡ false → has_conflict state.opens row.entry (use_of row) ≡ false → AreMarksDue tree.rows (state.opens ++ row ∷ []) → GoodStore (record { tree = tree; opens = state.opens ++ row ∷ []; next = state.next + 1 })
+pub good_opened : (state : StoreState) (tree : Content) (row : OpenRow) → GoodStore state → GoodTree tree → ArePresent tree.rows state.opens → is_some (numbered tree.rows row.entry) ≡ true → row.number ≡ state.next → has_all_opens state ≡ false → has_conflict state.opens row.entry (use_of row) ≡ false → AreMarksDue tree.rows (state.opens ++ row ∷ []) → GoodStore (record { tree = tree; opens = state.opens ++ row ∷ []; locks = state.locks; next = state.next + 1 })
 good_opened state tree row good fine present stands number room alone due = record {
   tree = fine;
   present = all_push (λ (o : OpenRow). is_some (numbered tree.rows o.entry) ≡ true) state.opens row present stands;
@@ -58,6 +60,8 @@ good_opened state tree row good fine present stands number room alone due = reco
   few = omega (arith, room_left state room, length-append state.opens (row ∷ []));
   compatible = compatible_pushed state.opens row good.compatible alone;
   marked = due;
+  locked = good.locked;
+  held = held_pushed state.locks state.opens row good.held;
 }
 
 -- the tree to which an entry was added is good
@@ -72,7 +76,7 @@ due_added state new row good k above m h =
     let due = good.marked m marked in
     (deletable_pushed state.tree.rows new m good.tree.apart marked above due.0, open_pushed_too state.opens row m due.1)
 
-pub kept_added : (state : StoreState) (opens_count entries_count : ℕ) (parts : List (List ℕ)) (kind : Kind) (attributes moment : ℕ) (row : OpenRow) → IsKept state.tree state.opens state.next opens_count entries_count → add_fault state.tree (folded_path parts) ≡ None → is_marked (entry_at state.tree.rows (parent (folded_path parts))) ≡ false → has_all_opens state ≡ false → row.number ≡ state.next → row.entry ≡ state.tree.next → IsKept (added state.tree parts kind attributes moment) (state.opens ++ row ∷ []) (state.next + 1) (opens_count + 1) (entries_count + 1)
+pub kept_added : (state : StoreState) (opens_count entries_count : ℕ) (parts : List (List ℕ)) (kind : Kind) (attributes moment : ℕ) (row : OpenRow) → IsKept state.tree state.opens state.locks state.next opens_count entries_count → add_fault state.tree (folded_path parts) ≡ None → is_marked (entry_at state.tree.rows (parent (folded_path parts))) ≡ false → has_all_opens state ≡ false → row.number ≡ state.next → row.entry ≡ state.tree.next → IsKept (added state.tree parts kind attributes moment) (state.opens ++ row ∷ []) state.locks (state.next + 1) (opens_count + 1) (entries_count + 1)
 kept_added state opens_count entries_count parts kind attributes moment row kept free above room number entry =
     let new : Row = (folded_path parts, new_entry state.tree.next parts kind attributes moment) in
     let last : is_some (numbered (state.tree.rows ++ new ∷ []) row.entry) ≡ true = rw (entry, numbered-last state.tree new kept.good.tree refl) refl in
@@ -172,7 +176,7 @@ alone_opened opens ask n target access row g r h =
     let asked_for : has_conflict opens target.number (use_asked ask access) ≡ false = ap (λ (a : Access). has_conflict opens target.number (use_asked ask a)) g ∙ h in
     ap (λ (o : OpenRow). has_conflict opens o.entry (use_of o)) r ∙ alone_by opens ask target.number access asked_for
 
-pub kept_standing : (state : StoreState) (ask : FileAsked) (moment opens_count entries_count : ℕ) (row : OpenRow) (number : ℕ) (path : Path) (entry : Entry) → IsKept state.tree state.opens state.next opens_count entries_count → numbered state.tree.rows number ≡ Some (path, entry) → has_all_opens state ≡ false → has_conflict state.opens row.entry (use_of row) ≡ false → row.number ≡ state.next → row.entry ≡ number → IsKept (standing_tree state.tree ask moment number) (state.opens ++ row ∷ []) (state.next + 1) (opens_count + 1) entries_count
+pub kept_standing : (state : StoreState) (ask : FileAsked) (moment opens_count entries_count : ℕ) (row : OpenRow) (number : ℕ) (path : Path) (entry : Entry) → IsKept state.tree state.opens state.locks state.next opens_count entries_count → numbered state.tree.rows number ≡ Some (path, entry) → has_all_opens state ≡ false → has_conflict state.opens row.entry (use_of row) ≡ false → row.number ≡ state.next → row.entry ≡ number → IsKept (standing_tree state.tree ask moment number) (state.opens ++ row ∷ []) state.locks (state.next + 1) (opens_count + 1) entries_count
 kept_standing state ask moment opens_count entries_count row number path entry kept h room alone n e =
     let tree : Content = standing_tree state.tree ask moment number in
     let stands : is_some (numbered tree.rows row.entry) ≡ true = rw (e, numbered_standing state.tree ask moment number path entry h) refl in
@@ -190,11 +194,11 @@ told_standing state ask moment access given stood entry action view o s a g e f 
     told ∙ ap (create_result_by state ask moment access) (sym s)
 
 -- the store afterwards, where the entry stood
-pub made_standing : (state : StoreState) (ask : FileAsked) (moment : ℕ) (access given : Access) (stood : Option Entry) (entry : Entry) (number : ℕ) (tree : Content) (opens : List OpenRow) (row : OpenRow) → stood ≡ Some entry → entry.number ≡ number → given ≡ access → tree ≡ standing_tree state.tree ask moment number → opens ≡ state.opens ++ row ∷ [] → row ≡ opened_by ask state.next number given → (let after : StoreState = record { tree = tree; opens = opens; next = state.next + 1 } in after) ≡ created_by state ask moment access stood
+pub made_standing : (state : StoreState) (ask : FileAsked) (moment : ℕ) (access given : Access) (stood : Option Entry) (entry : Entry) (number : ℕ) (tree : Content) (opens : List OpenRow) (row : OpenRow) → stood ≡ Some entry → entry.number ≡ number → given ≡ access → tree ≡ standing_tree state.tree ask moment number → opens ≡ state.opens ++ row ∷ [] → row ≡ opened_by ask state.next number given → (let after : StoreState = record { tree = tree; opens = opens; locks = state.locks; next = state.next + 1 } in after) ≡ created_by state ask moment access stood
 made_standing state ask moment access given stood entry number tree opens row s n g t o r =
     let same : (entry_after state.tree ask moment (Some entry)).number ≡ number = elim (overwrites_by ask.disposition) as (λ b. (let x : Entry = cond b (overwritten ask moment entry) entry in x).number ≡ number) [ true ↦ n | false ↦ n ] in
     let rows : opens ≡ state.opens ++ opened_by ask state.next (entry_after state.tree ask moment (Some entry)).number access ∷ [] =
     o ∙ ap (λ (x : OpenRow). state.opens ++ x ∷ []) (r ∙ (λ i. opened_by ask state.next (sym same i) (g i))) in
     let trees : tree ≡ standing_tree state.tree ask moment entry.number = t ∙ ap (standing_tree state.tree ask moment) (sym n) in
-    let after : (let x : StoreState = record { tree = tree; opens = opens; next = state.next + 1 } in x) ≡ created_by state ask moment access (Some entry) = λ i. record { tree = trees i; opens = rows i; next = state.next + 1 } in
+    let after : (let x : StoreState = record { tree = tree; opens = opens; locks = state.locks; next = state.next + 1 } in x) ≡ created_by state ask moment access (Some entry) = λ i. record { tree = trees i; opens = rows i; locks = state.locks; next = state.next + 1 } in
     after ∙ ap (created_by state ask moment access) (sym s)

@@ -5,21 +5,25 @@ use Rattle.std.specs.Option.{option_map, option_map_or}
 use Rattle.smb_wire.specs.Dispositions.{overwrites_by}
 use Rattle.smb_wire.specs.Paths.{path_spelled, folded_path}
 use Rattle.smb_tree.specs.declared.entry.Kind.{Kind}
-use Rattle.smb_tree.specs.Entries.{Entry, new_entry}
+use Rattle.smb_tree.specs.Entries.{Entry, new_entry, is_folder_kind}
 use Rattle.smb_tree.specs.Content.{Row, Content, entry_at, numbered, changed, without, removed, added, with_mark, bytes_of, bytes_read, part}
 use Rattle.smb_tree.specs.Laws.{AreApart, AreBelow}
 use Rattle.smb_tree.proofs.Apart.{numbered-changed, numbered-push, apart_added, apart_changed}
 use Rattle.smb_tree.proofs.Removals.{apart_removed}
+use Rattle.smb_locks.specs.Table.{Table, locked, unlocked}
 use Rattle.smb_opens.specs.declared.open_row.OpenRow.{OpenRow}
+use Rattle.smb_opens.specs.declared.view.View.{View}
 use Rattle.smb_opens.specs.Asked.{FileAsked, kind_asked, attributes_asked}
 use Rattle.smb_opens.specs.Bytes.{file_bytes, written_file, written_tree, written_to}
 use Rattle.smb_opens.specs.Close.{is_deletable, tree_marked, is_due, closed_open, closed, closed_each}
 use Rattle.smb_opens.specs.Effect.{overwritten, overwritten_tree, tree_after}
 use Rattle.smb_opens.specs.Found.{entry_asked, path_asked}
 use Rattle.smb_opens.specs.Good.{GoodTree}
+use Rattle.smb_opens.specs.Locks.{with_locks_of}
 use Rattle.smb_opens.specs.Opens.{open_of, is_on_entry, without_open, open_numbers, is_held_by}
 use Rattle.smb_opens.specs.State.{StoreState}
-use Rattle.smb_opens.specs.Steps.{StoreStep, creates, writes, closes, closes_all, stepped, stepped_all, is_change_of, NoneChanges}
+use Rattle.smb_opens.specs.Steps.{StoreStep, creates, writes, locks, unlocks, closes, closes_all, stepped, stepped_all, is_change_of, NoneChanges}
+use Rattle.smb_opens.specs.Views.{open_view}
 use Rattle.smb_opens.proofs.Changes.{Keeps, below_changed, below_push}
 use Rattle.smb_opens.proofs.Removed.{numbered-removed, below_removed}
 use Rattle.smb_opens.proofs.Writes.{writes_keep}
@@ -136,9 +140,17 @@ each_closed_stays : (state : StoreState) (numbers : List ℕ) (n : ℕ) (bytes :
 each_closed_stays state [] n bytes stays = stays
 each_closed_stays state (number ∷ numbers) n bytes stays = each_closed_stays (closed state number) numbers n bytes (closed_stays state number n bytes stays)
 
+-- locks are beside the tree
+locks_stay : (table : ℕ → Table) (state : StoreState) (view : Option View) (n : ℕ) (bytes : List ℕ) → Stays n bytes state.tree → Stays n bytes (with_locks_of table state view).tree
+locks_stay table state None n bytes stays = stays
+locks_stay table state (Some view) n bytes stays =
+    elim (is_folder_kind view.kind) as (λ b. Stays n bytes (let x : StoreState = if b then state else record state { locks = table view.entry } in x).tree) [ true ↦ stays | false ↦ stays ]
+
 step_stays : (state : StoreState) (step : StoreStep) (n : ℕ) (bytes : List ℕ) → is_change_of n state step ≡ false → Stays n bytes state.tree → Stays n bytes (stepped state step).tree
 step_stays state (creates ask moment) n bytes quiet stays = created_stays state.tree ask moment n bytes (entry_asked state ask) refl quiet stays
 step_stays state (writes number offset buffer moment) n bytes quiet stays = written_stays state offset buffer moment n bytes (open_of state.opens number) quiet stays
+step_stays state (locks number asks) n bytes quiet stays = locks_stay (λ entry. locked state.locks entry number asks) state (open_view state number) n bytes stays
+step_stays state (unlocks number asks) n bytes quiet stays = locks_stay (λ entry. unlocked state.locks entry number asks) state (open_view state number) n bytes stays
 step_stays state (closes number) n bytes quiet stays = closed_stays state number n bytes stays
 step_stays state (closes_all owner) n bytes quiet stays = each_closed_stays state (open_numbers (filter (is_held_by owner) state.opens)) n bytes stays
 

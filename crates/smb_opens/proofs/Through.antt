@@ -10,11 +10,12 @@ use Rattle.smb_tree.specs.Entries.{Entry, is_folder_kind}
 use Rattle.smb_tree.specs.Content.{Row, Content, numbered, changed, bytes_read}
 use Rattle.smb_tree.specs.Faults.{size_fault, write_fault}
 use Rattle.smb_tree.proofs.Changes.{bytes_found}
+use Rattle.smb_locks.specs.Table.{Table}
 use Rattle.smb_opens.specs.declared.fault.StoreFault.{StoreFault}
 use Rattle.smb_opens.specs.declared.fault.StoreFault.TheVariants.{Status, NoMemory}
 use Rattle.smb_opens.specs.declared.open_row.OpenRow.{OpenRow}
 use Rattle.smb_opens.specs.declared.view.View.{View}
-use Rattle.smb_opens.specs.Bytes.{file_bytes, write_rows, write_status_by, has_no_room, written_file, written_tree, written_to}
+use Rattle.smb_opens.specs.Bytes.{file_bytes, keeps_from_writing, write_rows, write_status_by, has_no_room, written_file, written_tree, written_to}
 use Rattle.smb_opens.specs.Create.{first_status}
 use Rattle.smb_opens.specs.Faults.{IsRefusal}
 use Rattle.smb_opens.specs.Good.{GoodTree, AreMarksDue, IsKept}
@@ -48,13 +49,13 @@ marks_kept f rows n opens k s h = λ m e.
     (deletable_changed f rows n m k ∙ before.0, before.1)
 
 -- a store is kept good over a WRITE, whether it is refused or not
-pub kept_write : {X : Type 0} (r : Result X StoreFault) (before after : Content) (opens : List OpenRow) (next opens_count entries_count n offset : ℕ) (buffer : List ℕ) (moment : ℕ) (row : Row) →
+pub kept_write : {X : Type 0} (r : Result X StoreFault) (before after : Content) (opens : List OpenRow) (locks : Table) (next opens_count entries_count n offset : ℕ) (buffer : List ℕ) (moment : ℕ) (row : Row) →
     numbered before.rows n ≡ Some row → is_folder_kind row.1.kind ≡ false → OnOk r (after ≡ written_tree before n offset buffer moment) → OnOk r (write_fault before n offset (length buffer) ≡ None) → OnErr r (after ≡ before) →
-    IsKept before opens next opens_count entries_count → IsKept after opens next opens_count entries_count
-kept_write (Ok x) before after opens next opens_count entries_count n offset buffer moment row h file ok free err kept =
+    IsKept before opens locks next opens_count entries_count → IsKept after opens locks next opens_count entries_count
+kept_write (Ok x) before after opens locks next opens_count entries_count n offset buffer moment row h file ok free err kept =
     let room = has_room before n offset buffer moment row h free in
     let keeps = writes_keep offset buffer moment in
-    subst (λ (tree : Content). IsKept tree opens next opens_count entries_count) (sym ok) (record {
+    subst (λ (tree : Content). IsKept tree opens locks next opens_count entries_count) (sym ok) (record {
       good = record {
         tree = good_within (written_file offset buffer moment) before n row keeps h file room.small room.fits kept.good.tree;
         present = present_changed (written_file offset buffer moment) before.rows n opens keeps kept.good.present;
@@ -63,29 +64,31 @@ kept_write (Ok x) before after opens next opens_count entries_count n offset buf
         few = kept.good.few;
         compatible = kept.good.compatible;
         marked = marks_kept (written_file offset buffer moment) before.rows n opens (λ _. refl) (λ _. refl) kept.good.marked;
+        locked = kept.good.locked;
+        held = kept.good.held;
       };
       opens_counted = kept.opens_counted;
       entries_counted = kept.entries_counted ∙ sym (length-changed (written_file offset buffer moment) before.rows n);
     })
-kept_write (Err e) before after opens next opens_count entries_count n offset buffer moment row h file ok free err kept =
-    subst (λ (tree : Content). IsKept tree opens next opens_count entries_count) (sym err) kept
+kept_write (Err e) before after opens locks next opens_count entries_count n offset buffer moment row h file ok free err kept =
+    subst (λ (tree : Content). IsKept tree opens locks next opens_count entries_count) (sym err) kept
 
 pub kept_shown : {X : Type 0} (r : Result X StoreFault) (state : StoreState) (after : Content) (opens_count entries_count number offset : ℕ) (buffer : List ℕ) (moment : ℕ) (view : View) →
     ShownBy state number view → is_folder_kind view.kind ≡ false → OnOk r (after ≡ written_tree state.tree view.entry offset buffer moment) → OnOk r (write_fault state.tree view.entry offset (length buffer) ≡ None) → OnErr r (after ≡ state.tree) →
-    IsKept state.tree state.opens state.next opens_count entries_count → IsKept after state.opens state.next opens_count entries_count
+    IsKept state.tree state.opens state.locks state.next opens_count entries_count → IsKept after state.opens state.locks state.next opens_count entries_count
 kept_shown r state after opens_count entries_count number offset buffer moment view s file ok free err kept =
     let at : numbered state.tree.rows view.entry ≡ Some s.row = ap (numbered state.tree.rows) (entry_of state number view s) ∙ s.at_entry in
-    kept_write r state.tree after state.opens state.next opens_count entries_count view.entry offset buffer moment s.row at (kind_shown state number view s file) ok free err kept
+    kept_write r state.tree after state.opens state.locks state.next opens_count entries_count view.entry offset buffer moment s.row at (kind_shown state number view s file) ok free err kept
 
 -- what is left is the store written
 pub stored : {X : Type 0} (r : Result X StoreFault) (state : StoreState) (after : Content) (number offset : ℕ) (buffer : List ℕ) (moment : ℕ) (view : View) →
     ShownBy state number view → (length buffer == 0) ≡ false → OnOk r (after ≡ written_tree state.tree view.entry offset buffer moment) →
-    OnOk r (record { tree = after; opens = state.opens; next = state.next } ≡ written_to state number offset buffer moment)
+    OnOk r (record { tree = after; opens = state.opens; locks = state.locks; next = state.next } ≡ written_to state number offset buffer moment)
 stored (Ok x) state after number offset buffer moment view s some ok =
     let there : written_to state number offset buffer moment ≡ record state { tree = written_tree state.tree s.held.entry offset buffer moment } =
     ap (λ (o : Option OpenRow). option_map_or (λ (row : OpenRow). if length buffer == 0 then state else record state { tree = written_tree state.tree row.entry offset buffer moment }) o state) s.opened
     ∙ rw some refl in
-    ap (λ (tree : Content). let after' : StoreState = record { tree = tree; opens = state.opens; next = state.next } in after') (ok ∙ ap (λ (n : ℕ). written_tree state.tree n offset buffer moment) (entry_of state number view s)) ∙ sym there
+    ap (λ (tree : Content). let after' : StoreState = record { tree = tree; opens = state.opens; locks = state.locks; next = state.next } in after') (ok ∙ ap (λ (n : ℕ). written_tree state.tree n offset buffer moment) (entry_of state number view s)) ∙ sym there
 stored (Err e) state after number offset buffer moment view s some ok = tt
 
 -- what a tree refuses to write is that for which there is no room
@@ -103,25 +106,31 @@ room_shown state number view offset buffer good s file =
     let at : numbered state.tree.rows view.entry ≡ Some s.row = ap (numbered state.tree.rows) (entry_of state number view s) ∙ s.at_entry in
     fault_room state.tree view.entry offset buffer s.row at (kind_shown state number view s file) (of_number (λ row. length row.1.bytes ≤ 16777216) state.tree.rows view.entry s.row good.small at)
 
+-- whether a lock bars it decides its row
+rows_barred : (tree : Content) (locks : Table) (number : ℕ) (view : View) (is_barred : Bool) (offset : ℕ) (buffer : List ℕ) → is_barred ≡ keeps_from_writing locks number view offset (length buffer) →
+    first_status (write_rows view is_barred offset (length buffer) (has_no_room tree view.entry offset buffer)) ≡ write_status_by tree locks number (Some view) offset buffer
+rows_barred tree locks number view is_barred offset buffer bar =
+    ap (λ (b : Bool). first_status (write_rows view b offset (length buffer) (has_no_room tree view.entry offset buffer))) bar
+
 -- a WRITE that is done had room
-pub lawful_written : {X : Type 0} (r : Result X StoreFault) (tree : Content) (view : View) (offset : ℕ) (buffer : List ℕ) →
-    ((is_full : Bool) → first_status (write_rows view offset (length buffer) is_full) ≡ (if nat_lt 0 (length buffer) && is_full then STATUS_DISK_FULL else STATUS_SUCCESS)) →
+pub lawful_written : {X : Type 0} (r : Result X StoreFault) (tree : Content) (locks : Table) (number : ℕ) (view : View) (is_barred : Bool) (offset : ℕ) (buffer : List ℕ) → is_barred ≡ keeps_from_writing locks number view offset (length buffer) →
+    ((is_full : Bool) → first_status (write_rows view is_barred offset (length buffer) is_full) ≡ (if nat_lt 0 (length buffer) && is_full then STATUS_DISK_FULL else STATUS_SUCCESS)) →
     is_some (write_fault tree view.entry offset (length buffer)) ≡ has_no_room tree view.entry offset buffer →
-    OnOk r (write_fault tree view.entry offset (length buffer) ≡ None) → OnOk r (write_status_by tree (Some view) offset buffer ≡ STATUS_SUCCESS)
-lawful_written (Ok x) tree view offset buffer goes same none =
+    OnOk r (write_fault tree view.entry offset (length buffer) ≡ None) → OnOk r (write_status_by tree locks number (Some view) offset buffer ≡ STATUS_SUCCESS)
+lawful_written (Ok x) tree locks number view is_barred offset buffer bar goes same none =
     let room : has_no_room tree view.entry offset buffer ≡ false = sym same ∙ ap (λ (o : Option TreeFault). is_some o) none in
-    goes (has_no_room tree view.entry offset buffer) ∙ grind (arith, nat_tests, room)
-lawful_written (Err e) tree view offset buffer goes same none = tt
+    sym (rows_barred tree locks number view is_barred offset buffer bar) ∙ goes (has_no_room tree view.entry offset buffer) ∙ grind (arith, nat_tests, room)
+lawful_written (Err e) tree locks number view is_barred offset buffer bar goes same none = tt
 
 -- a WRITE for which there is no room is refused for that
-pub why_written : {X : Type 0} (r : Result X StoreFault) (tree : Content) (view : View) (offset : ℕ) (buffer : List ℕ) → (length buffer == 0) ≡ false →
-    ((is_full : Bool) → first_status (write_rows view offset (length buffer) is_full) ≡ (if nat_lt 0 (length buffer) && is_full then STATUS_DISK_FULL else STATUS_SUCCESS)) →
+pub why_written : {X : Type 0} (r : Result X StoreFault) (tree : Content) (locks : Table) (number : ℕ) (view : View) (is_barred : Bool) (offset : ℕ) (buffer : List ℕ) → (length buffer == 0) ≡ false → is_barred ≡ keeps_from_writing locks number view offset (length buffer) →
+    ((is_full : Bool) → first_status (write_rows view is_barred offset (length buffer) is_full) ≡ (if nat_lt 0 (length buffer) && is_full then STATUS_DISK_FULL else STATUS_SUCCESS)) →
     is_some (write_fault tree view.entry offset (length buffer)) ≡ has_no_room tree view.entry offset buffer →
     IfErr r (λ fault. fault ≢ NoMemory → (fault ≡ Status STATUS_DISK_FULL) × (is_some (write_fault tree view.entry offset (length buffer)) ≡ true)) →
-    IfErr r (λ fault. fault ≢ NoMemory → IsRefusal (write_status_by tree (Some view) offset buffer) fault)
-why_written (Ok x) tree view offset buffer some goes same h = tt
-why_written (Err fault) tree view offset buffer some goes same h = λ q.
+    IfErr r (λ fault. fault ≢ NoMemory → IsRefusal (write_status_by tree locks number (Some view) offset buffer) fault)
+why_written (Ok x) tree locks number view is_barred offset buffer some bar goes same h = tt
+why_written (Err fault) tree locks number view is_barred offset buffer some bar goes same h = λ q.
     let told = h q in
     let full : has_no_room tree view.entry offset buffer ≡ true = sym same ∙ told.1 in
-    let status : write_status_by tree (Some view) offset buffer ≡ STATUS_DISK_FULL = goes (has_no_room tree view.entry offset buffer) ∙ grind (arith, nat_tests, some, full) in
-    subst (λ (f : StoreFault). IsRefusal (write_status_by tree (Some view) offset buffer) f) (sym told.0) (sym status, λ e. cc)
+    let status : write_status_by tree locks number (Some view) offset buffer ≡ STATUS_DISK_FULL = sym (rows_barred tree locks number view is_barred offset buffer bar) ∙ goes (has_no_room tree view.entry offset buffer) ∙ grind (arith, nat_tests, some, full) in
+    subst (λ (f : StoreFault). IsRefusal (write_status_by tree locks number (Some view) offset buffer) f) (sym told.0) (sym status, λ e. cc)

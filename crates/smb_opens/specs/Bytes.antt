@@ -2,10 +2,12 @@
 use Rattle.std.specs.Prelude.{ℕ, ◌+◌, ◌-◌, ◌||◌, ◌&&◌, ◌==◌, Bool, not, min, nat_lt, nat_le, List, [], ◌∷◌, length, Option, None, Some, if◌then◌else◌}
 use Rattle.std.specs.Option.{option_map_or}
 use Rattle.smb_wire.specs.Access.{has_any, FILE_WRITE_DATA}
-use Rattle.smb_wire.specs.NtStatus.{STATUS_INVALID_PARAMETER, STATUS_INVALID_DEVICE_REQUEST, STATUS_ACCESS_DENIED, STATUS_END_OF_FILE, STATUS_DISK_FULL, STATUS_FILE_CLOSED}
+use Rattle.smb_wire.specs.NtStatus.{STATUS_INVALID_PARAMETER, STATUS_INVALID_DEVICE_REQUEST, STATUS_ACCESS_DENIED, STATUS_END_OF_FILE, STATUS_FILE_LOCK_CONFLICT, STATUS_DISK_FULL, STATUS_FILE_CLOSED}
 use Rattle.smb_tree.specs.declared.entry.Basic.{Basic}
 use Rattle.smb_tree.specs.Entries.{Entry, is_folder_kind, kept_basic}
 use Rattle.smb_tree.specs.Content.{Content, changed, used_space, bytes_read, written, with_bytes}
+use Rattle.smb_locks.specs.Conflicts.{is_read_barred, is_write_barred}
+use Rattle.smb_locks.specs.Table.{Table, locks_on}
 use Rattle.smb_opens.specs.declared.open_row.OpenRow.{OpenRow}
 use Rattle.smb_opens.specs.declared.view.View.{View}
 use Rattle.smb_opens.specs.Access.{is_reading, is_writing}
@@ -22,31 +24,40 @@ most_at_once = 65536
 abbrev pub bytes_there : ℕ → ℕ → ℕ → ℕ
 bytes_there size offset count = min count (size - offset)
 
--- the rows of a READ of so many bytes at an offset, by what its open shows; in docs/PROFILE.md they have these numbers
-abbrev pub read_rows : View → ℕ → ℕ → ℕ → List StatusRow
-read_rows view offset count minimum =
+-- the rows of a READ of so many bytes at an offset, by what its open shows, and whether a lock bars the range; in
+-- docs/PROFILE.md they have these numbers
+abbrev pub read_rows : View → Bool → ℕ → ℕ → ℕ → List StatusRow
+read_rows view is_barred offset count minimum =
     -- 1. more is asked for than one request reads ([MS-SMB2] 3.3.5.12)
     (nat_lt most_at_once count, STATUS_INVALID_PARAMETER)
     -- 2. the entry is a folder ([MS-FSA] 2.1.5.2)
     ∷ (is_folder_kind view.kind, STATUS_INVALID_DEVICE_REQUEST)
     -- 3. the open was granted neither FILE_READ_DATA nor FILE_EXECUTE ([MS-SMB2] 3.3.5.12)
     ∷ (not (is_reading view.access), STATUS_ACCESS_DENIED)
-    -- (absent until locks are built: a lock of another open bars it)
-    -- 4. bytes are asked for behind the last one, or fewer are there than the request wants at least ([MS-SMB2] 3.3.5.12)
+    -- 4. another open's exclusive lock overlaps the range that is asked for ([MS-FSA] 2.1.5.2)
+    ∷ (is_barred, STATUS_FILE_LOCK_CONFLICT)
+    -- 5. bytes are asked for behind the last one, or fewer are there than the request wants at least ([MS-SMB2] 3.3.5.12)
     ∷ (
       nat_lt 0 count && nat_le view.size offset || nat_lt (bytes_there view.size offset count) minimum,
       STATUS_END_OF_FILE,
     )
     ∷ []
 
+-- a lock of its file bars an open from reading so many bytes at an offset
+abbrev pub keeps_from_reading : Table → ℕ → View → ℕ → ℕ → Bool
+keeps_from_reading locks number view offset count =
+    is_read_barred (locks_on locks view.entry) number (record { offset = offset; length = count })
+
 -- the status of a READ of an open that shows this; no open of the number exists where it shows nothing
-abbrev pub read_status_by : Option View → ℕ → ℕ → ℕ → ℕ
-read_status_by None offset count minimum = STATUS_FILE_CLOSED
-read_status_by (Some view) offset count minimum = first_status (read_rows view offset count minimum)
+abbrev pub read_status_by : Table → ℕ → Option View → ℕ → ℕ → ℕ → ℕ
+read_status_by locks number None offset count minimum = STATUS_FILE_CLOSED
+read_status_by locks number (Some view) offset count minimum =
+    first_status (read_rows view (keeps_from_reading locks number view offset count) offset count minimum)
 
 -- the status of a READ of the open of a number
 abbrev pub read_status : StoreState → ℕ → ℕ → ℕ → ℕ → ℕ
-read_status state number offset count minimum = read_status_by (open_view state number) offset count minimum
+read_status state number offset count minimum =
+    read_status_by state.locks number (open_view state number) offset count minimum
 
 -- the bytes that it reads: those of the file from the offset on, at most so many
 abbrev pub file_bytes : StoreState → ℕ → ℕ → ℕ → List ℕ
@@ -59,18 +70,19 @@ abbrev pub may_not_write : View → ℕ → Bool
 may_not_write view offset =
     not (is_writing view.access) || not (has_any view.access.0 FILE_WRITE_DATA) && nat_lt offset view.size
 
--- the rows of a WRITE of so many bytes at an offset, by what its open shows and whether there is no room for them; in
--- docs/PROFILE.md they have these numbers
-abbrev pub write_rows : View → ℕ → ℕ → Bool → List StatusRow
-write_rows view offset count is_full =
+-- the rows of a WRITE of so many bytes at an offset, by what its open shows, whether a lock bars the range, and whether
+-- there is no room for the bytes; in docs/PROFILE.md they have these numbers
+abbrev pub write_rows : View → Bool → ℕ → ℕ → Bool → List StatusRow
+write_rows view is_barred offset count is_full =
     -- 1. more is given than one request writes ([MS-SMB2] 3.3.5.13)
     (nat_lt most_at_once count, STATUS_INVALID_PARAMETER)
     -- 2. the entry is a folder ([MS-FSA] 2.1.5.3)
     ∷ (is_folder_kind view.kind, STATUS_INVALID_DEVICE_REQUEST)
     -- 3. the open may not write there ([MS-SMB2] 3.3.5.13)
     ∷ (may_not_write view offset, STATUS_ACCESS_DENIED)
-    -- (absent until locks are built: a lock of another open bars it)
-    -- 4. there are bytes, and no room for them ([MS-FSA] 2.1.5.3)
+    -- 4. another open's lock, or a shared one of its own, overlaps the range ([MS-FSA] 2.1.5.3)
+    ∷ (is_barred, STATUS_FILE_LOCK_CONFLICT)
+    -- 5. there are bytes, and no room for them ([MS-FSA] 2.1.5.3)
     ∷ (nat_lt 0 count && is_full, STATUS_DISK_FULL)
     ∷ []
 
@@ -81,14 +93,22 @@ has_no_room tree entry offset buffer =
     nat_lt 16777216 (offset + length buffer)
     || nat_lt tree.capacity (used_space (with_bytes tree entry offset buffer).rows)
 
-abbrev pub write_status_by : Content → Option View → ℕ → List ℕ → ℕ
-write_status_by tree None offset buffer = STATUS_FILE_CLOSED
-write_status_by tree (Some view) offset buffer =
-    first_status (write_rows view offset (length buffer) (has_no_room tree view.entry offset buffer))
+-- a lock of its file bars an open from writing so many bytes at an offset
+abbrev pub keeps_from_writing : Table → ℕ → View → ℕ → ℕ → Bool
+keeps_from_writing locks number view offset count =
+    is_write_barred (locks_on locks view.entry) number (record { offset = offset; length = count })
+
+abbrev pub write_status_by : Content → Table → ℕ → Option View → ℕ → List ℕ → ℕ
+write_status_by tree locks number None offset buffer = STATUS_FILE_CLOSED
+write_status_by tree locks number (Some view) offset buffer =
+    first_status
+    (write_rows view (keeps_from_writing locks number view offset (length buffer)) offset (length buffer)
+    (has_no_room tree view.entry offset buffer))
 
 -- the status of a WRITE through the open of a number
 abbrev pub write_status : StoreState → ℕ → ℕ → List ℕ → ℕ
-write_status state number offset buffer = write_status_by state.tree (open_view state number) offset buffer
+write_status state number offset buffer =
+    write_status_by state.tree state.locks number (open_view state number) offset buffer
 
 -- the times and attributes of a file that was written at a moment
 abbrev pub written_basic : ℕ → Basic → Basic

@@ -3,6 +3,7 @@ use Rattle.std.specs.Prelude.{ℕ, ◌==◌, ◌&&◌, Bool, true, false, not, L
 use Rattle.std.specs.Option.{option_map_or}
 use Rattle.smb_tree.specs.Children.{has_children}
 use Rattle.smb_tree.specs.Content.{Row, Content, numbered, with_mark, removed}
+use Rattle.smb_locks.specs.Table.{without_holder}
 use Rattle.smb_opens.specs.declared.open_row.OpenRow.{OpenRow}
 use Rattle.smb_opens.specs.declared.open_row.Owner.{Owner}
 use Rattle.smb_opens.specs.Opens.{open_of, has_open, without_open, open_numbers, is_held_by}
@@ -33,12 +34,13 @@ is_due tree opens number = has_mark tree.rows number && not (has_open opens numb
 abbrev pub tree_cleared : Content → List OpenRow → ℕ → Content
 tree_cleared tree opens number = if is_due tree opens number then removed tree number else tree
 
--- the store once one of its opens is closed: the open is taken out; its entry is marked where the open was to delete it,
--- and it can be deleted; and a marked entry without an open is removed ([MS-FSA] 2.1.5.4)
+-- the store once one of its opens is closed: the open is taken out, with its locks; its entry is marked where the open
+-- was to delete it, and it can be deleted; and a marked entry without an open is removed ([MS-FSA] 2.1.5.4)
 abbrev pub closed_open : StoreState → OpenRow → StoreState
 closed_open state row = record state {
   tree = tree_cleared (tree_marked state.tree row) (without_open row.number state.opens) row.entry;
   opens = without_open row.number state.opens;
+  locks = without_holder row.number state.locks;
 }
 
 -- the store once the open of a number is closed

@@ -79,6 +79,7 @@ abbrev pub created_by : StoreState → FileAsked → ℕ → Access → Option E
 created_by state ask moment access stood = record {
   tree = tree_after state.tree ask moment stood;
   opens = state.opens ++ opened_by ask state.next (entry_after state.tree ask moment stood).number access ∷ [];
+  locks = state.locks;
   next = state.next + 1;
 }
 

@@ -1,13 +1,17 @@
 -- Good stores: what holds between any two requests.
-use Rattle.std.specs.Prelude.{◌≡◌, ℕ, ◌<◌, ◌≤◌, ◌^◌, true, List, [], length, is_some, false, Some}
+use Rattle.std.specs.Prelude.{◌≡◌, ℕ, ◌<◌, ◌≤◌, ◌^◌, true, List, [], length, is_some, false, Some, Contains}
 use Rattle.std.specs.List.{AllByRecursion}
+use Rattle.std.specs.Option.{option_map}
 use Rattle.smb_tree.specs.Entries.{is_folder, is_folder_kind}
 use Rattle.smb_tree.specs.Content.{Row, Content, entry_at, number_at, numbered, parent, used_space}
 use Rattle.smb_tree.specs.Laws.{AreApart, AreBelow}
+use Rattle.smb_locks.specs.declared.lock.Lock.{Lock}
+use Rattle.smb_locks.specs.Good.{GoodLockTable}
+use Rattle.smb_locks.specs.Table.{Table, locks_on}
 use Rattle.smb_opens.specs.declared.open_row.OpenRow.{OpenRow}
 use Rattle.smb_opens.specs.Close.{is_deletable, has_mark}
 use Rattle.smb_opens.specs.Numbers.{AreRising}
-use Rattle.smb_opens.specs.Opens.{open_numbers, has_open, AreAllBelow}
+use Rattle.smb_opens.specs.Opens.{open_of, open_numbers, has_open, AreAllBelow}
 use Rattle.smb_opens.specs.Sharing.{AreCompatible}
 use Rattle.smb_opens.specs.State.{StoreState}
 
@@ -36,13 +40,21 @@ abbrev pub AreMarksDue : List Row → List OpenRow → Type 0
 AreMarksDue rows opens =
     (number : ℕ) → has_mark rows number ≡ true → (is_deletable rows number ≡ true) × (has_open opens number ≡ true)
 
+-- each lock is held by an open of the file that it is on
+abbrev pub AreLocksHeld : Table → List OpenRow → Type 0
+AreLocksHeld locks opens =
+    (file : ℕ) (lock : Lock) → Contains (locks_on locks file) lock →
+    option_map (λ (row : OpenRow). row.entry) (open_of opens lock.holder) ≡ Some file
+
 -- a good tree in which no entry is marked: a store may begin with it
 pub record UnmarkedTree (content : Content) : Type 0 where
   pub good : GoodTree content
   pub unmarked : (number : ℕ) → has_mark content.rows number ≡ false
 
 -- a good store: its tree is good, its opens are at most 1,024, of entries that stand, in rising number below the
--- next, no two opens of one entry conflict, and each marked entry can be deleted and has an open
+-- next, no two opens of one entry conflict, and each marked entry can be deleted and has an open; of no file two
+-- overlapping locks of different opens have an exclusive one among them, at most 256 are on a file, and each is held by
+-- an open of its file
 pub record GoodStore (state : StoreState) : Type 0 where
   pub tree : GoodTree state.tree
   pub present : ArePresent state.tree.rows state.opens
@@ -51,9 +63,11 @@ pub record GoodStore (state : StoreState) : Type 0 where
   pub few : length state.opens ≤ 1024
   pub compatible : AreCompatible state.opens
   pub marked : AreMarksDue state.tree.rows state.opens
+  pub locked : GoodLockTable state.locks
+  pub held : AreLocksHeld state.locks state.opens
 
 -- a good store, kept with the numbers of its opens and its entries
-pub record IsKept (content : Content) (rows : List OpenRow) (number opens_count entries_count : ℕ) : Type 0 where
-  pub good : GoodStore (record { tree = content; opens = rows; next = number })
+pub record IsKept (content : Content) (rows : List OpenRow) (locks : Table) (number opens_count entries_count : ℕ) : Type 0 where
+  pub good : GoodStore (record { tree = content; opens = rows; locks = locks; next = number })
   pub opens_counted : opens_count ≡ length rows
   pub entries_counted : entries_count ≡ length content.rows

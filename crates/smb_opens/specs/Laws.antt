@@ -1,12 +1,16 @@
 -- What follows from the definitions.
-use Rattle.std.specs.Prelude.{◌≡◌, ℕ, ◌==◌, true, false, bit_and, Some, ◌≢◌, List, length, is_some}
+use Rattle.std.specs.Prelude.{◌≡◌, ℕ, ◌==◌, true, false, bit_and, Some, ◌≢◌, List, length, is_some, Contains}
 use Rattle.smb_wire.specs.Dispositions.{overwrites_by}
 use Rattle.smb_wire.specs.declared.access.Access.{Access}
 use Rattle.smb_wire.specs.declared.access.ShareAccess.{ShareAccess}
 use Rattle.smb_tree.specs.Entries.{Entry}
 use Rattle.smb_tree.specs.Content.{Path, Row, entry_at, numbered, is_same_path, new_content}
+use Rattle.smb_wire.specs.NtStatus.{STATUS_SUCCESS}
+use Rattle.smb_locks.specs.declared.lock.Lock.{Lock}
+use Rattle.smb_locks.specs.Ranges.{Overlap}
+use Rattle.smb_locks.specs.Table.{locks_on, others_locks}
 use Rattle.smb_opens.specs.Asked.{FileAsked}
-use Rattle.smb_opens.specs.Bytes.{file_bytes, written_to}
+use Rattle.smb_opens.specs.Bytes.{read_status, file_bytes, write_status, written_to}
 use Rattle.smb_opens.specs.Close.{closed}
 use Rattle.smb_opens.specs.Effect.{created, create_result}
 use Rattle.smb_opens.specs.Found.{path_asked}
@@ -80,3 +84,31 @@ AWriteIsOfOneFile =
     (state : StoreState) (number offset : ℕ) (buffer : List ℕ) (moment : ℕ) (writer : OpenRow) → open_of state.opens number ≡ Some writer →
     ((written_to state number offset buffer moment).opens ≡ state.opens)
     × ((other : ℕ) → other ≢ writer.entry → numbered (written_to state number offset buffer moment).tree.rows other ≡ numbered state.tree.rows other)
+
+-- what an open has locked as its own alone, no other open of the file reads or writes, as long as the lock is held
+abbrev pub ALockKeepsOthersOut : Type 0
+ALockKeepsOthersOut =
+    (state : StoreState) (number offset count minimum : ℕ) (buffer : List ℕ) (row : OpenRow) (lock : Lock) → open_of state.opens number ≡ Some row →
+    Contains (locks_on state.locks row.entry) lock → lock.exclusive ≡ true → lock.holder ≢ number →
+    (Overlap lock.range (record { offset = offset; length = count }) → read_status state number offset count minimum ≢ STATUS_SUCCESS)
+    × (Overlap lock.range (record { offset = offset; length = length buffer }) → write_status state number offset buffer ≢ STATUS_SUCCESS)
+
+-- what is under a shared lock, no open of the file writes, the one that holds it neither
+abbrev pub ASharedLockKeepsWritersOut : Type 0
+ASharedLockKeepsWritersOut =
+    (state : StoreState) (number offset : ℕ) (buffer : List ℕ) (row : OpenRow) (lock : Lock) → open_of state.opens number ≡ Some row →
+    Contains (locks_on state.locks row.entry) lock → lock.exclusive ≡ false → Overlap lock.range (record { offset = offset; length = length buffer }) →
+    write_status state number offset buffer ≢ STATUS_SUCCESS
+
+-- of two locks of a file that different opens hold and that overlap, none is exclusive
+abbrev pub NoTwoLocksConflict : Type 0
+NoTwoLocksConflict =
+    (state : StoreState) (file : ℕ) (one other : Lock) → GoodStore state → Contains (locks_on state.locks file) one →
+    Contains (locks_on state.locks file) other → one.holder ≢ other.holder → Overlap one.range other.range →
+    (one.exclusive ≡ false) × (other.exclusive ≡ false)
+
+-- once an open is closed, it holds no lock; and every lock of another open is held still
+abbrev pub ACloseTakesItsLocks : Type 0
+ACloseTakesItsLocks =
+    (state : StoreState) (number file : ℕ) → GoodStore state → is_some (open_of state.opens number) ≡ true →
+    locks_on (closed state number).locks file ≡ others_locks number (locks_on state.locks file)

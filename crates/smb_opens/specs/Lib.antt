@@ -10,6 +10,7 @@ pub mod Create
 pub mod Looked
 pub mod Views
 pub mod Bytes
+pub mod Locks
 pub mod Effect
 pub mod Close
 pub mod Steps

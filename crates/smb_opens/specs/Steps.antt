@@ -2,20 +2,24 @@
 use Rattle.std.specs.Prelude.{◌≡◌, ℕ, ◌==◌, ◌&&◌, Bool, false, List, [], ◌∷◌}
 use Rattle.std.specs.Option.{option_map_or}
 use Rattle.smb_wire.specs.Dispositions.{overwrites_by}
+use Rattle.smb_locks.specs.declared.ask.LockAsk.{LockAsk}
 use Rattle.smb_opens.specs.declared.open_row.Owner.{Owner}
 use Rattle.smb_opens.specs.Asked.{FileAsked}
 use Rattle.smb_opens.specs.Bytes.{written_to}
 use Rattle.smb_opens.specs.Close.{closed, closed_all}
 use Rattle.smb_opens.specs.Effect.{created}
 use Rattle.smb_opens.specs.Found.{entry_asked}
+use Rattle.smb_opens.specs.Locks.{locked_through, unlocked_through}
 use Rattle.smb_opens.specs.Opens.{is_on_entry, open_of}
 use Rattle.smb_opens.specs.State.{StoreState}
 
 -- a request that succeeds: a CREATE at a moment; a WRITE of bytes at an offset through the open of a number, at a moment;
--- the CLOSE of an open; the end of all opens of an owner
+-- a LOCK through an open that locks, or one that unlocks; the CLOSE of an open; the end of all opens of an owner
 pub data StoreStep : Type 0 where
   creates : FileAsked → ℕ → StoreStep
   writes : ℕ → ℕ → List ℕ → ℕ → StoreStep
+  locks : ℕ → List LockAsk → StoreStep
+  unlocks : ℕ → List LockAsk → StoreStep
   closes : ℕ → StoreStep
   closes_all : Owner → StoreStep
 
@@ -23,6 +27,8 @@ pub data StoreStep : Type 0 where
 abbrev pub stepped : StoreState → StoreStep → StoreState
 stepped state (creates ask moment) = created state ask moment
 stepped state (writes number offset buffer moment) = written_to state number offset buffer moment
+stepped state (locks number asks) = locked_through state number asks
+stepped state (unlocks number asks) = unlocked_through state number asks
 stepped state (closes number) = closed state number
 stepped state (closes_all owner) = closed_all state owner
 
@@ -36,6 +42,8 @@ is_change_of entry state (creates ask moment) =
     overwrites_by ask.disposition && option_map_or (λ found. found.number == entry) (entry_asked state ask) false
 is_change_of entry state (writes number offset buffer moment) =
     option_map_or (is_on_entry entry) (open_of state.opens number) false
+is_change_of entry state (locks number asks) = false
+is_change_of entry state (unlocks number asks) = false
 is_change_of entry state (closes number) = false
 is_change_of entry state (closes_all owner) = false
 

@@ -6,7 +6,7 @@ ghost use Rattle.smb_wire.specs.NtStatus.{STATUS_SUCCESS, STATUS_DISK_FULL};
 ghost use Rattle.smb_tree.specs.Content.{numbered};
 ghost use Rattle.smb_tree.specs.Entries.{is_folder_kind, kept_basic};
 ghost use Rattle.smb_tree.specs.Faults.{write_fault};
-ghost use Rattle.smb_opens.specs.Bytes.{bytes_there, read_rows, read_status, file_bytes, may_not_write, write_rows, write_status, written_basic, written_tree, written_to};
+ghost use Rattle.smb_opens.specs.Bytes.{bytes_there, keeps_from_reading, read_rows, read_status, file_bytes, may_not_write, keeps_from_writing, write_rows, write_status, written_basic, written_tree, written_to};
 ghost use Rattle.smb_opens.specs.Create.{first_status};
 ghost use Rattle.smb_opens.specs.Faults.{IsRefusal};
 ghost use Rattle.smb_opens.specs.Opens.{open_of};
@@ -22,8 +22,8 @@ use bitflags::Flags;
 use smb_tree::{Basic, EntryNo, Tree};
 use smb_wire::Access;
 use smb_wire::nt_status::{
-    STATUS_ACCESS_DENIED, STATUS_END_OF_FILE, STATUS_FILE_CLOSED, STATUS_INVALID_DEVICE_REQUEST,
-    STATUS_INVALID_PARAMETER,
+    STATUS_ACCESS_DENIED, STATUS_END_OF_FILE, STATUS_FILE_CLOSED, STATUS_FILE_LOCK_CONFLICT,
+    STATUS_INVALID_DEVICE_REQUEST, STATUS_INVALID_PARAMETER,
 };
 
 /// The most bytes that one request reads or writes.
@@ -41,11 +41,12 @@ fn bytes_there(size: u64, offset: u64, count: u32) -> u32
     }
 }
 
-/// Whether a READ through an open that shows this is answered by bytes, or the status that refuses it.
-fn may_read(view: &View, offset: u64, count: u32, minimum: u32) -> Result<(), u32>
-    ensures lawful { OnOk result (first_status (read_rows view.now offset count minimum) ≡ STATUS_SUCCESS) }
+/// Whether a READ through an open that shows this is answered by bytes, or the status that refuses it. A lock bars it or
+/// not.
+fn may_read(view: &View, is_barred: bool, offset: u64, count: u32, minimum: u32) -> Result<(), u32>
+    ensures lawful { OnOk result (first_status (read_rows view.now is_barred offset count minimum) ≡ STATUS_SUCCESS) }
     ensures file { OnOk result (is_folder_kind view.now.kind ≡ false) }
-    ensures why { IfErr result (λ status. first_status (read_rows view.now offset count minimum) ≡ status) }
+    ensures why { IfErr result (λ status. first_status (read_rows view.now is_barred offset count minimum) ≡ status) }
     ensures refused { IfErr result (λ status. status ≢ STATUS_SUCCESS) }
 {
     if count > MOST_AT_ONCE {
@@ -56,6 +57,9 @@ fn may_read(view: &View, offset: u64, count: u32, minimum: u32) -> Result<(), u3
     }
     if !is_reading(view.access) {
         return Err(STATUS_ACCESS_DENIED);
+    }
+    if is_barred {
+        return Err(STATUS_FILE_LOCK_CONFLICT);
     }
     if count > 0 && offset >= view.size || bytes_there(view.size, offset, count) < minimum {
         return Err(STATUS_END_OF_FILE);
@@ -70,11 +74,12 @@ fn may_not_write(view: &View, offset: u64) -> bool
     !is_writing(view.access) || !view.access.intersects(Access::WRITE_DATA) && offset < view.size
 }
 
-/// Whether a WRITE through an open that shows this goes on, which the room then decides, or the status that refuses it.
-fn may_write(view: &View, offset: u64, count: usize) -> Result<(), u32>
-    ensures goes_on { OnOk result ((is_full : Bool) → first_status (write_rows view.now offset count is_full) ≡ (if nat_lt 0 count && is_full then STATUS_DISK_FULL else STATUS_SUCCESS)) }
+/// Whether a WRITE through an open that shows this goes on, which the room then decides, or the status that refuses it. A
+/// lock bars it or not.
+fn may_write(view: &View, is_barred: bool, offset: u64, count: usize) -> Result<(), u32>
+    ensures goes_on { OnOk result ((is_full : Bool) → first_status (write_rows view.now is_barred offset count is_full) ≡ (if nat_lt 0 count && is_full then STATUS_DISK_FULL else STATUS_SUCCESS)) }
     ensures file { OnOk result (is_folder_kind view.now.kind ≡ false) }
-    ensures why { IfErr result (λ status. (is_full : Bool) → first_status (write_rows view.now offset count is_full) ≡ status) }
+    ensures why { IfErr result (λ status. (is_full : Bool) → first_status (write_rows view.now is_barred offset count is_full) ≡ status) }
     ensures refused { IfErr result (λ status. status ≢ STATUS_SUCCESS) }
 {
     if count > MOST_AT_ONCE as usize {
@@ -85,6 +90,9 @@ fn may_write(view: &View, offset: u64, count: usize) -> Result<(), u32>
     }
     if may_not_write(view, offset) {
         return Err(STATUS_ACCESS_DENIED);
+    }
+    if is_barred {
+        return Err(STATUS_FILE_LOCK_CONFLICT);
     }
     Ok(())
 }
@@ -128,6 +136,22 @@ fn write_file<T: Tree>(
 }
 
 impl<T: Tree + Drop, O: Opens + Drop> Store<T, O> {
+    // Whether a lock bars the open of a number, which shows this, from reading a range: a pass over the locks of its file.
+    fn is_kept_from_reading(&self, view: &View, number: OpenNo, offset: u64, count: u32) -> bool
+        ensures { result ≡ keeps_from_reading self.now.locks number view.now offset count }
+    {
+        self.locks
+            .bars_read(view.entry, number, offset, u64::from(count))
+    }
+
+    // Whether a lock bars the open of a number, which shows this, from writing a range: a pass over the locks of its file.
+    fn is_kept_from_writing(&self, view: &View, number: OpenNo, offset: u64, count: usize) -> bool
+        ensures { result ≡ keeps_from_writing self.now.locks number view.now offset count }
+    {
+        self.locks
+            .bars_write(view.entry, number, offset, count as u64)
+    }
+
     /// How many bytes a READ through the open of a number gives ([MS-SMB2] 3.3.5.12): of those from `offset` on at most
     /// `count`; or the status that refuses it.
     pub fn read_length(
@@ -145,7 +169,8 @@ impl<T: Tree + Drop, O: Opens + Drop> Store<T, O> {
         let Some(view) = self.view(number) else {
             return Err(STATUS_FILE_CLOSED);
         };
-        may_read(&view, offset, count, minimum)?;
+        let is_barred = self.is_kept_from_reading(&view, number, offset, count);
+        may_read(&view, is_barred, offset, count, minimum)?;
         Ok(bytes_there(view.size, offset, count))
     }
 
@@ -170,7 +195,8 @@ impl<T: Tree + Drop, O: Opens + Drop> Store<T, O> {
         let Some(view) = self.view(number) else {
             return Err(StoreFault::Status(STATUS_FILE_CLOSED));
         };
-        if let Err(status) = may_read(&view, offset, count, minimum) {
+        let is_barred = self.is_kept_from_reading(&view, number, offset, count);
+        if let Err(status) = may_read(&view, is_barred, offset, count, minimum) {
             return Err(StoreFault::Status(status));
         }
         match self.tree.read(view.entry, offset, u64::from(count), bytes) {
@@ -200,7 +226,8 @@ impl<T: Tree + Drop, O: Opens + Drop> Store<T, O> {
         let Some(view) = self.view(number) else {
             return Err(StoreFault::Status(STATUS_FILE_CLOSED));
         };
-        if let Err(status) = may_write(&view, offset, buffer.len()) {
+        let is_barred = self.is_kept_from_writing(&view, number, offset, buffer.len());
+        if let Err(status) = may_write(&view, is_barred, offset, buffer.len()) {
             return Err(StoreFault::Status(status));
         }
         if buffer.is_empty() {

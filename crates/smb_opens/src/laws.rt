@@ -1,13 +1,14 @@
 //! The laws of stores.
 
-ghost use Rattle.smb_opens.specs.Laws.{ANewTreeIsGood, ACreateIsAtOnePath, AnOpenLeavesEntries, ACreateReturnsWhatIsShown, AConflictIsMutual, MoreAccessKeepsAConflict, ACloseIsOfOneEntry, ACloseKeepsBytesAndTimes, WhatIsWrittenIsReadAgain, AWriteIsOfOneFile};
+ghost use Rattle.smb_opens.specs.Laws.{ANewTreeIsGood, ACreateIsAtOnePath, AnOpenLeavesEntries, ACreateReturnsWhatIsShown, AConflictIsMutual, MoreAccessKeepsAConflict, ACloseIsOfOneEntry, ACloseKeepsBytesAndTimes, WhatIsWrittenIsReadAgain, AWriteIsOfOneFile, ALockKeepsOthersOut, ASharedLockKeepsWritersOut, NoTwoLocksConflict, ACloseTakesItsLocks};
 
 /// A new tree is good, so a store can be made of it; a CREATE changes at most the entry at its own path, and none where it
 /// doesn't overwrite, and returns what its open shows; a conflict is one both ways, and more access never removes one; a
 /// CLOSE leaves every entry but its own, and of its own the bytes and times while it exists. What a WRITE put is read
 /// again through any open of the file, as long as no WRITE to it and no CREATE that overwrites it comes between; and a
-/// WRITE leaves all other entries and all opens. The contract is the statement, and
-/// the body does nothing.
+/// WRITE leaves all other entries and all opens. What an open has locked as its own alone, no other open reads or writes; what
+/// is under a shared lock, no open writes; no two locks of different opens conflict; and a CLOSE takes the open's locks and
+/// no others. The contract is the statement, and the body does nothing.
 pub fn laws_of_stores()
     ensures new_tree { ANewTreeIsGood }
     ensures one_path { ACreateIsAtOnePath }
@@ -19,4 +20,8 @@ pub fn laws_of_stores()
     ensures kept_bytes { ACloseKeepsBytesAndTimes }
     ensures again { WhatIsWrittenIsReadAgain }
     ensures one_file { AWriteIsOfOneFile }
+    ensures kept_out { ALockKeepsOthersOut }
+    ensures writers_out { ASharedLockKeepsWritersOut }
+    ensures no_two_locks { NoTwoLocksConflict }
+    ensures own_locks { ACloseTakesItsLocks }
 {}

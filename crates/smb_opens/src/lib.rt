@@ -1,7 +1,7 @@
-//! Opens of files and folders, and the store that joins them to a tree ([MS-SMB2] 3.3.5.9 to 3.3.5.13).
+//! Opens of files and folders, and the store that joins them to a tree ([MS-SMB2] 3.3.5.9 to 3.3.5.14).
 //!
 //! An open is an entry, who opened it and what for: an [`OpenRow`]. [`Opens`] is any list of them in rising
-//! number, and [`PlainOpens`] the plain one. A [`Store`] is a tree and its opens; its state is
+//! number, and [`PlainOpens`] the plain one. A [`Store`] is a tree, its opens and their locks; its state is
 //! `specs/State.antt`, and what holds of it between any two calls `specs/Good.antt`.
 //!
 //! [`Store::create`] answers a CREATE: with the status that the table of `specs/Create.antt` gives; or, where no row holds, with what
@@ -11,6 +11,8 @@
 //! they take no memory.
 //!
 //! [`Store::read`] and [`Store::write`] read and write the bytes of a file, as `specs/Bytes.antt` says; they are copied once.
+//! [`Store::lock`] and [`Store::unlock`] answer a LOCK, as `specs/Locks.antt` says; the locks of a file bar reads and writes
+//! through other opens, and go with the open that holds them.
 //!
 //! A CREATE looks its path and its folder up, goes through the opens of its entry, and through what is stored for an
 //! overwritten file; all else takes time as the tree and the opens say.
@@ -25,6 +27,7 @@ mod effect;
 mod fault;
 mod found;
 mod laws;
+mod locks;
 mod look;
 mod open_row;
 mod opens;

@@ -38,21 +38,24 @@ use super::open_row::{OpenNo, Owner};
 use super::opens::Opens;
 use super::sharing::conflicts;
 use super::view::{Closed, Created, View};
+use smb_locks::LockTable;
 use smb_tree::{EntryNo, Tree};
 use smb_wire::nt_status::{STATUS_SHARING_VIOLATION, STATUS_SUCCESS};
 use smb_wire::{CreateAction, CreateDisposition, PathView};
+use std::alloc::Global;
 use std::marker::Model;
 
 const MOST_OPENS: usize = 1024;
 
 const MOST_ENTRIES: usize = 4096;
 
-/// A tree and the opens of its entries. Its state is the tree's content, the list of the opens in rising
-/// number, and the number of the next open.
+/// A tree, the opens of its entries, and their locks. Its state is the tree's content, the list of the opens in rising
+/// number, the locks of each file, and the number of the next open.
 #[derive(Drop)]
 pub struct Store<T: Tree + Drop, O: Opens + Drop> {
     pub(crate) tree: T,
     pub(crate) opens: O,
+    pub(crate) locks: LockTable,
     pub(crate) next: OpenNo,
     pub(crate) opens_count: usize,
     pub(crate) entries_count: usize,
@@ -65,22 +68,23 @@ impl<T: Tree + Drop, O: Opens + Drop> Model for Store<T, O> {
 
     ghost use Rattle.smb_opens.specs.Good.{IsKept};
 
-    ghost view = { λ s. record { tree = T.content s.tree; opens = O.content s.opens; next = s.next } };
+    ghost view = { λ s. record { tree = T.content s.tree; opens = O.content s.opens; locks = s.locks; next = s.next } };
 
-    ghost invariant = { λ s. IsKept (T.content s.tree) (O.content s.opens) s.next s.opens_count s.entries_count };
+    ghost invariant = { λ s. IsKept (T.content s.tree) (O.content s.opens) s.locks s.next s.opens_count s.entries_count };
 }
 
 impl<T: Tree + Drop, O: Opens + Drop> Store<T, O> {
-    /// Joins a good tree, in which no entry is marked, and opens, of which none stands yet.
-    pub fn new(tree: T, opens: O) -> Self
+    /// Joins a good tree, in which no entry is marked, and opens, of which none stands yet. It takes no memory.
+    pub fn new(alloc: Global, tree: T, opens: O) -> Self
         requires tree { UnmarkedTree (T.content tree) }
         requires opens { O.content opens ≡ [] }
-        ensures { result ≡ record { tree = T.content tree; opens = []; next = 1 } }
+        ensures { result ≡ record { tree = T.content tree; opens = []; locks = []; next = 1 } }
     {
         let entries_count = count_entries(&tree);
         Store {
             tree,
             opens,
+            locks: LockTable::new(alloc),
             next: 1,
             opens_count: 0,
             entries_count,
@@ -277,8 +281,8 @@ impl<T: Tree + Drop, O: Opens + Drop> Store<T, O> {
         })
     }
 
-    /// Closes the open of a number, which stands ([MS-SMB2] 3.3.5.10), and tells what it showed before. Its entry is
-    /// marked where the open was to delete it, and it can be deleted; a marked entry goes with its last open. It takes no
+    /// Closes the open of a number, which stands ([MS-SMB2] 3.3.5.10), and tells what it showed before. Its locks
+    /// go with it. Its entry is marked where the open was to delete it, and it can be deleted; a marked entry goes with its last open. It takes no
     /// memory.
     pub fn close(&mut self, number: OpenNo) -> Closed
         requires { IsSome (open_of self.old.opens number) }
@@ -295,6 +299,7 @@ impl<T: Tree + Drop, O: Opens + Drop> Store<T, O> {
         };
         self.opens.remove(number);
         self.opens_count -= 1;
+        self.locks.drop_open_on(row.entry, number);
         mark_closed(&mut self.tree, &row);
         let removed = clear(&mut self.tree, &self.opens, row.entry);
         if removed {

@@ -1,6 +1,5 @@
 -- The end of a connection, seen from the sessions of others.
-use Rattle.std.proofs.Common.{◌≡◌, ◌==◌, ◌<◌, ℕ, Bool, true, false, cond, not, List, [], ◌∷◌, filter, map, Option, None, Some, refl, sym, ap, arith, ◌∙◌, eqb}
-use Rattle.std.proofs.lemmas.Grind.{common_steps}
+use Rattle.std.proofs.Common.{◌≡◌, ◌==◌, ◌<◌, ℕ, Bool, true, false, cond, not, List, [], ◌∷◌, filter, map, Some, refl, sym, ap, arith, ◌∙◌}
 use Rattle.std.proofs.lemmas.Bool.Decides.{nat_tests}
 use Rattle.std.specs.List.{AllByRecursion}
 use Rattle.std.specs.Map.{lookup}
@@ -9,7 +8,7 @@ use Rattle.std.specs.Ordering.{nat_cmp}
 use Rattle.smb_session.specs.Good.{GoodTable}
 use Rattle.smb_session.specs.Numbers.{IsRising}
 use Rattle.smb_session.specs.Session.{SessionState}
-use Rattle.smb_session.specs.Table.{TableState, session_at, numbers_on}
+use Rattle.smb_session.specs.Table.{session_at, numbers_on}
 use Rattle.smb_opens.specs.declared.open_row.OpenRow.{OpenRow}
 use Rattle.smb_opens.specs.declared.open_row.Owner.TheVariants.{Session}
 use Rattle.smb_opens.specs.Close.{closed_all}
@@ -18,7 +17,7 @@ use Rattle.smb_opens.specs.Opens.{is_held_by}
 use Rattle.smb_opens.specs.State.{StoreState}
 use Rattle.smb_opens.proofs.Leaving.{all_left}
 use Rattle.smb_opens.proofs.Rows.{others}
-use Rattle.smb_request.specs.State.{SharedState, closed_with, without_connection, shared_ended}
+use Rattle.smb_request.specs.State.{SharedState, closed_with, shared_ended}
 use Rattle.smb_request.proofs.Numbered.{at_is}
 
 -- an entry that is left is found where it was

@@ -1,5 +1,5 @@
 -- One request, seen from the sessions of other connections.
-use Rattle.std.proofs.Common.{◌≡◌, ◌==◌, ◌<◌, ℕ, ◌+◌, Bool, true, false, cond, not, ◌&&◌, if◌then◌else◌, List, [], ◌∷◌, ◌++◌, length, filter, map, ◌⊎◌, inl, inr, Option, None, Some, is_some, refl, sym, ap, arith, ◌∙◌, eqb}
+use Rattle.std.proofs.Common.{◌≡◌, ◌==◌, ◌<◌, ℕ, Bool, true, false, if◌then◌else◌, List, [], ◌∷◌, ◌++◌, length, filter, map, ◌⊎◌, inl, inr, Option, None, Some, is_some, refl, sym, ap, arith, ◌∙◌}
 use Rattle.std.proofs.lemmas.Grind.{common_steps}
 use Rattle.std.proofs.lemmas.Bool.Decides.{nat_tests}
 use Rattle.std.specs.List.{AllByRecursion}
@@ -11,7 +11,7 @@ use Rattle.smb_session.specs.Session.{SessionState}
 use Rattle.smb_session.specs.Table.{TableState, session_at, changed_at, session_changed, session_ended, knows_session}
 use Rattle.smb_opens.specs.declared.open_row.OpenRow.{OpenRow}
 use Rattle.smb_opens.specs.declared.open_row.Owner.TheVariants.{Session, Tree}
-use Rattle.smb_opens.specs.Opens.{is_held_by, has_number, open_of, without_open}
+use Rattle.smb_opens.specs.Opens.{is_held_by, open_of, without_open}
 use Rattle.smb_opens.proofs.Rows.{others}
 use Rattle.smb_request.proofs.Numbered.{at_is}
 use Rattle.smb_head.specs.Headers.{header_of}
@@ -43,7 +43,8 @@ use Rattle.smb_session.specs.Setup.{known_session_refusal, setup_refusal, setup_
 use Rattle.smb_session.specs.Table.{begun}
 use Rattle.smb_body.specs.SessionSetup.{SessionSetupAsked}
 use Rattle.smb_opens.specs.Close.{closed_all}
-use Rattle.smb_request.specs.Response.{ResponseState}
+use Rattle.smb_request.specs.Response.{ResponseState, CommandStep}
+use Rattle.smb_tree.specs.Entries.{is_folder_kind}
 use Rattle.smb_request.specs.Session.{closed_for, setup_answered, session_set_up}
 use Rattle.smb_wire.specs.NtStatus.{STATUS_SUCCESS}
 use Rattle.smb_body.specs.Create.{CreateAsked}
@@ -52,6 +53,9 @@ use Rattle.smb_body.specs.declared.read.ReadRequest.{ReadRequest}
 use Rattle.smb_body.specs.declared.close.CloseFlags.{CloseFlags}
 use Rattle.smb_opens.specs.declared.view.View.{View}
 use Rattle.smb_opens.specs.Asked.{FileAsked}
+use Rattle.smb_locks.specs.declared.ask.LockAsk.{LockAsk}
+use Rattle.smb_locks.specs.Table.{Table, locked, unlocked}
+use Rattle.smb_opens.specs.Locks.{lock_status, unlock_status, locked_through, unlocked_through, with_locks_of}
 use Rattle.smb_opens.specs.Bytes.{read_status, file_bytes, write_status, written_to}
 use Rattle.smb_opens.specs.Close.{closed}
 use Rattle.smb_opens.specs.Create.{access_granted, create_status}
@@ -65,6 +69,7 @@ use Rattle.smb_opens.proofs.Again.{opens_left}
 use Rattle.smb_opens.proofs.Closing.{opens_closed}
 use Rattle.smb_opens.proofs.Rows.{kept_above}
 use Rattle.smb_request.specs.Bytes.{file_read, file_written}
+use Rattle.smb_request.specs.Locks.{lock_asks, asks_unlock, file_locked, file_unlocked}
 use Rattle.smb_request.specs.Files.{file_asked, create_response, file_created, closed_by_view, file_closed}
 use Rattle.smb_session.specs.declared.fault.SessionFault.{SessionFault}
 use Rattle.smb_session.specs.Good.{GoodTable}
@@ -72,7 +77,7 @@ use Rattle.smb_session.specs.Session.{with_tree, without_tree}
 use Rattle.smb_session.specs.Table.{logoff_refusal, tree_disconnect_refusal, tree_disconnected, tree_connected, next_tree_of}
 use Rattle.smb_session.specs.Sessions.{tree_connect_refusal}
 use Rattle.smb_session.proofs.Numbers.{equal_back}
-use Rattle.smb_body.specs.Replies.{answers_logoff, answers_tree_connect, answers_tree_disconnect, answers_create, answers_read, answers_write}
+use Rattle.smb_body.specs.Replies.{answers_logoff, answers_tree_connect, answers_tree_disconnect, answers_create, answers_read, answers_write, answers_lock}
 use Rattle.smb_opens.specs.Good.{GoodStore}
 use Rattle.smb_opens.proofs.Leaving.{all_left}
 use Rattle.smb_request.specs.declared.context.Under.{Under}
@@ -228,6 +233,34 @@ closed_alone : {S : Type 0} (shared : SharedState S) (under : Under) (k : ℕ) (
     filter (is_held_by (Session n)) (closed shared.store k).opens ≡ filter (is_held_by (Session n)) shared.store.opens → Alone shared n session (file_closed shared under k flags).shared
 unfolding file_closed
 closed_alone shared under k flags n session e = closed_at shared under k flags n session (open_view shared.store k) e
+
+-- LOCK: the opens are those before
+locks_opens : (table : ℕ → Table) (store : StoreState) (view : Option View) → (with_locks_of table store view).opens ≡ store.opens
+locks_opens table store None = refl
+locks_opens table store (Some view) =
+    elim (is_folder_kind view.kind) as (λ b. (let x : StoreState = if b then store else record store { locks = table view.entry } in x).opens ≡ store.opens) [ true ↦ refl | false ↦ refl ]
+
+locked_at : {S : Type 0} (shared : SharedState S) (under : Under) (k : ℕ) (asks : List LockAsk) (n : ℕ) (session : SessionState) (status : ℕ) (b : Bool) →
+    Alone shared n session (if b then record { shared = with_store shared (locked_through shared.store k asks); response = success under answers_lock } else refused shared under (Store status)).shared
+locked_at shared under k asks n session status true = inl (refl, ap (filter (is_held_by (Session n))) (locks_opens (λ entry. locked shared.store.locks entry k asks) shared.store (open_view shared.store k)))
+locked_at shared under k asks n session status false = same shared n session
+
+locked_alone : {S : Type 0} (shared : SharedState S) (under : Under) (k : ℕ) (asks : List LockAsk) (n : ℕ) (session : SessionState) → Alone shared n session (file_locked shared under k asks).shared
+unfolding file_locked
+locked_alone shared under k asks n session = locked_at shared under k asks n session (lock_status shared.store k asks) (lock_status shared.store k asks == STATUS_SUCCESS)
+
+unlocked_at : {S : Type 0} (shared : SharedState S) (under : Under) (k : ℕ) (asks : List LockAsk) (n : ℕ) (session : SessionState) (status : ℕ) (b : Bool) →
+    Alone shared n session (if b then record { shared = with_store shared (unlocked_through shared.store k asks); response = success under answers_lock } else refused (with_store shared (unlocked_through shared.store k asks)) under (Store status)).shared
+unlocked_at shared under k asks n session status true = inl (refl, ap (filter (is_held_by (Session n))) (locks_opens (λ entry. unlocked shared.store.locks entry k asks) shared.store (open_view shared.store k)))
+unlocked_at shared under k asks n session status false = inl (refl, ap (filter (is_held_by (Session n))) (locks_opens (λ entry. unlocked shared.store.locks entry k asks) shared.store (open_view shared.store k)))
+
+unlocked_alone : {S : Type 0} (shared : SharedState S) (under : Under) (k : ℕ) (asks : List LockAsk) (n : ℕ) (session : SessionState) → Alone shared n session (file_unlocked shared under k asks).shared
+unfolding file_unlocked
+unlocked_alone shared under k asks n session = unlocked_at shared under k asks n session (unlock_status shared.store k asks) (unlock_status shared.store k asks == STATUS_SUCCESS)
+
+locks_alone : {S : Type 0} (shared : SharedState S) (under : Under) (k : ℕ) (asks : List LockAsk) (n : ℕ) (session : SessionState) (b : Bool) → Alone shared n session (let x : CommandStep S = if b then file_unlocked shared under k asks else file_locked shared under k asks in x).shared
+locks_alone shared under k asks n session true = unlocked_alone shared under k asks n session
+locks_alone shared under k asks n session false = locked_alone shared under k asks n session
 
 -- READ and WRITE
 read_at : {S : Type 0} (shared : SharedState S) (under : Under) (k : ℕ) (asked : ReadRequest) (n : ℕ) (session : SessionState) (status : ℕ) (b : Bool) →
@@ -408,7 +441,7 @@ acted_alone m c moment shared dialect under n session (asks_close a) e o =
 acted_alone m c moment shared dialect under n session (asks_flush a) e o = same shared n session
 acted_alone m c moment shared dialect under n session (asks_read a) e o = read_alone shared under a.file_id.persistent a n session
 acted_alone m c moment shared dialect under n session (asks_write a) e o = written_alone moment shared under a.file_id.persistent a n session
-acted_alone m c moment shared dialect under n session (asks_lock a) e o = same shared n session
+acted_alone m c moment shared dialect under n session (asks_lock a) e o = locks_alone shared under a.file_id.persistent (lock_asks a.locks) n session (asks_unlock (lock_asks a.locks))
 acted_alone m c moment shared dialect under n session (asks_cancel a) e o = same shared n session
 acted_alone m c moment shared dialect under n session (asks_echo a) e o = same shared n session
 acted_alone m c moment shared dialect under n session (asks_query_directory a) e o = same shared n session

@@ -3,4 +3,5 @@ pub mod Owners
 pub mod Endings
 pub mod Sessions
 pub mod Alone
+pub mod Asks
 pub mod Apart

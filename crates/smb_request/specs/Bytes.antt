@@ -1,5 +1,5 @@
 -- READ and WRITE ([MS-SMB2] 3.3.5.12, 3.3.5.13).
-use Rattle.std.specs.Prelude.{ℕ, ◌==◌, List, length, if◌then◌else◌}
+use Rattle.std.specs.Prelude.{ℕ, ◌==◌, length, if◌then◌else◌}
 use Rattle.smb_wire.specs.NtStatus.{STATUS_SUCCESS}
 use Rattle.smb_body.specs.declared.read.ReadRequest.{ReadRequest}
 use Rattle.smb_body.specs.Write.{WriteAsked}

@@ -20,7 +20,7 @@ command_row Close = record { needs = Open; handling = Built }
 command_row Flush = record { needs = Open; handling = Built }
 command_row Read = record { needs = Open; handling = Built }
 command_row Write = record { needs = Open; handling = Built }
-command_row Lock = record { needs = Open; handling = NotBuilt }
+command_row Lock = record { needs = Open; handling = Built }
 command_row Ioctl = record { needs = Open; handling = NotBuilt }
 command_row Cancel = record { needs = Nothing; handling = Passed }
 command_row Echo = record { needs = Nothing; handling = Built }

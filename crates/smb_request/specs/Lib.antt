@@ -8,6 +8,7 @@ pub mod Response
 pub mod Smb1
 pub mod Session
 pub mod Bytes
+pub mod Locks
 pub mod Files
 pub mod Request
 pub mod Held

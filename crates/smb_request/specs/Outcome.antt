@@ -1,8 +1,8 @@
 -- For the proofs; nothing here need be believed.
 -- What a command gives, as a response.
-use Rattle.std.specs.Prelude.{◌≡◌, ℕ, ◌≤◌, List, length, Option, None, Some}
+use Rattle.std.specs.Prelude.{◌≡◌, ◌≤◌, length, Option, None, Some}
 use Rattle.smb_wire.specs.declared.dialect.Dialect.{Dialect}
-use Rattle.smb_body.specs.Replies.{ReplyValue, answers_error, answers_session_setup, answers_logoff, answers_tree_connect, answers_tree_disconnect, answers_create, answers_close, answers_flush, answers_read, answers_write, answers_echo}
+use Rattle.smb_body.specs.Replies.{ReplyValue, answers_error, answers_session_setup, answers_logoff, answers_tree_connect, answers_tree_disconnect, answers_create, answers_close, answers_flush, answers_read, answers_write, answers_lock, answers_echo}
 use Rattle.smb_session.specs.Authenticator.{Meaning}
 use Rattle.smb_wire.specs.NtStatus.{STATUS_SUCCESS}
 use Rattle.smb_opens.specs.Bytes.{read_status, file_bytes}
@@ -11,7 +11,7 @@ use Rattle.smb_request.specs.declared.context.ResponseIds.{ResponseIds}
 use Rattle.smb_request.specs.declared.outcome.SetupTold.{SetupTold}
 use Rattle.smb_request.specs.declared.outcome.Success.{Success}
 use Rattle.smb_request.specs.declared.outcome.ReadAsk.{ReadAsk}
-use Rattle.smb_request.specs.declared.outcome.Success.TheVariants.{Negotiate, SessionSetup, Logoff, TreeConnect, TreeDisconnect, Create, Close, Flush, Write, Echo}
+use Rattle.smb_request.specs.declared.outcome.Success.TheVariants.{Negotiate, SessionSetup, Logoff, TreeConnect, TreeDisconnect, Create, Close, Flush, Write, Lock, Echo}
 use Rattle.smb_request.specs.declared.outcome.Outcome.{Outcome}
 use Rattle.smb_request.specs.declared.outcome.Outcome.TheVariants.{Succeeded, Reads, GoesOn, Failed}
 use Rattle.smb_request.specs.declared.outcome.Told.{Told}
@@ -37,6 +37,7 @@ success_value authenticator shared (Create response) = answers_create response
 success_value authenticator shared (Close response) = answers_close response
 success_value authenticator shared Flush = answers_flush
 success_value authenticator shared (Write response) = answers_write response
+success_value authenticator shared Lock = answers_lock
 success_value authenticator shared Echo = answers_echo
 
 -- the response to a command, from what is shared after it

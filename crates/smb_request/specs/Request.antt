@@ -1,5 +1,5 @@
 -- One request: the order of checks, and each command ([MS-SMB2] 3.3.5.2).
-use Rattle.std.specs.Prelude.{ℕ, Bool, true, false, ◌&&◌, not, List, Option, Some, None, if◌then◌else◌}
+use Rattle.std.specs.Prelude.{ℕ, false, ◌&&◌, not, List, Option, Some, None, if◌then◌else◌}
 use Rattle.std.specs.Option.{option_map_or}
 use Rattle.smb_head.specs.Headers.{header_of}
 use Rattle.smb_head.specs.Chains.{is_related}
@@ -24,6 +24,7 @@ use Rattle.smb_request.specs.Response.{RequestStep, Performed, with_context, suc
 use Rattle.smb_request.specs.Session.{session_set_up, session_logged_off, tree_joined, tree_left}
 use Rattle.smb_request.specs.Files.{file_created, file_closed, file_flushed, names_open}
 use Rattle.smb_request.specs.Bytes.{file_read, file_written}
+use Rattle.smb_request.specs.Locks.{lock_asks, locks_changed}
 use Rattle.smb_request.specs.Commands.{command_row, needs_of, needs_session, needs_tree}
 
 -- the session and the tree that a request acts under: its own, or for a related one those of the request before it
@@ -69,8 +70,8 @@ module _ {S : Type 0} (authenticator : Meaning S) (connection moment : ℕ) (sha
   acted (asks_flush asked) = answered dialect (file_flushed shared under)
   acted (asks_read asked) = answered dialect (file_read shared under asked.file_id.persistent asked)
   acted (asks_write asked) = answered dialect (file_written moment shared under asked.file_id.persistent asked)
+  acted (asks_lock asked) = answered dialect (locks_changed shared under asked.file_id.persistent (lock_asks asked.locks))
   acted (asks_echo asked) = answered dialect (record { shared = shared; response = success under answers_echo })
-  acted (asks_lock asked) = acted_not
   acted (asks_cancel asked) = acted_not
   acted (asks_query_directory asked) = acted_not
   acted (asks_query_info asked) = acted_not

@@ -11,7 +11,7 @@ use Rattle.smb_opens.specs.State.{StoreState}
 use Rattle.smb_request.specs.Settings.{Settings}
 
 -- what all connections share: the configuration, the sessions with their authenticator, and the files with their
--- opens (3.3.1.5)
+-- opens and locks (3.3.1.5)
 pub record SharedState (S : Type 0) : Type 0 where
   pub settings : Settings
   pub sessions : SessionsState S
@@ -22,7 +22,7 @@ abbrev pub new_shared : {S : Type 0} → Settings → S → SharedState S
 new_shared settings authenticator = record {
   settings = settings;
   sessions = new_sessions authenticator settings.share;
-  store = record { tree = new_content settings.created settings.capacity; opens = []; next = 1 };
+  store = record { tree = new_content settings.created settings.capacity; opens = []; locks = []; next = 1 };
 }
 
 -- the token that the authenticator offers first

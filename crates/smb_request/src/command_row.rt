@@ -52,7 +52,7 @@ pub(crate) fn row_of(command: Command) -> Row
         Command::Flush => (Needs::Open, Handling::Built),
         Command::Read => (Needs::Open, Handling::Built),
         Command::Write => (Needs::Open, Handling::Built),
-        Command::Lock => (Needs::Open, Handling::NotBuilt),
+        Command::Lock => (Needs::Open, Handling::Built),
         Command::Ioctl => (Needs::Open, Handling::NotBuilt),
         Command::Cancel => (Needs::Nothing, Handling::Passed),
         Command::Echo => (Needs::Nothing, Handling::Built),

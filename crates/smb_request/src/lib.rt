@@ -17,6 +17,7 @@ mod config;
 mod context;
 mod files;
 mod laws;
+mod locks;
 mod negotiate;
 mod outcome;
 mod request;

@@ -40,6 +40,7 @@ pub(crate) enum Success {
     Close(CloseResponse),
     Flush,
     Write(WriteResponse),
+    Lock,
     Echo,
 }
 
@@ -125,6 +126,7 @@ impl<A: Authenticator + Drop, T: Tree + Drop, O: Opens + Drop> Shared<A, T, O> {
             Success::Close(response) => Reply::Close(*response),
             Success::Flush => Reply::Flush,
             Success::Write(response) => Reply::Write(*response),
+            Success::Lock => Reply::Lock,
             Success::Echo => Reply::Echo,
         }
     }

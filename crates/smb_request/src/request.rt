@@ -162,9 +162,9 @@ impl<A: Authenticator + Drop, T: Tree + Drop, O: Opens + Drop> Shared<A, T, O> {
             Request::Write(asked) => {
                 self.write_file(moment, under, asked.file_id.persistent, asked)
             }
+            Request::Lock(asked) => self.change_locks(under, asked.file_id.persistent, asked),
             Request::Echo(_) => Ok(Told::succeeded(under, Success::Echo)),
-            Request::Lock(_)
-            | Request::Cancel(_)
+            Request::Cancel(_)
             | Request::QueryDirectory(_)
             | Request::QueryInfo(_)
             | Request::SetInfo(_) => Ok(Told::failed(under, Status::NotSupported)),

@@ -106,7 +106,7 @@ impl<A: Authenticator + Drop, T: Tree + Drop, O: Opens + Drop> Shared<A, T, O> {
         Ok(Shared {
             config,
             sessions,
-            store: Store::new(tree, opens),
+            store: Store::new(alloc, tree, opens),
             alloc,
         })
     }

@@ -19,8 +19,8 @@
 //!
 //! What a number on the wire means has a type here, one for each meaning, which every crate above uses: [`Command`],
 //! [`Dialect`], [`Access`], [`ShareAccess`], [`CreateOptions`], [`CreateDisposition`], [`CreateAction`],
-//! [`FileAttributes`], [`FileId`]; [`nt_status`] is the one list of statuses. Their numbers stand in `specs/` by the
-//! standard's names.
+//! [`FileAttributes`], [`LockFlags`], [`FileId`]; [`nt_status`] is the one list of statuses. Their numbers stand in
+//! `specs/` by the standard's names.
 #![tactic(auto)]
 
 mod access;
@@ -34,6 +34,7 @@ mod fault;
 mod fields;
 mod file_id;
 mod folded;
+mod lock_flags;
 mod names;
 pub mod nt_status;
 mod number;
@@ -53,6 +54,7 @@ pub use fault::{PathFault, WireFault};
 pub use fields::{laws_of_fields, put_bytes, put_u8, u8_in, u16_in, u32_in, u64_in};
 pub use file_id::FileId;
 pub use folded::FoldedName;
+pub use lock_flags::LockFlags;
 pub use names::{compare_folded, fold_unit, same_name};
 pub use number::{laws_of_numbers, put_u16, put_u32, put_u64, u16_at, u32_at, u64_at};
 pub use paths::PathView;

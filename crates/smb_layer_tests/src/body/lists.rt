@@ -1,6 +1,7 @@
 //! Dialects and elements of a LOCK over borrowed bytes.
 
-use smb_body::{DialectRevision, Dialects, LockElement, LockFlags, LockList};
+use smb_body::{DialectRevision, Dialects, LockElement, LockList};
+use smb_wire::LockFlags;
 
 /// Whether bytes are two dialects, the second of which is this.
 fn ends_in(bytes: &[u8], last: DialectRevision) -> bool {

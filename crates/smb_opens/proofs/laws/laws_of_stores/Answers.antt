@@ -1,6 +1,7 @@
 use Rattle.std.proofs.Common.{◌≡◌, true, is_some}
 use Rattle.smb_tree.specs.Content.{numbered}
 use Rattle.smb_opens.proofs.Again.{others_left, opens_left, entry_there}
+use Rattle.smb_opens.proofs.Barred.{kept_out, writers_out, no_two_locks, own_locks}
 use Rattle.smb_opens.proofs.Quiet.{read_later}
 use Rattle.smb_opens.proofs.Rows.{found}
 use Rattle.smb_opens.proofs.OnePath.{new_tree, one_path, opened_leaves}
@@ -24,4 +25,8 @@ returns c = record {
       let row = entry_there state.tree.rows writer.entry (found (λ row. is_some (numbered state.tree.rows row.entry) ≡ true) state.opens number writer good.present one) in
       read_later state number offset buffer moment steps other writer reader row.0 good.tree one row.1 quiet two same is;
   one_file = λ state number offset buffer moment writer one. (opens_left state number offset buffer moment, λ other apart. others_left state number offset buffer moment writer other one apart);
+  kept_out = kept_out;
+  writers_out = writers_out;
+  no_two_locks = no_two_locks;
+  own_locks = own_locks;
 }

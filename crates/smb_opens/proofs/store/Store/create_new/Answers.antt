@@ -19,7 +19,7 @@ unreachable-requires g c =
 pub invariant_of-self-in-Err : goal.invariant_of-self-in-Err
 invariant_of-self-in-Err g c =
     let number = ap (λ (r : OpenRow). r.number) c.opened_by.ensures in
-    kept_undone (g.T.Tree.content c.self.inside.tree) _ (g.O.Opens.content c.self.inside.opens) _ _ _ _ c.in-Err.ensures.err
+    kept_undone (g.T.Tree.content c.self.inside.tree) _ (g.O.Opens.content c.self.inside.opens) _ _ _ _ _ c.in-Err.ensures.err
     (undone (g.O.Opens.content c.self.inside.opens) _ _ c.self.inside.next c.opened_by.result c.self.invariant.good.below number c.in_ok-add.ensures.ok c.remove.ensures) c.self.invariant
 
 pub returns-in-Err-clause-err : goal.returns-in-Err-clause-err
@@ -27,7 +27,7 @@ returns-in-Err-clause-err g c =
     let number = ap (λ (r : OpenRow). r.number) c.opened_by.ensures in
     let tree = c.in-Err.ensures.err in
     let opens = undone (g.O.Opens.content c.self.inside.opens) _ _ c.self.inside.next c.opened_by.result c.self.invariant.good.below number c.in_ok-add.ensures.ok c.remove.ensures in
-    (λ i. record { tree = tree i; opens = opens i; next = c.self.inside.next }) ∙ c.self.view_is
+    (λ i. record { tree = tree i; opens = opens i; locks = c.self.inside.locks; next = c.self.inside.next }) ∙ c.self.view_is
 
 pub entry_view-requires : goal.entry_view-requires
 entry_view-requires g c =
@@ -40,7 +40,7 @@ unreachable-requires-in_default-entry_view g c =
 
 pub invariant_of-self-2 : goal.invariant_of-self-2
 invariant_of-self-2 g c =
-    let state : StoreState = record { tree = g.T.Tree.content c.self.inside.tree; opens = g.O.Opens.content c.self.inside.opens; next = c.self.inside.next } in
+    let state : StoreState = record { tree = g.T.Tree.content c.self.inside.tree; opens = g.O.Opens.content c.self.inside.opens; locks = c.self.inside.locks; next = c.self.inside.next } in
     let number = ap (λ (r : OpenRow). r.number) c.opened_by.ensures in
     let entry = ap (λ (r : OpenRow). r.entry) c.opened_by.ensures ∙ end_some (g.T.Tree.content c.self.inside.tree) _ (sym c.in-Some.ensures) in
     let free = ap (λ (s : StoreState). add_fault s.tree (folded_path (parts_of c.args.path.now))) c.self.view_is ∙ c.requires.free in
@@ -50,7 +50,7 @@ invariant_of-self-2 g c =
 
 pub returns-clause-told : goal.returns-clause-told
 returns-clause-told g c =
-    let state : StoreState = record { tree = g.T.Tree.content c.self.inside.tree; opens = g.O.Opens.content c.self.inside.opens; next = c.self.inside.next } in
+    let state : StoreState = record { tree = g.T.Tree.content c.self.inside.tree; opens = g.O.Opens.content c.self.inside.opens; locks = c.self.inside.locks; next = c.self.inside.next } in
     let entry = end_some (g.T.Tree.content c.self.inside.tree) _ (sym c.in-Some.ensures) in
     rw (← c.self.view_is) (told_added state (asked c.args.ask.now) c.args.moment _ c.granted-access.result _ _ _ c.in-Some-entry_view.view _ c.requires.path c.kind_asked-kind.ensures c.attributes_asked.ensures c.granted-access.ensures c.in-Some-entry_view.ensures
     (shown_added (g.T.Tree.content c.self.inside.tree) (g.T.Tree.content c.add-2.new.self) _ _ _ _ c.in-Some.entry c.granted-access.result c.self.invariant.good.tree c.in_default-add.ensures.ok entry))

@@ -19,7 +19,7 @@ affect-requires-clause-target g c =
 pub invariant_of-self-in-Err : goal.invariant_of-self-in-Err
 invariant_of-self-in-Err g c =
     let number = ap (λ (r : OpenRow). r.number) c.opened_by.ensures in
-    kept_undone (g.T.Tree.content c.self.inside.tree) _ (g.O.Opens.content c.self.inside.opens) _ _ _ _ c.in-Err.ensures.err
+    kept_undone (g.T.Tree.content c.self.inside.tree) _ (g.O.Opens.content c.self.inside.opens) _ _ _ _ _ c.in-Err.ensures.err
     (undone (g.O.Opens.content c.self.inside.opens) _ _ c.self.inside.next c.opened_by.result c.self.invariant.good.below number c.in_ok-add.ensures.ok c.remove.ensures) c.self.invariant
 
 pub returns-in-Err-clause-err : goal.returns-in-Err-clause-err
@@ -27,7 +27,7 @@ returns-in-Err-clause-err g c =
     let number = ap (λ (r : OpenRow). r.number) c.opened_by.ensures in
     let tree = c.in-Err.ensures.err in
     let opens = undone (g.O.Opens.content c.self.inside.opens) _ _ c.self.inside.next c.opened_by.result c.self.invariant.good.below number c.in_ok-add.ensures.ok c.remove.ensures in
-    (λ i. record { tree = tree i; opens = opens i; next = c.self.inside.next }) ∙ c.self.view_is
+    (λ i. record { tree = tree i; opens = opens i; locks = c.self.inside.locks; next = c.self.inside.next }) ∙ c.self.view_is
 
 pub entry_view-requires : goal.entry_view-requires
 entry_view-requires g c =
@@ -43,7 +43,7 @@ unreachable-requires g c =
 
 pub invariant_of-self-2 : goal.invariant_of-self-2
 invariant_of-self-2 g c =
-    let state : StoreState = record { tree = g.T.Tree.content c.self.inside.tree; opens = g.O.Opens.content c.self.inside.opens; next = c.self.inside.next } in
+    let state : StoreState = record { tree = g.T.Tree.content c.self.inside.tree; opens = g.O.Opens.content c.self.inside.opens; locks = c.self.inside.locks; next = c.self.inside.next } in
     let t = target_entry (g.T.Tree.content c.self.inside.tree).rows (path_asked (asked c.args.ask.now)) c.args.target c.self.invariant.good.tree.apart
     (ap (λ (s : StoreState). option_map target_of (entry_asked s (asked c.args.ask.now))) c.self.view_is ∙ c.requires.target) in
     let number = ap (λ (r : OpenRow). r.number) c.opened_by.ensures in
@@ -55,14 +55,14 @@ invariant_of-self-2 g c =
 
 pub returns-clause-store : goal.returns-clause-store
 returns-clause-store g c =
-    let state : StoreState = record { tree = g.T.Tree.content c.self.inside.tree; opens = g.O.Opens.content c.self.inside.opens; next = c.self.inside.next } in
+    let state : StoreState = record { tree = g.T.Tree.content c.self.inside.tree; opens = g.O.Opens.content c.self.inside.opens; locks = c.self.inside.locks; next = c.self.inside.next } in
     let t = target_entry (g.T.Tree.content c.self.inside.tree).rows (path_asked (asked c.args.ask.now)) c.args.target c.self.invariant.good.tree.apart
     (ap (λ (s : StoreState). option_map target_of (entry_asked s (asked c.args.ask.now))) c.self.view_is ∙ c.requires.target) in
     rw (← c.self.view_is) (made_standing state (asked c.args.ask.now) c.args.moment _ c.granted-access.result (entry_asked state (asked c.args.ask.now)) t.0 c.args.target.number _ _ c.opened_by.result t.1 (ap (λ (x : Target). x.number) t.2) (c.granted-access.ensures ∙ ap (granted c.args.ask.now.access.0) c.is_read_only_target.ensures) c.in_default.ensures.ok c.in_ok-add.ensures.ok c.opened_by.ensures)
 
 pub returns-clause-told : goal.returns-clause-told
 returns-clause-told g c =
-    let state : StoreState = record { tree = g.T.Tree.content c.self.inside.tree; opens = g.O.Opens.content c.self.inside.opens; next = c.self.inside.next } in
+    let state : StoreState = record { tree = g.T.Tree.content c.self.inside.tree; opens = g.O.Opens.content c.self.inside.opens; locks = c.self.inside.locks; next = c.self.inside.next } in
     let t = target_entry (g.T.Tree.content c.self.inside.tree).rows (path_asked (asked c.args.ask.now)) c.args.target c.self.invariant.good.tree.apart
     (ap (λ (s : StoreState). option_map target_of (entry_asked s (asked c.args.ask.now))) c.self.view_is ∙ c.requires.target) in
     let action = c.action_on.ensures ∙ ap action_on c.requires.disposition in

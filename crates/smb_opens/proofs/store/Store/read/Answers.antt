@@ -8,7 +8,7 @@ use Rattle.smb_opens.proofs.store.Store.read.Goals as goal
 
 pub returns-in-Ok-clause-ok : goal.returns-in-Ok-clause-ok
 returns-in-Ok-clause-ok g c =
-    let state : StoreState = record { tree = g.T.Tree.content c.self.inside.tree; opens = g.O.Opens.content c.self.inside.opens; next = c.self.inside.next } in
+    let state : StoreState = record { tree = g.T.Tree.content c.self.inside.tree; opens = g.O.Opens.content c.self.inside.opens; locks = c.self.inside.locks; next = c.self.inside.next } in
     let shown = shown_by state c.args.number c.in-Some.view (c.in-Some.ensures.value ∙ sym (ap (λ (s : StoreState). open_view s c.args.number) c.self.view_is)) in
     c.in-Ok.ensures.ok
     ∙ ap (λ (bytes : List ℕ). c.args.bytes.now.items ++ bytes) (bytes_shown state c.args.number c.in-Some.view c.args.offset c.from.result shown

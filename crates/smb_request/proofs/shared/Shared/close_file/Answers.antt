@@ -1,7 +1,6 @@
 use Rattle.std.proofs.Common.{◌≡◌, not, true, is_some, IsSome, sym, subst}
 use Rattle.smb_opens.specs.Opens.{has_number, open_of}
 use Rattle.smb_opens.proofs.Closing.{opens_closed}
-use Rattle.smb_request.specs.State.{SharedState}
 use Rattle.smb_request.proofs.Numbered.{is_there}
 use Rattle.smb_request.proofs.Owners.{owned_some}
 use Rattle.smb_request.proofs.shared.Shared.close_file.Goals as goal

@@ -1,10 +1,10 @@
-//! Masks whose bits are asked for. Bits without a name are kept.
+//! Flags of an element of a LOCK ([MS-SMB2] 2.2.26.1).
 
 ghost use Rattle.std.specs.Prelude.{⊤, ◌∷◌, [], codes};
 
 use bitflags::{Flag, Flags, bitflag_items};
 
-/// Flags of an element of a LOCK ([MS-SMB2] 2.2.26.1).
+/// Flags of an element of a LOCK ([MS-SMB2] 2.2.26.1). Bits without a name are kept.
 #[derive(Clone, Copy, Debug, PartialEq, Eq)]
 pub struct LockFlags(pub u32);
 

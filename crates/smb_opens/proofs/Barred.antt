@@ -1,0 +1,86 @@
+-- What locks keep opens from.
+use Rattle.std.proofs.Common.{◌≡◌, ◌≢◌, inl, inr, ℕ, List, length, Bool, true, false, cond, Option, None, Some, Contains, refl, sym, ap, subst, ◌∙◌, is_some}
+use Rattle.std.specs.Option.{option_map_or}
+use Rattle.smb_wire.specs.NtStatus.{STATUS_SUCCESS, STATUS_INVALID_PARAMETER, STATUS_INVALID_DEVICE_REQUEST, STATUS_ACCESS_DENIED, STATUS_FILE_LOCK_CONFLICT}
+use Rattle.smb_locks.specs.declared.lock.Lock.{Lock}
+use Rattle.smb_locks.specs.Conflicts.{BarsRead, bars_read, BarsWrite, bars_write}
+use Rattle.smb_locks.specs.Ranges.{Overlap}
+use Rattle.smb_locks.specs.Table.{locks_on, others_locks}
+use Rattle.smb_locks.proofs.Ends.{read_test_from_bar, write_test_from_bar, test_from_some}
+use Rattle.smb_locks.proofs.Tables.{good_on, on_dropped, compatible_pair}
+use Rattle.smb_opens.specs.declared.open_row.OpenRow.{OpenRow}
+use Rattle.smb_opens.specs.declared.view.View.{View}
+use Rattle.smb_opens.specs.Bytes.{keeps_from_reading, keeps_from_writing, read_status, read_status_by, write_status, write_status_by}
+use Rattle.smb_opens.specs.Close.{closed, closed_open}
+use Rattle.smb_opens.specs.Good.{GoodStore}
+use Rattle.smb_opens.specs.Opens.{open_of}
+use Rattle.smb_opens.specs.State.{StoreState}
+use Rattle.smb_opens.specs.Views.{open_view}
+use Rattle.smb_opens.proofs.Closing.{number_found}
+use Rattle.smb_opens.proofs.Shows.{shown_by, entry_of}
+
+-- where a lock bars the range, some row before it or its own decides
+barred_row : (one two three : Bool) → (cond one STATUS_INVALID_PARAMETER (cond two STATUS_INVALID_DEVICE_REQUEST (cond three STATUS_ACCESS_DENIED STATUS_FILE_LOCK_CONFLICT))) ≢ STATUS_SUCCESS
+barred_row true two three e = cc
+barred_row false true three e = cc
+barred_row false false true e = cc
+barred_row false false false e = cc
+
+-- the open that shows this is the one of the number
+same_entry : (state : StoreState) (number : ℕ) (row : OpenRow) (view : View) → open_of state.opens number ≡ Some row → Some view ≡ open_view state number → view.entry ≡ row.entry
+same_entry state number row view opened v =
+    let s = shown_by state number view v in
+    let one : Some s.held ≡ Some row = sym s.opened ∙ opened in
+    let same : s.held ≡ row = cc in
+    entry_of state number view s ∙ ap (λ (r : OpenRow). r.entry) same
+
+read_barred : (state : StoreState) (number offset count : ℕ) (view : View) (lock : Lock) → Contains (locks_on state.locks view.entry) lock → BarsRead number (record { offset = offset; length = count }) lock →
+    keeps_from_reading state.locks number view offset count ≡ true
+read_barred state number offset count view lock c bar =
+    test_from_some (bars_read number (record { offset = offset; length = count })) (BarsRead number (record { offset = offset; length = count })) (read_test_from_bar number (record { offset = offset; length = count }))
+    (locks_on state.locks view.entry) (c.0, lock, c.1, c.2, bar)
+
+write_barred : (state : StoreState) (number offset count : ℕ) (view : View) (lock : Lock) → Contains (locks_on state.locks view.entry) lock → BarsWrite number (record { offset = offset; length = count }) lock →
+    keeps_from_writing state.locks number view offset count ≡ true
+write_barred state number offset count view lock c bar =
+    test_from_some (bars_write number (record { offset = offset; length = count })) (BarsWrite number (record { offset = offset; length = count })) (write_test_from_bar number (record { offset = offset; length = count }))
+    (locks_on state.locks view.entry) (c.0, lock, c.1, c.2, bar)
+
+read_refused : (state : StoreState) (number offset count minimum : ℕ) (row : OpenRow) (lock : Lock) (view : Option View) → view ≡ open_view state number → open_of state.opens number ≡ Some row → Contains (locks_on state.locks row.entry) lock →
+    BarsRead number (record { offset = offset; length = count }) lock → read_status_by state.locks number view offset count minimum ≢ STATUS_SUCCESS
+read_refused state number offset count minimum row lock None v opened c bar = λ e. cc
+read_refused state number offset count minimum row lock (Some view) v opened c bar =
+    let here : Contains (locks_on state.locks view.entry) lock = subst (λ (n : ℕ). Contains (locks_on state.locks n) lock) (sym (same_entry state number row view opened v)) c in
+    rw (read_barred state number offset count view lock here bar) (barred_row _ _ _)
+
+write_refused : (state : StoreState) (number offset : ℕ) (buffer : List ℕ) (row : OpenRow) (lock : Lock) (view : Option View) → view ≡ open_view state number → open_of state.opens number ≡ Some row → Contains (locks_on state.locks row.entry) lock →
+    BarsWrite number (record { offset = offset; length = length buffer }) lock → write_status_by state.tree state.locks number view offset buffer ≢ STATUS_SUCCESS
+write_refused state number offset buffer row lock None v opened c bar = λ e. cc
+write_refused state number offset buffer row lock (Some view) v opened c bar =
+    let here : Contains (locks_on state.locks view.entry) lock = subst (λ (n : ℕ). Contains (locks_on state.locks n) lock) (sym (same_entry state number row view opened v)) c in
+    rw (write_barred state number offset (length buffer) view lock here bar) (barred_row _ _ _)
+
+pub kept_out : (state : StoreState) (number offset count minimum : ℕ) (buffer : List ℕ) (row : OpenRow) (lock : Lock) → open_of state.opens number ≡ Some row →
+    Contains (locks_on state.locks row.entry) lock → lock.exclusive ≡ true → lock.holder ≢ number →
+    (Overlap lock.range (record { offset = offset; length = count }) → read_status state number offset count minimum ≢ STATUS_SUCCESS)
+    × (Overlap lock.range (record { offset = offset; length = length buffer }) → write_status state number offset buffer ≢ STATUS_SUCCESS)
+kept_out state number offset count minimum buffer row lock opened c exclusive other = (
+  λ overlap. read_refused state number offset count minimum row lock (open_view state number) refl opened c (overlap, exclusive, other),
+  λ overlap. write_refused state number offset buffer row lock (open_view state number) refl opened c (overlap, inr other),
+)
+
+pub writers_out : (state : StoreState) (number offset : ℕ) (buffer : List ℕ) (row : OpenRow) (lock : Lock) → open_of state.opens number ≡ Some row →
+    Contains (locks_on state.locks row.entry) lock → lock.exclusive ≡ false → Overlap lock.range (record { offset = offset; length = length buffer }) →
+    write_status state number offset buffer ≢ STATUS_SUCCESS
+writers_out state number offset buffer row lock opened c shared overlap = write_refused state number offset buffer row lock (open_view state number) refl opened c (overlap, inl shared)
+
+pub no_two_locks : (state : StoreState) (file : ℕ) (one other : Lock) → GoodStore state → Contains (locks_on state.locks file) one → Contains (locks_on state.locks file) other → one.holder ≢ other.holder →
+    Overlap one.range other.range → (one.exclusive ≡ false) × (other.exclusive ≡ false)
+no_two_locks state file one other good c d = compatible_pair (locks_on state.locks file) one other (good_on state.locks file good.locked).compatible c d
+
+pub own_locks : (state : StoreState) (number file : ℕ) → GoodStore state → is_some (open_of state.opens number) ≡ true → locks_on (closed state number).locks file ≡ others_locks number (locks_on state.locks file)
+own_locks state number file good s =
+    elim (open_of state.opens number) as (λ o. open_of state.opens number ≡ o → is_some o ≡ true → locks_on (option_map_or (closed_open state) o state).locks file ≡ others_locks number (locks_on state.locks file)) [
+      | None ↦ λ _ q. absurd (cc)
+      | Some row ↦ λ e _. (let same = number_found state.opens number row e in on_dropped row.number file state.locks good.locked.rising ∙ ap (λ (n : ℕ). others_locks n (locks_on state.locks file)) same)
+    ] refl s

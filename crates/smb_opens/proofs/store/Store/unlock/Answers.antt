@@ -1,0 +1,12 @@
+use Rattle.std.proofs.Common.{sym, subst}
+use Rattle.smb_locks.specs.Table.{Table}
+use Rattle.smb_opens.specs.Good.{IsKept}
+use Rattle.smb_opens.specs.State.{StoreState}
+use Rattle.smb_opens.proofs.Held.{kept_unlocked}
+use Rattle.smb_opens.proofs.store.Store.unlock.Goals as goal
+
+pub invariant_of-self : goal.invariant_of-self
+invariant_of-self g c =
+    let state : StoreState = record { tree = g.T.Tree.content c.self.inside.tree; opens = g.O.Opens.content c.self.inside.opens; locks = c.self.inside.locks; next = c.self.inside.next } in
+    subst (λ (locks : Table). IsKept state.tree state.opens locks state.next c.self.inside.opens_count c.self.inside.entries_count) (sym c.unlock_all.ensures.table)
+    (kept_unlocked state c.args.number c.in-Some.view.entry c.args.asks.now _ _ c.self.invariant)

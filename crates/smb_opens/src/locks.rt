@@ -1,0 +1,91 @@
+//! LOCK of a file through an open ([MS-SMB2] 3.3.5.14).
+
+ghost use Rattle.std.specs.Prelude.{◌≡◌, ◌≢◌, OnOk, OnErr, IfErr};
+ghost use Rattle.smb_wire.specs.NtStatus.{STATUS_SUCCESS};
+ghost use Rattle.smb_opens.specs.Faults.{IsRefusal};
+ghost use Rattle.smb_opens.specs.Locks.{lock_fault_status, lock_status, unlock_status, locked_through, unlocked_through};
+ghost use Rattle.smb_opens.specs.declared.fault.StoreFault.TheVariants.{NoMemory};
+ghost use Rattle.smb_locks.specs.declared.fault.LockFault.TheVariants.{NoMemory as NoLockMemory};
+
+use super::fault::StoreFault;
+use super::open_row::OpenNo;
+use super::opens::Opens;
+use super::store::Store;
+use smb_locks::{LockAsk, LockFault};
+use smb_tree::Tree;
+use smb_wire::nt_status::{
+    STATUS_FILE_CLOSED, STATUS_INVALID_DEVICE_REQUEST, STATUS_INVALID_LOCK_RANGE,
+    STATUS_INVALID_PARAMETER, STATUS_LOCK_NOT_GRANTED, STATUS_RANGE_NOT_LOCKED,
+};
+
+/// The status by which an element of a LOCK is refused, or all of it for its flags.
+fn lock_fault_status(fault: LockFault) -> u32
+    ensures status { result ≡ lock_fault_status fault }
+    ensures refused { result ≢ STATUS_SUCCESS }
+{
+    match fault {
+        LockFault::BadFlags => STATUS_INVALID_PARAMETER,
+        LockFault::BadRange => STATUS_INVALID_LOCK_RANGE,
+        LockFault::Full | LockFault::NotGranted | LockFault::NoMemory => STATUS_LOCK_NOT_GRANTED,
+        LockFault::NotLocked => STATUS_RANGE_NOT_LOCKED,
+    }
+}
+
+/// The refusal of a LOCK that locks.
+fn lock_refusal(fault: LockFault) -> StoreFault
+    ensures memory { result ≡ NoMemory → fault ≡ NoLockMemory }
+    ensures status { result ≢ NoMemory → (fault ≢ NoLockMemory) × IsRefusal (lock_fault_status fault) result }
+{
+    match fault {
+        LockFault::NoMemory => StoreFault::NoMemory,
+        fault => StoreFault::Status(lock_fault_status(fault)),
+    }
+}
+
+impl<T: Tree + Drop, O: Opens + Drop> Store<T, O> {
+    /// Answers a LOCK through the open of a number that locks ranges of its file ([MS-SMB2] 3.3.5.14.2): all that the
+    /// elements ask for, or none. Each element costs a pass over the file's locks, of which there are at most 256.
+    ///
+    /// [`Status`](StoreFault::Status) tells the status that refuses it, and [`NoMemory`](StoreFault::NoMemory) that an
+    /// allocation was refused.
+    pub fn lock(&mut self, number: OpenNo, asks: &[LockAsk]) -> Result<(), StoreFault>
+        ensures store { OnOk result (self.new ≡ locked_through self.old number asks.now) }
+        ensures lawful { OnOk result (lock_status self.old number asks.now ≡ STATUS_SUCCESS) }
+        ensures err { OnErr result (self.new ≡ self.old) }
+        ensures why { IfErr result (λ fault. fault ≢ NoMemory → IsRefusal (lock_status self.old number asks.now) fault) }
+    {
+        let Some(view) = self.view(number) else {
+            return Err(StoreFault::Status(STATUS_FILE_CLOSED));
+        };
+        if view.kind.is_folder() {
+            return Err(StoreFault::Status(STATUS_INVALID_DEVICE_REQUEST));
+        }
+        match self.locks.lock_all(view.entry, number, asks) {
+            Ok(()) => Ok(()),
+            Err(fault) => Err(lock_refusal(fault)),
+        }
+    }
+
+    /// Answers a LOCK through the open of a number that unlocks ranges of its file ([MS-SMB2] 3.3.5.14.1): each element
+    /// takes out the oldest of the open's locks over its very range. It takes no memory. An element costs a pass over the
+    /// file's locks, of which there are at most 256.
+    ///
+    /// An error is the status that refuses an element; those before it stay unlocked.
+    pub fn unlock(&mut self, number: OpenNo, asks: &[LockAsk]) -> Result<(), u32>
+        ensures store { self.new ≡ unlocked_through self.old number asks.now }
+        ensures lawful { OnOk result (unlock_status self.old number asks.now ≡ STATUS_SUCCESS) }
+        ensures why { IfErr result (λ status. unlock_status self.old number asks.now ≡ status) }
+        ensures refused { IfErr result (λ status. status ≢ STATUS_SUCCESS) }
+    {
+        let Some(view) = self.view(number) else {
+            return Err(STATUS_FILE_CLOSED);
+        };
+        if view.kind.is_folder() {
+            return Err(STATUS_INVALID_DEVICE_REQUEST);
+        }
+        match self.locks.unlock_all(view.entry, number, asks) {
+            Ok(()) => Ok(()),
+            Err(error) => Err(lock_fault_status(error.fault)),
+        }
+    }
+}

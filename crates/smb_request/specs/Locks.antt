@@ -1,0 +1,55 @@
+-- LOCK ([MS-SMB2] 3.3.5.14).
+use Rattle.std.specs.Prelude.{ℕ, ◌==◌, Bool, false, bit_and, List, [], ◌∷◌, map, if◌then◌else◌}
+use Rattle.smb_wire.specs.NtStatus.{STATUS_SUCCESS}
+use Rattle.smb_wire.specs.LockFlags.{UNLOCK}
+use Rattle.smb_locks.specs.declared.ask.LockAsk.{LockAsk}
+use Rattle.smb_body.specs.declared.lock_element.LockElement.{LockElement}
+use Rattle.smb_body.specs.Replies.{answers_lock}
+use Rattle.smb_opens.specs.Locks.{lock_status, unlock_status, locked_through, unlocked_through}
+use Rattle.smb_request.specs.declared.status.Status.TheVariants.{Store}
+use Rattle.smb_request.specs.declared.context.Under.{Under}
+use Rattle.smb_request.specs.State.{SharedState, with_store}
+use Rattle.smb_request.specs.Response.{CommandStep, success, refused}
+
+-- what the elements of a request ask (2.2.26.1)
+abbrev pub lock_ask : LockElement → LockAsk
+lock_ask element = record { offset = element.offset; length = element.length; flags = element.flags }
+
+abbrev pub lock_asks : List LockElement → List LockAsk
+lock_asks = map lock_ask
+
+-- a request unlocks where its first element has UNLOCK (3.3.5.14)
+abbrev pub asks_unlock : List LockAsk → Bool
+asks_unlock [] = false
+asks_unlock (ask ∷ asks) = bit_and ask.flags.0 UNLOCK == UNLOCK
+
+-- a LOCK that locks (3.3.5.14.2), by the status that the store gives it: a refusal changes nothing
+abbrev pub locked_by_status : {S : Type 0} → SharedState S → Under → ℕ → List LockAsk → ℕ → CommandStep S
+locked_by_status shared under open_number asks status =
+    if status == STATUS_SUCCESS
+    then record {
+      shared = with_store shared (locked_through shared.store open_number asks);
+      response = success under answers_lock;
+    }
+    else refused shared under (Store status)
+
+unfoldable pub file_locked : {S : Type 0} → SharedState S → Under → ℕ → List LockAsk → CommandStep S
+file_locked shared under open_number asks =
+    locked_by_status shared under open_number asks (lock_status shared.store open_number asks)
+
+-- a LOCK that unlocks (3.3.5.14.1), by the status that the store gives it: a refusal leaves the elements before it unlocked
+abbrev pub unlocked_by_status : {S : Type 0} → SharedState S → Under → ℕ → CommandStep S
+unlocked_by_status shared under status =
+    if status == STATUS_SUCCESS
+    then record { shared = shared; response = success under answers_lock }
+    else refused shared under (Store status)
+
+unfoldable pub file_unlocked : {S : Type 0} → SharedState S → Under → ℕ → List LockAsk → CommandStep S
+file_unlocked shared under open_number asks =
+    unlocked_by_status (with_store shared (unlocked_through shared.store open_number asks)) under
+    (unlock_status shared.store open_number asks)
+
+-- LOCK (3.3.5.14) of the open of a number
+abbrev pub locks_changed : {S : Type 0} → SharedState S → Under → ℕ → List LockAsk → CommandStep S
+locks_changed shared under open_number asks =
+    if asks_unlock asks then file_unlocked shared under open_number asks else file_locked shared under open_number asks
