@@ -6,7 +6,8 @@ use Rattle.smb_wire.specs.Fields.{Field, AllFit, AllStand, InOrder, joined, appe
 use Rattle.smb_wire.specs.Pairs.{unit_bytes}
 use Rattle.smb_wire.proofs.FieldTables.{appended-joined, length-joined, stand_behind}
 use Rattle.smb_info.specs.Information.{Information, whole, fixed_length}
-use Rattle.smb_info.specs.FileInformation.{EntryFacts, file_information_of}
+use Rattle.smb_tree.specs.WholeNames.{Copied}
+use Rattle.smb_info.specs.FileInformation.{file_information_of}
 use Rattle.smb_info.specs.declared.file_class.FileInformationClass.{FileInformationClass}
 use Rattle.smb_info.specs.declared.file_class.FileInformationClass.TheVariants.{FileBasic, FileStandard, FileInternal, FileEa, FileAccess, FilePosition, FileMode, FileAlignment, FileAll, FileNetworkOpen, FileAttributeTag}
 use Rattle.smb_info.specs.FileSystemInformation.{VolumeFacts, fs_information_of}
@@ -68,7 +69,7 @@ file_system_in_order FileFsDevice v = search rules
 file_system_in_order FileFsAttribute v = search rules
 file_system_in_order FileFsFullSize v = search rules
 
-pub file_in_order : (class : FileInformationClass) (e : EntryFacts) (access : ℕ) → InOrder 0 (file_information_of class e access).fields
+pub file_in_order : (class : FileInformationClass) (e : Copied) (access : ℕ) → InOrder 0 (file_information_of class e access).fields
 file_in_order FileBasic e access = search rules
 file_in_order FileStandard e access = search rules
 file_in_order FileInternal e access = search rules

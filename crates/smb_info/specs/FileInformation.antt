@@ -2,22 +2,11 @@
 use Rattle.std.specs.Prelude.{ℕ, ◌+◌, List, [], ◌∷◌, ◌++◌, length, Bool, true, false, ◌==◌, if◌then◌else◌, Option, None, Some}
 use Rattle.std.specs.Option.{option_map}
 use Rattle.smb_wire.specs.Fields.{Field, num, raw}
-use Rattle.smb_tree.specs.declared.entry.Basic.{Basic}
-use Rattle.smb_tree.specs.declared.entry.Kind.{Kind}
+use Rattle.smb_tree.specs.WholeNames.{Copied}
 use Rattle.smb_tree.specs.Entries.{is_folder_kind, allocation_size, shown_attributes}
 use Rattle.smb_info.specs.Information.{Information}
 use Rattle.smb_info.specs.declared.file_class.FileInformationClass.{FileInformationClass}
 use Rattle.smb_info.specs.declared.file_class.FileInformationClass.TheVariants.{FileBasic, FileStandard, FileInternal, FileEa, FileAccess, FilePosition, FileMode, FileAlignment, FileAll, FileNetworkOpen, FileAttributeTag}
-
--- an entry: its number, whether it is a folder, its times and kept attributes, its size, whether it goes once its last
--- open is closed, and the bytes of its name: the components of its path, with a separator between each two
-pub record EntryFacts : Type 0 where
-  pub number : ℕ
-  pub kind : Kind
-  pub basic : Basic
-  pub size : ℕ
-  pub mark : Bool
-  pub name : List ℕ
 
 -- the classes that are told, by their numbers
 abbrev pub file_class : ℕ → Option FileInformationClass
@@ -35,60 +24,91 @@ file_class number =
     if number == 35 then Some FileAttributeTag else None
 
 -- the attributes that are shown of an entry
-abbrev pub attributes_of : EntryFacts → ℕ
-attributes_of e = shown_attributes e.kind e.basic.attributes
+abbrev pub attributes_of : Copied → ℕ
+attributes_of e = shown_attributes e.kind e.basic.attributes.0
 
 -- a yes is 1, a no 0
 abbrev pub flag : Bool → ℕ
 flag false = 0
 flag true = 1
 
--- CreationTime, LastAccessTime, LastWriteTime, ChangeTime, FileAttributes, Reserved
-abbrev pub basic_fields : EntryFacts → List Field
+-- FileBasicInformation, class 4
+abbrev pub basic_fields : Copied → List Field
 basic_fields e =
-    num 0 8 e.basic.creation_time ∷ num 8 8 e.basic.last_access_time ∷ num 16 8 e.basic.last_write_time
-    ∷ num 24 8 e.basic.change_time ∷ num 32 4 (attributes_of e) ∷ num 36 4 0 ∷ []
+    num 0 8 e.basic.creation_time  -- CreationTime
+    ∷ num 8 8 e.basic.last_access_time  -- LastAccessTime
+    ∷ num 16 8 e.basic.last_write_time  -- LastWriteTime
+    ∷ num 24 8 e.basic.change_time  -- ChangeTime
+    ∷ num 32 4 (attributes_of e)  -- FileAttributes
+    ∷ num 36 4 0  -- Reserved
+    ∷ []
 
--- AllocationSize, EndOfFile, NumberOfLinks, DeletePending, Directory, Reserved
-abbrev pub standard_fields : EntryFacts → List Field
+-- FileStandardInformation, class 5
+abbrev pub standard_fields : Copied → List Field
 standard_fields e =
-    num 0 8 (allocation_size e.size) ∷ num 8 8 e.size ∷ num 16 4 1 ∷ num 20 1 (flag e.mark)
-    ∷ num 21 1 (flag (is_folder_kind e.kind)) ∷ num 22 2 0 ∷ []
+    num 0 8 (allocation_size e.size)  -- AllocationSize
+    ∷ num 8 8 e.size  -- EndOfFile
+    ∷ num 16 4 1  -- NumberOfLinks
+    ∷ num 20 1 (flag e.mark)  -- DeletePending
+    ∷ num 21 1 (flag (is_folder_kind e.kind))  -- Directory
+    ∷ num 22 2 0  -- Reserved
+    ∷ []
 
--- IndexNumber
-abbrev pub internal_fields : EntryFacts → List Field
-internal_fields e = num 0 8 e.number ∷ []
+-- FileInternalInformation, class 6
+abbrev pub internal_fields : Copied → List Field
+internal_fields e =
+    num 0 8 e.number  -- IndexNumber
+    ∷ []
 
--- EaSize
+-- FileEaInformation, class 7: there are no extended attributes
 abbrev pub ea_fields : List Field
-ea_fields = num 0 4 0 ∷ []
+ea_fields =
+    num 0 4 0  -- EaSize
+    ∷ []
 
--- AccessFlags
+-- FileAccessInformation, class 8
 abbrev pub access_fields : ℕ → List Field
-access_fields access = num 0 4 access ∷ []
+access_fields access =
+    num 0 4 access  -- AccessFlags
+    ∷ []
 
--- CurrentByteOffset
+-- FilePositionInformation, class 14: an open has no place of its own
 abbrev pub position_fields : List Field
-position_fields = num 0 8 0 ∷ []
+position_fields =
+    num 0 8 0  -- CurrentByteOffset
+    ∷ []
 
--- Mode
+-- FileModeInformation, class 16
 abbrev pub mode_fields : List Field
-mode_fields = num 0 4 0 ∷ []
+mode_fields =
+    num 0 4 0  -- Mode
+    ∷ []
 
--- AlignmentRequirement
+-- FileAlignmentInformation, class 17: a buffer may begin anywhere
 abbrev pub alignment_fields : List Field
-alignment_fields = num 0 4 0 ∷ []
+alignment_fields =
+    num 0 4 0  -- AlignmentRequirement
+    ∷ []
 
--- CreationTime, LastAccessTime, LastWriteTime, ChangeTime, AllocationSize, EndOfFile, FileAttributes, Reserved
-abbrev pub network_open_fields : EntryFacts → List Field
+-- FileNetworkOpenInformation, class 34
+abbrev pub network_open_fields : Copied → List Field
 network_open_fields e =
-    num 0 8 e.basic.creation_time ∷ num 8 8 e.basic.last_access_time ∷ num 16 8 e.basic.last_write_time
-    ∷ num 24 8 e.basic.change_time ∷ num 32 8 (allocation_size e.size) ∷ num 40 8 e.size
-    ∷ num 48 4 (attributes_of e) ∷ num 52 4 0 ∷ []
+    num 0 8 e.basic.creation_time  -- CreationTime
+    ∷ num 8 8 e.basic.last_access_time  -- LastAccessTime
+    ∷ num 16 8 e.basic.last_write_time  -- LastWriteTime
+    ∷ num 24 8 e.basic.change_time  -- ChangeTime
+    ∷ num 32 8 (allocation_size e.size)  -- AllocationSize
+    ∷ num 40 8 e.size  -- EndOfFile
+    ∷ num 48 4 (attributes_of e)  -- FileAttributes
+    ∷ num 52 4 0  -- Reserved
+    ∷ []
 
--- FileAttributes, ReparseTag
-abbrev pub attribute_tag_fields : EntryFacts → List Field
-attribute_tag_fields e = num 0 4 (attributes_of e) ∷ num 4 4 0 ∷ []
+-- FileAttributeTagInformation, class 35
+abbrev pub attribute_tag_fields : Copied → List Field
+attribute_tag_fields e =
+    num 0 4 (attributes_of e)  -- FileAttributes
+    ∷ num 4 4 0  -- ReparseTag
+    ∷ []
 
 -- fields that begin so many bytes further on
 abbrev pub further : ℕ → List Field → List Field
@@ -97,18 +117,18 @@ further n (num place w value ∷ fields) = num (n + place) w value ∷ further n
 further n (raw place w text ∷ fields) = raw (n + place) w text ∷ further n fields
 
 -- the name of an entry from the root of the share on: a separator, two bytes, and the components of its path
-abbrev pub full_name : EntryFacts → List ℕ
+abbrev pub full_name : Copied → List ℕ
 full_name e = 92 ∷ 0 ∷ e.name
 
 -- the classes before it, one behind the other, and FileNameLength; the name follows
-abbrev pub all_fields : EntryFacts → ℕ → List Field
+abbrev pub all_fields : Copied → ℕ → List Field
 all_fields e access =
     basic_fields e ++ (further 40 (standard_fields e) ++ (further 64 (internal_fields e) ++ (further 72 ea_fields
     ++ (further 76 (access_fields access) ++ (further 80 position_fields ++ (further 88 mode_fields
     ++ (further 92 alignment_fields ++ num 96 4 (length (full_name e)) ∷ [])))))))
 
 -- what a class tells of an entry through an open with this access
-abbrev pub file_information_of : FileInformationClass → EntryFacts → ℕ → Information
+abbrev pub file_information_of : FileInformationClass → Copied → ℕ → Information
 file_information_of FileBasic e access = record { fields = basic_fields e; name = [] }
 file_information_of FileStandard e access = record { fields = standard_fields e; name = [] }
 file_information_of FileInternal e access = record { fields = internal_fields e; name = [] }
@@ -122,5 +142,5 @@ file_information_of FileNetworkOpen e access = record { fields = network_open_fi
 file_information_of FileAttributeTag e access = record { fields = attribute_tag_fields e; name = [] }
 
 -- what the class of a number tells, if there is one
-abbrev pub file_information : ℕ → EntryFacts → ℕ → Option Information
+abbrev pub file_information : ℕ → Copied → ℕ → Option Information
 file_information number e access = option_map (λ class. file_information_of class e access) (file_class number)

@@ -36,29 +36,49 @@ total_units v = v.capacity / 4096
 abbrev pub available_units : VolumeFacts → ℕ
 available_units v = (v.capacity - v.used) / 4096
 
--- VolumeCreationTime, VolumeSerialNumber, VolumeLabelLength, SupportsObjects, Reserved; the label follows
+-- FileFsVolumeInformation, class 1; the label follows
 abbrev pub volume_fields : VolumeFacts → List Field
 volume_fields v =
-    num 0 8 v.created ∷ num 8 4 1 ∷ num 12 4 (2 * length v.label) ∷ num 16 1 0 ∷ num 17 1 0 ∷ []
+    num 0 8 v.created  -- VolumeCreationTime
+    ∷ num 8 4 1  -- VolumeSerialNumber
+    ∷ num 12 4 (2 * length v.label)  -- VolumeLabelLength
+    ∷ num 16 1 0  -- SupportsObjects
+    ∷ num 17 1 0  -- Reserved
+    ∷ []
 
--- TotalAllocationUnits, AvailableAllocationUnits, SectorsPerAllocationUnit, BytesPerSector
+-- FileFsSizeInformation, class 3
 abbrev pub size_fields : VolumeFacts → List Field
-size_fields v = num 0 8 (total_units v) ∷ num 8 8 (available_units v) ∷ num 16 4 8 ∷ num 20 4 512 ∷ []
+size_fields v =
+    num 0 8 (total_units v)  -- TotalAllocationUnits
+    ∷ num 8 8 (available_units v)  -- AvailableAllocationUnits
+    ∷ num 16 4 8  -- SectorsPerAllocationUnit
+    ∷ num 20 4 512  -- BytesPerSector
+    ∷ []
 
--- DeviceType: a disk; Characteristics: mounted
+-- FileFsDeviceInformation, class 4: a disk, which is mounted
 abbrev pub device_fields : List Field
-device_fields = num 0 4 7 ∷ num 4 4 0x20 ∷ []
+device_fields =
+    num 0 4 7  -- DeviceType
+    ∷ num 4 4 0x20  -- Characteristics
+    ∷ []
 
--- FileSystemAttributes: names keep their case 2, names are Unicode 4; MaximumComponentNameLength,
--- FileSystemNameLength; the name follows
+-- FileFsAttributeInformation, class 5: names keep their case 2 and are Unicode 4; the name follows
 abbrev pub attribute_fields : List Field
-attribute_fields = num 0 4 6 ∷ num 4 4 255 ∷ num 8 4 10 ∷ []
+attribute_fields =
+    num 0 4 6  -- FileSystemAttributes
+    ∷ num 4 4 255  -- MaximumComponentNameLength
+    ∷ num 8 4 10  -- FileSystemNameLength
+    ∷ []
 
--- TotalAllocationUnits, CallerAvailableAllocationUnits, ActualAvailableAllocationUnits, SectorsPerAllocationUnit,
--- BytesPerSector
+-- FileFsFullSizeInformation, class 7
 abbrev pub full_size_fields : VolumeFacts → List Field
 full_size_fields v =
-    num 0 8 (total_units v) ∷ num 8 8 (available_units v) ∷ num 16 8 (available_units v) ∷ num 24 4 8 ∷ num 28 4 512 ∷ []
+    num 0 8 (total_units v)  -- TotalAllocationUnits
+    ∷ num 8 8 (available_units v)  -- CallerAvailableAllocationUnits
+    ∷ num 16 8 (available_units v)  -- ActualAvailableAllocationUnits
+    ∷ num 24 4 8  -- SectorsPerAllocationUnit
+    ∷ num 28 4 512  -- BytesPerSector
+    ∷ []
 
 -- MEMFS
 abbrev pub file_system_name : List ℕ

@@ -8,4 +8,3 @@ pub mod Volumes
 pub mod SetInformation
 pub mod SetAsks
 pub mod FileInformation
-pub mod EntryCopies

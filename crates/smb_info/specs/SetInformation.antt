@@ -5,7 +5,7 @@ use Rattle.smb_wire.specs.Fields.{number_in}
 use Rattle.smb_wire.specs.Pairs.{units_in}
 use Rattle.smb_info.specs.declared.fault.InfoFault.{InfoFault}
 use Rattle.smb_info.specs.declared.fault.InfoFault.TheVariants.{BadClass, TooSmall, Unreadable}
-use Rattle.smb_info.specs.declared.set_info.BasicAsk.{BasicAsk}
+use Rattle.smb_opens.specs.declared.ask.BasicAsk.{BasicAsk}
 use Rattle.smb_info.specs.declared.set_info.SetInformationClass.{SetInformationClass}
 use Rattle.smb_info.specs.declared.set_info.SetInformationClass.TheVariants.{FileBasic, FileRename, FileDisposition, FileAllocation, FileEndOfFile}
 
@@ -42,7 +42,7 @@ basic_of bytes = record {
   last_access_time = number_in 8 8 bytes;
   last_write_time = number_in 8 16 bytes;
   change_time = number_in 8 24 bytes;
-  attributes = number_in 4 32 bytes;
+  attributes = record { 0 = number_in 4 32 bytes };
 }
 
 -- ReplaceIfExists and DeletePending: any number but 0 is yes

@@ -1,16 +1,17 @@
 //! What is told of a file or a folder ([MS-FSCC] 2.4).
 
 ghost use Rattle.std.specs.Prelude.{◌≡◌, ◌≢◌, ◌++◌, None, Some, length, drop, IfOk, OnOk, OnErr, IfErr};
-ghost use Rattle.smb_info.specs.EntryCopies.{entry_facts};
+ghost use Rattle.smb_tree.specs.WholeNames.{copied};
 ghost use Rattle.smb_info.specs.FileInformation.{file_information};
 ghost use Rattle.smb_info.specs.Information.{told, information_written, info_fault, FieldsStand};
 ghost use Rattle.smb_info.specs.declared.fault.InfoFault.TheVariants.{NoMemory};
 
-use super::entry_copy::EntryCopy;
 use super::fault::InfoFault;
 use super::file_class::FileInformationClass;
 use super::file_fields::put_information;
 use super::written::{Written, cut};
+use smb_tree::EntryCopy;
+use smb_wire::Access;
 
 /// Adds what a class tells of an entry, by the class's number, through an open with this access, and at most
 /// `room` bytes of it. It tells whether that is all. Its cost grows with the length of the entry's name.
@@ -21,19 +22,19 @@ use super::written::{Written, cut};
 pub fn file_info(
     class: u8,
     entry: &EntryCopy,
-    access: u32,
+    access: Access,
     room: usize,
     out: &mut Vec<u8>,
 ) -> Result<Written, InfoFault>
     ensures ok { OnOk result (out.new.items ≡
-        out.old.items ++ told (file_information class (entry_facts entry.now) access) room) }
+        out.old.items ++ told (file_information class (copied entry.now) access.0) room) }
     ensures stand { OnOk result
-        (FieldsStand (file_information class (entry_facts entry.now) access) (drop (length out.old.items) out.new.items)) }
-    ensures written { IfOk result (λ w. w ≡ information_written (file_information class (entry_facts entry.now) access) room) }
-    ensures lawful { OnOk result (info_fault (file_information class (entry_facts entry.now) access) room ≡ None) }
+        (FieldsStand (file_information class (copied entry.now) access.0) (drop (length out.old.items) out.new.items)) }
+    ensures written { IfOk result (λ w. w ≡ information_written (file_information class (copied entry.now) access.0) room) }
+    ensures lawful { OnOk result (info_fault (file_information class (copied entry.now) access.0) room ≡ None) }
     ensures err { OnErr result (out.new.items ≡ out.old.items) }
     ensures why { IfErr result (λ fault. fault ≢ NoMemory →
-        info_fault (file_information class (entry_facts entry.now) access) room ≡ Some fault) }
+        info_fault (file_information class (copied entry.now) access.0) room ≡ Some fault) }
 {
     let Some(class) = FileInformationClass::of(class) else {
         return Err(InfoFault::BadClass);

@@ -2,7 +2,8 @@
 
 ghost use Rattle.std.specs.Prelude.{◌≡◌, ℕ};
 ghost use Rattle.smb_info.specs.Information.{fixed_length};
-ghost use Rattle.smb_info.specs.FileInformation.{file_class, file_information_of, EntryFacts};
+ghost use Rattle.smb_info.specs.FileInformation.{file_class, file_information_of};
+ghost use Rattle.smb_tree.specs.WholeNames.{Copied};
 
 /// A file information class that is told; the standard's names end in `Information`.
 #[derive(Clone, Copy, Debug, PartialEq, Eq)]
@@ -43,7 +44,7 @@ impl FileInformationClass {
 
     /// How many bytes the fixed part has.
     pub fn fixed_length(self) -> usize
-        ensures { (entry : EntryFacts) (access : ℕ) → fixed_length (file_information_of self entry access) ≡ result }
+        ensures { (entry : Copied) (access : ℕ) → fixed_length (file_information_of self entry access) ≡ result }
     {
         match self {
             FileInformationClass::FileBasic => 40,

@@ -3,14 +3,13 @@
 ghost use Rattle.std.specs.Prelude.{◌≡◌, ◌<◌, ◌++◌, length, take, OnOk};
 ghost use Rattle.smb_wire.specs.Fields.{AllFit, appended};
 ghost use Rattle.smb_tree.specs.Entries.{allocation_size};
-ghost use Rattle.smb_info.specs.EntryCopies.{entry_facts};
+ghost use Rattle.smb_tree.specs.WholeNames.{copied};
 ghost use Rattle.smb_info.specs.FileInformation.{file_information_of, attributes_of, flag, basic_fields, standard_fields, network_open_fields, attribute_tag_fields, all_fields};
 ghost use Rattle.smb_info.specs.Information.{whole};
 
-use super::entry_copy::EntryCopy;
 use super::file_class::FileInformationClass;
-use smb_tree::Kind;
-use smb_wire::{WireFault, put_bytes, put_u8, put_u16, put_u32, put_u64};
+use smb_tree::EntryCopy;
+use smb_wire::{Access, WireFault, put_bytes, put_u8, put_u16, put_u32, put_u64};
 
 // A backslash.
 const SEPARATOR: u16 = 0x5c;
@@ -18,20 +17,16 @@ const SEPARATOR: u16 = 0x5c;
 // The size of a cluster in bytes.
 const CLUSTER: u64 = 4096;
 
-const DIRECTORY: u32 = 0x10;
-
-const NORMAL: u32 = 0x80;
-
 /// Adds all that a class tells. After an error some of it stands there.
 pub(crate) fn put_information(
     class: FileInformationClass,
     entry: &EntryCopy,
-    access: u32,
+    access: Access,
     out: &mut Vec<u8>,
 ) -> Result<(), WireFault>
     ensures ok { OnOk result (out.new.items ≡
-        out.old.items ++ whole (file_information_of class (entry_facts entry.now) access)) }
-    ensures fits { OnOk result (AllFit (file_information_of class (entry_facts entry.now) access).fields) }
+        out.old.items ++ whole (file_information_of class (copied entry.now) access.0)) }
+    ensures fits { OnOk result (AllFit (file_information_of class (copied entry.now) access.0).fields) }
     ensures kept { take (length out.old.items) out.new.items ≡ out.old.items }
 {
     match class {
@@ -39,7 +34,7 @@ pub(crate) fn put_information(
         FileInformationClass::FileStandard => put_standard(entry, out)?,
         FileInformationClass::FileInternal => put_u64(out, entry.number)?,
         FileInformationClass::FileEa => put_u32(out, 0)?,
-        FileInformationClass::FileAccess => put_u32(out, access)?,
+        FileInformationClass::FileAccess => put_u32(out, access.0)?,
         FileInformationClass::FilePosition => put_u64(out, 0)?,
         FileInformationClass::FileMode => put_u32(out, 0)?,
         FileInformationClass::FileAlignment => put_u32(out, 0)?,
@@ -56,13 +51,9 @@ pub(crate) fn put_information(
 
 // The attributes that are shown of an entry.
 fn attributes(entry: &EntryCopy) -> u32
-    ensures { result ≡ attributes_of (entry_facts entry.now) }
+    ensures { result ≡ attributes_of (copied entry.now) }
 {
-    let kept = entry.basic.attributes;
-    match entry.kind {
-        Kind::Folder => kept | DIRECTORY,
-        Kind::File => { if kept == 0 { NORMAL } else { kept } }
-    }
+    entry.kind.shown_attributes(entry.basic.attributes).0
 }
 
 // The space that a file takes: whole clusters.
@@ -81,8 +72,8 @@ fn flag(yes: bool) -> u8
 }
 
 fn put_basic(entry: &EntryCopy, out: &mut Vec<u8>) -> Result<(), WireFault>
-    ensures ok { OnOk result (out.new.items ≡ appended out.old.items (basic_fields (entry_facts entry.now))) }
-    ensures fits { OnOk result (AllFit (basic_fields (entry_facts entry.now))) }
+    ensures ok { OnOk result (out.new.items ≡ appended out.old.items (basic_fields (copied entry.now))) }
+    ensures fits { OnOk result (AllFit (basic_fields (copied entry.now))) }
     ensures kept { take (length out.old.items) out.new.items ≡ out.old.items }
 {
     put_u64(out, entry.basic.creation_time)?;
@@ -95,8 +86,8 @@ fn put_basic(entry: &EntryCopy, out: &mut Vec<u8>) -> Result<(), WireFault>
 }
 
 fn put_standard(entry: &EntryCopy, out: &mut Vec<u8>) -> Result<(), WireFault>
-    ensures ok { OnOk result (out.new.items ≡ appended out.old.items (standard_fields (entry_facts entry.now))) }
-    ensures fits { OnOk result (AllFit (standard_fields (entry_facts entry.now))) }
+    ensures ok { OnOk result (out.new.items ≡ appended out.old.items (standard_fields (copied entry.now))) }
+    ensures fits { OnOk result (AllFit (standard_fields (copied entry.now))) }
     ensures kept { take (length out.old.items) out.new.items ≡ out.old.items }
 {
     put_u64(out, allocation_size(entry))?;
@@ -109,8 +100,8 @@ fn put_standard(entry: &EntryCopy, out: &mut Vec<u8>) -> Result<(), WireFault>
 }
 
 fn put_network_open(entry: &EntryCopy, out: &mut Vec<u8>) -> Result<(), WireFault>
-    ensures ok { OnOk result (out.new.items ≡ appended out.old.items (network_open_fields (entry_facts entry.now))) }
-    ensures fits { OnOk result (AllFit (network_open_fields (entry_facts entry.now))) }
+    ensures ok { OnOk result (out.new.items ≡ appended out.old.items (network_open_fields (copied entry.now))) }
+    ensures fits { OnOk result (AllFit (network_open_fields (copied entry.now))) }
     ensures kept { take (length out.old.items) out.new.items ≡ out.old.items }
 {
     put_u64(out, entry.basic.creation_time)?;
@@ -125,8 +116,8 @@ fn put_network_open(entry: &EntryCopy, out: &mut Vec<u8>) -> Result<(), WireFaul
 }
 
 fn put_attribute_tag(entry: &EntryCopy, out: &mut Vec<u8>) -> Result<(), WireFault>
-    ensures ok { OnOk result (out.new.items ≡ appended out.old.items (attribute_tag_fields (entry_facts entry.now))) }
-    ensures fits { OnOk result (AllFit (attribute_tag_fields (entry_facts entry.now))) }
+    ensures ok { OnOk result (out.new.items ≡ appended out.old.items (attribute_tag_fields (copied entry.now))) }
+    ensures fits { OnOk result (AllFit (attribute_tag_fields (copied entry.now))) }
     ensures kept { take (length out.old.items) out.new.items ≡ out.old.items }
 {
     put_u32(out, attributes(entry))?;
@@ -135,16 +126,16 @@ fn put_attribute_tag(entry: &EntryCopy, out: &mut Vec<u8>) -> Result<(), WireFau
 }
 
 // The fields of the classes before it, one behind the other, and the length of the name.
-fn put_all(entry: &EntryCopy, access: u32, out: &mut Vec<u8>) -> Result<(), WireFault>
-    ensures ok { OnOk result (out.new.items ≡ appended out.old.items (all_fields (entry_facts entry.now) access)) }
-    ensures fits { OnOk result (AllFit (all_fields (entry_facts entry.now) access)) }
+fn put_all(entry: &EntryCopy, access: Access, out: &mut Vec<u8>) -> Result<(), WireFault>
+    ensures ok { OnOk result (out.new.items ≡ appended out.old.items (all_fields (copied entry.now) access.0)) }
+    ensures fits { OnOk result (AllFit (all_fields (copied entry.now) access.0)) }
     ensures kept { take (length out.old.items) out.new.items ≡ out.old.items }
 {
     put_basic(entry, out)?;
     put_standard(entry, out)?;
     put_u64(out, entry.number)?;
     put_u32(out, 0)?;
-    put_u32(out, access)?;
+    put_u32(out, access.0)?;
     put_u64(out, 0)?;
     put_u32(out, 0)?;
     put_u32(out, 0)?;

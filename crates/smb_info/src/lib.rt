@@ -11,7 +11,6 @@
 //! cut, the fixed part never. [`read_set_info`] reads what a SET_INFO asks, `specs/SetInformation.antt`.
 #![tactic(auto)]
 
-mod entry_copy;
 mod fault;
 mod file;
 mod file_class;
@@ -27,13 +26,12 @@ mod symbol;
 mod volume;
 mod written;
 
-pub use entry_copy::EntryCopy;
 pub use fault::InfoFault;
 pub use file::file_info;
 pub use file_system::fs_info;
 pub use laws::laws_of_patterns;
 pub use matching::matches;
 pub use pattern::Pattern;
-pub use set_info::{BasicAsk, SetAsk, read_set_info};
+pub use set_info::{SetAsk, read_set_info};
 pub use volume::Volume;
 pub use written::Written;

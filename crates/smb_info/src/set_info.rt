@@ -6,7 +6,8 @@ ghost use Rattle.smb_wire.specs.Units.{units_of};
 ghost use Rattle.smb_info.specs.SetAsks.{set_asked};
 
 use super::fault::InfoFault;
-use smb_wire::{Units, u8_in, u32_in, u64_in};
+use smb_opens::BasicAsk;
+use smb_wire::{FileAttributes, Units, u8_in, u32_in, u64_in};
 
 /// An information class that can be set; the standard's names end in `Information`.
 #[derive(Clone, Copy, Debug, PartialEq, Eq)]
@@ -45,17 +46,6 @@ impl SetInformationClass {
             SetInformationClass::FileEndOfFile => 8,
         }
     }
-}
-
-/// Times and attributes as a client asks for them: times in units of 100 ns since 1601, or one of the values
-/// that leave a time as it is.
-#[derive(Clone, Copy, Debug, PartialEq, Eq)]
-pub struct BasicAsk {
-    pub creation_time: u64,
-    pub last_access_time: u64,
-    pub last_write_time: u64,
-    pub change_time: u64,
-    pub attributes: u32,
 }
 
 /// What a client asks to be set of the file or the folder that it has open.
@@ -112,7 +102,7 @@ fn read_basic(bytes: &[u8]) -> BasicAsk
         last_access_time: u64_in(bytes, 8),
         last_write_time: u64_in(bytes, 16),
         change_time: u64_in(bytes, 24),
-        attributes: u32_in(bytes, 32),
+        attributes: FileAttributes(u32_in(bytes, 32)),
     }
 }
 

@@ -3,8 +3,8 @@
 ghost use Rattle.std.specs.Prelude.{◌≡◌};
 
 use smb_opens::{
-    CreateAsk, Created, OpenNo, OpenRow, Opens, Owner, PlainOpens, Store, StoreFault, View,
-    laws_of_stores,
+    BasicAsk, CreateAsk, Created, OpenNo, OpenRow, Opens, Owner, PlainOpens, Store, StoreFault,
+    View, laws_of_stores,
 };
 use smb_tree::{Kind, PlainTree, Tree};
 use smb_wire::{
@@ -248,6 +248,52 @@ fn removes_one<O: Opens>(opens: &mut O) -> bool {
 fn opens_by_number_entry_and_owner(rt: HostRuntime) {
     let is_so = match three_opens(rt.alloc()) {
         Some(mut opens) => finds_three(&opens) && removes_one(&mut opens),
+        None => false,
+    };
+    assert!(rt; is_so);
+}
+
+/// What is asked of the file's times and attributes: the change time as it is, and READONLY.
+const READ_ONLY: BasicAsk = BasicAsk {
+    creation_time: 1,
+    last_access_time: 0,
+    last_write_time: 2,
+    change_time: u64::MAX,
+    attributes: FileAttributes::READONLY,
+};
+
+/// Whether the file shows what is asked of it, beside the size that it has.
+fn shows_what_is_set<T: Tree + Drop, O: Opens + Drop>(store: &Store<T, O>) -> bool {
+    let set = View {
+        creation_time: 1,
+        last_write_time: 2,
+        size: 5_000,
+        allocation_size: 8_192,
+        attributes: FileAttributes::READONLY,
+        access: Access(0x1F_01FF),
+        ..new_file()
+    };
+    store.view(1) == Some(set)
+}
+
+/// Whether a file's mark, size, times and attributes are set, and a read-only file is not marked.
+fn sets<T: Tree + Drop, O: Opens + Drop>(store: &mut Store<T, O>) -> bool {
+    if !grants(store, 0x1F_01FF, 0x1F_01FF) {
+        return false;
+    }
+    store.set_delete(1, true) == Ok(())
+        && store.set_delete(1, false) == Ok(())
+        && store.set_size(1, 5_000, false, MOMENT) == Ok(())
+        && store.set_size(1, 6_000, true, MOMENT + 1) == Ok(())
+        && store.set_basic(1, &READ_ONLY, MOMENT) == Ok(())
+        && store.set_delete(1, true) == Err(0xC000_0121)
+        && shows_what_is_set(store)
+}
+
+#[test]
+fn a_file_is_set(rt: HostRuntime) {
+    let is_so = match new_store(rt.alloc()) {
+        Some(mut store) => sets(&mut store),
         None => false,
     };
     assert!(rt; is_so);

@@ -1,7 +1,8 @@
 //! A plain tree, through the bound that every layer above has, with answers set by hand.
 
-use smb_tree::{Basic, EntryNo, Kind, PlainTree, Tree, TreeFault, laws_of_contents};
-use smb_wire::{PathView, Units, split_path};
+use smb_tree::{Basic, EntryNo, Kind, PlainTree, Tree, TreeFault, laws_of_contents, laws_of_moves};
+use smb_wire::{FileAttributes, PathView, Units, split_path};
+use std::alloc::Global;
 
 const CREATED: u64 = 116_444_736_000_000_000;
 
@@ -13,7 +14,7 @@ fn path(name: &[u8]) -> Option<PathView<'_>> {
 /// Adds an entry with all attributes.
 fn add<T: Tree>(tree: &mut T, name: &[u8], kind: Kind) -> Option<Result<EntryNo, TreeFault>> {
     let path = path(name)?;
-    Some(tree.add(&path, kind, 0xffff_ffff, CREATED + 1))
+    Some(tree.add(&path, kind, FileAttributes(0xffff_ffff), CREATED + 1))
 }
 
 /// The entry at a name's path.
@@ -29,7 +30,7 @@ fn shows_the_root<T: Tree>(tree: &T) -> bool {
     root.number == 1
         && root.parent == 1
         && root.kind == Kind::Folder
-        && root.basic == Basic::of(0, CREATED)
+        && root.basic == Basic::of(FileAttributes(0), CREATED)
         && root.size == 0
         && !root.mark
         && root.spelling.len() == 0
@@ -53,7 +54,7 @@ fn shows_the_file<T: Tree>(tree: &T) -> bool {
     };
     file.parent == 2
         && file.kind == Kind::File
-        && file.basic == Basic::of(0x27, CREATED + 1)
+        && file.basic == Basic::of(FileAttributes(0x27), CREATED + 1)
         && file.spelling.bytes() == b"m\0e\0".as_slice()
 }
 
@@ -73,16 +74,42 @@ fn dates<T: Tree>(tree: &mut T) -> bool {
         last_access_time: 2,
         last_write_time: 3,
         change_time: 4,
-        attributes: 0xb1,
+        attributes: FileAttributes(0xb1),
     };
     if tree.set_basic(1, basic) != Ok(()) {
         return false;
     }
     let kept = Basic {
-        attributes: 0x21,
+        attributes: FileAttributes(0x21),
         ..basic
     };
     tree.entry(1).is_some_and(|root| root.basic == kept)
+}
+
+/// Whether the file's whole name is this one.
+fn is_named<T: Tree>(tree: &T, alloc: Global, name: &[u8]) -> bool {
+    match tree.copy_entry(alloc, 3) {
+        Ok(copy) => copy.size == 4_097 && copy.name.as_slice() == name,
+        Err(_) => false,
+    }
+}
+
+/// Moves the folder.
+fn moves<T: Tree>(tree: &mut T, name: &[u8]) -> bool {
+    match path(name) {
+        Some(path) => tree.move_entry(2, &path) == Ok(()),
+        None => false,
+    }
+}
+
+/// Moves the folder with its file to `e`, and respells it as `E`.
+fn renames<T: Tree>(tree: &mut T, alloc: Global) -> bool {
+    moves(tree, b"e\0")
+        && find(tree, b"d\0o\0c\0").is_none()
+        && find(tree, b"E\0\\\0M\0E\0") == Some(3)
+        && is_named(tree, alloc, b"e\0\\\0m\0e\0")
+        && moves(tree, b"E\0")
+        && is_named(tree, alloc, b"E\0\\\0m\0e\0")
 }
 
 #[test]
@@ -94,9 +121,11 @@ fn a_plain_tree(rt: HostRuntime) {
                 && shows_the_file(&tree)
                 && fills(&mut tree)
                 && dates(&mut tree)
+                && renames(&mut tree, rt.alloc())
         }
         Err(_) => false,
     };
     assert!(rt; is_so);
     laws_of_contents();
+    laws_of_moves();
 }

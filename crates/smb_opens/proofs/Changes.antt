@@ -9,7 +9,8 @@ use Rattle.smb_tree.specs.Laws.{AreBelow}
 use Rattle.smb_tree.specs.Faults.{add_fault}
 use Rattle.smb_tree.proofs.Apart.{apart_changed, apart_added, numbered-push, numbered-changed, numbered-fresh}
 use Rattle.smb_tree.proofs.Spaces.{space_changed, space_more}
-use Rattle.smb_opens.specs.Good.{GoodTree, ArePresent}
+use Rattle.smb_tree.specs.Good.{GoodContent}
+use Rattle.smb_opens.specs.Good.{ArePresent}
 use Rattle.smb_opens.specs.declared.open_row.OpenRow.{OpenRow}
 use Rattle.smb_opens.proofs.Rows.{all_push, all_more}
 
@@ -64,7 +65,7 @@ number-at-push : (rows : List Row) (row : Row) (path : Path) (n : ℕ) → numbe
 number-at-push [] row path n h = cc
 number-at-push (x ∷ rows) row path n h = grind (arith, common_steps, h, number-at-push rows row path n)
 
-pub good_changed : (f : Entry → Entry) (content : Content) (n : ℕ) (row : Row) → Shrinks f → numbered content.rows n ≡ Some row → GoodTree content → GoodTree (record content { rows = changed f content.rows n })
+pub good_changed : (f : Entry → Entry) (content : Content) (n : ℕ) (row : Row) → Shrinks f → numbered content.rows n ≡ Some row → GoodContent content → GoodContent (record content { rows = changed f content.rows n })
 good_changed f content n row k h good = record {
   root = folder_changed f content.rows n [] (keeps_of f k) ∙ good.root;
   first = number-at-changed f content.rows n [] k.number ∙ good.first;
@@ -110,7 +111,7 @@ pub below_push : (rows : List Row) (row : Row) (next : ℕ) → AreBelow rows ne
 below_push [] row next h e = (omega (arith, e), tt)
 below_push (x ∷ rows) row next h e = (omega (arith, h.0), below_push rows row next h.1 e)
 
-pub good_push : (content : Content) (path : Path) (entry : Entry) → IsFree content path → entry.number ≡ content.next → length entry.bytes ≡ 0 → GoodTree content → GoodTree (record content { rows = content.rows ++ (path, entry) ∷ []; next = content.next + 1 })
+pub good_push : (content : Content) (path : Path) (entry : Entry) → IsFree content path → entry.number ≡ content.next → length entry.bytes ≡ 0 → GoodContent content → GoodContent (record content { rows = content.rows ++ (path, entry) ∷ []; next = content.next + 1 })
 good_push content path entry free number bytes good = record {
   root = folder_push content.rows (path, entry) [] good.root;
   first = number-at-push content.rows (path, entry) [] 1 good.first;
@@ -132,5 +133,5 @@ present_push rows row opens h =
     all_more (λ (o : OpenRow). is_some (numbered rows o.entry) ≡ true) (λ (o : OpenRow). is_some (numbered (rows ++ row ∷ []) o.entry) ≡ true) opens (λ o p. grind (arith, common_steps, p, numbered-push rows row o.entry)) h
 
 -- the entry that was added is the one of its number
-pub numbered-last : (content : Content) (row : Row) → GoodTree content → row.1.number ≡ content.next → numbered (content.rows ++ row ∷ []) content.next ≡ Some row
+pub numbered-last : (content : Content) (row : Row) → GoodContent content → row.1.number ≡ content.next → numbered (content.rows ++ row ∷ []) content.next ≡ Some row
 numbered-last content row good e = grind (arith, nat_tests, e, numbered-push content.rows row content.next, numbered-fresh content.rows content.next good.below)

@@ -12,7 +12,8 @@ use Rattle.smb_tree.specs.Children.{is_child, has_children, first_by_name, next_
 use Rattle.smb_opens.specs.declared.open_row.OpenRow.{OpenRow}
 use Rattle.smb_opens.specs.declared.view.View.{View}
 use Rattle.smb_opens.specs.Close.{can_be_deleted, is_deletable, has_mark, tree_marked, tree_cleared, is_due, closed_open, closed, removes_entry, is_removed_with}
-use Rattle.smb_opens.specs.Good.{GoodTree, GoodStore, IsKept, ArePresent, AreMarksDue}
+use Rattle.smb_tree.specs.Good.{GoodContent}
+use Rattle.smb_opens.specs.Good.{GoodStore, IsKept, ArePresent, AreMarksDue}
 use Rattle.smb_opens.specs.Numbers.{AreRising}
 use Rattle.smb_opens.specs.Opens.{open_of, without_open, open_numbers, has_open, is_on_entry, number_of, open_on_entry}
 use Rattle.smb_opens.specs.State.{StoreState}
@@ -37,12 +38,12 @@ deletable_row rows n h =
     ] h
 
 -- a folder has no first child exactly where it has no children
-none_first : (rows : List Row) (path : Path) → is_none (next_child rows path None) ≡ not (has_children rows path)
+pub none_first : (rows : List Row) (path : Path) → is_none (next_child rows path None) ≡ not (has_children rows path)
 none_first [] path = refl
 none_first (x ∷ rows) path =
     elim (is_child path x) as (λ b. is_none (first_by_name (cond (b && true) (x ∷ filter (λ row. is_child path row && true) rows) (filter (λ row. is_child path row && true) rows))) ≡ not (b || has_children rows path)) [ true ↦ refl | false ↦ none_first rows path ]
 
-none_mapped : (o : Option Row) → is_none (option_map (λ (r : Row). r.1.number) o) ≡ is_none o
+pub none_mapped : (o : Option Row) → is_none (option_map (λ (r : Row). r.1.number) o) ≡ is_none o
 none_mapped None = refl
 none_mapped (Some row) = refl
 
@@ -63,7 +64,7 @@ open_elsewhere (x ∷ rows) n m row r h e = grind (arith, nat_tests, h, e, kept_
 
 -- what a mark changes
 pub record IsMarked (before after : Content) (entry : ℕ) : Type 0 where
-  pub good : GoodTree after
+  pub good : GoodContent after
   pub deletable : (m : ℕ) → is_deletable after.rows m ≡ is_deletable before.rows m
   pub elsewhere : (m : ℕ) → m == entry ≡ false → has_mark after.rows m ≡ has_mark before.rows m
   pub here : has_mark after.rows entry ≡ true → is_deletable after.rows entry ≡ true
@@ -78,7 +79,7 @@ present_by true None = refl
 present_by true (Some row) = refl
 present_by false o = refl
 
-with_mark_marked : (tree : Content) (entry : ℕ) → GoodTree tree → is_deletable tree.rows entry ≡ true → IsMarked tree (with_mark tree entry true) entry
+with_mark_marked : (tree : Content) (entry : ℕ) → GoodContent tree → is_deletable tree.rows entry ≡ true → IsMarked tree (with_mark tree entry true) entry
 with_mark_marked tree entry good d =
     let f : Entry → Entry = λ e. record e { mark = true } in
     let row = deletable_row tree.rows entry d in
@@ -91,7 +92,7 @@ with_mark_marked tree entry good d =
       long = length-changed f tree.rows entry;
     }
 
-same_marked : (tree : Content) (opens : List OpenRow) (row : OpenRow) → GoodTree tree → AreMarksDue tree.rows opens → IsMarked tree tree row.entry
+same_marked : (tree : Content) (opens : List OpenRow) (row : OpenRow) → GoodContent tree → AreMarksDue tree.rows opens → IsMarked tree tree row.entry
 same_marked tree opens row good due = record {
   good = good;
   deletable = λ _. refl;
@@ -101,7 +102,7 @@ same_marked tree opens row good due = record {
   long = refl;
 }
 
-pub tree_marked_marked : (tree : Content) (opens : List OpenRow) (row : OpenRow) → GoodTree tree → AreMarksDue tree.rows opens → IsMarked tree (tree_marked tree row) row.entry
+pub tree_marked_marked : (tree : Content) (opens : List OpenRow) (row : OpenRow) → GoodContent tree → AreMarksDue tree.rows opens → IsMarked tree (tree_marked tree row) row.entry
 tree_marked_marked tree opens row good due =
     elim (row.delete_on_close) as (λ b. IsMarked tree (if b && is_deletable tree.rows row.entry then with_mark tree row.entry true else tree) row.entry) [
       | true ↦ elim (is_deletable tree.rows row.entry) as (λ d. is_deletable tree.rows row.entry ≡ d → IsMarked tree (if d then with_mark tree row.entry true else tree) row.entry) [
@@ -149,7 +150,7 @@ gone_marked state row tree good k s m h =
     ] refl (sym (mark_removed tree.rows row.entry m k.good.apart) ∙ h)
 
 -- the store with the open taken out, its entry there or not
-good_by : (state : StoreState) (row : OpenRow) (tree : Content) → GoodStore state → open_of state.opens row.number ≡ Some row → GoodTree tree → ArePresent tree.rows (without_open row.number state.opens) → AreMarksDue tree.rows (without_open row.number state.opens) → GoodStore (record { tree = tree; opens = without_open row.number state.opens; locks = without_holder row.number state.locks; next = state.next })
+good_by : (state : StoreState) (row : OpenRow) (tree : Content) → GoodStore state → open_of state.opens row.number ≡ Some row → GoodContent tree → ArePresent tree.rows (without_open row.number state.opens) → AreMarksDue tree.rows (without_open row.number state.opens) → GoodStore (record { tree = tree; opens = without_open row.number state.opens; locks = without_holder row.number state.locks; next = state.next })
 good_by state row tree good s t p m = record {
   tree = t;
   present = p;

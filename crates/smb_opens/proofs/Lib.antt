@@ -25,3 +25,6 @@ pub mod Barred
 pub mod Again
 pub mod Quiet
 pub mod Leaving
+pub mod Settings
+pub mod StoreSettings
+pub mod SetLaws

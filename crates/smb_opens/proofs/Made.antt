@@ -23,7 +23,8 @@ use Rattle.smb_opens.specs.Asked.{FileAsked, share_asked, kind_asked, attributes
 use Rattle.smb_opens.specs.Effect.{overwritten, overwritten_tree, standing_tree, entry_after, create_result_by, created_by, opened_by, action_on}
 use Rattle.smb_opens.specs.Found.{has_all_opens, is_marked}
 use Rattle.smb_opens.specs.Looked.{target_of, is_read_only_target, target_conflicts}
-use Rattle.smb_opens.specs.Good.{GoodTree, GoodStore, IsKept, ArePresent, AreMarksDue}
+use Rattle.smb_tree.specs.Good.{GoodContent}
+use Rattle.smb_opens.specs.Good.{GoodStore, IsKept, ArePresent, AreMarksDue}
 use Rattle.smb_opens.specs.Opens.{without_open, AreAllBelow}
 use Rattle.smb_opens.specs.Access.{granted}
 use Rattle.smb_opens.specs.Close.{has_mark}
@@ -51,7 +52,7 @@ room_left : (state : StoreState) → has_all_opens state ≡ false → length st
 room_left state e = grind (arith, nat_tests, common_steps, e)
 
 -- one more open, of an entry that stands
-pub good_opened : (state : StoreState) (tree : Content) (row : OpenRow) → GoodStore state → GoodTree tree → ArePresent tree.rows state.opens → is_some (numbered tree.rows row.entry) ≡ true → row.number ≡ state.next → has_all_opens state ≡ false → has_conflict state.opens row.entry (use_of row) ≡ false → AreMarksDue tree.rows (state.opens ++ row ∷ []) → GoodStore (record { tree = tree; opens = state.opens ++ row ∷ []; locks = state.locks; next = state.next + 1 })
+pub good_opened : (state : StoreState) (tree : Content) (row : OpenRow) → GoodStore state → GoodContent tree → ArePresent tree.rows state.opens → is_some (numbered tree.rows row.entry) ≡ true → row.number ≡ state.next → has_all_opens state ≡ false → has_conflict state.opens row.entry (use_of row) ≡ false → AreMarksDue tree.rows (state.opens ++ row ∷ []) → GoodStore (record { tree = tree; opens = state.opens ++ row ∷ []; locks = state.locks; next = state.next + 1 })
 good_opened state tree row good fine present stands number room alone due = record {
   tree = fine;
   present = all_push (λ (o : OpenRow). is_some (numbered tree.rows o.entry) ≡ true) state.opens row present stands;
@@ -65,7 +66,7 @@ good_opened state tree row good fine present stands number room alone due = reco
 }
 
 -- the tree to which an entry was added is good
-pub good_added : (tree : Content) (parts : List (List ℕ)) (kind : Kind) (attributes moment : ℕ) → GoodTree tree → add_fault tree (folded_path parts) ≡ None → GoodTree (added tree parts kind attributes moment)
+pub good_added : (tree : Content) (parts : List (List ℕ)) (kind : Kind) (attributes moment : ℕ) → GoodContent tree → add_fault tree (folded_path parts) ≡ None → GoodContent (added tree parts kind attributes moment)
 good_added tree parts kind attributes moment good free =
     good_push tree (folded_path parts) (new_entry tree.next parts kind attributes moment) (free_path tree (folded_path parts) free) refl refl good
 
@@ -89,7 +90,7 @@ kept_added state opens_count entries_count parts kind attributes moment row kept
     }
 
 -- the entry that was added shows itself
-pub shown_added : (tree after : Content) (parts : List (List ℕ)) (kind : Kind) (attributes moment number : ℕ) (access : Access) → GoodTree tree → after ≡ added tree parts kind attributes moment → number ≡ tree.next → view_at after.rows number access ≡ Some (view_of access (new_entry tree.next parts kind attributes moment))
+pub shown_added : (tree after : Content) (parts : List (List ℕ)) (kind : Kind) (attributes moment number : ℕ) (access : Access) → GoodContent tree → after ≡ added tree parts kind attributes moment → number ≡ tree.next → view_at after.rows number access ≡ Some (view_of access (new_entry tree.next parts kind attributes moment))
 shown_added tree after parts kind attributes moment number access good t e =
     let new : Row = (folded_path parts, new_entry tree.next parts kind attributes moment) in
     let last : numbered (tree.rows ++ new ∷ []) number ≡ Some new = rw e (numbered-last tree new good refl) in
@@ -125,9 +126,9 @@ target_numbered rows path target a e =
     ap (option_map (λ (row : Row). target_of row.1)) t.3 ∙ ap (λ (x : Target). Some x) t.2
 
 -- a tree in which a standing entry was dealt with is good, and its entries stand as before
-pub good_standing : (tree : Content) (ask : FileAsked) (moment number : ℕ) (row : Row) → numbered tree.rows number ≡ Some row → GoodTree tree → GoodTree (standing_tree tree ask moment number)
+pub good_standing : (tree : Content) (ask : FileAsked) (moment number : ℕ) (row : Row) → numbered tree.rows number ≡ Some row → GoodContent tree → GoodContent (standing_tree tree ask moment number)
 good_standing tree ask moment number row h good =
-    elim (overwrites_by ask.disposition) as (λ b. GoodTree (cond b (overwritten_tree tree ask moment number) tree)) [ true ↦ good_changed (overwritten ask moment) tree number row (empties ask moment) h good | false ↦ good ]
+    elim (overwrites_by ask.disposition) as (λ b. GoodContent (cond b (overwritten_tree tree ask moment number) tree)) [ true ↦ good_changed (overwritten ask moment) tree number row (empties ask moment) h good | false ↦ good ]
 
 pub present_standing : (tree : Content) (ask : FileAsked) (moment number : ℕ) (opens : List OpenRow) → ArePresent tree.rows opens → ArePresent (standing_tree tree ask moment number).rows opens
 present_standing tree ask moment number opens h =

@@ -10,10 +10,11 @@ use Rattle.smb_wire.specs.Dispositions.{overwrites_by}
 use Rattle.smb_opens.specs.Asked.{FileAsked}
 use Rattle.smb_opens.specs.Effect.{overwritten, overwritten_tree, tree_after, entry_after, created}
 use Rattle.smb_opens.specs.Found.{path_asked, entry_asked}
-use Rattle.smb_opens.specs.Good.{GoodTree, UnmarkedTree, GoodStore}
+use Rattle.smb_tree.specs.Good.{GoodContent}
+use Rattle.smb_opens.specs.Good.{UnmarkedTree, GoodStore}
 use Rattle.smb_opens.specs.State.{StoreState}
 
-good_new : (moment capacity : ℕ) → GoodTree (new_content moment capacity)
+good_new : (moment capacity : ℕ) → GoodContent (new_content moment capacity)
 good_new moment capacity = record {
   root = refl;
   first = refl;
@@ -39,10 +40,10 @@ elsewhere_added : (rows : List Row) (path other : Path) (entry : Entry) → is_s
 elsewhere_added [] path other entry h = rw h refl
 elsewhere_added (row ∷ rows) path other entry h = ap (λ (o : Option Entry). if is_same_path row.0 other then Some row.1 else o) (elsewhere_added rows path other entry h)
 
-elsewhere_changed : (f : Entry → Entry) (tree : Content) (path other : Path) (entry : Entry) → GoodTree tree → entry_at tree.rows path ≡ Some entry → is_same_path path other ≡ false → entry_at (changed f tree.rows entry.number) other ≡ entry_at tree.rows other
+elsewhere_changed : (f : Entry → Entry) (tree : Content) (path other : Path) (entry : Entry) → GoodContent tree → entry_at tree.rows path ≡ Some entry → is_same_path path other ≡ false → entry_at (changed f tree.rows entry.number) other ≡ entry_at tree.rows other
 elsewhere_changed f tree path other entry good e h = at-changed f tree.rows path other entry entry.number good.apart (numbered-from_at tree.rows path entry good.apart e) ∙ rw h refl
 
-elsewhere : (tree : Content) (ask : FileAsked) (moment : ℕ) (other : Path) (stood : Option Entry) → GoodTree tree → entry_at tree.rows (path_asked ask) ≡ stood → is_same_path (path_asked ask) other ≡ false → entry_at (tree_after tree ask moment stood).rows other ≡ entry_at tree.rows other
+elsewhere : (tree : Content) (ask : FileAsked) (moment : ℕ) (other : Path) (stood : Option Entry) → GoodContent tree → entry_at tree.rows (path_asked ask) ≡ stood → is_same_path (path_asked ask) other ≡ false → entry_at (tree_after tree ask moment stood).rows other ≡ entry_at tree.rows other
 elsewhere tree ask moment other None good e h = elsewhere_added tree.rows (path_asked ask) other (entry_after tree ask moment None) h
 elsewhere tree ask moment other (Some entry) good e h =
     elim (overwrites_by ask.disposition) as (λ b. entry_at (let x : Content = cond b (overwritten_tree tree ask moment entry.number) tree in x).rows other ≡ entry_at tree.rows other) [

@@ -15,7 +15,7 @@ use Rattle.smb_wire.specs.Dispositions.{overwrites_by}
 use Rattle.smb_opens.specs.Asked.{FileAsked}
 use Rattle.smb_opens.specs.Effect.{overwritten, overwritten_basic, overwritten_tree, standing_tree}
 use Rattle.smb_opens.specs.Looked.{target_of}
-use Rattle.smb_opens.specs.Good.{GoodTree}
+use Rattle.smb_tree.specs.Good.{GoodContent}
 use Rattle.smb_opens.proofs.Changes.{Shrinks, space_within_changed}
 
 -- the row of a target
@@ -40,7 +40,7 @@ emptied : (bytes : List ℕ) → resized 0 bytes ≡ []
 emptied bytes = let none : 0 - length bytes ≡ 0 = omega arith in rw none refl
 
 -- a file may lose its bytes
-pub size_free : (content : Content) (n : ℕ) (target : Target) → GoodTree content → option_map (λ row. target_of row.1) (numbered content.rows n) ≡ Some target → is_folder_kind target.kind ≡ false → size_fault content n 0 ≡ None
+pub size_free : (content : Content) (n : ℕ) (target : Target) → GoodContent content → option_map (λ row. target_of row.1) (numbered content.rows n) ≡ Some target → is_folder_kind target.kind ≡ false → size_fault content n 0 ≡ None
 size_free content n target good e file =
     let t = target_row content.rows n target e in
     let kind : is_folder_kind t.0.1.kind ≡ false = ap (λ (x : Target). is_folder_kind x.kind) t.2 ∙ file in

@@ -18,14 +18,16 @@ use Rattle.smb_opens.specs.Bytes.{file_bytes, written_file, written_tree, writte
 use Rattle.smb_opens.specs.Close.{is_deletable, tree_marked, is_due, closed_open, closed, closed_each}
 use Rattle.smb_opens.specs.Effect.{overwritten, overwritten_tree, tree_after}
 use Rattle.smb_opens.specs.Found.{entry_asked, path_asked}
-use Rattle.smb_opens.specs.Good.{GoodTree}
+use Rattle.smb_tree.specs.Good.{GoodContent}
 use Rattle.smb_opens.specs.Locks.{with_locks_of}
 use Rattle.smb_opens.specs.Opens.{open_of, is_on_entry, without_open, open_numbers, is_held_by}
+use Rattle.smb_opens.specs.SetInfo.{changed_in, delete_set, size_set, entry_set}
 use Rattle.smb_opens.specs.State.{StoreState}
-use Rattle.smb_opens.specs.Steps.{StoreStep, creates, writes, locks, unlocks, closes, closes_all, stepped, stepped_all, is_change_of, NoneChanges}
+use Rattle.smb_opens.specs.Steps.{StoreStep, creates, writes, locks, unlocks, sets_delete, sets_size, sets_basic, closes, closes_all, stepped, stepped_all, is_change_of, NoneChanges}
 use Rattle.smb_opens.specs.Views.{open_view}
 use Rattle.smb_opens.proofs.Changes.{Keeps, below_changed, below_push}
 use Rattle.smb_opens.proofs.Removed.{numbered-removed, below_removed}
+use Rattle.smb_opens.proofs.StoreSettings.{size_keeps}
 use Rattle.smb_opens.proofs.Writes.{writes_keep}
 use Rattle.smb_opens.proofs.Again.{read_again, opens_left}
 
@@ -146,11 +148,25 @@ locks_stay table state None n bytes stays = stays
 locks_stay table state (Some view) n bytes stays =
     elim (is_folder_kind view.kind) as (λ b. Stays n bytes (let x : StoreState = if b then state else record state { locks = table view.entry } in x).tree) [ true ↦ stays | false ↦ stays ]
 
+-- an entry is set, but for its bytes, or another one is
+set_stays : (f : Entry → Entry) (state : StoreState) (held : Option OpenRow) (n : ℕ) (bytes : List ℕ) → Keeps f → (((e : Entry) → (f e).bytes ≡ e.bytes) ⊎ (option_map_or (is_on_entry n) held false ≡ false)) → Stays n bytes state.tree →
+    Stays n bytes (option_map_or (λ (row : OpenRow). let x : StoreState = record state { tree = changed_in f state.tree row.entry } in x) held state).tree
+set_stays f state None n bytes k either stays = stays
+set_stays f state (Some row) n bytes k (inl same) stays = changed_stays f state.tree row.entry n bytes k (λ _ e. same e) stays
+set_stays f state (Some row) n bytes k (inr quiet) stays =
+    changed_stays f state.tree row.entry n bytes k (λ q e. (let other : row.entry == n ≡ false = quiet in absurd (grind (arith, nat_tests, q, other)))) stays
+
 step_stays : (state : StoreState) (step : StoreStep) (n : ℕ) (bytes : List ℕ) → is_change_of n state step ≡ false → Stays n bytes state.tree → Stays n bytes (stepped state step).tree
 step_stays state (creates ask moment) n bytes quiet stays = created_stays state.tree ask moment n bytes (entry_asked state ask) refl quiet stays
 step_stays state (writes number offset buffer moment) n bytes quiet stays = written_stays state offset buffer moment n bytes (open_of state.opens number) quiet stays
 step_stays state (locks number asks) n bytes quiet stays = locks_stay (λ entry. locked state.locks entry number asks) state (open_view state number) n bytes stays
 step_stays state (unlocks number asks) n bytes quiet stays = locks_stay (λ entry. unlocked state.locks entry number asks) state (open_view state number) n bytes stays
+step_stays state (sets_delete number is_deleted) n bytes quiet stays =
+    set_stays (delete_set is_deleted) state (open_of state.opens number) n bytes (record { number = λ _. refl; kind = λ _. refl }) (inl (λ _. refl)) stays
+step_stays state (sets_size number size is_allocation moment) n bytes quiet stays =
+    set_stays (size_set size is_allocation moment) state (open_of state.opens number) n bytes (size_keeps size is_allocation moment) (inr quiet) stays
+step_stays state (sets_basic number ask moment) n bytes quiet stays =
+    set_stays (entry_set ask moment) state (open_of state.opens number) n bytes (record { number = λ _. refl; kind = λ _. refl }) (inl (λ _. refl)) stays
 step_stays state (closes number) n bytes quiet stays = closed_stays state number n bytes stays
 step_stays state (closes_all owner) n bytes quiet stays = each_closed_stays state (open_numbers (filter (is_held_by owner) state.opens)) n bytes stays
 
@@ -172,7 +188,7 @@ bytes_or_none rows n =
     elim (numbered rows n) as (λ o. (o ≡ None) ⊎ (option_map (λ (row : Row). row.1.bytes) o ≡ Some (option_map_or (λ (row : Row). row.1.bytes) o []))) [ None ↦ inl refl | Some row ↦ inr refl ]
 
 -- where a file was written, its bytes are what they are
-start_stays : (tree : Content) (offset : ℕ) (buffer : List ℕ) (moment n : ℕ) (row : Row) (b : Bool) → GoodTree tree → numbered tree.rows n ≡ Some row →
+start_stays : (tree : Content) (offset : ℕ) (buffer : List ℕ) (moment n : ℕ) (row : Row) (b : Bool) → GoodContent tree → numbered tree.rows n ≡ Some row →
     Stays n (bytes_of (let x : Content = if b then tree else written_tree tree n offset buffer moment in x).rows n) (let x : Content = if b then tree else written_tree tree n offset buffer moment in x)
 start_stays tree offset buffer moment n row true good h = record {
   apart = good.apart;
@@ -208,7 +224,7 @@ same_end rows n bytes is (inl h) = (let no : is_some (numbered rows n) ≡ false
 same_end rows n bytes is (inr h) =
     elim (numbered rows n) as (λ o. is_some o ≡ true → option_map (λ (row : Row). row.1.bytes) o ≡ Some bytes → option_map_or (λ (row : Row). row.1.bytes) o [] ≡ bytes) [ None ↦ λ i q. cc | Some row ↦ λ i q. cc ] is h
 
-pub read_later : (state : StoreState) (number offset : ℕ) (buffer : List ℕ) (moment : ℕ) (steps : List StoreStep) (other : ℕ) (writer reader : OpenRow) (row : Row) → GoodTree state.tree →
+pub read_later : (state : StoreState) (number offset : ℕ) (buffer : List ℕ) (moment : ℕ) (steps : List StoreStep) (other : ℕ) (writer reader : OpenRow) (row : Row) → GoodContent state.tree →
     open_of state.opens number ≡ Some writer → numbered state.tree.rows writer.entry ≡ Some row → NoneChanges writer.entry (written_to state number offset buffer moment) steps →
     open_of (stepped_all (written_to state number offset buffer moment) steps).opens other ≡ Some reader → reader.entry ≡ writer.entry →
     is_some (numbered (stepped_all (written_to state number offset buffer moment) steps).tree.rows writer.entry) ≡ true →

@@ -12,7 +12,7 @@ use Rattle.smb_tree.proofs.Keys.{same_path-eq, same_path-sym}
 use Rattle.smb_tree.proofs.Apart.{at-from_numbered}
 use Rattle.smb_tree.proofs.Removals.{at-without, apart_removed, space_without}
 use Rattle.smb_opens.specs.Close.{can_be_deleted, is_deletable, has_mark}
-use Rattle.smb_opens.specs.Good.{GoodTree}
+use Rattle.smb_tree.specs.Good.{GoodContent}
 
 pub all_removed : (P : Row → Type 0) (rows : List Row) (n : ℕ) → AllByRecursion P rows → AllByRecursion P (without rows n)
 all_removed P [] n h = h
@@ -42,7 +42,7 @@ no_child [] path h = tt
 no_child (x ∷ rows) path h = (grind (arith, h), no_child rows path (grind (arith, h)))
 
 -- what can be deleted is not at the root's path
-not_root : (content : Content) (n : ℕ) (row : Row) → GoodTree content → numbered content.rows n ≡ Some row → row.1.number == 1 ≡ false → is_same_path row.0 [] ≡ false
+not_root : (content : Content) (n : ℕ) (row : Row) → GoodContent content → numbered content.rows n ≡ Some row → row.1.number == 1 ≡ false → is_same_path row.0 [] ≡ false
 not_root content n row good h k =
     elim (is_same_path row.0 []) as (λ b. is_same_path row.0 [] ≡ b → b ≡ false) [
       | true ↦ λ s. (let at : entry_at content.rows row.0 ≡ Some row.1 = at-from_numbered content.rows row.0 row.1 n good.apart h in let path : row.0 ≡ [] = same_path-eq row.0 [] s in let one : number_at content.rows row.0 ≡ Some 1 = rw path good.first in let same : Some row.1.number ≡ Some 1 = ap (option_map (λ (e : Entry). e.number)) (sym at) ∙ one in grind (arith, nat_tests, same, k))
@@ -65,7 +65,7 @@ both : (P Q R : Row → Type 0) (rows : List Row) → ((r : Row) → P r → Q r
 both P Q R [] f p q = tt
 both P Q R (x ∷ rows) f p q = (f x p.0 q.0, both P Q R rows f p.1 q.1)
 
-pub good_removed : (content : Content) (n : ℕ) (row : Row) → numbered content.rows n ≡ Some row → can_be_deleted content.rows row ≡ true → GoodTree content → GoodTree (removed content n)
+pub good_removed : (content : Content) (n : ℕ) (row : Row) → numbered content.rows n ≡ Some row → can_be_deleted content.rows row ≡ true → GoodContent content → GoodContent (removed content n)
 good_removed content n row h d good =
     let l = leaf content.rows row d in
     let apart : is_same_path row.0 [] ≡ false = not_root content n row good h l.number in

@@ -18,7 +18,8 @@ use Rattle.smb_opens.specs.declared.view.View.{View}
 use Rattle.smb_opens.specs.Bytes.{file_bytes, keeps_from_writing, write_rows, write_status_by, has_no_room, written_file, written_tree, written_to}
 use Rattle.smb_opens.specs.Create.{first_status}
 use Rattle.smb_opens.specs.Faults.{IsRefusal}
-use Rattle.smb_opens.specs.Good.{GoodTree, AreMarksDue, IsKept}
+use Rattle.smb_tree.specs.Good.{GoodContent}
+use Rattle.smb_opens.specs.Good.{AreMarksDue, IsKept}
 use Rattle.smb_opens.specs.State.{StoreState}
 use Rattle.smb_opens.proofs.Changes.{present_changed, length-changed}
 use Rattle.smb_opens.proofs.Marks.{deletable_changed, mark_changed}
@@ -26,7 +27,7 @@ use Rattle.smb_opens.proofs.Shows.{ShownBy, entry_of}
 use Rattle.smb_opens.proofs.Trees.{of_number}
 use Rattle.smb_opens.proofs.Writes.{writes_keep, good_within, has_room, space_of_bytes}
 
-kind_shown : (state : StoreState) (number : ℕ) (view : View) → (s : ShownBy state number view) → is_folder_kind view.kind ≡ false → is_folder_kind s.row.1.kind ≡ false
+pub kind_shown : (state : StoreState) (number : ℕ) (view : View) → (s : ShownBy state number view) → is_folder_kind view.kind ≡ false → is_folder_kind s.row.1.kind ≡ false
 kind_shown state number view s file = ap (λ (v : View). is_folder_kind v.kind) (sym s.shown) ∙ file
 
 -- the bytes of the entry that is shown are those read through the open
@@ -43,7 +44,7 @@ file_shown state number view s file =
     ∙ ap (λ (b : Bool). Some b) (kind_shown state number view s file)
 
 -- what is marked has its opens, and can be deleted, after a change that leaves number and mark
-marks_kept : (f : Entry → Entry) (rows : List Row) (n : ℕ) (opens : List OpenRow) → ((e : Entry) → (f e).number ≡ e.number) → ((e : Entry) → (f e).mark ≡ e.mark) → AreMarksDue rows opens → AreMarksDue (changed f rows n) opens
+pub marks_kept : (f : Entry → Entry) (rows : List Row) (n : ℕ) (opens : List OpenRow) → ((e : Entry) → (f e).number ≡ e.number) → ((e : Entry) → (f e).mark ≡ e.mark) → AreMarksDue rows opens → AreMarksDue (changed f rows n) opens
 marks_kept f rows n opens k s h = λ m e.
     let before = h m (sym (mark_changed f rows n m k s) ∙ e) in
     (deletable_changed f rows n m k ∙ before.0, before.1)
@@ -100,7 +101,7 @@ fault_room tree n offset buffer row h file small =
     let at : write_fault tree n offset (length buffer) ≡ size_fault tree n size = ap (λ (bytes : List ℕ). size_fault tree n (max (length bytes) (offset + length buffer))) (bytes_found tree.rows n row h) in
     ap (λ (o : Option TreeFault). is_some o) at ∙ grind (arith, nat_tests, common_steps, h, file, small, space)
 
-pub room_shown : (state : StoreState) (number : ℕ) (view : View) (offset : ℕ) (buffer : List ℕ) → GoodTree state.tree → ShownBy state number view → is_folder_kind view.kind ≡ false →
+pub room_shown : (state : StoreState) (number : ℕ) (view : View) (offset : ℕ) (buffer : List ℕ) → GoodContent state.tree → ShownBy state number view → is_folder_kind view.kind ≡ false →
     is_some (write_fault state.tree view.entry offset (length buffer)) ≡ has_no_room state.tree view.entry offset buffer
 room_shown state number view offset buffer good s file =
     let at : numbered state.tree.rows view.entry ≡ Some s.row = ap (numbered state.tree.rows) (entry_of state number view s) ∙ s.at_entry in

@@ -15,7 +15,7 @@ use Rattle.smb_opens.specs.Looked.{target_of, is_folder_target}
 use Rattle.smb_tree.specs.Laws.{AreApart}
 use Rattle.smb_wire.specs.Names.{folded}
 use Rattle.smb_wire.specs.Paths.{folded_path}
-use Rattle.smb_opens.specs.Good.{GoodTree}
+use Rattle.smb_tree.specs.Good.{GoodContent}
 
 -- what is true of all entries is true of the one at a path, and of the one of a number
 pub at_path : (P : Row → Type 0) (rows : List Row) (path : Path) (entry : Entry) → AllByRecursion P rows → entry_at rows path ≡ Some entry → P (path, entry)
@@ -35,7 +35,7 @@ of_number P (x ∷ rows) number row h e =
     ] e
 
 -- a folder's parent is a folder
-folder_above : (content : Content) → GoodTree content → (path : Path) → is_folder (entry_at content.rows path) ≡ true → is_folder (entry_at content.rows (parent path)) ≡ true
+folder_above : (content : Content) → GoodContent content → (path : Path) → is_folder (entry_at content.rows path) ≡ true → is_folder (entry_at content.rows (parent path)) ≡ true
 folder_above content good path h =
     elim (entry_at content.rows path) as (λ o. entry_at content.rows path ≡ o → is_folder o ≡ true → is_folder (entry_at content.rows (parent path)) ≡ true) [
       | None ↦ λ _ f. cc
@@ -52,7 +52,7 @@ parent-append front rest n e =
     rw long (take_front front rest n)
 
 -- where the entry at a path is a folder, so is each above it
-above_at : (content : Content) → GoodTree content → (n : ℕ) (front rest : Path) → length rest ≡ n → is_folder (entry_at content.rows (front ++ rest)) ≡ true → is_folder (entry_at content.rows front) ≡ true
+above_at : (content : Content) → GoodContent content → (n : ℕ) (front rest : Path) → length rest ≡ n → is_folder (entry_at content.rows (front ++ rest)) ≡ true → is_folder (entry_at content.rows front) ≡ true
 above_at content good zero front [] e h = rw (append-nil front) at h
 above_at content good zero front (part ∷ rest) e h = absurd (omega (arith, e))
 above_at content good (suc n) front rest e h =
@@ -91,14 +91,14 @@ above_root rows [] e = refl
 above_root rows (part ∷ parts) e = absurd (omega (arith, e))
 
 -- the nearest folder decides whether a path is reached
-pub reached_told : (content : Content) → GoodTree content → (path : Path) (above : Option Target) → above ≡ option_map target_of (entry_at content.rows (parent path)) → is_folder_target above ≡ is_reached content.rows path
+pub reached_told : (content : Content) → GoodContent content → (path : Path) (above : Option Target) → above ≡ option_map target_of (entry_at content.rows (parent path)) → is_folder_target above ≡ is_reached content.rows path
 reached_told content good [] above e = ap is_folder_target e ∙ folder_target (entry_at content.rows []) ∙ good.root
 reached_told content good (part ∷ parts) above e =
     ap is_folder_target e ∙ folder_target (entry_at content.rows (parent (part ∷ parts)))
     ∙ sym (nearest (λ path. is_folder (entry_at content.rows path)) (λ p q t. above_at content good (length q) p q refl t) part parts)
 
 -- a path that is reached and has no entry stands in a folder
-pub reached_folder : (content : Content) → GoodTree content → (path : Path) → is_reached content.rows path ≡ true → entry_at content.rows path ≡ None → is_folder (entry_at content.rows (parent path)) ≡ true
+pub reached_folder : (content : Content) → GoodContent content → (path : Path) → is_reached content.rows path ≡ true → entry_at content.rows path ≡ None → is_folder (entry_at content.rows (parent path)) ≡ true
 reached_folder content good [] h e = (let root = good.root in absurd (grind (arith, common_steps, root, e)))
 reached_folder content good (part ∷ parts) h e =
     sym (nearest (λ above. is_folder (entry_at content.rows above)) (λ p q t. above_at content good (length q) p q refl t) part parts) ∙ h
@@ -116,7 +116,7 @@ target_seen rows path number a e =
     ] refl e
 
 -- an entry that is shown is within the limit of a file
-pub shown_small : (content : Content) → GoodTree content → (number : ℕ) (seen : Shown) → Some seen ≡ entry_shown content.rows number → seen.size ≤ 16777216
+pub shown_small : (content : Content) → GoodContent content → (number : ℕ) (seen : Shown) → Some seen ≡ entry_shown content.rows number → seen.size ≤ 16777216
 shown_small content good number seen e =
     elim (numbered content.rows number) as (λ o. numbered content.rows number ≡ o → Some seen ≡ option_map (row_shown content.rows) o → seen.size ≤ 16777216) [
       | None ↦ λ _ f. cc

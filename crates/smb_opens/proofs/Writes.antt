@@ -12,7 +12,7 @@ use Rattle.smb_tree.proofs.Changes.{bytes_found}
 use Rattle.smb_tree.proofs.Parts.{length-written, length-resized}
 use Rattle.smb_tree.proofs.Spaces.{space_changed}
 use Rattle.smb_opens.specs.Bytes.{written_basic, written_file, written_tree}
-use Rattle.smb_opens.specs.Good.{GoodTree}
+use Rattle.smb_tree.specs.Good.{GoodContent}
 use Rattle.smb_opens.proofs.Changes.{Keeps, all_changed, folder_changed, below_changed, number-at-changed, length-changed}
 use Rattle.smb_opens.proofs.Overwrites.{changed-changed, changed-same}
 use Rattle.smb_opens.proofs.Rows.{all_more}
@@ -32,7 +32,7 @@ all_at P f (x ∷ rows) n row e k h =
 
 -- a good tree stays good where a file gets other bytes for which there is room
 pub good_within : (f : Entry → Entry) (content : Content) (n : ℕ) (row : Row) → Keeps f → numbered content.rows n ≡ Some row → is_folder_kind row.1.kind ≡ false →
-    length (f row.1).bytes ≤ 16777216 → used_space (changed f content.rows n) ≤ content.capacity → GoodTree content → GoodTree (record content { rows = changed f content.rows n })
+    length (f row.1).bytes ≤ 16777216 → used_space (changed f content.rows n) ≤ content.capacity → GoodContent content → GoodContent (record content { rows = changed f content.rows n })
 good_within f content n row k h file small fits good = record {
   root = folder_changed f content.rows n [] k ∙ good.root;
   parents = all_changed (λ r. is_folder (entry_at (changed f content.rows n) (parent r.0)) ≡ true) f content.rows n (λ r p. p)

@@ -1,7 +1,7 @@
 -- Access that is asked for, and access that is granted ([MS-SMB2] 2.2.13.1, 3.3.5.9).
 use Rattle.std.specs.Prelude.{ℕ, Bool, not, ◌==◌, ◌||◌, if◌then◌else◌, bit_and, bit_or}
 use Rattle.smb_wire.specs.declared.access.Access.{Access}
-use Rattle.smb_wire.specs.Access.{has_any, FILE_READ_DATA, FILE_EXECUTE, DELETE, FILE_WRITE_DATA, FILE_APPEND_DATA, MAXIMUM_ALLOWED, GENERIC_ALL, GENERIC_EXECUTE, GENERIC_WRITE, GENERIC_READ, FILE_ALL_ACCESS, FILE_GENERIC_EXECUTE, FILE_GENERIC_WRITE, FILE_GENERIC_READ}
+use Rattle.smb_wire.specs.Access.{has_any, FILE_READ_DATA, FILE_EXECUTE, DELETE, FILE_WRITE_DATA, FILE_APPEND_DATA, FILE_WRITE_ATTRIBUTES, MAXIMUM_ALLOWED, GENERIC_ALL, GENERIC_EXECUTE, GENERIC_WRITE, GENERIC_READ, FILE_ALL_ACCESS, FILE_GENERIC_EXECUTE, FILE_GENERIC_WRITE, FILE_GENERIC_READ}
 
 -- a file's bytes may be read: FILE_READ_DATA or FILE_EXECUTE
 abbrev pub is_reading : Access → Bool
@@ -14,6 +14,10 @@ is_deleting access = has_any access.0 DELETE
 -- a file's bytes may be written
 abbrev pub is_writing : Access → Bool
 is_writing access = has_any access.0 FILE_WRITE_DATA || has_any access.0 FILE_APPEND_DATA
+
+-- an entry's times and attributes may be set
+abbrev pub is_writing_attributes : Access → Bool
+is_writing_attributes access = has_any access.0 FILE_WRITE_ATTRIBUTES
 
 -- every right but FILE_WRITE_DATA and FILE_APPEND_DATA
 abbrev pub read_only_access : ℕ

@@ -25,7 +25,7 @@ overwritten_basic ask moment basic = record {
   last_access_time = if supersedes_by ask.disposition then moment else basic.last_access_time;
   last_write_time = moment;
   change_time = moment;
-  attributes = kept_attributes (attributes_asked File ask);
+  attributes = record { 0 = kept_attributes (attributes_asked File ask) };
 }
 
 -- an overwritten file: it has no bytes; its number and its spelling stay

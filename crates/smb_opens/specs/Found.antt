@@ -27,7 +27,7 @@ is_file (Some entry) = not (is_folder_kind entry.kind)
 -- it exists, and is a file with FILE_ATTRIBUTE_READONLY ([MS-FSCC] 2.6)
 abbrev pub is_read_only_file : Option Entry → Bool
 is_read_only_file None = false
-is_read_only_file (Some entry) = not (is_folder_kind entry.kind) && has_any entry.basic.attributes FILE_ATTRIBUTE_READONLY
+is_read_only_file (Some entry) = not (is_folder_kind entry.kind) && has_any entry.basic.attributes.0 FILE_ATTRIBUTE_READONLY
 
 -- it exists, and is the root, which has number 1
 abbrev pub is_root : Option Entry → Bool

@@ -4,7 +4,7 @@ use Rattle.std.specs.List.{AllByRecursion}
 use Rattle.std.specs.Option.{option_map}
 use Rattle.smb_tree.specs.Entries.{is_folder, is_folder_kind}
 use Rattle.smb_tree.specs.Content.{Row, Content, entry_at, number_at, numbered, parent, used_space}
-use Rattle.smb_tree.specs.Laws.{AreApart, AreBelow}
+use Rattle.smb_tree.specs.Good.{GoodContent}
 use Rattle.smb_locks.specs.declared.lock.Lock.{Lock}
 use Rattle.smb_locks.specs.Good.{GoodLockTable}
 use Rattle.smb_locks.specs.Table.{Table, locks_on}
@@ -14,22 +14,6 @@ use Rattle.smb_opens.specs.Numbers.{AreRising}
 use Rattle.smb_opens.specs.Opens.{open_of, open_numbers, has_open, AreAllBelow}
 use Rattle.smb_opens.specs.Sharing.{AreCompatible}
 use Rattle.smb_opens.specs.State.{StoreState}
-
--- a good tree: the root is a folder of number 1, and the parent of each entry stands and is a folder; nothing stands
--- twice; the numbers are below the next; at most 4,096 entries besides the root, of at most 32 components;
--- files of at most 16,777,216 bytes, folders of none; and the space used is there
-pub record GoodTree (content : Content) : Type 0 where
-  pub root : is_folder (entry_at content.rows []) ≡ true
-  pub first : number_at content.rows [] ≡ Some 1
-  pub parents : AllByRecursion (λ row. is_folder (entry_at content.rows (parent row.0)) ≡ true) content.rows
-  pub apart : AreApart content.rows
-  pub below : AreBelow content.rows content.next
-  pub counted : content.next < 2 ^ 64
-  pub few : length content.rows ≤ 4097
-  pub shallow : AllByRecursion (λ row. length row.0 ≤ 32) content.rows
-  pub small : AllByRecursion (λ row. length row.1.bytes ≤ 16777216) content.rows
-  pub bare : AllByRecursion (λ row. is_folder_kind row.1.kind ≡ true → length row.1.bytes ≡ 0) content.rows
-  pub fits : used_space content.rows ≤ content.capacity
 
 -- each open's entry stands
 abbrev pub ArePresent : List Row → List OpenRow → Type 0
@@ -48,7 +32,7 @@ AreLocksHeld locks opens =
 
 -- a good tree in which no entry is marked: a store may begin with it
 pub record UnmarkedTree (content : Content) : Type 0 where
-  pub good : GoodTree content
+  pub good : GoodContent content
   pub unmarked : (number : ℕ) → has_mark content.rows number ≡ false
 
 -- a good store: its tree is good, its opens are at most 1,024, of entries that stand, in rising number below the
@@ -56,7 +40,7 @@ pub record UnmarkedTree (content : Content) : Type 0 where
 -- overlapping locks of different opens have an exclusive one among them, at most 256 are on a file, and each is held by
 -- an open of its file
 pub record GoodStore (state : StoreState) : Type 0 where
-  pub tree : GoodTree state.tree
+  pub tree : GoodContent state.tree
   pub present : ArePresent state.tree.rows state.opens
   pub rising : AreRising (open_numbers state.opens)
   pub below : AreAllBelow state.next state.opens

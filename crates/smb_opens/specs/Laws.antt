@@ -1,5 +1,6 @@
 -- What follows from the definitions.
-use Rattle.std.specs.Prelude.{◌≡◌, ℕ, ◌==◌, true, false, bit_and, Some, ◌≢◌, List, length, is_some, Contains}
+use Rattle.std.specs.Prelude.{◌≡◌, ℕ, ◌-◌, ◌==◌, Bool, true, false, bit_and, Option, Some, ◌≢◌, min, List, length, take, drop, replicate, is_some, Contains, if◌then◌else◌}
+use Rattle.std.specs.Option.{option_map}
 use Rattle.smb_wire.specs.Dispositions.{overwrites_by}
 use Rattle.smb_wire.specs.declared.access.Access.{Access}
 use Rattle.smb_wire.specs.declared.access.ShareAccess.{ShareAccess}
@@ -12,14 +13,17 @@ use Rattle.smb_locks.specs.Table.{locks_on, others_locks}
 use Rattle.smb_opens.specs.Asked.{FileAsked}
 use Rattle.smb_opens.specs.Bytes.{read_status, file_bytes, write_status, written_to}
 use Rattle.smb_opens.specs.Close.{closed}
+use Rattle.smb_opens.specs.Create.{create_status}
 use Rattle.smb_opens.specs.Effect.{created, create_result}
-use Rattle.smb_opens.specs.Found.{path_asked}
+use Rattle.smb_opens.specs.Found.{path_asked, entry_asked}
 use Rattle.smb_opens.specs.Good.{UnmarkedTree, GoodStore}
 use Rattle.smb_opens.specs.Opens.{open_of}
+use Rattle.smb_opens.specs.SetInfo.{delete_set_through, size_set_through, basic_set_through}
 use Rattle.smb_opens.specs.Sharing.{Use, is_conflict}
 use Rattle.smb_opens.specs.State.{StoreState}
 use Rattle.smb_opens.specs.Steps.{StoreStep, stepped_all, NoneChanges}
 use Rattle.smb_opens.specs.Views.{open_view}
+use Rattle.smb_opens.specs.declared.ask.BasicAsk.{BasicAsk}
 use Rattle.smb_opens.specs.declared.open_row.OpenRow.{OpenRow}
 
 -- a tree that has the root alone is good, and has no mark
@@ -69,7 +73,8 @@ ACloseKeepsBytesAndTimes =
     (after.0 ≡ before.0) × (after.1.bytes ≡ before.1.bytes) × (after.1.basic ≡ before.1.basic)
 
 -- what a WRITE put at an offset is what a READ of that range gives, through any open of the same file and after any
--- requests, as long as the file exists and no WRITE to it and no CREATE that overwrites it comes between
+-- requests, as long as the file exists, and no WRITE to it, no CREATE that overwrites it and no change of its size comes
+-- between
 abbrev pub WhatIsWrittenIsReadAgain : Type 0
 WhatIsWrittenIsReadAgain =
     (state : StoreState) (number offset : ℕ) (buffer : List ℕ) (moment : ℕ) (steps : List StoreStep) (other : ℕ) (writer reader : OpenRow) →
@@ -112,3 +117,50 @@ abbrev pub ACloseTakesItsLocks : Type 0
 ACloseTakesItsLocks =
     (state : StoreState) (number file : ℕ) → GoodStore state → is_some (open_of state.opens number) ≡ true →
     locks_on (closed state number).locks file ≡ others_locks number (locks_on state.locks file)
+
+-- an entry's path and bytes, where it exists
+abbrev pub path_and_bytes : Option Row → Option (Path × List ℕ)
+path_and_bytes = option_map (λ row. (row.0, row.1.bytes))
+
+-- all opens and locks are as they were, and every entry but one
+pub record LeavesOthers (before after : StoreState) (entry : ℕ) : Type 0 where
+  pub opens : after.opens ≡ before.opens
+  pub locks : after.locks ≡ before.locks
+  pub others : (other : ℕ) → other ≢ entry → numbered after.tree.rows other ≡ numbered before.tree.rows other
+
+-- a SET_INFO of times and attributes leaves every entry's path and bytes, all opens and locks, and every other entry
+abbrev pub ASetOfTimesKeepsBytes : Type 0
+ASetOfTimesKeepsBytes =
+    (state : StoreState) (number : ℕ) (ask : BasicAsk) (moment : ℕ) (row : OpenRow) → open_of state.opens number ≡ Some row →
+    LeavesOthers state (basic_set_through state number ask moment) row.entry
+    × ((entry : ℕ) → path_and_bytes (numbered (basic_set_through state number ask moment).tree.rows entry) ≡ path_and_bytes (numbered state.tree.rows entry))
+
+-- a SET_INFO that marks an entry, or takes its mark away, leaves the same
+abbrev pub ASetOfAMarkKeepsBytes : Type 0
+ASetOfAMarkKeepsBytes =
+    (state : StoreState) (number : ℕ) (is_deleted : Bool) (row : OpenRow) → open_of state.opens number ≡ Some row →
+    LeavesOthers state (delete_set_through state number is_deleted) row.entry
+    × ((entry : ℕ) → path_and_bytes (numbered (delete_set_through state number is_deleted).tree.rows entry) ≡ path_and_bytes (numbered state.tree.rows entry))
+
+-- a SET_INFO of a file's size leaves all opens and locks, and every other entry
+abbrev pub ASetOfASizeIsOfOneFile : Type 0
+ASetOfASizeIsOfOneFile =
+    (state : StoreState) (number size : ℕ) (is_allocation : Bool) (moment : ℕ) (row : OpenRow) → open_of state.opens number ≡ Some row →
+    LeavesOthers state (size_set_through state number size is_allocation moment) row.entry
+
+-- of its own file it leaves the path, and the bytes before the smaller of both sizes; behind those that there were are
+-- zeros; and the size is the one that is set, or of an allocation size and the size before the smaller
+abbrev pub ASetOfASizeKeepsTheFront : Type 0
+ASetOfASizeKeepsTheFront =
+    (state : StoreState) (number size : ℕ) (is_allocation : Bool) (moment : ℕ) (row : OpenRow) (before after : Row) → open_of state.opens number ≡ Some row →
+    numbered state.tree.rows row.entry ≡ Some before → numbered (size_set_through state number size is_allocation moment).tree.rows row.entry ≡ Some after →
+    (after.0 ≡ before.0)
+    × (length after.1.bytes ≡ (if is_allocation then min size (length before.1.bytes) else size))
+    × (take (min size (length before.1.bytes)) after.1.bytes ≡ take (min size (length before.1.bytes)) before.1.bytes)
+    × (drop (length before.1.bytes) after.1.bytes ≡ replicate (length after.1.bytes - length before.1.bytes) 0)
+
+-- an entry that is marked isn't opened by any CREATE
+abbrev pub AMarkedEntryIsNotOpened : Type 0
+AMarkedEntryIsNotOpened =
+    (state : StoreState) (ask : FileAsked) (entry : Entry) → entry_asked state ask ≡ Some entry → entry.mark ≡ true →
+    create_status state ask ≢ STATUS_SUCCESS

@@ -11,6 +11,7 @@ pub mod Looked
 pub mod Views
 pub mod Bytes
 pub mod Locks
+pub mod SetInfo
 pub mod Effect
 pub mod Close
 pub mod Steps

@@ -52,7 +52,7 @@ is_folder_target (Some target) = is_folder_kind target.kind
 
 abbrev pub is_read_only_target : Option Target → Bool
 is_read_only_target None = false
-is_read_only_target (Some target) = not (is_folder_kind target.kind) && has_any target.basic.attributes FILE_ATTRIBUTE_READONLY
+is_read_only_target (Some target) = not (is_folder_kind target.kind) && has_any target.basic.attributes.0 FILE_ATTRIBUTE_READONLY
 
 abbrev pub is_marked_target : Option Target → Bool
 is_marked_target None = false

@@ -21,7 +21,7 @@ view_of access entry = record {
   change_time = entry.basic.change_time;
   size = length entry.bytes;
   allocation_size = allocation_size (length entry.bytes);
-  attributes = record { 0 = shown_attributes entry.kind entry.basic.attributes };
+  attributes = record { 0 = shown_attributes entry.kind entry.basic.attributes.0 };
   mark = entry.mark;
   access = access;
 }
@@ -50,7 +50,7 @@ view_shown access seen = record {
   change_time = seen.basic.change_time;
   size = seen.size;
   allocation_size = allocation_size seen.size;
-  attributes = record { 0 = shown_attributes seen.kind seen.basic.attributes };
+  attributes = record { 0 = shown_attributes seen.kind seen.basic.attributes.0 };
   mark = seen.mark;
   access = access;
 }

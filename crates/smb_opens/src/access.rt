@@ -1,7 +1,7 @@
 //! Access that is asked for and access that is granted.
 
 ghost use Rattle.std.specs.Prelude.{◌≡◌};
-ghost use Rattle.smb_opens.specs.Access.{is_bad_access, rights_for, granted, is_reading, is_writing, is_deleting};
+ghost use Rattle.smb_opens.specs.Access.{is_bad_access, rights_for, granted, is_reading, is_writing, is_deleting, is_writing_attributes};
 
 use bitflags::Flags;
 use smb_wire::Access;
@@ -38,6 +38,13 @@ pub(crate) fn is_writing(access: Access) -> bool
     ensures { result ≡ is_writing access }
 {
     access.intersects(Access::WRITE_DATA) || access.intersects(Access::APPEND_DATA)
+}
+
+/// Whether an entry's times and attributes may be set with this access.
+pub(crate) fn is_writing_attributes(access: Access) -> bool
+    ensures { result ≡ is_writing_attributes access }
+{
+    access.intersects(Access::WRITE_ATTRIBUTES)
 }
 
 // The rights that a bit stands for, where it is set.

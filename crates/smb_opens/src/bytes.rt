@@ -98,7 +98,7 @@ fn may_write(view: &View, is_barred: bool, offset: u64, count: usize) -> Result<
 }
 
 /// What a file's times become that was written at a moment, its attributes as they are.
-fn written_basic(moment: u64, basic: Basic) -> Basic
+pub(crate) fn written_basic(moment: u64, basic: Basic) -> Basic
     ensures { kept_basic result ≡ written_basic moment basic }
 {
     Basic {

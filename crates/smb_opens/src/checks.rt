@@ -94,8 +94,7 @@ pub(crate) fn is_read_only_target(target: &Option<Target>) -> bool
 {
     match target {
         Some(target) => {
-            !target.kind.is_folder()
-                && FileAttributes(target.basic.attributes).intersects(FileAttributes::READONLY)
+            !target.kind.is_folder() && target.basic.attributes.intersects(FileAttributes::READONLY)
         }
         None => false,
     }

@@ -8,7 +8,7 @@ ghost use Rattle.smb_wire.specs.Dispositions.{disposition_code, overwrites_by};
 ghost use Rattle.smb_opens.specs.Asked.{asked, kind_asked, attributes_asked};
 ghost use Rattle.smb_opens.specs.Effect.{overwritten_basic, standing_tree, action_on, opened_by};
 ghost use Rattle.smb_opens.specs.Looked.{target_of};
-ghost use Rattle.smb_opens.specs.Good.{GoodTree};
+ghost use Rattle.smb_tree.specs.Good.{GoodContent};
 ghost use Rattle.smb_opens.specs.declared.fault.StoreFault.TheVariants.{NoMemory};
 
 use super::ask::CreateAsk;
@@ -32,12 +32,12 @@ pub(crate) fn kind_asked(ask: &CreateAsk<'_>) -> Kind
 }
 
 /// The attributes of a new file or folder.
-pub(crate) fn attributes_asked(kind: Kind, ask: &CreateAsk<'_>) -> u32
-    ensures { result ≡ attributes_asked kind (asked ask.now) }
+pub(crate) fn attributes_asked(kind: Kind, ask: &CreateAsk<'_>) -> FileAttributes
+    ensures { result ≡ record { 0 = attributes_asked kind (asked ask.now) } }
 {
     match kind {
-        Kind::File => ask.attributes.0 | FileAttributes::ARCHIVE.0,
-        Kind::Folder => ask.attributes.0,
+        Kind::File => FileAttributes(ask.attributes.0 | FileAttributes::ARCHIVE.0),
+        Kind::Folder => ask.attributes,
     }
 }
 
@@ -111,7 +111,7 @@ pub(crate) fn affect<T: Tree>(
     target: Target,
     moment: u64,
 ) -> Result<(), StoreFault>
-    requires good { GoodTree (T.content tree.old) }
+    requires good { GoodContent (T.content tree.old) }
     requires disposition { disposition_code disposition ≡ ask.now.disposition.0 }
     requires target { option_map (λ row. target_of row.1) (numbered (T.content tree.old).rows target.number) ≡ Some target }
     requires file { overwrites_by ask.now.disposition.0 ≡ true → is_folder_kind target.kind ≡ false }

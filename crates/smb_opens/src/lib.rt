@@ -1,4 +1,4 @@
-//! Opens of files and folders, and the store that joins them to a tree ([MS-SMB2] 3.3.5.9 to 3.3.5.14).
+//! Opens of files and folders, and the store that joins them to a tree ([MS-SMB2] 3.3.5.9 to 3.3.5.14, 3.3.5.21).
 //!
 //! An open is an entry, who opened it and what for: an [`OpenRow`]. [`Opens`] is any list of them in rising
 //! number, and [`PlainOpens`] the plain one. A [`Store`] is a tree, its opens and their locks; its state is
@@ -13,6 +13,9 @@
 //! [`Store::read`] and [`Store::write`] read and write the bytes of a file, as `specs/Bytes.antt` says; they are copied once.
 //! [`Store::lock`] and [`Store::unlock`] answer a LOCK, as `specs/Locks.antt` says; the locks of a file bar reads and writes
 //! through other opens, and go with the open that holds them.
+//!
+//! [`Store::set_delete`], [`Store::set_size`] and [`Store::set_basic`] answer a SET_INFO, as `specs/SetInfo.antt` says: of
+//! the mark of an entry, of the size of a file, and of an entry's times and attributes.
 //!
 //! A CREATE looks its path and its folder up, goes through the opens of its entry, and through what is stored for an
 //! overwritten file; all else takes time as the tree and the opens say.
@@ -32,11 +35,12 @@ mod look;
 mod open_row;
 mod opens;
 mod plain;
+mod set_info;
 mod sharing;
 mod store;
 mod view;
 
-pub use ask::CreateAsk;
+pub use ask::{BasicAsk, CreateAsk};
 pub use fault::StoreFault;
 pub use laws::laws_of_stores;
 pub use open_row::{OpenNo, OpenRow, Owner};

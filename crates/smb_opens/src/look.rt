@@ -8,20 +8,20 @@ ghost use Rattle.smb_tree.specs.Content.{entry_at, parent};
 ghost use Rattle.smb_tree.specs.Views.{shown};
 ghost use Rattle.smb_opens.specs.Found.{is_reached};
 ghost use Rattle.smb_opens.specs.Looked.{target_of, is_folder_target};
-ghost use Rattle.smb_opens.specs.Good.{GoodTree};
+ghost use Rattle.smb_tree.specs.Good.{GoodContent};
 ghost use Rattle.smb_opens.specs.Views.{view_shown, view_at};
-ghost use Rattle.smb_tree.specs.Entries.{shown_attributes};
 
 use super::found::Target;
 use super::view::View;
 use smb_tree::{EntryNo, EntryView, Kind, Tree};
-use smb_wire::{Access, FileAttributes, PathView};
+use smb_wire::{Access, PathView};
 
-const CLUSTER: u64 = 4096;
+/// How many bytes a cluster has.
+pub(crate) const CLUSTER: u64 = 4096;
 
 /// Of the entry at a path, what decides, or None.
 pub(crate) fn find_target<T: Tree>(tree: &T, path: &PathView<'_>) -> Option<Target>
-    requires { GoodTree (T.content tree.now) }
+    requires { GoodContent (T.content tree.now) }
     ensures { result ≡ option_map target_of (entry_at (T.content tree.now).rows (folded_path (parts_of path.now))) }
 {
     let number = tree.find(path)?;
@@ -37,7 +37,7 @@ pub(crate) fn find_target<T: Tree>(tree: &T, path: &PathView<'_>) -> Option<Targ
 /// Of the folder that the entry at a path is in, what decides, or None where none stands; the root is in itself. In a good
 /// tree each entry above the path is a folder where this one is.
 pub(crate) fn find_above<T: Tree>(tree: &T, path: &PathView<'_>) -> Option<Target>
-    requires { GoodTree (T.content tree.now) }
+    requires { GoodContent (T.content tree.now) }
     ensures above { result ≡ option_map target_of (entry_at (T.content tree.now).rows (parent (folded_path (parts_of path.now)))) }
     ensures reached { is_folder_target result ≡ is_reached (T.content tree.now).rows (folded_path (parts_of path.now)) }
 {
@@ -46,22 +46,6 @@ pub(crate) fn find_above<T: Tree>(tree: &T, path: &PathView<'_>) -> Option<Targe
         return find_target(tree, path);
     }
     find_target(tree, &path.front(depth - 1))
-}
-
-// The attributes that are shown of an entry that keeps these.
-fn shown_attributes(kind: Kind, attributes: u32) -> u32
-    ensures { result ≡ shown_attributes kind attributes }
-{
-    match kind {
-        Kind::Folder => attributes | FileAttributes::DIRECTORY.0,
-        Kind::File => {
-            if attributes == 0 {
-                FileAttributes::NORMAL.0
-            } else {
-                attributes
-            }
-        }
-    }
 }
 
 // An entry through an open with this access.
@@ -78,7 +62,7 @@ fn view_of(entry: &EntryView<'_>, access: Access) -> View
         change_time: entry.basic.change_time,
         size: entry.size,
         allocation_size: entry.size.div_ceil(CLUSTER) * CLUSTER,
-        attributes: FileAttributes(shown_attributes(entry.kind, entry.basic.attributes)),
+        attributes: entry.kind.shown_attributes(entry.basic.attributes),
         mark: entry.mark,
         access,
     }
@@ -86,7 +70,7 @@ fn view_of(entry: &EntryView<'_>, access: Access) -> View
 
 /// The entry of a number through an open with this access, or None.
 pub(crate) fn entry_view<T: Tree>(tree: &T, number: EntryNo, access: Access) -> Option<View>
-    requires { GoodTree (T.content tree.now) }
+    requires { GoodContent (T.content tree.now) }
     ensures { result ≡ view_at (T.content tree.now).rows number access }
 {
     let entry = tree.entry(number)?;
@@ -95,7 +79,7 @@ pub(crate) fn entry_view<T: Tree>(tree: &T, number: EntryNo, access: Access) -> 
 
 /// How many entries there are.
 pub(crate) fn count_entries<T: Tree>(tree: &T) -> usize
-    requires { GoodTree (T.content tree.now) }
+    requires { GoodContent (T.content tree.now) }
     ensures { result ≡ length (T.content tree.now).rows }
 {
     let end = match tree.next_no() {

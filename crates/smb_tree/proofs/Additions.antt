@@ -1,7 +1,9 @@
 -- An entry as a plain tree stores it when it is added.
-use Rattle.std.proofs.Common.{◌≡◌, ℕ, ◌-◌, ◌^◌, ◌<◌, true, false, List, [], length, Option, None, refl, ap, ◌∙◌, arith}
+use Rattle.std.proofs.Common.{◌≡◌, ℕ, ◌-◌, ◌^◌, ◌<◌, ◌≤◌, true, false, List, [], length, Option, None, refl, ap, ◌∙◌, arith}
 use Rattle.std.proofs.lemmas.Bool.Decides.{nat_tests}
+use Rattle.std.proofs.lemmas.List.{length-map}
 use Rattle.std.specs.List.{list_all}
+use Rattle.smb_wire.specs.Names.{folded}
 use Rattle.smb_wire.specs.Pairs.{units_in, unit_bytes, AreUnits}
 use Rattle.smb_wire.specs.Paths.{components, folded_path, is_lawful_component}
 use Rattle.smb_wire.proofs.Pairing.{units_read, length-unit_bytes}
@@ -12,14 +14,15 @@ use Rattle.smb_tree.specs.Content.{Path, Row}
 use Rattle.smb_tree.specs.Faults.{add_fault_by}
 use Rattle.smb_tree.specs.Texts.{SpellPath}
 
-parts_read : (items us : List ℕ) (parts : List (List ℕ)) → items ≡ unit_bytes us → AreUnits us → components us ≡ parts → components (units_in items) ≡ parts
+pub parts_read : (items us : List ℕ) (parts : List (List ℕ)) → items ≡ unit_bytes us → AreUnits us → components us ≡ parts → components (units_in items) ≡ parts
 parts_read items us parts e h f = ap (λ (bytes : List ℕ). components (units_in bytes)) e ∙ ap components (units_read us h) ∙ f
 
 -- the bytes of a path's text spell the path
-pub spell_path : (items us : List ℕ) (parts : List (List ℕ)) → items ≡ unit_bytes us → AreUnits us → components us ≡ parts → list_all is_lawful_component parts ≡ true → SpellPath items
-spell_path items us parts e h f l = record {
+pub spell_path : (items us : List ℕ) (parts : List (List ℕ)) → items ≡ unit_bytes us → AreUnits us → components us ≡ parts → list_all is_lawful_component parts ≡ true → length parts ≤ 32 → SpellPath items
+spell_path items us parts e h f l k = record {
   even = let long = ap length e in omega (arith, long, length-unit_bytes us);
   lawful = rw (parts_read items us parts e h f) l;
+  shallow = rw (parts_read items us parts e h f) k;
 }
 
 -- the row of an entry that was added
@@ -29,3 +32,10 @@ row_new items us bytes parts basic number attributes moment kind e h f g k = rw 
 -- where nothing stands against it, a number is left
 pub number_left : (entry_at_path : Path → Option Entry) (count next : ℕ) (path : Path) → add_fault_by entry_at_path count next path ≡ None → next < 2 ^ 64 - 1
 number_left entry_at_path count next path h = grind (arith, nat_tests, h)
+
+-- and the path is short enough
+pub parts_left : (entry_at_path : Path → Option Entry) (count next : ℕ) (parts : List (List ℕ)) → add_fault_by entry_at_path count next (folded_path parts) ≡ None → length parts ≤ 32
+parts_left entry_at_path count next parts h =
+    let long : length (folded_path parts) ≡ length parts = length-map parts folded in
+    let few : length (folded_path parts) ≤ 32 = grind (arith, nat_tests, h) in
+    omega (arith, long, few)

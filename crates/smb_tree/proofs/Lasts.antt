@@ -53,7 +53,7 @@ separator_is : (u : ℕ) → is_separator u ≡ true → u ≡ 92
 separator_is u h = grind (arith, nat_tests, h)
 
 -- a text whose last separator has this place
-cut_last : (us : List ℕ) (i : ℕ) → i < length us → is_separator (get_or us i 0) ≡ true → list_any is_separator (drop (i + 1) us) ≡ false → components us ≡ split (take i us) ++ drop (i + 1) us ∷ []
+pub cut_last : (us : List ℕ) (i : ℕ) → i < length us → is_separator (get_or us i 0) ≡ true → list_any is_separator (drop (i + 1) us) ≡ false → components us ≡ split (take i us) ++ drop (i + 1) us ∷ []
 cut_last us i h s n =
     let there : us ≡ take i us ++ 92 ∷ drop (i + 1) us = at_place us i h ∙ ap (λ (u : ℕ). take i us ++ u ∷ drop (i + 1) us) (separator_is (get_or us i 0) s) in
     components_some us (omega arith) ∙ ap split there ∙ split_last (take i us) (drop (i + 1) us) n

@@ -12,3 +12,10 @@ pub mod AfterWrites
 pub mod Orders
 pub mod Names
 pub mod Siblings
+pub mod Heads
+pub mod NewRows
+pub mod NewPaths
+pub mod Targets
+pub mod Moving
+pub mod Renamed
+pub mod Kept

@@ -11,7 +11,7 @@ pub at-without : (es : List Row) (p q : Path) (e : Entry) (n : ℕ) → AreApart
 at-without [] p q e n a h = cc
 at-without (x ∷ es) p q e n a h = grind (arith, a.0, a.1, a.2, h, same_path-eq p q, same_path-eq x.0 q, at-from_numbered es p e n a.2, at-without es p q e n a.2)
 
-at-without_none : (es : List Row) (p : Path) (n : ℕ) → entry_at es p ≡ None → entry_at (without es n) p ≡ None
+pub at-without_none : (es : List Row) (p : Path) (n : ℕ) → entry_at es p ≡ None → entry_at (without es n) p ≡ None
 at-without_none [] p n h = refl
 at-without_none (x ∷ es) p n h = grind (arith, h, at-without_none es p n)
 

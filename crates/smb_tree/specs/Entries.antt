@@ -26,7 +26,7 @@ is_folder (Some entry) = is_folder_kind entry.kind
 
 -- READONLY 1, HIDDEN 2, SYSTEM 4 and ARCHIVE 0x20 are kept, other attributes dropped ([MS-FSCC] 2.6)
 abbrev pub kept_attributes : ℕ → ℕ
-kept_attributes attributes = bit_and attributes 39
+kept_attributes attributes = bit_and attributes 0x27
 
 -- the attributes that are shown: of a folder FILE_ATTRIBUTE_DIRECTORY besides the kept ones, of a file that keeps none
 -- FILE_ATTRIBUTE_NORMAL ([MS-FSCC] 2.6)
@@ -36,7 +36,7 @@ shown_attributes File attributes = if attributes == 0 then FILE_ATTRIBUTE_NORMAL
 
 -- times and attributes as they are kept
 abbrev pub kept_basic : Basic → Basic
-kept_basic basic = record basic { attributes = kept_attributes basic.attributes }
+kept_basic basic = record basic { attributes = record { 0 = kept_attributes basic.attributes.0 } }
 
 -- four times this moment, and the kept ones of these attributes
 abbrev pub new_basic : ℕ → ℕ → Basic
@@ -45,7 +45,7 @@ new_basic attributes moment = record {
   last_access_time = moment;
   last_write_time = moment;
   change_time = moment;
-  attributes = kept_attributes attributes;
+  attributes = record { 0 = kept_attributes attributes };
 }
 
 -- the last component of a path; the root has none

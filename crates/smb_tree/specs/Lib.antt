@@ -1,11 +1,16 @@
 pub mod Entries
 pub mod Content
 pub mod Children
+pub mod Moves
 pub mod Faults
 pub mod Views
+pub mod WholeNames
 pub mod Texts
 pub mod Plain
+pub mod NewTexts
 pub mod Tree
 pub mod Laws
 pub mod FileLaws
 pub mod ChildLaws
+pub mod Good
+pub mod MoveLaws

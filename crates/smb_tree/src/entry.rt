@@ -1,9 +1,9 @@
 //! What an entry is.
 
 ghost use Rattle.std.specs.Prelude.{◌≡◌};
-ghost use Rattle.smb_tree.specs.Entries.{is_folder_kind, kept_basic, new_basic};
+ghost use Rattle.smb_tree.specs.Entries.{is_folder_kind, kept_attributes, shown_attributes, kept_basic, new_basic};
 
-use smb_wire::Units;
+use smb_wire::{FileAttributes, Units};
 
 /// The number of an entry: the root has 1, the entries that are added 2, 3 and so on, each once.
 pub type EntryNo = u64;
@@ -24,10 +24,29 @@ impl Kind {
     {
         matches!(self, Kind::Folder)
     }
+
+    /// The attributes that are shown of an entry of this kind that keeps these: of a folder DIRECTORY besides, of a file
+    /// that keeps none NORMAL ([MS-FSCC] 2.6).
+    pub fn shown_attributes(self, kept: FileAttributes) -> FileAttributes
+        ensures { result ≡ record { 0 = shown_attributes self kept.0 } }
+    {
+        match self {
+            Kind::Folder => FileAttributes(kept.0 | FileAttributes::DIRECTORY.0),
+            Kind::File if kept.0 == 0 => FileAttributes::NORMAL,
+            Kind::File => kept,
+        }
+    }
 }
 
 /// The attributes that an entry keeps: READONLY 1, HIDDEN 2, SYSTEM 4, ARCHIVE 0x20 ([MS-FSCC] 2.6).
-pub const KEPT_ATTRIBUTES: u32 = 0x27;
+pub const KEPT_ATTRIBUTES: FileAttributes = FileAttributes(0x27);
+
+// Of attributes those that are kept.
+fn kept_attributes(attributes: FileAttributes) -> FileAttributes
+    ensures { result ≡ record { 0 = kept_attributes attributes.0 } }
+{
+    FileAttributes(attributes.0 & KEPT_ATTRIBUTES.0)
+}
 
 /// The times of an entry, in units of 100 ns since 1601, and its attributes ([MS-FSCC] 2.4.7).
 #[derive(Clone, Copy, Debug, PartialEq, Eq)]
@@ -37,20 +56,20 @@ pub struct Basic {
     pub last_write_time: u64,
     pub change_time: u64,
     /// The kept attributes; a tree drops other bits.
-    pub attributes: u32,
+    pub attributes: FileAttributes,
 }
 
 impl Basic {
     /// An entry's times and attributes as it is added at a moment.
-    pub fn of(attributes: u32, moment: u64) -> Basic
-        ensures { result ≡ new_basic attributes moment }
+    pub fn of(attributes: FileAttributes, moment: u64) -> Basic
+        ensures { result ≡ new_basic attributes.0 moment }
     {
         Basic {
             creation_time: moment,
             last_access_time: moment,
             last_write_time: moment,
             change_time: moment,
-            attributes: attributes & KEPT_ATTRIBUTES,
+            attributes: kept_attributes(attributes),
         }
     }
 
@@ -59,7 +78,7 @@ impl Basic {
         ensures { result ≡ kept_basic self }
     {
         Basic {
-            attributes: self.attributes & KEPT_ATTRIBUTES,
+            attributes: kept_attributes(self.attributes),
             ..self
         }
     }

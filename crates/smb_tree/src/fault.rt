@@ -13,16 +13,17 @@ pub enum TreeFault {
     /// E1: no entry has the number; where the call is about a file's bytes, also where it is a folder.
     #[error("absent")]
     Absent,
-    /// E3: the folder in which the entry would stand is absent, or a file.
+    /// E3: the folder in which the entry would stand is absent, or a file; where an entry is moved, also where that
+    /// folder is the entry or lies beneath it.
     #[error("parent absent")]
     ParentAbsent,
-    /// E2: an entry stands at the path.
+    /// E2: an entry stands at the path; where an entry is moved, another folder.
     #[error("exists")]
     Exists,
     /// E4: the folder has children.
     #[error("not empty")]
     NotEmpty,
-    /// E7: the path has more than 32 components.
+    /// E7: the path has more than 32 components; where an entry is moved, also that of an entry beneath it.
     #[error("too deep")]
     TooDeep,
     /// E5: there are 4,096 entries besides the root, the numbers are spent, the file would have more than

@@ -12,6 +12,10 @@
 //! them, is `specs/Children.antt`. What a user expects of both is among the laws (`specs/FileLaws.antt`,
 //! `specs/ChildLaws.antt`).
 //!
+//! [`Tree::move_entry`] takes an entry, with all that lies beneath it, to another path, and replaces a file there:
+//! `specs/Moves.antt`. What a user expects of a move, and that it keeps a content good, is the contract of
+//! [`laws_of_moves`]. [`Tree::copy_entry`] gives an entry with its whole name, `specs/WholeNames.antt`.
+//!
 //! Code over a `T: Tree` knows all this of every tree. [`PlainTree`] is one: a list of entries, each with its
 //! whole path and its bytes.
 #![tactic(auto)]
@@ -19,16 +23,21 @@
 mod bytes;
 mod children;
 mod entry;
+mod entry_copy;
 mod fault;
 mod laws;
 mod look;
+mod moves;
+mod paths;
 mod plain;
 mod stored;
 mod texts;
 mod tree;
+mod whole_names;
 
 pub use entry::{Basic, EntryNo, EntryView, KEPT_ATTRIBUTES, Kind};
+pub use entry_copy::EntryCopy;
 pub use fault::TreeFault;
-pub use laws::laws_of_contents;
+pub use laws::{laws_of_contents, laws_of_moves};
 pub use plain::{MOST_BYTES, PlainTree};
 pub use tree::Tree;

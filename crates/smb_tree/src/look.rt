@@ -33,7 +33,7 @@ pub fn stored_at<'a>(entries: &'a Vec<Stored>, text: Units<'_>) -> Option<&'a St
 }
 
 // Whether a folder stands at the path that a text spells.
-fn is_folder_at(entries: &Vec<Stored>, text: Units<'_>) -> bool
+pub fn is_folder_at(entries: &Vec<Stored>, text: Units<'_>) -> bool
     ensures { result ≡ is_folder (entry_at (rows_of entries.now.items) (folded_path (components (units_of text.entry)))) }
 {
     match stored_at(entries, text) {

@@ -1,7 +1,8 @@
 //! The plain tree: a list of entries.
 
-ghost use Rattle.std.specs.Prelude.{◌≡◌, ◌≤◌, ◌+◌, ◌-◌, ◌^◌, ◌++◌, ◌∷◌, [], ◌||◌, Bool, None, Some, IfOk, IfErr, OnOk, OnErr, if◌then◌else◌, nat_lt, max, min, length};
-ghost use Rattle.smb_tree.specs.Content.{resized, written, new_content};
+ghost use Rattle.std.specs.Prelude.{◌≡◌, ◌<◌, ◌≤◌, ◌+◌, ◌-◌, ◌^◌, ◌++◌, ◌∷◌, [], ◌||◌, Bool, None, Some, IfOk, IfErr, OnOk, OnErr, if◌then◌else◌, nat_lt, max, min, length};
+ghost use Rattle.std.specs.List.{remove};
+ghost use Rattle.smb_tree.specs.Content.{resized, written, new_content, used_space};
 ghost use Rattle.smb_tree.specs.Entries.{allocation_size, kept_basic, is_folder_kind};
 ghost use Rattle.smb_tree.specs.Plain.{row_of, rows_of};
 ghost use Rattle.smb_tree.specs.declared.fault.TreeFault.TheVariants.{NoMemory, Absent, Full};
@@ -9,12 +10,16 @@ ghost use Rattle.smb_tree.specs.declared.fault.TreeFault.TheVariants.{NoMemory, 
 use super::bytes::{add_part, put_at};
 use super::children::{has_children, next_child};
 use super::entry::{Basic, EntryNo, EntryView, Kind};
+use super::entry_copy::EntryCopy;
 use super::fault::TreeFault;
 use super::look::{add_fault, place_of, stored_at, view_of};
+use super::moves::{move_fault, place_of_other, put_texts, texts_moved};
+use super::paths::path_of;
 use super::stored::Stored;
 use super::texts::text_of;
 use super::tree::Tree;
-use smb_wire::{FoldedName, PathView};
+use super::whole_names::whole_name;
+use smb_wire::{FileAttributes, FoldedName, PathView};
 use std::alloc::{AllocError, Global};
 use std::marker::Model;
 
@@ -26,8 +31,11 @@ const CLUSTER: u64 = 4096;
 
 /// A tree that is a list of entries, each with its whole path and its bytes. A look-up by path or number goes
 /// through the list, [`child_after`](Tree::child_after) and [`remove`](Tree::remove) twice; none of these takes
-/// memory. A read copies the bytes that it gives once, in one block. A write copies its bytes once, in one block,
-/// over zeros where the file gets longer; the whole file is moved where its vector has to grow.
+/// memory. [`copy_entry`](Tree::copy_entry) goes through the list once for each component of the path, and takes
+/// memory for the name. [`move_entry`](Tree::move_entry) goes through the list eight times; before it changes
+/// anything, it takes memory for the new path of each entry that is moved, and a few words for each other one. A
+/// read copies the bytes that it gives once, in one block. A write copies its bytes once, in one block, over zeros
+/// where the file gets longer; the whole file is moved where its vector has to grow.
 #[derive(Drop)]
 pub struct PlainTree {
     entries: Vec<Stored>,
@@ -62,7 +70,7 @@ impl PlainTree {
             bytes: Vec::new(alloc),
             number: 1,
             kind: Kind::Folder,
-            basic: Basic::of(0, created),
+            basic: Basic::of(FileAttributes(0), created),
             mark: false,
         };
         put(&mut entries, root)?;
@@ -147,6 +155,16 @@ fn overwrite(stored: &mut Stored, offset: u64, buffer: &[u8]) -> Result<(), Allo
     put_at(&mut stored.bytes, offset as usize, buffer)
 }
 
+// Takes out a stored entry, and gives the space that it used.
+fn take_out(entries: &mut Vec<Stored>, place: usize) -> u64
+    requires { place < length entries.old.items }
+    ensures items { entries.new.items ≡ remove entries.old.items place }
+    ensures space { used_space (rows_of entries.new.items) + result ≡ used_space (rows_of entries.old.items) }
+{
+    let stored = entries.remove(place);
+    allocation_size(stored.bytes.len() as u64)
+}
+
 impl Tree for PlainTree {
     ghost content = { λ content. content };
 
@@ -158,6 +176,22 @@ impl Tree for PlainTree {
     fn entry(&self, number: EntryNo) -> Option<EntryView<'_>> {
         let i = place_of(&self.entries, number)?;
         Some(view_of(&self.entries, &self.entries[i]))
+    }
+
+    fn copy_entry(&self, alloc: Global, number: EntryNo) -> Result<EntryCopy, TreeFault> {
+        let Some(i) = place_of(&self.entries, number) else {
+            return Err(TreeFault::Absent);
+        };
+        let stored = &self.entries[i];
+        let name = whole_name(alloc, &self.entries, &path_of(stored))?;
+        Ok(EntryCopy {
+            number,
+            kind: stored.kind,
+            basic: stored.basic,
+            size: stored.bytes.len() as u64,
+            mark: stored.mark,
+            name,
+        })
     }
 
     fn child_after(&self, number: EntryNo, after: Option<&FoldedName>) -> Option<EntryNo> {
@@ -185,7 +219,7 @@ impl Tree for PlainTree {
         &mut self,
         path: &PathView<'_>,
         kind: Kind,
-        attributes: u32,
+        attributes: FileAttributes,
         moment: u64,
     ) -> Result<EntryNo, TreeFault> {
         if let Some(fault) = add_fault(&self.entries, self.next, path) {
@@ -247,6 +281,23 @@ impl Tree for PlainTree {
         let others = self.used - allocation_size(stored.bytes.len() as u64);
         let _ = self.entries.remove(i);
         self.used = others;
+        Ok(())
+    }
+
+    fn move_entry(&mut self, number: EntryNo, path: &PathView<'_>) -> Result<(), TreeFault> {
+        let Some(i) = place_of(&self.entries, number) else {
+            return Err(TreeFault::Absent);
+        };
+        let from = path_of(&self.entries[i]);
+        if let Some(fault) = move_fault(&self.entries, number, &from, path) {
+            return Err(fault);
+        }
+        let mut texts = texts_moved(self.alloc, &self.entries, &from, path)?;
+        let target = place_of_other(&self.entries, number, path);
+        put_texts(&mut self.entries, &mut texts);
+        if let Some(place) = target {
+            self.used -= take_out(&mut self.entries, place);
+        }
         Ok(())
     }
 

@@ -18,3 +18,10 @@ pub struct Stored {
     pub ghost path: { SpellPath text.items },
     pub ghost few: { length bytes.items ≤ 16777216 },
 }
+
+// The text of a path that an entry is to get.
+#[derive(Drop)]
+pub struct NewText {
+    pub text: Vec<u8>,
+    pub ghost path: { SpellPath text.items },
+}

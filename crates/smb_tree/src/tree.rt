@@ -5,14 +5,18 @@ ghost use Rattle.std.specs.Option.{option_map, option_copied};
 ghost use Rattle.smb_wire.specs.Paths.{folded_path};
 ghost use Rattle.smb_wire.specs.PathViews.{parts_of};
 ghost use Rattle.smb_tree.specs.Content.{number_at, next_number, used_space, added, with_size, with_basic, with_mark, removed, bytes_read, with_bytes};
+ghost use Rattle.smb_tree.specs.Moves.{moved};
+ghost use Rattle.smb_tree.specs.WholeNames.{copied, entry_copied};
 ghost use Rattle.smb_tree.specs.Children.{child_after};
-ghost use Rattle.smb_tree.specs.Faults.{add_fault, size_fault, basic_fault, mark_fault, remove_fault, read_fault, write_fault};
+ghost use Rattle.smb_tree.specs.Faults.{add_fault, size_fault, basic_fault, mark_fault, remove_fault, move_fault, copy_fault, read_fault, write_fault};
 ghost use Rattle.smb_tree.specs.Views.{shown, entry_shown};
 ghost use Rattle.smb_tree.specs.declared.fault.TreeFault.TheVariants.{NoMemory};
 
 use super::entry::{Basic, EntryNo, EntryView, Kind};
+use super::entry_copy::EntryCopy;
 use super::fault::TreeFault;
-use smb_wire::{FoldedName, PathView};
+use smb_wire::{FileAttributes, FoldedName, PathView};
+use std::alloc::Global;
 
 /// A tree of files and folders. Its content is the list of entries at their paths, with the next entry
 /// number and the capacity; every call answers by it, and changes it as it says. After a refusal it is as it
@@ -29,6 +33,15 @@ pub trait Tree {
     /// The entry of a number as it stands, or None.
     fn entry(&self, number: EntryNo) -> Option<EntryView<'_>>
         ensures { option_map shown result ≡ entry_shown (content self.now).rows number };
+
+    /// The entry of a number with its whole name: how the entries on the way from the root are spelled, at most 32
+    /// components of 255 units, with a separator between each two. The root's is empty.
+    ///
+    /// [`Absent`](TreeFault::Absent) where no entry has the number, [`NoMemory`](TreeFault::NoMemory) where an
+    /// allocation is refused.
+    fn copy_entry(&self, alloc: Global, number: EntryNo) -> Result<EntryCopy, TreeFault>
+        ensures ok { IfOk result (λ copy. Some (copied copy) ≡ entry_copied (content self.now).rows number) }
+        ensures why { IfErr result (λ fault. fault ≢ NoMemory → copy_fault (content self.now) number ≡ Some fault) };
 
     /// The child of an entry whose folded name comes next after a given one, or first where none is given; None
     /// where no further child stands or no entry has the number.
@@ -59,10 +72,10 @@ pub trait Tree {
         &mut self,
         path: &PathView<'_>,
         kind: Kind,
-        attributes: u32,
+        attributes: FileAttributes,
         moment: u64,
     ) -> Result<EntryNo, TreeFault>
-        ensures ok { OnOk result (content self.new ≡ added (content self.old) (parts_of path.now) kind attributes moment) }
+        ensures ok { OnOk result (content self.new ≡ added (content self.old) (parts_of path.now) kind attributes.0 moment) }
         ensures number { IfOk result (λ number. number ≡ (content self.old).next) }
         ensures lawful { OnOk result (add_fault (content self.old) (folded_path (parts_of path.now)) ≡ None) }
         ensures err { OnErr result (content self.new ≡ content self.old) }
@@ -105,6 +118,22 @@ pub trait Tree {
         ensures lawful { OnOk result (remove_fault (content self.old) number ≡ None) }
         ensures err { OnErr result (content self.new ≡ content self.old) }
         ensures why { IfErr result (λ fault. remove_fault (content self.old) number ≡ Some fault) };
+
+    /// Moves an entry that is not the root, which has number 1, with all that lies beneath it, to another path
+    /// ([MS-FSA] 2.1.5.15.11). The entry is spelled as the path's last component is; a file that stands at the path is
+    /// taken out. Numbers, bytes, times, attributes and marks stay. Where the path is the entry's own, only its spelling
+    /// changes.
+    ///
+    /// [`Absent`](TreeFault::Absent) where no entry has the number, [`ParentAbsent`](TreeFault::ParentAbsent) where
+    /// no folder stands around the path, or it is the entry or lies beneath it, [`Exists`](TreeFault::Exists) where
+    /// another folder stands at the path, [`TooDeep`](TreeFault::TooDeep) where an entry would have a path of more
+    /// than 32 components, [`NoMemory`](TreeFault::NoMemory) where an allocation is refused.
+    fn move_entry(&mut self, number: EntryNo, path: &PathView<'_>) -> Result<(), TreeFault>
+        requires { number ≢ 1 }
+        ensures ok { OnOk result (content self.new ≡ moved (content self.old) number (parts_of path.now)) }
+        ensures lawful { OnOk result (move_fault (content self.old) number (folded_path (parts_of path.now)) ≡ None) }
+        ensures err { OnErr result (content self.new ≡ content self.old) }
+        ensures why { IfErr result (λ fault. fault ≢ NoMemory → move_fault (content self.old) number (folded_path (parts_of path.now)) ≡ Some fault) };
 
     /// Adds the bytes of a file from an offset on, at most `count`, behind those of a vector; past the file's
     /// end there are none. They are copied once. After a refusal the vector holds what it held.

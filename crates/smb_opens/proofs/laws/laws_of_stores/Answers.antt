@@ -9,6 +9,9 @@ use Rattle.smb_opens.proofs.Conflicts.{conflict_mutual}
 use Rattle.smb_opens.proofs.Mores.{more_conflicts}
 use Rattle.smb_opens.proofs.Elsewhere.{closed_elsewhere, closed_here}
 use Rattle.smb_opens.proofs.Returned.{returned_shown}
+use Rattle.smb_opens.proofs.SetLaws.{leaves_others, times_set, mark_set, front, not_opened}
+use Rattle.smb_opens.proofs.StoreSettings.{size_keeps}
+use Rattle.smb_opens.specs.SetInfo.{size_set}
 use Rattle.smb_opens.proofs.laws.laws_of_stores.Goals as goal
 
 pub returns : goal.returns
@@ -29,4 +32,9 @@ returns c = record {
   writers_out = writers_out;
   no_two_locks = no_two_locks;
   own_locks = own_locks;
+  times_set = times_set;
+  mark_set = mark_set;
+  size_set = λ state number size is_allocation moment row one. leaves_others (size_set size is_allocation moment) state number row (size_keeps size is_allocation moment).number one;
+  front = front;
+  not_opened = not_opened;
 }

@@ -1,4 +1,5 @@
 use Rattle.std.proofs.Common.{sym, ap, ◌∙◌}
+use Rattle.smb_wire.specs.declared.attributes.FileAttributes.{FileAttributes}
 use Rattle.smb_wire.specs.Paths.{folded_path}
 use Rattle.smb_wire.specs.PathViews.{parts_of}
 use Rattle.smb_tree.specs.Content.{entry_at, parent}
@@ -52,5 +53,5 @@ pub returns-clause-told : goal.returns-clause-told
 returns-clause-told g c =
     let state : StoreState = record { tree = g.T.Tree.content c.self.inside.tree; opens = g.O.Opens.content c.self.inside.opens; locks = c.self.inside.locks; next = c.self.inside.next } in
     let entry = end_some (g.T.Tree.content c.self.inside.tree) _ (sym c.in-Some.ensures) in
-    rw (← c.self.view_is) (told_added state (asked c.args.ask.now) c.args.moment _ c.granted-access.result _ _ _ c.in-Some-entry_view.view _ c.requires.path c.kind_asked-kind.ensures c.attributes_asked.ensures c.granted-access.ensures c.in-Some-entry_view.ensures
+    rw (← c.self.view_is) (told_added state (asked c.args.ask.now) c.args.moment _ c.granted-access.result _ _ _ c.in-Some-entry_view.view _ c.requires.path c.kind_asked-kind.ensures (ap (λ (a : FileAttributes). a.0) c.attributes_asked.ensures) c.granted-access.ensures c.in-Some-entry_view.ensures
     (shown_added (g.T.Tree.content c.self.inside.tree) (g.T.Tree.content c.add-2.new.self) _ _ _ _ c.in-Some.entry c.granted-access.result c.self.invariant.good.tree c.in_default-add.ensures.ok entry))

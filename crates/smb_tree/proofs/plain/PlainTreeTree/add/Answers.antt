@@ -4,12 +4,12 @@ use Rattle.smb_wire.specs.Paths.{folded_path}
 use Rattle.smb_wire.specs.Units.{units_of}
 use Rattle.smb_tree.specs.Content.{entry_at}
 use Rattle.smb_tree.specs.Plain.{rows_of}
-use Rattle.smb_tree.proofs.Additions.{spell_path, row_new, number_left}
+use Rattle.smb_tree.proofs.Additions.{spell_path, row_new, number_left, parts_left}
 use Rattle.smb_tree.proofs.plain.PlainTreeTree.add.Goals as goal
 
 pub invariant_of-stored-clause-path : goal.invariant_of-stored-clause-path
 invariant_of-stored-clause-path c =
-    spell_path c.in_ok-text.text.items (units_of c.text.result) (parts_of c.args.path.now) (c.in_ok-text.ensures.items ∙ c.bytes.ensures.bytes) c.bytes.ensures.units c.text.ensures.parts c.text.ensures.lawful
+    spell_path c.in_ok-text.text.items (units_of c.text.result) (parts_of c.args.path.now) (c.in_ok-text.ensures.items ∙ c.bytes.ensures.bytes) c.bytes.ensures.units c.text.ensures.parts c.text.ensures.lawful (parts_left (entry_at (rows_of c.self.inside.entries.items)) (length c.self.inside.entries.items) c.self.inside.next (parts_of c.args.path.now) (sym c.add_fault.ensures ∙ c.in_default.is))
 
 pub overflow_add-self : goal.overflow_add-self
 overflow_add-self c =
@@ -18,5 +18,5 @@ overflow_add-self c =
 
 pub returns-clause-ok : goal.returns-clause-ok
 returns-clause-ok c =
-    let row = row_new c.in_ok-text.text.items (units_of c.text.result) c.new.result.items (parts_of c.args.path.now) c.of.result c.self.inside.next c.args.attributes c.args.moment c.args.kind (c.in_ok-text.ensures.items ∙ c.bytes.ensures.bytes) c.bytes.ensures.units c.text.ensures.parts c.new.ensures.items c.of.ensures in
+    let row = row_new c.in_ok-text.text.items (units_of c.text.result) c.new.result.items (parts_of c.args.path.now) c.of.result c.self.inside.next c.args.attributes.0 c.args.moment c.args.kind (c.in_ok-text.ensures.items ∙ c.bytes.ensures.bytes) c.bytes.ensures.units c.text.ensures.parts c.new.ensures.items c.of.ensures in
     rw (← c.self.view_is, c.in_ok-put.ensures.ok, row) refl

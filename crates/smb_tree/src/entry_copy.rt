@@ -2,7 +2,7 @@
 
 ghost use Rattle.std.specs.Prelude.{◌≤◌, length};
 
-use smb_tree::{Basic, EntryNo, Kind};
+use super::entry::{Basic, EntryNo, Kind};
 
 /// An entry as it stood when it was copied, with its whole name.
 #[derive(Debug, Drop)]

@@ -1,0 +1,16 @@
+use Rattle.std.proofs.Common.{◌≡◌, List, ℕ, Some, length, rules, ap, ◌∙◌}
+use Rattle.smb_wire.specs.Pairs.{unit_bytes}
+use Rattle.smb_wire.specs.Paths.{folded_path}
+use Rattle.smb_tree.specs.Plain.{rows_of}
+use Rattle.smb_tree.specs.WholeNames.{whole_name}
+use Rattle.smb_tree.proofs.Moving.{copy_same}
+use Rattle.smb_tree.proofs.Places.{place_found}
+use Rattle.smb_tree.proofs.plain.PlainTreeTree.copy_entry.Goals as goal
+
+pub returns-clause-ok : goal.returns-clause-ok
+returns-clause-ok c =
+    let place = c.in-Some.ensures.place _ c.index-stored.ensures in
+    let found = place_found c.self.inside.entries.items c.args.number c.in-Some.i c.index-stored.result.now place in
+    let long : c.len.result ≡ length c.index-stored.result.now.bytes.items = search rules in
+    let name = c.in_ok-name.ensures.name ∙ ap (λ (ps : List (List ℕ)). unit_bytes (whole_name (rows_of c.self.inside.entries.items) (folded_path ps))) c.path_of.ensures in
+    rw (← c.self.view_is, found) (ap Some (copy_same (rows_of c.self.inside.entries.items) c.index-stored.result.now c.args.number c.len.result c.in_ok-name.name.items place.its long name))

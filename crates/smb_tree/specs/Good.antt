@@ -1,0 +1,22 @@
+-- Good contents: what a store keeps of its tree, and what a move keeps.
+use Rattle.std.specs.Prelude.{◌≡◌, ℕ, ◌<◌, ◌≤◌, ◌^◌, true, [], length, Some}
+use Rattle.std.specs.List.{AllByRecursion}
+use Rattle.smb_tree.specs.Entries.{is_folder, is_folder_kind}
+use Rattle.smb_tree.specs.Content.{Content, entry_at, number_at, parent, used_space}
+use Rattle.smb_tree.specs.Laws.{AreApart, AreBelow}
+
+-- a good content: the root is a folder of number 1, and around each entry there is a folder; no path and no number is
+-- there twice; the numbers are below the next; at most 4,096 entries besides the root, of at most 32 components;
+-- files of at most 16,777,216 bytes, folders of none; and the space used is there
+pub record GoodContent (content : Content) : Type 0 where
+  pub root : is_folder (entry_at content.rows []) ≡ true
+  pub first : number_at content.rows [] ≡ Some 1
+  pub parents : AllByRecursion (λ row. is_folder (entry_at content.rows (parent row.0)) ≡ true) content.rows
+  pub apart : AreApart content.rows
+  pub below : AreBelow content.rows content.next
+  pub counted : content.next < 2 ^ 64
+  pub few : length content.rows ≤ 4097
+  pub shallow : AllByRecursion (λ row. length row.0 ≤ 32) content.rows
+  pub small : AllByRecursion (λ row. length row.1.bytes ≤ 16777216) content.rows
+  pub bare : AllByRecursion (λ row. is_folder_kind row.1.kind ≡ true → length row.1.bytes ≡ 0) content.rows
+  pub fits : used_space content.rows ≤ content.capacity
