@@ -61,6 +61,24 @@ def lock(message_id, open_number, elements, session_id=0, tree_id=0):
     return frame(header(10, message_id, session_id=session_id, tree_id=tree_id) + body)
 
 
+def query_info(message_id, open_number, information_class, session_id=0, tree_id=0):
+    """A frame of a QUERY_INFO of an open's entry, in a session and a tree."""
+    body = struct.pack('<HBBIHHIIIQQ', 41, 1, information_class, 65536, 0, 0, 0, 0, 0, open_number, open_number)
+    return frame(header(16, message_id, session_id=session_id, tree_id=tree_id) + body)
+
+
+def set_info(message_id, open_number, information_class, buffer, session_id=0, tree_id=0):
+    """A frame of a SET_INFO of an open's entry, in a session and a tree."""
+    body = struct.pack('<HBBIHHIQQ', 33, 1, information_class, len(buffer), 96, 0, 0, open_number, open_number)
+    return frame(header(17, message_id, session_id=session_id, tree_id=tree_id) + body + buffer)
+
+
+def rename(message_id, open_number, name, session_id=0, tree_id=0):
+    """A frame of a SET_INFO that renames an open's entry, and replaces nothing."""
+    units = name.encode('utf-16-le')
+    return set_info(message_id, open_number, 10, struct.pack('<QQI', 0, 0, len(units)) + units, session_id, tree_id)
+
+
 def echoes(first, count):
     """A frame of `count` ECHO requests with the MessageIds from `first` on."""
     payload = b''

@@ -5,9 +5,10 @@
 and where a file of which nothing need be believed does not begin by saying so, or another one does.
 A row of it whose first cell is "the whole file" or "the whole files", without the quotes, names all definitions of its files.
 
-Public is what lib.rt exports. Of it count the clauses of functions, of types' `pub` methods and of traits' methods, and the ghost members of traits,
-types and impls; of an `impl Model` the Value and the view. (Its invariant is proved of each value that is made, and no caller is told of it.) The files are read by the layout that `rt fmt` gives them, without the parts
-for tests alone. A variable that has the name of a definition counts as the definition.
+Public is what lib.rt exports; of an inner crate, whose lib.rt says `An inner crate of NAME:`, what the lib.rt of NAME exports on. Of it count
+the clauses of functions, of types' `pub` methods and of traits' methods, and the ghost members of traits, types and impls; of an `impl Model` the
+Value and the view. (Its invariant is proved of each value that is made, and no caller is told of it.) The files are read by the layout that
+`rt fmt` gives them, without the parts for tests alone. A variable that has the name of a definition counts as the definition.
 """
 import pathlib
 import re
@@ -21,6 +22,8 @@ IMPORT = re.compile(r"^\s*(pub |ghost )?use Rattle\.(\w+)\.specs\.([\w.]+)\.\{(.
 BEGIN = re.compile(rf"(?:(?:abbrev|unfoldable) pub|pub data|pub record|pub) (?!(?:use|mod|data|record) )({NAME})")
 ITEM = re.compile(r"^(?=#|(?:pub(?:\([a-z ]+\))? )?(?:unsafe |const )*(?:fn|impl|trait|struct|enum|const|type|mod|use|ghost)\b)", re.M)
 NOISE = re.compile(r"//[^\n]*|\"(?:[^\"\\]|\\.)*\"|b?'(?:[^'\\\n]|\\[^'\n]+|\\')'", re.S)
+EXPORT = re.compile(r"^pub use ([\w:]+)::(\{[^}]*\}|\w+);", re.M)
+INNER = re.compile(r"^//! An inner crate of (\w+):", re.M)
 CLAUSES = re.compile(r"^    (?:requires|ensures|ghost)\b.*?(?=^\{|\Z)", re.M | re.S)
 CLAUSE_NAME = re.compile(r"^    (?:requires|ensures|ghost)\*?(?: \w+:?)?(?= \{)", re.M)
 
@@ -115,22 +118,37 @@ def head_of(item):
     return [word.rpartition("::")[2] for word in re.findall(r"[\w:]+", head)]
 
 
+def exports_of(library):
+    """The names that a lib.rt exports, each with the module or the crate that it is from."""
+    return {(home, name) for home, names in EXPORT.findall(library) for name in re.findall(r"\w+", names)}
+
+
+def shown_by_outer(name):
+    """Of an inner crate the names that the crate around it exports on. None of any other crate."""
+    library = ROOT / "crates" / name / "src" / "lib.rt"
+    outer = INNER.search(library.read_text(encoding="utf-8")) if library.exists() else None
+    exports = exports_of((ROOT / "crates" / outer.group(1) / "src" / "lib.rt").read_text(encoding="utf-8")) if outer else set()
+    return {item for home, item in exports if home == name} if outer else None
+
+
 class Crate:
     """A crate's sources by module, and of each type and trait that it declares whether it is public."""
 
     def __init__(self, name):
+        self.shown = shown_by_outer(name)
         source = ROOT / "crates" / name / "src"
         self.files = {"::".join(path.relative_to(source).with_suffix("").parts): NOISE.sub(" ", path.read_text(encoding="utf-8"))
                       for path in sorted(source.glob("**/*.rt"))}
         library = "".join(items_of(self.files.get("lib", "")))
         self.open = set(re.findall(r"^pub mod (\w+);", library, re.M)) | {"lib"}
-        uses = re.findall(r"^pub use ([\w:]+)::(\{[^}]*\}|\w+);", library, re.M)
-        self.exported = {(module, name) for module, names in uses for name in re.findall(r"\w+", names)}
+        self.exported = exports_of(library)
         declared = re.compile(r"^(pub )?(?:pub\([a-z ]+\) )?(?:struct|enum|trait) (\w+)", re.M)
         types = [(name, shown != "" and self.is_public(module, name)) for module, text in self.files.items() for shown, name in declared.findall(text)]
         self.types = dict(sorted(types))
 
     def is_public(self, module, name):
+        if self.shown is not None:
+            return name in self.shown
         return (module, name) in self.exported or module in self.open
 
     def public_parts(self, module, item):

@@ -75,8 +75,8 @@ pub removed-insert : (n : ℕ) (new : LinkState) (es : List (ℕ × LinkState)) 
 removed-insert n new [] a = rw (at_same n n refl) refl
 removed-insert n new (e ∷ es) a = rw (greater n e.0 a.0) (rw (at_above n e.0 a.0) (ap (λ x. e ∷ x) (removed-insert n new es a.1)))
 
-pub kept_none : (next : ℕ) → AreKept [] [] next
-kept_none next = record { waits = tt; few = omega arith; given = tt; known = refl }
+pub kept_none : (next : ℕ) → 0 < next → AreKept [] [] next
+kept_none next p = record { waits = tt; few = omega arith; given = tt; from_one = (p, tt); known = refl }
 
 pub kept_set : (test : ℕ → Bool) (connections : List ℕ) (links : List (ℕ × LinkState)) (new : LinkState) (next : ℕ) → Waits new → AreKept connections links next → AreKept connections (set_value test links new) next
 kept_set test connections links new next w k = record {
@@ -84,6 +84,7 @@ kept_set test connections links new next w k = record {
   waits = all_set (λ e. Waits e.1) test links new (λ e h. w) k.waits;
   few = omega (arith, k.few, length-set_value test links new);
   given = all_set (λ e. e.0 < next) test links new (λ e h. h) k.given;
+  from_one = (k.from_one.0, all_set (λ e. 0 < e.0) test links new (λ e h. h) k.from_one.1);
 }
 
 pub kept_remove : (number : ℕ) (connections : List ℕ) (links : List (ℕ × LinkState)) (next : ℕ) → IsRising connections → AreKept connections links next →
@@ -92,6 +93,7 @@ kept_remove number connections links next r k = record {
   waits = all_remove (λ e. Waits e.1) (is_at (nat_cmp number)) links k.waits;
   few = omega (arith, k.few, length-remove_entry (is_at (nat_cmp number)) links);
   given = all_remove (λ e. e.0 < next) (is_at (nat_cmp number)) links k.given;
+  from_one = (k.from_one.0, all_remove (λ e. 0 < e.0) (is_at (nat_cmp number)) links k.from_one.1);
   known = ap (λ ns. without_number ns number) k.known ∙ sym (numbers-remove number links (subst IsRising k.known r));
 }
 
@@ -106,21 +108,33 @@ kept_insert table links new next w room k = record {
   waits = all_insert (λ e. Waits e.1) next new links w (λ e h. w) k.waits;
   few = omega (arith, room, length-insert_entry next new links);
   given = all_insert (λ e. e.0 < next + 1) next new links (omega arith) (λ e h. h) (given_more links next k.given);
+  from_one = (omega arith, all_insert (λ e. 0 < e.0) next new links k.from_one.0 (λ e h. h) k.from_one.1);
 }
 
 pub new_waits : Waits new_link
-new_waits = record { partial = refl; sound = refl; window = record { few = omega arith; rising = (tt, tt); below = (omega arith, tt) } }
+new_waits = record { partial = refl; sound = refl; window = record { few = omega arith; rising = (tt, tt); below = (omega arith, tt) }; fresh = λ t. refl }
 
 good_links : (links : List (ℕ × LinkState)) → AllWait links → AllByRecursion (λ e. IsGoodLink e.1) links
 good_links [] w = tt
-good_links (e ∷ links) w = (record { unread = open_rest_short longest_payload e.1.stream w.0.partial w.0.sound; window = w.0.window }, good_links links w.1)
+good_links (e ∷ links) w = (record { unread = open_rest_short longest_payload e.1.stream w.0.partial w.0.sound; window = w.0.window; fresh = w.0.fresh }, good_links links w.1)
+
+given_from_one : (links : List (ℕ × LinkState)) (next : ℕ) → AllByRecursion (λ e. 0 < e.0) links → AllByRecursion (λ e. e.0 < next) links → AllByRecursion (λ e. (0 < e.0) × (e.0 < next)) links
+given_from_one [] next p h = tt
+given_from_one (e ∷ links) next p h = ((p.0, h.0), given_from_one links next p.1 h.1)
+
+pub given_below : (links : List (ℕ × LinkState)) (next : ℕ) → AllByRecursion (λ e. (0 < e.0) × (e.0 < next)) links → AllByRecursion (λ e. e.0 < next) links
+given_below [] next h = tt
+given_below (e ∷ links) next h = (h.0.1, given_below links next h.1)
 
 -- what is held is good
-pub kept_good : {S : Type 0} (s : ShareState S) → is_lawful s.shared.settings ≡ true → GoodTable s.shared.sessions.table → GoodStore s.shared.store → AreOwned s.shared.sessions.table s.shared.store.opens → AreKept s.shared.sessions.table.connections s.links s.next → GoodState s
-kept_good s lawful sessions store owned k = record {
+pub kept_good : {S : Type 0} (s : ShareState S) → is_lawful s.shared.settings ≡ true → s.shared.sessions.share ≡ s.shared.settings.share → s.shared.store.tree.capacity ≡ s.shared.settings.capacity → GoodTable s.shared.sessions.table → GoodStore s.shared.store → AreOwned s.shared.sessions.table s.shared.store.opens → AreKept s.shared.sessions.table.connections s.links s.next → GoodState s
+kept_good s lawful named room sessions store owned k = record {
   lawful = lawful;
+  named = named;
+  room = room;
   few = k.few;
-  given = k.given;
+  given = given_from_one s.links s.next k.from_one.1 k.given;
+  next = k.from_one.0;
   good = good_links s.links k.waits;
   sessions = sessions;
   known = k.known;

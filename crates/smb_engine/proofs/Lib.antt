@@ -7,6 +7,7 @@ pub mod Pieces
 pub mod Links
 pub mod Kept
 pub mod Order
+pub mod Sessions
 pub mod Ends
 pub mod Runs
 pub mod Cuts

@@ -26,10 +26,10 @@ use Rattle.smb_engine.specs.Run.{Ran, run, then_ran, refused_at_once, event_refu
 use Rattle.smb_engine.specs.Laws.{LinksInOrder, connection_of, receiver}
 use Rattle.smb_request.proofs.Numbered.{at_is, at_same}
 use Rattle.smb_engine.proofs.Links.{all_set, all_remove, all_insert, bytes_step-none, bytes_step-some}
-use Rattle.smb_engine.proofs.Kept.{numbers_of, numbers-set, numbers-remove, numbers-insert, not_among, given_more}
+use Rattle.smb_engine.proofs.Kept.{numbers_of, numbers-set, numbers-remove, numbers-insert, not_among, given_more, given_below}
 
 pub good_in_order : {S : Type 0} (s : ShareState S) → GoodState s → LinksInOrder s
-good_in_order s h = record { rising = subst IsRising h.known h.sessions.connections; given = h.given }
+good_in_order s h = record { rising = subst IsRising h.known h.sessions.connections; given = given_below s.links s.next h.given }
 
 -- what was found is found again where another is put in its place, and that again where yet another is
 found_at : (test : ℕ → Bool) (e : ℕ × LinkState) (es : List (ℕ × LinkState)) (link new : LinkState) (b : Bool) → test e.0 ≡ b →

@@ -12,9 +12,17 @@ use Rattle.smb_engine.specs.declared.connection.Connection.{Connection}
 use Rattle.smb_session.specs.Authenticator.{Meaning}
 use Rattle.smb_request.specs.State.{SharedState}
 use Rattle.smb_engine.specs.State.{LinkState}
+use Rattle.std.specs.Option.{option_map_or}
+use Rattle.smb_body.specs.declared.smb1.Smb1Dialects.{Smb1Dialects}
+use Rattle.smb_request.specs.declared.smb1.Smb1Answer.{Smb1Answer}
+use Rattle.smb_request.specs.Smb1.{answer_to_smb1}
+use Rattle.smb_request.specs.Request.{performed}
+use Rattle.smb_request.specs.Response.{Performed}
+use Rattle.smb_engine.specs.Chain.{Turn, turn_after, turn_after_all, turn_before, replied, PayloadStep, step_of, refused_step, admitted, first_negotiate, first_step, chain_step, payload_step}
+use Rattle.smb_engine.specs.Share.{new_link}
 use Rattle.smb_engine.specs.Output.{Output, end_of}
 use Rattle.smb_engine.specs.Sink.{Heard}
-use Rattle.smb_engine.specs.Stream.{longest_payload, PayloadSteps, payload_steps, shared_after_some, count_in_all, added_payloads, piece_step, shared_after_piece, count_in_piece}
+use Rattle.smb_engine.specs.Stream.{longest_payload, PayloadSteps, and_then, payload_steps, shared_after_some, count_in_all, added_payloads, piece_step, shared_after_piece, count_in_piece}
 use Rattle.smb_engine.specs.Held.{steps_heard, Waits, IsPieceHeld}
 
 -- what a piece adds to a stream are the payloads of its rest with the piece
@@ -78,6 +86,59 @@ module _ {S : Type 0} (m : Meaning S) (number moment : ℕ) where
   unfolding piece_step steps_by
   step-over shared link piece t = rw t refl
 
+  -- a connection of which no payload came is a new one
+  abbrev IsFresh : Connection → Type 0
+  IsFresh connection = connection.payload_came ≡ false → connection ≡ new_link.connection
+
+  came_replied : (now : Turn S) (request : List ℕ) (p : Performed S) → (replied now request p).connection.payload_came ≡ now.connection.payload_came
+  came_replied now request p = elim (p.response) as (λ r. (replied now request (record p { response = r })).connection.payload_came ≡ now.connection.payload_came) [ None ↦ refl | Some response ↦ refl ]
+
+  came_turn : (now : Turn S) (request : List ℕ) → (turn_after m number moment now request).connection.payload_came ≡ now.connection.payload_came
+  unfolding turn_after
+  came_turn now request = came_replied now request (performed m number moment now.shared now.connection.dialect now.context request)
+
+  came_turns : (now : Turn S) (requests : List (List ℕ)) → (turn_after_all m number moment now requests).connection.payload_came ≡ now.connection.payload_came
+  came_turns now [] = refl
+  came_turns now (request ∷ requests) = came_turns (turn_after m number moment now request) requests ∙ came_turn now request
+
+  fresh_chain_at : (shared : SharedState S) (connection : Connection) (requests : Option (List (List ℕ))) → IsFresh connection →
+      IsFresh (option_map_or (λ requests. step_of (turn_after_all m number moment (turn_before shared connection requests) requests)) requests (refused_step shared connection)).connection
+  fresh_chain_at shared connection None f = f
+  fresh_chain_at shared connection (Some requests) f = λ t. absurd (false≢true (sym t ∙ came_turns (turn_before shared connection requests) requests))
+
+  fresh_chain : (shared : SharedState S) (connection : Connection) (payload : List ℕ) → IsFresh connection → IsFresh (chain_step m number moment shared connection payload).connection
+  unfolding chain_step
+  fresh_chain shared connection payload f = fresh_chain_at shared connection (admitted connection payload) f
+
+  fresh_first_at : (shared : SharedState S) (connection : Connection) (answer : Option Smb1Answer) (step : Smb1Answer → PayloadStep S) → ((answer : Smb1Answer) → (step answer).connection.payload_came ≡ true) → IsFresh connection →
+      IsFresh (option_map_or step answer (refused_step shared connection)).connection
+  fresh_first_at shared connection None step h f = f
+  fresh_first_at shared connection (Some answer) step h f = λ t. absurd (false≢true (sym t ∙ h answer))
+
+  fresh_first : (shared : SharedState S) (connection : Connection) (dialects : Smb1Dialects) → IsFresh connection → IsFresh (first_step m moment shared connection dialects).connection
+  unfolding first_step
+  fresh_first shared connection dialects f = fresh_first_at shared connection (answer_to_smb1 dialects) _ (λ answer. refl) f
+
+  fresh_payload_at : (shared : SharedState S) (connection : Connection) (payload : List ℕ) (first : Option Smb1Dialects) → IsFresh connection →
+      IsFresh (option_map_or (first_step m moment shared connection) first (chain_step m number moment shared connection payload)).connection
+  fresh_payload_at shared connection payload None f = fresh_chain shared connection payload f
+  fresh_payload_at shared connection payload (Some dialects) f = fresh_first shared connection dialects f
+
+  fresh_payload : (shared : SharedState S) (connection : Connection) (payload : List ℕ) → IsFresh connection → IsFresh (payload_step m number moment shared connection payload).connection
+  unfolding payload_step
+  fresh_payload shared connection payload f = fresh_payload_at shared connection payload (first_negotiate connection payload) f
+
+  fresh_then : (step : PayloadStep S) (others : SharedState S → Connection → PayloadSteps S) (replies : Option (List ℕ)) → step.replies ≡ replies → IsFresh step.connection →
+      (IsFresh step.connection → IsFresh (others step.shared step.connection).connection) → IsFresh (and_then number others step).connection
+  fresh_then step others None e f h = rw e f
+  fresh_then step others (Some replies) e f h = rw e (h f)
+
+  fresh_steps : (shared : SharedState S) (connection : Connection) (payloads : List (List ℕ)) → IsFresh connection → IsFresh (payload_steps m number moment shared connection payloads).connection
+  fresh_steps shared connection [] f = f
+  fresh_steps shared connection (payload ∷ payloads) f =
+      let step = payload_step m number moment shared connection payload in
+      fresh_then step (λ s c. payload_steps m number moment s c payloads) step.replies refl (fresh_payload shared connection payload f) (fresh_steps step.shared step.connection payloads)
+
   -- the connection stays open
   pub stays_as : (hears : Output → List Heard) (shared : SharedState S) (link : LinkState) (piece held held' : List ℕ) (shared' : SharedState S) (connection' : Connection) (heard heard' : List Heard) (open_still : Bool) →
       Waits link → held ≡ link.stream ++ piece →
@@ -97,7 +158,12 @@ module _ {S : Type 0} (m : Meaning S) (number moment : ℕ) where
           same = ap (λ s. s.shared) all;
           fate = refl;
           rests = λ t. rw (same_rest, ap (λ s. s.connection) all) refl;
-          waits = λ t. record { partial = left.1; sound = none_is _ parts.1; window = few };
+          waits = λ t. record {
+            partial = left.1;
+            sound = none_is _ parts.1;
+            window = few;
+            fresh = rw (ap (λ s. s.connection) e) (fresh_steps shared link.connection (payloads longest_payload held) w.fresh);
+          };
         },
         ap (λ s. s.heard) all,
       )

@@ -1,9 +1,12 @@
 -- What follows from the definitions, of every authenticator.
-use Rattle.std.specs.Prelude.{◌≡◌, ℕ, ◌+◌, ◌<◌, false, ◌==◌, nat_lt, List, [], ◌∷◌, ◌++◌, length, map, None, Some, if◌then◌else◌}
+use Rattle.std.specs.Prelude.{◌≡◌, ◌⊎◌, ℕ, ◌+◌, ◌<◌, true, false, ◌==◌, nat_lt, List, [], ◌∷◌, ◌++◌, length, map, None, Some, is_some, if◌then◌else◌}
 use Rattle.std.specs.Option.{option_map}
 use Rattle.std.specs.List.{AllByRecursion, flat_map}
 use Rattle.smb_session.specs.Numbers.{IsRising}
 use Rattle.smb_session.specs.Authenticator.{Meaning}
+use Rattle.smb_session.specs.Session.{SessionState}
+use Rattle.smb_session.specs.Table.{session_at}
+use Rattle.smb_request.specs.Laws.{IsInOrder, IsAsItWas, IsOver}
 use Rattle.smb_engine.specs.declared.fault.RunFault.{RunFault}
 use Rattle.smb_engine.specs.Event.{EventText, opens, brings, ends}
 use Rattle.smb_engine.specs.State.{ShareState}
@@ -96,6 +99,28 @@ module _ {S : Type 0} (authenticator : Meaning S) where
       (s : ShareState S) (events : List EventText) (connection : ℕ) → AllByRecursion (λ event. (connection_of event == connection) ≡ false) events →
       (link_of connection (run authenticator s events).state.links ≡ link_of connection s.links)
       × AllByRecursion (λ output. (receiver output == connection) ≡ false) (run authenticator s events).outputs
+
+  -- the sessions and opens of a good state are in order, and so are those that a run leaves of such ones
+  abbrev pub SessionsAreInOrder : Type 0
+  SessionsAreInOrder =
+      ((s : ShareState S) → GoodState s → IsInOrder s.shared)
+      × ((s : ShareState S) (events : List EventText) → IsInOrder s.shared → IsInOrder (run authenticator s events).state.shared)
+
+  -- events on other connections leave each session of a connection as it was, with its trees and its opens; or they end
+  -- it whole, a finished one, as a SESSION_SETUP does that names it as the previous session of its user
+  abbrev pub SessionsOfOthersAreLeft : Type 0
+  SessionsOfOthersAreLeft =
+      (s : ShareState S) → IsInOrder s.shared → (events : List EventText) (connection : ℕ) → AllByRecursion (λ event. (connection_of event == connection) ≡ false) events →
+      (number : ℕ) (session : SessionState) → session_at s.shared.sessions.table number ≡ Some session → session.connection ≡ connection →
+      IsAsItWas s.shared (run authenticator s events).state.shared number
+      ⊎ (IsOver (run authenticator s events).state.shared number × (is_some session.user ≡ true))
+
+  -- a session's number is given once: it stays given, and a session that is over stays over, whatever events come
+  abbrev pub WhatIsOverStaysOver : Type 0
+  WhatIsOverStaysOver =
+      (s : ShareState S) → IsInOrder s.shared → (events : List EventText) (number : ℕ) → number < s.shared.sessions.table.next →
+      (number < (run authenticator s events).state.shared.sessions.table.next)
+      × (IsOver s.shared number → IsOver (run authenticator s events).state.shared number)
 
   -- the share ends a connection at most once, and puts nothing out to it afterwards
   abbrev pub AnEndIsTheLast : Type 0

@@ -114,18 +114,24 @@ PieceStopped authenticator s connection moment piece TooManyConnections left = �
 PieceStopped authenticator s connection moment piece BadEvent left = ⊥
 PieceStopped authenticator s connection moment piece BadConfig left = ⊥
 
--- a connection between calls: at most 131,075 bytes are unread, and its window is good
+-- a connection between calls: at most 131,075 bytes are unread, and its window is good; and while no payload came it is
+-- as it was opened, without a dialect and with the window {0}
 pub record IsGoodLink (link : LinkState) : Type 0 where
   pub unread : length link.stream ≤ longest_payload + 3
   pub window : GoodWindow link.connection.window
+  pub fresh : link.connection.payload_came ≡ false → link.connection ≡ new_link.connection
 
--- what holds of a share between calls: the configuration keeps its rules, at most 64 connections are open, each has a
--- number that was given, and each is good; the sessions are good, and those connections may have some that are open; the
--- files and their opens are good, and each open is a session's and a tree's that stand
+-- what holds of a share between calls: the configuration keeps its rules, and the share has its name and its capacity; at
+-- most 64 connections are open, each has a number that was given, from 1 on, and each is good; the sessions are good, and
+-- those connections may have some that are open; the files and their opens are good, and each open is a session's and a
+-- tree's that stand
 pub record GoodState {S : Type 0} (s : ShareState S) : Type 0 where
   pub lawful : is_lawful s.shared.settings ≡ true
+  pub named : s.shared.sessions.share ≡ s.shared.settings.share
+  pub room : s.shared.store.tree.capacity ≡ s.shared.settings.capacity
   pub few : length s.links ≤ 64
-  pub given : AllByRecursion (λ entry. entry.0 < s.next) s.links
+  pub given : AllByRecursion (λ entry. (0 < entry.0) × (entry.0 < s.next)) s.links
+  pub next : 0 < s.next
   pub good : AllByRecursion (λ entry. IsGoodLink entry.1) s.links
   pub sessions : GoodTable s.shared.sessions.table
   pub known : s.shared.sessions.table.connections ≡ map (λ entry. entry.0) s.links

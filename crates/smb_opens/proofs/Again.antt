@@ -7,9 +7,10 @@ use Rattle.std.specs.Option.{option_map_or}
 use Rattle.smb_tree.specs.Content.{Row, Content, numbered, written, bytes_of, bytes_read, part, with_bytes}
 use Rattle.smb_tree.proofs.AfterWrites.{other_changed, read_written}
 use Rattle.smb_tree.proofs.Apart.{numbered-changed}
-use Rattle.smb_opens.specs.declared.open_row.OpenRow.{OpenRow}
-use Rattle.smb_opens.specs.Bytes.{file_bytes, written_file, written_tree, written_to}
-use Rattle.smb_opens.specs.Opens.{open_of}
+use Rattle.smb_access.specs.declared.open_row.OpenRow.{OpenRow}
+use Rattle.smb_opens.specs.Bytes.{file_bytes, written_to}
+use Rattle.smb_access.specs.Bytes.{written_file, written_tree}
+use Rattle.smb_access.specs.Opens.{open_of}
 use Rattle.smb_opens.specs.State.{StoreState}
 
 -- the bytes of the file are those that the tree writes

@@ -8,12 +8,13 @@ use Rattle.smb_locks.specs.Ranges.{Overlap}
 use Rattle.smb_locks.specs.Table.{locks_on, others_locks}
 use Rattle.smb_locks.proofs.Ends.{read_test_from_bar, write_test_from_bar, test_from_some}
 use Rattle.smb_locks.proofs.Tables.{good_on, on_dropped, compatible_pair}
-use Rattle.smb_opens.specs.declared.open_row.OpenRow.{OpenRow}
-use Rattle.smb_opens.specs.declared.view.View.{View}
-use Rattle.smb_opens.specs.Bytes.{keeps_from_reading, keeps_from_writing, read_status, read_status_by, write_status, write_status_by}
+use Rattle.smb_access.specs.declared.open_row.OpenRow.{OpenRow}
+use Rattle.smb_access.specs.declared.view.View.{View}
+use Rattle.smb_access.specs.Bytes.{keeps_from_reading, keeps_from_writing, read_status_by, write_status_by}
+use Rattle.smb_opens.specs.Bytes.{read_status, write_status}
 use Rattle.smb_opens.specs.Close.{closed, closed_open}
 use Rattle.smb_opens.specs.Good.{GoodStore}
-use Rattle.smb_opens.specs.Opens.{open_of}
+use Rattle.smb_access.specs.Opens.{open_of}
 use Rattle.smb_opens.specs.State.{StoreState}
 use Rattle.smb_opens.specs.Views.{open_view}
 use Rattle.smb_opens.proofs.Closing.{number_found}

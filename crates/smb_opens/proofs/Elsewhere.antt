@@ -6,13 +6,14 @@ use Rattle.smb_tree.specs.Entries.{Entry}
 use Rattle.smb_tree.specs.Content.{Row, Content, numbered, with_mark, removed}
 use Rattle.smb_tree.specs.Laws.{AreApart}
 use Rattle.smb_tree.proofs.Apart.{numbered-changed}
-use Rattle.smb_opens.specs.Close.{is_deletable, tree_marked, is_due, closed, closed_open}
+use Rattle.smb_access.specs.Close.{is_deletable, tree_marked, is_due}
+use Rattle.smb_opens.specs.Close.{closed, closed_open}
 use Rattle.smb_opens.specs.Good.{GoodStore}
-use Rattle.smb_opens.specs.Opens.{open_of, without_open}
+use Rattle.smb_access.specs.Opens.{open_of, without_open}
 use Rattle.smb_opens.specs.State.{StoreState}
-use Rattle.smb_opens.specs.declared.open_row.OpenRow.{OpenRow}
+use Rattle.smb_access.specs.declared.open_row.OpenRow.{OpenRow}
 use Rattle.smb_opens.proofs.Closing.{tree_marked_marked, closed_is}
-use Rattle.smb_opens.proofs.Removed.{numbered-removed}
+use Rattle.smb_access.proofs.Removed.{numbered-removed}
 
 -- the entry of another number
 other_marked : (tree : Content) (row : OpenRow) (b : Bool) (m : ℕ) → m == row.entry ≡ false → numbered (let x : Content = if b then with_mark tree row.entry true else tree in x).rows m ≡ numbered tree.rows m

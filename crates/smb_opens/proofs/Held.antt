@@ -12,11 +12,11 @@ use Rattle.smb_locks.specs.Locking.{lock_all_fault}
 use Rattle.smb_locks.specs.Table.{Table, HoldsNoneElsewhere, locks_on, locked, unlocked, others_locks, without_holder}
 use Rattle.smb_locks.proofs.Members.{member_locked, member_unlocked, member_dropped, others_kept}
 use Rattle.smb_locks.proofs.Tables.{good_locked, good_unlocked}
-use Rattle.smb_opens.specs.declared.open_row.OpenRow.{OpenRow}
+use Rattle.smb_access.specs.declared.open_row.OpenRow.{OpenRow}
 use Rattle.smb_opens.specs.Good.{AreLocksHeld, GoodStore, IsKept}
-use Rattle.smb_opens.specs.Opens.{open_of, without_open}
+use Rattle.smb_access.specs.Opens.{open_of, without_open}
 use Rattle.smb_opens.specs.State.{StoreState}
-use Rattle.smb_opens.proofs.Rows.{all_more}
+use Rattle.smb_access.proofs.Rows.{all_more}
 
 -- the file of an open
 abbrev pub file_of : List OpenRow → ℕ → Option ℕ

@@ -2,15 +2,15 @@
 use Rattle.std.proofs.Common.{◌≡◌, ℕ, List, true, Option, None, Some, is_some, IsSome, refl, sym, ap, ◌∙◌}
 use Rattle.std.specs.Option.{option_map}
 use Rattle.smb_tree.specs.Content.{Row, numbered}
-use Rattle.smb_opens.specs.declared.open_row.OpenRow.{OpenRow}
-use Rattle.smb_opens.specs.declared.open_row.Owner.{Owner}
+use Rattle.smb_access.specs.declared.open_row.OpenRow.{OpenRow}
+use Rattle.smb_access.specs.declared.open_row.Owner.{Owner}
 use Rattle.smb_opens.specs.Close.{closed, closed_all, closed_each}
 use Rattle.smb_opens.specs.Good.{GoodStore}
-use Rattle.smb_opens.specs.Opens.{open_of, first_held_by}
+use Rattle.smb_access.specs.Opens.{open_of, first_held_by}
 use Rattle.smb_opens.specs.State.{StoreState}
-use Rattle.smb_opens.specs.Views.{view_at, view_through, open_view}
+use Rattle.smb_access.specs.Views.{view_at, view_through}
 use Rattle.smb_opens.proofs.Closing.{opens_closed}
-use Rattle.smb_opens.proofs.Rows.{found, numbers_held, first_stands, first_closed, none_held}
+use Rattle.smb_access.proofs.Rows.{found, numbers_held, first_stands, first_closed, none_held}
 
 pub some_of : {X : Type 0} (o : Option X) → is_some o ≡ true → IsSome o
 some_of None e = cc
@@ -19,7 +19,7 @@ some_of (Some x) e = refl
 -- an open that stands shows its entry
 pub open_shown : (state : StoreState) → GoodStore state → (number : ℕ) (row : OpenRow) → open_of state.opens number ≡ Some row → is_some (view_at state.tree.rows row.entry row.access) ≡ true
 open_shown state good number row e =
-    elim (numbered state.tree.rows row.entry) as (λ o. is_some o ≡ true → is_some (option_map (λ (r : Row). Rattle.smb_opens.specs.Views.view_of row.access r.1) o) ≡ true) [ None ↦ λ h. h | Some r ↦ λ _. refl ]
+    elim (numbered state.tree.rows row.entry) as (λ o. is_some o ≡ true → is_some (option_map (λ (r : Row). Rattle.smb_access.specs.Views.view_of row.access r.1) o) ≡ true) [ None ↦ λ h. h | Some r ↦ λ _. refl ]
     (found (λ row. is_some (numbered state.tree.rows row.entry) ≡ true) state.opens number row good.present e)
 
 -- closing an owner's opens begins with the first

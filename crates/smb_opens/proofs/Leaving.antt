@@ -1,13 +1,13 @@
 -- Where all opens of an owner are closed, the others are left, and the store is good.
 use Rattle.std.proofs.Common.{◌≡◌, ℕ, ◌≤◌, suc, zero, length, Option, None, Some, refl, sym, ap, subst, arith, ◌∙◌}
-use Rattle.smb_opens.specs.declared.open_row.Owner.{Owner}
+use Rattle.smb_access.specs.declared.open_row.Owner.{Owner}
 use Rattle.smb_opens.specs.Close.{closed, closed_all}
 use Rattle.smb_opens.specs.Good.{GoodStore}
-use Rattle.smb_opens.specs.Opens.{first_held_by}
+use Rattle.smb_access.specs.Opens.{first_held_by}
 use Rattle.smb_opens.specs.State.{StoreState}
 use Rattle.smb_opens.proofs.Closing.{good_closed, opens_closed}
 use Rattle.smb_opens.proofs.Kept.{closed_first, closed_last}
-use Rattle.smb_opens.proofs.Rows.{others, first_stands, length-without, others_closed, others_all}
+use Rattle.smb_access.proofs.Rows.{others, first_stands, length-without, others_closed, others_all}
 
 pub record AreLeft (owner : Owner) (before after : StoreState) : Type 0 where
   pub opens : after.opens ≡ others owner before.opens

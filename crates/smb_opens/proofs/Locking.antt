@@ -7,12 +7,13 @@ use Rattle.smb_locks.specs.declared.fault.LockFault.{LockFault}
 use Rattle.smb_locks.specs.declared.fault.LockFault.TheVariants.{NoMemory as NoLockMemory}
 use Rattle.smb_locks.specs.Locking.{lock_all_fault}
 use Rattle.smb_locks.specs.Table.{Table, locks_on, locked}
-use Rattle.smb_opens.specs.declared.fault.StoreFault.{StoreFault}
-use Rattle.smb_opens.specs.declared.fault.StoreFault.TheVariants.{NoMemory}
-use Rattle.smb_opens.specs.declared.view.View.{View}
-use Rattle.smb_opens.specs.Faults.{IsRefusal}
+use Rattle.smb_access.specs.declared.fault.StoreFault.{StoreFault}
+use Rattle.smb_access.specs.declared.fault.StoreFault.TheVariants.{NoMemory}
+use Rattle.smb_access.specs.declared.view.View.{View}
+use Rattle.smb_access.specs.Faults.{IsRefusal}
 use Rattle.smb_opens.specs.Good.{IsKept}
-use Rattle.smb_opens.specs.Locks.{lock_fault_status, lock_status}
+use Rattle.smb_access.specs.Locks.{lock_fault_status}
+use Rattle.smb_opens.specs.Locks.{lock_status}
 use Rattle.smb_opens.specs.State.{StoreState}
 use Rattle.smb_opens.specs.Views.{open_view}
 use Rattle.smb_opens.proofs.Held.{kept_locked}

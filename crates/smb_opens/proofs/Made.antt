@@ -11,35 +11,37 @@ use Rattle.smb_tree.specs.Faults.{add_fault}
 use Rattle.smb_tree.specs.Laws.{AreApart}
 use Rattle.smb_locks.specs.Table.{Table}
 use Rattle.smb_tree.proofs.Apart.{numbered-from_at, numbered-changed, numbered-fresh}
-use Rattle.smb_opens.specs.declared.open_row.OpenRow.{OpenRow}
-use Rattle.smb_opens.specs.declared.found.Target.{Target}
-use Rattle.smb_opens.specs.declared.view.View.{View}
+use Rattle.smb_access.specs.declared.open_row.OpenRow.{OpenRow}
+use Rattle.smb_access.specs.declared.found.Target.{Target}
+use Rattle.smb_access.specs.declared.view.View.{View}
 use Rattle.smb_wire.specs.declared.create_action.CreateAction.{CreateAction}
 use Rattle.smb_wire.specs.declared.create_action.CreateAction.TheVariants.{Created}
-use Rattle.smb_opens.specs.declared.view.Created.{Created as CreatedOpen}
+use Rattle.smb_access.specs.declared.view.Created.{Created as CreatedOpen}
 use Rattle.smb_wire.specs.declared.access.Access.{Access}
 use Rattle.smb_wire.specs.Dispositions.{overwrites_by}
-use Rattle.smb_opens.specs.Asked.{FileAsked, share_asked, kind_asked, attributes_asked}
-use Rattle.smb_opens.specs.Effect.{overwritten, overwritten_tree, standing_tree, entry_after, create_result_by, created_by, opened_by, action_on}
-use Rattle.smb_opens.specs.Found.{has_all_opens, is_marked}
-use Rattle.smb_opens.specs.Looked.{target_of, is_read_only_target, target_conflicts}
+use Rattle.smb_access.specs.Asked.{FileAsked, share_asked, kind_asked, attributes_asked}
+use Rattle.smb_access.specs.Effect.{overwritten, overwritten_tree, standing_tree, entry_after, opened_by, action_on}
+use Rattle.smb_opens.specs.Effect.{create_result_by, created_by}
+use Rattle.smb_opens.specs.Found.{has_all_opens}
+use Rattle.smb_access.specs.Found.{is_marked}
+use Rattle.smb_access.specs.Looked.{target_of, is_read_only_target, target_conflicts}
 use Rattle.smb_tree.specs.Good.{GoodContent}
-use Rattle.smb_opens.specs.Good.{GoodStore, IsKept, ArePresent, AreMarksDue}
-use Rattle.smb_opens.specs.Opens.{without_open, AreAllBelow}
-use Rattle.smb_opens.specs.Access.{granted}
-use Rattle.smb_opens.specs.Close.{has_mark}
-use Rattle.smb_opens.specs.Create.{use_asked}
-use Rattle.smb_opens.specs.Sharing.{use_of, has_conflict}
+use Rattle.smb_opens.specs.Good.{GoodStore, IsKept, AreMarksDue}
+use Rattle.smb_access.specs.Present.{ArePresent}
+use Rattle.smb_access.specs.Opens.{without_open, AreAllBelow}
+use Rattle.smb_access.specs.Access.{granted}
+use Rattle.smb_access.specs.Close.{has_mark}
+use Rattle.smb_access.specs.Sharing.{use_asked, use_of, has_conflict}
 use Rattle.smb_wire.specs.Access.{FILE_WRITE_DATA}
 use Rattle.smb_opens.proofs.Conflicts.{compatible_pushed, fresh_conflict, less_conflict}
-use Rattle.smb_opens.proofs.Marks.{mark_pushed, mark_changed, deletable_pushed, deletable_changed, open_pushed_too}
-use Rattle.smb_opens.proofs.Mores.{more_conflicts, or_has}
+use Rattle.smb_access.proofs.Marks.{mark_pushed, mark_changed, deletable_pushed, deletable_changed, open_pushed_too}
+use Rattle.smb_access.proofs.Mores.{more_conflicts, or_has}
 use Rattle.smb_opens.specs.State.{StoreState}
-use Rattle.smb_opens.specs.Views.{view_of, view_at}
+use Rattle.smb_access.specs.Views.{view_of, view_at}
 use Rattle.smb_opens.proofs.Held.{held_pushed}
-use Rattle.smb_opens.proofs.Rows.{all_push, rising_push, below_push, without_last}
-use Rattle.smb_opens.proofs.Changes.{free_path, good_push, present_push, numbered-last, good_changed, keeps_of, present_changed, length-changed}
-use Rattle.smb_opens.proofs.Overwrites.{empties}
+use Rattle.smb_access.proofs.Rows.{all_push, rising_push, below_push, without_last}
+use Rattle.smb_access.proofs.Changes.{free_path, good_push, numbered-last, good_changed, keeps_of, length-changed, present_push, present_changed}
+use Rattle.smb_access.proofs.Overwrites.{empties}
 
 -- an open that was added last is taken out again
 pub undone : (before with_one after : List OpenRow) (next : ℕ) (row : OpenRow) → AreAllBelow next before → row.number ≡ next → with_one ≡ before ++ row ∷ [] → after ≡ without_open next with_one → after ≡ before

@@ -7,9 +7,11 @@ use Rattle.smb_tree.specs.Entries.{Entry, new_entry}
 use Rattle.smb_tree.specs.Content.{Path, Row, Content, is_same_path, entry_at, changed, new_content}
 use Rattle.smb_tree.proofs.Apart.{at-changed, at-push, numbered-from_at}
 use Rattle.smb_wire.specs.Dispositions.{overwrites_by}
-use Rattle.smb_opens.specs.Asked.{FileAsked}
-use Rattle.smb_opens.specs.Effect.{overwritten, overwritten_tree, tree_after, entry_after, created}
-use Rattle.smb_opens.specs.Found.{path_asked, entry_asked}
+use Rattle.smb_access.specs.Asked.{FileAsked}
+use Rattle.smb_access.specs.Effect.{overwritten, overwritten_tree, tree_after, entry_after}
+use Rattle.smb_opens.specs.Effect.{created}
+use Rattle.smb_access.specs.Found.{path_asked}
+use Rattle.smb_opens.specs.Found.{entry_asked}
 use Rattle.smb_tree.specs.Good.{GoodContent}
 use Rattle.smb_opens.specs.Good.{UnmarkedTree, GoodStore}
 use Rattle.smb_opens.specs.State.{StoreState}

@@ -12,28 +12,31 @@ use Rattle.smb_wire.specs.Paths.{path_spelled, path_fault, folded_path}
 use Rattle.smb_tree.specs.Entries.{Entry, is_folder, is_folder_kind}
 use Rattle.smb_tree.specs.Content.{Path, entry_at, parent}
 use Rattle.smb_tree.specs.Faults.{add_fault}
-use Rattle.smb_opens.specs.declared.fault.StoreFault.{StoreFault}
-use Rattle.smb_opens.specs.declared.fault.StoreFault.TheVariants.{NoMemory}
-use Rattle.smb_opens.specs.declared.open_row.OpenRow.{OpenRow}
-use Rattle.smb_opens.specs.declared.found.Found.{Found}
-use Rattle.smb_opens.specs.Asked.{FileAsked, asks_file}
+use Rattle.smb_access.specs.declared.fault.StoreFault.{StoreFault}
+use Rattle.smb_access.specs.declared.fault.StoreFault.TheVariants.{NoMemory}
+use Rattle.smb_access.specs.declared.open_row.OpenRow.{OpenRow}
+use Rattle.smb_access.specs.declared.found.Found.{Found}
+use Rattle.smb_access.specs.Asked.{FileAsked, asks_file}
 use Rattle.smb_wire.specs.NtStatus.{STATUS_SUCCESS, STATUS_SHARING_VIOLATION}
-use Rattle.smb_opens.specs.declared.found.Target.{Target}
-use Rattle.smb_opens.specs.Access.{granted}
-use Rattle.smb_opens.specs.Create.{StatusRow, first_status, create_rows, create_status, access_granted}
-use Rattle.smb_opens.specs.Looked.{target_of, found_at, found_by, asked_rows, place_rows, kind_rows, room_rows, found_rows, is_read_only_target, is_folder_target, is_marked_target, target_conflicts}
-use Rattle.smb_opens.specs.Faults.{IsRefusal}
-use Rattle.smb_opens.specs.Found.{path_asked, entry_asked, is_read_only_file, is_reached, is_marked, is_pending, has_all_opens, has_all_entries}
+use Rattle.smb_access.specs.declared.found.Target.{Target}
+use Rattle.smb_access.specs.Access.{granted}
+use Rattle.smb_access.specs.StatusRows.{StatusRow, first_status}
+use Rattle.smb_opens.specs.Create.{create_rows, create_status, access_granted}
+use Rattle.smb_access.specs.Looked.{target_of, asked_rows, place_rows, kind_rows, room_rows, found_rows, is_read_only_target, is_folder_target, is_marked_target, target_conflicts}
+use Rattle.smb_opens.specs.Looked.{found_at, found_by}
+use Rattle.smb_access.specs.Faults.{IsRefusal}
+use Rattle.smb_access.specs.Found.{path_asked, is_read_only_file, is_reached, is_marked, is_pending}
+use Rattle.smb_opens.specs.Found.{entry_asked, has_all_opens, has_all_entries}
 use Rattle.smb_opens.specs.Good.{GoodStore}
 use Rattle.smb_opens.specs.State.{StoreState}
-use Rattle.smb_opens.proofs.Trees.{reached_folder}
+use Rattle.smb_access.proofs.Trees.{reached_folder}
 
 second_off : (a b : Bool) → (a || b) ≡ false → b ≡ false
 second_off true b h = absurd (grind (arith, h))
 second_off false b h = h
 
 -- where no row decides, none holds
-pass_at : (b : Bool) (status code : ℕ) → status ≢ STATUS_SUCCESS → (cond b status code) ≡ STATUS_SUCCESS → (b ≡ false) × (code ≡ STATUS_SUCCESS)
+pub pass_at : (b : Bool) (status code : ℕ) → status ≢ STATUS_SUCCESS → (cond b status code) ≡ STATUS_SUCCESS → (b ≡ false) × (code ≡ STATUS_SUCCESS)
 pass_at true status code n e = absurd (n e)
 pass_at false status code n e = (refl, e)
 
@@ -104,7 +107,7 @@ absent_target : (o : Option Entry) → option_map target_of o ≡ None → o ≡
 absent_target None e = refl
 absent_target (Some entry) e = cc
 
-marked_target : (o : Option Entry) → is_marked_target (option_map target_of o) ≡ is_marked o
+pub marked_target : (o : Option Entry) → is_marked_target (option_map target_of o) ≡ is_marked o
 marked_target None = refl
 marked_target (Some entry) = refl
 

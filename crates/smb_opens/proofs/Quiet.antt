@@ -5,30 +5,36 @@ use Rattle.std.specs.Option.{option_map, option_map_or}
 use Rattle.smb_wire.specs.Dispositions.{overwrites_by}
 use Rattle.smb_wire.specs.Paths.{path_spelled, folded_path}
 use Rattle.smb_tree.specs.declared.entry.Kind.{Kind}
-use Rattle.smb_tree.specs.Entries.{Entry, new_entry, is_folder_kind}
-use Rattle.smb_tree.specs.Content.{Row, Content, entry_at, numbered, changed, without, removed, added, with_mark, bytes_of, bytes_read, part}
-use Rattle.smb_tree.specs.Laws.{AreApart, AreBelow}
-use Rattle.smb_tree.proofs.Apart.{numbered-changed, numbered-push, apart_added, apart_changed}
-use Rattle.smb_tree.proofs.Removals.{apart_removed}
+use Rattle.smb_tree.specs.Entries.{Entry, new_entry, is_folder_kind, last_part}
+use Rattle.smb_tree.specs.Moves.{moved_row, renamed, without_other, moved_rows, moved}
+use Rattle.smb_tree.specs.Content.{Path, Row, Content, is_same_path, entry_at, numbered, changed, without, removed, added, with_mark, bytes_of, bytes_read, part}
+use Rattle.smb_tree.specs.Laws.{AreBelow}
+use Rattle.smb_tree.proofs.Apart.{numbered-changed, numbered-push}
+use Rattle.smb_tree.proofs.Renamed.{numbered-renamed, below-renamed}
 use Rattle.smb_locks.specs.Table.{Table, locked, unlocked}
-use Rattle.smb_opens.specs.declared.open_row.OpenRow.{OpenRow}
-use Rattle.smb_opens.specs.declared.view.View.{View}
-use Rattle.smb_opens.specs.Asked.{FileAsked, kind_asked, attributes_asked}
-use Rattle.smb_opens.specs.Bytes.{file_bytes, written_file, written_tree, written_to}
-use Rattle.smb_opens.specs.Close.{is_deletable, tree_marked, is_due, closed_open, closed, closed_each}
-use Rattle.smb_opens.specs.Effect.{overwritten, overwritten_tree, tree_after}
-use Rattle.smb_opens.specs.Found.{entry_asked, path_asked}
+use Rattle.smb_access.specs.declared.open_row.OpenRow.{OpenRow}
+use Rattle.smb_access.specs.declared.view.View.{View}
+use Rattle.smb_access.specs.Asked.{FileAsked, kind_asked, attributes_asked}
+use Rattle.smb_opens.specs.Bytes.{file_bytes, written_to}
+use Rattle.smb_access.specs.Bytes.{written_file, written_tree}
+use Rattle.smb_access.specs.Close.{is_deletable, tree_marked, is_due}
+use Rattle.smb_opens.specs.Close.{closed_open, closed, closed_each}
+use Rattle.smb_access.specs.Effect.{overwritten, overwritten_tree, tree_after}
+use Rattle.smb_opens.specs.Found.{entry_asked}
+use Rattle.smb_access.specs.Found.{path_asked}
 use Rattle.smb_tree.specs.Good.{GoodContent}
 use Rattle.smb_opens.specs.Locks.{with_locks_of}
-use Rattle.smb_opens.specs.Opens.{open_of, is_on_entry, without_open, open_numbers, is_held_by}
-use Rattle.smb_opens.specs.SetInfo.{changed_in, delete_set, size_set, entry_set}
+use Rattle.smb_access.specs.Opens.{open_of, is_on_entry, without_open, open_numbers, is_held_by}
+use Rattle.smb_access.specs.Rename.{dated, renamed_tree}
+use Rattle.smb_access.specs.SetInfo.{changed_in, delete_set, size_set, entry_set}
 use Rattle.smb_opens.specs.State.{StoreState}
-use Rattle.smb_opens.specs.Steps.{StoreStep, creates, writes, locks, unlocks, sets_delete, sets_size, sets_basic, closes, closes_all, stepped, stepped_all, is_change_of, NoneChanges}
+use Rattle.smb_opens.specs.Steps.{StoreStep, creates, writes, locks, unlocks, sets_delete, sets_size, sets_basic, renames, closes, closes_all, stepped, stepped_all, is_change_of, NoneChanges}
 use Rattle.smb_opens.specs.Views.{open_view}
-use Rattle.smb_opens.proofs.Changes.{Keeps, below_changed, below_push}
-use Rattle.smb_opens.proofs.Removed.{numbered-removed, below_removed}
+use Rattle.smb_access.proofs.Changes.{Keeps, below_changed, below_push}
+use Rattle.smb_opens.proofs.Once.{AreOnce, once_of_apart, once_changed, once_without, once_push, once_renamed, numbered-once}
+use Rattle.smb_access.proofs.Removed.{below_removed}
 use Rattle.smb_opens.proofs.StoreSettings.{size_keeps}
-use Rattle.smb_opens.proofs.Writes.{writes_keep}
+use Rattle.smb_access.proofs.Writes.{writes_keep}
 use Rattle.smb_opens.proofs.Again.{read_again, opens_left}
 
 -- the bytes of the entry of a number, if it exists
@@ -37,7 +43,7 @@ bytes_at rows n = option_map (λ row. row.1.bytes) (numbered rows n)
 
 -- an entry's number was given, and where the entry exists it has these bytes
 pub record Stays (n : ℕ) (bytes : List ℕ) (tree : Content) : Type 0 where
-  pub apart : AreApart tree.rows
+  pub apart : AreOnce tree.rows
   pub below : AreBelow tree.rows tree.next
   pub given : n < tree.next
   pub kept : (numbered tree.rows n ≡ None) ⊎ (bytes_at tree.rows n ≡ Some bytes)
@@ -56,22 +62,22 @@ changed_bytes f rows m n bytes false e k s (inr h) = inr (ap (option_map (λ (ro
 
 changed_stays : (f : Entry → Entry) (tree : Content) (m n : ℕ) (bytes : List ℕ) → Keeps f → ((n == m) ≡ true → (e : Entry) → (f e).bytes ≡ e.bytes) → Stays n bytes tree → Stays n bytes (record tree { rows = changed f tree.rows m })
 changed_stays f tree m n bytes k s stays = record {
-  apart = apart_changed f tree.rows m k.number stays.apart;
+  apart = once_changed f tree.rows m k.number stays.apart;
   below = below_changed f tree.rows m tree.next k stays.below;
   given = stays.given;
   kept = changed_bytes f tree.rows m n bytes (n == m) refl k.number s stays.kept;
 }
 
 -- an entry is removed
-removed_bytes : (rows : List Row) (m n : ℕ) (bytes : List ℕ) (b : Bool) → (n == m) ≡ b → AreApart rows → ((numbered rows n ≡ None) ⊎ (bytes_at rows n ≡ Some bytes)) →
+removed_bytes : (rows : List Row) (m n : ℕ) (bytes : List ℕ) (b : Bool) → (n == m) ≡ b → AreOnce rows → ((numbered rows n ≡ None) ⊎ (bytes_at rows n ≡ Some bytes)) →
     (numbered (without rows m) n ≡ None) ⊎ (bytes_at (without rows m) n ≡ Some bytes)
-removed_bytes rows m n bytes true e a h = inl (numbered-removed rows m n a ∙ rw e refl)
-removed_bytes rows m n bytes false e a (inl h) = inl (numbered-removed rows m n a ∙ rw e h)
-removed_bytes rows m n bytes false e a (inr h) = inr (ap (option_map (λ (row : Row). row.1.bytes)) (numbered-removed rows m n a ∙ rw e refl) ∙ h)
+removed_bytes rows m n bytes true e a h = inl (numbered-once rows m n a ∙ rw e refl)
+removed_bytes rows m n bytes false e a (inl h) = inl (numbered-once rows m n a ∙ rw e h)
+removed_bytes rows m n bytes false e a (inr h) = inr (ap (option_map (λ (row : Row). row.1.bytes)) (numbered-once rows m n a ∙ rw e refl) ∙ h)
 
 removed_stays : (tree : Content) (m n : ℕ) (bytes : List ℕ) → Stays n bytes tree → Stays n bytes (removed tree m)
 removed_stays tree m n bytes stays = record {
-  apart = apart_removed tree.rows m stays.apart;
+  apart = once_without tree.rows m stays.apart;
   below = below_removed tree.rows m tree.next stays.below;
   given = stays.given;
   kept = removed_bytes tree.rows m n bytes (n == m) refl stays.apart stays.kept;
@@ -91,7 +97,7 @@ added_stays : (tree : Content) (parts : List (List ℕ)) (kind : Kind) (attribut
 added_stays tree parts kind attributes moment n bytes absent stays =
     let entry : Entry = new_entry tree.next parts kind attributes moment in
     record {
-      apart = apart_added tree.rows (folded_path parts) entry stays.apart stays.below absent;
+      apart = once_push tree.rows (folded_path parts, entry) stays.apart stays.below;
       below = below_push tree.rows (folded_path parts, entry) tree.next stays.below refl;
       given = omega (arith, stays.given);
       kept = pushed_bytes tree.rows (folded_path parts, entry) n bytes (let g = stays.given in grind (arith, nat_tests, g)) stays.kept;
@@ -156,6 +162,44 @@ set_stays f state (Some row) n bytes k (inl same) stays = changed_stays f state.
 set_stays f state (Some row) n bytes k (inr quiet) stays =
     changed_stays f state.tree row.entry n bytes k (λ q e. (let other : row.entry == n ≡ false = quiet in absurd (grind (arith, nat_tests, q, other)))) stays
 
+-- an entry is moved, and a file that was there is gone
+without_other_stays : (tree : Content) (m n : ℕ) (bytes : List ℕ) (o : Option Entry) → Stays n bytes tree → Stays n bytes (record tree { rows = without_other tree.rows m o })
+without_other_stays tree m n bytes None stays = stays
+without_other_stays tree m n bytes (Some entry) stays =
+    elim (entry.number == m) as (λ b. Stays n bytes (record tree { rows = if b then tree.rows else without tree.rows entry.number })) [ true ↦ stays | false ↦ removed_stays tree entry.number n bytes stays ]
+
+same_bytes_moved : (from : Path) (parts : List (List ℕ)) (row : Row) → (moved_row from parts row).1.bytes ≡ row.1.bytes
+same_bytes_moved from parts row = elim (is_same_path row.0 from) as (λ b. (if b then record row.1 { spelling = last_part parts } else row.1).bytes ≡ row.1.bytes) [ true ↦ refl | false ↦ refl ]
+
+renamed_bytes : (from : Path) (parts : List (List ℕ)) (rows : List Row) (n : ℕ) (bytes : List ℕ) → ((numbered rows n ≡ None) ⊎ (bytes_at rows n ≡ Some bytes)) → (numbered (renamed from parts rows) n ≡ None) ⊎ (bytes_at (renamed from parts rows) n ≡ Some bytes)
+renamed_bytes from parts rows n bytes (inl h) = inl (numbered-renamed from parts rows n ∙ ap (option_map (moved_row from parts)) h)
+renamed_bytes from parts rows n bytes (inr h) = inr (ap (option_map (λ (row : Row). row.1.bytes)) (numbered-renamed from parts rows n) ∙ mapped (numbered rows n) h)
+  where
+    mapped : (o : Option Row) → option_map (λ (row : Row). row.1.bytes) o ≡ Some bytes → option_map (λ (row : Row). row.1.bytes) (option_map (moved_row from parts) o) ≡ Some bytes
+    mapped None e = cc
+    mapped (Some row) e = ap (λ (b : List ℕ). Some b) (same_bytes_moved from parts row) ∙ e
+
+all_renamed_stays : (from : Path) (parts : List (List ℕ)) (tree : Content) (n : ℕ) (bytes : List ℕ) → Stays n bytes tree → Stays n bytes (record tree { rows = renamed from parts tree.rows })
+all_renamed_stays from parts tree n bytes stays = record {
+  apart = once_renamed from parts tree.rows stays.apart;
+  below = below-renamed from parts tree.rows tree.next stays.below;
+  given = stays.given;
+  kept = renamed_bytes from parts tree.rows n bytes stays.kept;
+}
+
+moved_stays : (tree : Content) (m n : ℕ) (parts : List (List ℕ)) (bytes : List ℕ) → Stays n bytes tree → Stays n bytes (moved tree m parts)
+moved_stays tree m n parts bytes stays =
+    elim (numbered tree.rows m) as (λ o. Stays n bytes (record tree { rows = moved_rows tree.rows m parts o })) [
+      | None ↦ stays
+      | Some row ↦ all_renamed_stays row.0 parts (record tree { rows = without_other tree.rows m (entry_at tree.rows (folded_path parts)) }) n bytes (without_other_stays tree m n bytes (entry_at tree.rows (folded_path parts)) stays)
+    ]
+
+renamed_stays : (state : StoreState) (held : Option OpenRow) (name : List ℕ) (moment n : ℕ) (bytes : List ℕ) → Stays n bytes state.tree →
+    Stays n bytes (option_map_or (λ (row : OpenRow). let x : StoreState = record state { tree = renamed_tree state.tree row.entry (path_spelled name) moment } in x) held state).tree
+renamed_stays state None name moment n bytes stays = stays
+renamed_stays state (Some row) name moment n bytes stays =
+    changed_stays (dated moment) (moved state.tree row.entry (path_spelled name)) row.entry n bytes (record { number = λ _. refl; kind = λ _. refl }) (λ _ _. refl) (moved_stays state.tree row.entry n (path_spelled name) bytes stays)
+
 step_stays : (state : StoreState) (step : StoreStep) (n : ℕ) (bytes : List ℕ) → is_change_of n state step ≡ false → Stays n bytes state.tree → Stays n bytes (stepped state step).tree
 step_stays state (creates ask moment) n bytes quiet stays = created_stays state.tree ask moment n bytes (entry_asked state ask) refl quiet stays
 step_stays state (writes number offset buffer moment) n bytes quiet stays = written_stays state offset buffer moment n bytes (open_of state.opens number) quiet stays
@@ -167,6 +211,7 @@ step_stays state (sets_size number size is_allocation moment) n bytes quiet stay
     set_stays (size_set size is_allocation moment) state (open_of state.opens number) n bytes (size_keeps size is_allocation moment) (inr quiet) stays
 step_stays state (sets_basic number ask moment) n bytes quiet stays =
     set_stays (entry_set ask moment) state (open_of state.opens number) n bytes (record { number = λ _. refl; kind = λ _. refl }) (inl (λ _. refl)) stays
+step_stays state (renames number name moment) n bytes quiet stays = renamed_stays state (open_of state.opens number) name moment n bytes stays
 step_stays state (closes number) n bytes quiet stays = closed_stays state number n bytes stays
 step_stays state (closes_all owner) n bytes quiet stays = each_closed_stays state (open_numbers (filter (is_held_by owner) state.opens)) n bytes stays
 
@@ -191,7 +236,7 @@ bytes_or_none rows n =
 start_stays : (tree : Content) (offset : ℕ) (buffer : List ℕ) (moment n : ℕ) (row : Row) (b : Bool) → GoodContent tree → numbered tree.rows n ≡ Some row →
     Stays n (bytes_of (let x : Content = if b then tree else written_tree tree n offset buffer moment in x).rows n) (let x : Content = if b then tree else written_tree tree n offset buffer moment in x)
 start_stays tree offset buffer moment n row true good h = record {
-  apart = good.apart;
+  apart = once_of_apart tree.rows good.apart;
   below = good.below;
   given = given_below tree.rows tree.next n row good.below h;
   kept = bytes_or_none tree.rows n;
@@ -199,7 +244,7 @@ start_stays tree offset buffer moment n row true good h = record {
 start_stays tree offset buffer moment n row false good h =
     let k = writes_keep offset buffer moment in
     record {
-      apart = apart_changed (written_file offset buffer moment) tree.rows n k.number good.apart;
+      apart = once_changed (written_file offset buffer moment) tree.rows n k.number (once_of_apart tree.rows good.apart);
       below = below_changed (written_file offset buffer moment) tree.rows n tree.next k good.below;
       given = given_below tree.rows tree.next n row good.below h;
       kept = bytes_or_none (written_tree tree n offset buffer moment).rows n;

@@ -6,15 +6,18 @@ use Rattle.smb_wire.specs.Dispositions.{overwrites_by}
 use Rattle.smb_wire.specs.Paths.{path_spelled}
 use Rattle.smb_tree.specs.Entries.{Entry}
 use Rattle.smb_tree.proofs.Apart.{numbered-from_at}
-use Rattle.smb_opens.specs.declared.open_row.OpenRow.{OpenRow}
-use Rattle.smb_opens.specs.Asked.{FileAsked, kind_asked, attributes_asked}
+use Rattle.smb_access.specs.declared.open_row.OpenRow.{OpenRow}
+use Rattle.smb_access.specs.Asked.{FileAsked, kind_asked, attributes_asked}
 use Rattle.smb_opens.specs.Create.{access_granted}
-use Rattle.smb_opens.specs.Effect.{overwritten, tree_after, entry_after, opened_by, created_by, created, create_result}
-use Rattle.smb_opens.specs.Found.{path_asked, entry_asked}
+use Rattle.smb_access.specs.Effect.{overwritten, tree_after, entry_after, opened_by}
+use Rattle.smb_opens.specs.Effect.{created_by, created, create_result}
+use Rattle.smb_access.specs.Found.{path_asked}
+use Rattle.smb_opens.specs.Found.{entry_asked}
 use Rattle.smb_opens.specs.Good.{GoodStore}
-use Rattle.smb_opens.specs.Opens.{open_of, AreAllBelow}
+use Rattle.smb_access.specs.Opens.{open_of, AreAllBelow}
 use Rattle.smb_opens.specs.State.{StoreState}
-use Rattle.smb_opens.specs.Views.{view_of, view_at, view_through, open_view}
+use Rattle.smb_access.specs.Views.{view_of, view_at, view_through}
+use Rattle.smb_opens.specs.Views.{open_view}
 use Rattle.smb_opens.proofs.Made.{shown_added, shown_standing}
 
 -- an open that comes last is found by its number, which is above all others

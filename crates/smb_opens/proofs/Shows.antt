@@ -1,14 +1,14 @@
 -- What an open shows is of an open and an entry that exist.
-use Rattle.std.proofs.Common.{◌≡◌, ℕ, List, None, Some, refl, ◌∙◌, ap}
+use Rattle.std.proofs.Common.{◌≡◌, ℕ, None, Some, refl, ◌∙◌, ap}
 use Rattle.std.specs.Option.{option_map}
 use Rattle.smb_tree.specs.Content.{Row, numbered}
-use Rattle.smb_tree.specs.Views.{Shown, entry_shown, row_shown}
 use Rattle.smb_tree.proofs.Apart.{number-from_numbered}
-use Rattle.smb_opens.specs.declared.open_row.OpenRow.{OpenRow}
-use Rattle.smb_opens.specs.declared.view.View.{View}
-use Rattle.smb_opens.specs.Opens.{open_of}
+use Rattle.smb_access.specs.declared.open_row.OpenRow.{OpenRow}
+use Rattle.smb_access.specs.declared.view.View.{View}
+use Rattle.smb_access.specs.Opens.{open_of}
 use Rattle.smb_opens.specs.State.{StoreState}
-use Rattle.smb_opens.specs.Views.{view_of, view_through, open_view}
+use Rattle.smb_access.specs.Views.{view_of, view_through}
+use Rattle.smb_opens.specs.Views.{open_view}
 
 -- the open of a number and its entry, which show this
 pub record ShownBy (state : StoreState) (number : ℕ) (view : View) : Type 0 where
@@ -36,11 +36,3 @@ shown_by state number view e =
 -- the entry that is shown is that of the open
 pub entry_of : (state : StoreState) (number : ℕ) (view : View) → (s : ShownBy state number view) → view.entry ≡ s.held.entry
 entry_of state number view s = ap (λ (v : View). v.entry) s.shown ∙ number-from_numbered state.tree.rows s.row s.held.entry s.at_entry
-
--- the row of an entry that a tree shows
-pub row_of_shown : (rows : List Row) (number : ℕ) (seen : Shown) → Some seen ≡ entry_shown rows number → (row : Row) × (numbered rows number ≡ Some row) × (seen ≡ row_shown rows row)
-row_of_shown rows number seen e =
-    elim (numbered rows number) as (λ o. Some seen ≡ option_map (row_shown rows) o → (row : Row) × (o ≡ Some row) × (seen ≡ row_shown rows row)) [
-      | None ↦ λ f. absurd (cc)
-      | Some row ↦ λ f. (row, refl, cc)
-    ] e

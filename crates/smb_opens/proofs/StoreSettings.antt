@@ -11,24 +11,25 @@ use Rattle.smb_tree.specs.Entries.{Entry, is_folder_kind}
 use Rattle.smb_tree.proofs.Apart.{numbered-changed, number-from_numbered}
 use Rattle.smb_tree.proofs.Parts.{length-resized}
 use Rattle.smb_tree.proofs.Spaces.{space_changed}
-use Rattle.smb_opens.specs.declared.ask.BasicAsk.{BasicAsk}
-use Rattle.smb_opens.specs.declared.fault.StoreFault.{StoreFault}
-use Rattle.smb_opens.specs.declared.open_row.OpenRow.{OpenRow}
-use Rattle.smb_opens.specs.declared.view.View.{View}
-use Rattle.smb_opens.specs.Access.{is_deleting}
-use Rattle.smb_opens.specs.Close.{can_be_deleted, is_deletable}
-use Rattle.smb_opens.specs.Create.{first_status}
+use Rattle.smb_access.specs.declared.ask.BasicAsk.{BasicAsk}
+use Rattle.smb_access.specs.declared.fault.StoreFault.{StoreFault}
+use Rattle.smb_access.specs.declared.open_row.OpenRow.{OpenRow}
+use Rattle.smb_access.specs.declared.view.View.{View}
+use Rattle.smb_access.specs.Access.{is_deleting}
+use Rattle.smb_access.specs.Close.{can_be_deleted, is_deletable}
+use Rattle.smb_access.specs.StatusRows.{first_status}
 use Rattle.smb_tree.specs.Good.{GoodContent}
 use Rattle.smb_opens.specs.Good.{AreMarksDue, IsKept}
-use Rattle.smb_opens.specs.Opens.{open_of, has_open}
-use Rattle.smb_opens.specs.SetInfo.{changed_in, changed_through, shows_read_only_file, has_entries, delete_rows, delete_set, has_no_space, resized_file, leaves_size, size_set, size_set_through, entry_set}
+use Rattle.smb_access.specs.Opens.{open_of, has_open}
+use Rattle.smb_access.specs.SetInfo.{changed_in, shows_read_only_file, has_entries, delete_rows, delete_set, has_no_space, resized_file, leaves_size, size_set, entry_set}
+use Rattle.smb_opens.specs.SetInfo.{changed_through, size_set_through}
 use Rattle.smb_opens.specs.State.{StoreState}
-use Rattle.smb_opens.proofs.Changes.{Keeps, Shrinks, keeps_of, good_changed, present_changed, length-changed}
-use Rattle.smb_opens.proofs.Marks.{deletable_changed, mark_elsewhere}
-use Rattle.smb_opens.proofs.Settings.{changed_alike}
+use Rattle.smb_access.proofs.Changes.{Keeps, Shrinks, keeps_of, good_changed, length-changed, present_changed}
+use Rattle.smb_access.proofs.Marks.{deletable_changed, mark_elsewhere}
+use Rattle.smb_access.proofs.Settings.{changed_alike}
 use Rattle.smb_opens.proofs.Shows.{ShownBy, entry_of}
 use Rattle.smb_opens.proofs.Through.{kind_shown, marks_kept}
-use Rattle.smb_opens.proofs.Writes.{good_within}
+use Rattle.smb_access.proofs.Writes.{good_within}
 
 -- the entry that is shown exists
 pub at_shown : (state : StoreState) (number : ℕ) (view : View) → (s : ShownBy state number view) → numbered state.tree.rows view.entry ≡ Some s.row
@@ -45,7 +46,7 @@ set_through f state number view after s is =
     ∙ sym (ap (λ (o : Option OpenRow). option_map_or (λ (row : OpenRow). let x : StoreState = record state { tree = changed_in f state.tree row.entry } in x) o state) s.opened)
 
 -- a good store stays good where an entry is changed so that the tree is good, and its marks
-kept_changed : (f : Entry → Entry) (state : StoreState) (n opens_count entries_count : ℕ) (after : Content) → after ≡ changed_in f state.tree n → Keeps f → GoodContent (changed_in f state.tree n) →
+pub kept_changed : (f : Entry → Entry) (state : StoreState) (n opens_count entries_count : ℕ) (after : Content) → after ≡ changed_in f state.tree n → Keeps f → GoodContent (changed_in f state.tree n) →
     AreMarksDue (changed f state.tree.rows n) state.opens → IsKept state.tree state.opens state.locks state.next opens_count entries_count → IsKept after state.opens state.locks state.next opens_count entries_count
 kept_changed f state n opens_count entries_count after is k tree marked kept =
     subst (λ (tree : Content). IsKept tree state.opens state.locks state.next opens_count entries_count) (sym is) (record {

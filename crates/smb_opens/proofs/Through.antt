@@ -11,21 +11,22 @@ use Rattle.smb_tree.specs.Content.{Row, Content, numbered, changed, bytes_read}
 use Rattle.smb_tree.specs.Faults.{size_fault, write_fault}
 use Rattle.smb_tree.proofs.Changes.{bytes_found}
 use Rattle.smb_locks.specs.Table.{Table}
-use Rattle.smb_opens.specs.declared.fault.StoreFault.{StoreFault}
-use Rattle.smb_opens.specs.declared.fault.StoreFault.TheVariants.{Status, NoMemory}
-use Rattle.smb_opens.specs.declared.open_row.OpenRow.{OpenRow}
-use Rattle.smb_opens.specs.declared.view.View.{View}
-use Rattle.smb_opens.specs.Bytes.{file_bytes, keeps_from_writing, write_rows, write_status_by, has_no_room, written_file, written_tree, written_to}
-use Rattle.smb_opens.specs.Create.{first_status}
-use Rattle.smb_opens.specs.Faults.{IsRefusal}
+use Rattle.smb_access.specs.declared.fault.StoreFault.{StoreFault}
+use Rattle.smb_access.specs.declared.fault.StoreFault.TheVariants.{Status, NoMemory}
+use Rattle.smb_access.specs.declared.open_row.OpenRow.{OpenRow}
+use Rattle.smb_access.specs.declared.view.View.{View}
+use Rattle.smb_opens.specs.Bytes.{file_bytes, written_to}
+use Rattle.smb_access.specs.Bytes.{keeps_from_writing, write_rows, write_status_by, has_no_room, written_file, written_tree}
+use Rattle.smb_access.specs.StatusRows.{first_status}
+use Rattle.smb_access.specs.Faults.{IsRefusal}
 use Rattle.smb_tree.specs.Good.{GoodContent}
 use Rattle.smb_opens.specs.Good.{AreMarksDue, IsKept}
 use Rattle.smb_opens.specs.State.{StoreState}
-use Rattle.smb_opens.proofs.Changes.{present_changed, length-changed}
-use Rattle.smb_opens.proofs.Marks.{deletable_changed, mark_changed}
+use Rattle.smb_access.proofs.Changes.{present_changed, length-changed}
+use Rattle.smb_access.proofs.Marks.{deletable_changed, mark_changed}
 use Rattle.smb_opens.proofs.Shows.{ShownBy, entry_of}
-use Rattle.smb_opens.proofs.Trees.{of_number}
-use Rattle.smb_opens.proofs.Writes.{writes_keep, good_within, has_room, space_of_bytes}
+use Rattle.smb_access.proofs.Trees.{of_number}
+use Rattle.smb_access.proofs.Writes.{writes_keep, good_within, has_room, space_of_bytes}
 
 pub kind_shown : (state : StoreState) (number : ℕ) (view : View) → (s : ShownBy state number view) → is_folder_kind view.kind ≡ false → is_folder_kind s.row.1.kind ≡ false
 kind_shown state number view s file = ap (λ (v : View). is_folder_kind v.kind) (sym s.shown) ∙ file

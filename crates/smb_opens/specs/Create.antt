@@ -1,36 +1,22 @@
 -- The status of a CREATE ([MS-SMB2] 3.3.5.9): the rows in order, the first whose condition holds decides.
-use Rattle.std.specs.Prelude.{ℕ, ◌||◌, ◌&&◌, Bool, false, not, nat_lt, bit_or, List, [], ◌∷◌, slice_index, Option, None, Some, if◌then◌else◌}
+use Rattle.std.specs.Prelude.{ℕ, ◌||◌, ◌&&◌, Bool, false, not, nat_lt, List, [], ◌∷◌, slice_index, Option, None, Some}
 use Rattle.std.specs.Option.{is_none, is_some}
 use Rattle.smb_wire.specs.declared.access.Access.{Access}
-use Rattle.smb_wire.specs.Access.{FILE_WRITE_DATA}
 use Rattle.smb_wire.specs.Dispositions.{overwrites_by, must_exist_by, must_be_new_by}
-use Rattle.smb_wire.specs.NtStatus.{STATUS_SUCCESS, STATUS_INVALID_PARAMETER, STATUS_NOT_SUPPORTED, STATUS_OBJECT_NAME_INVALID, STATUS_ACCESS_DENIED, STATUS_OBJECT_PATH_NOT_FOUND, STATUS_DELETE_PENDING, STATUS_OBJECT_NAME_NOT_FOUND, STATUS_OBJECT_NAME_COLLISION, STATUS_FILE_IS_A_DIRECTORY, STATUS_NOT_A_DIRECTORY, STATUS_CANNOT_DELETE, STATUS_SHARING_VIOLATION, STATUS_TOO_MANY_OPENED_FILES, STATUS_DISK_FULL}
+use Rattle.smb_wire.specs.NtStatus.{STATUS_INVALID_PARAMETER, STATUS_NOT_SUPPORTED, STATUS_OBJECT_NAME_INVALID, STATUS_ACCESS_DENIED, STATUS_OBJECT_PATH_NOT_FOUND, STATUS_DELETE_PENDING, STATUS_OBJECT_NAME_NOT_FOUND, STATUS_OBJECT_NAME_COLLISION, STATUS_FILE_IS_A_DIRECTORY, STATUS_NOT_A_DIRECTORY, STATUS_CANNOT_DELETE, STATUS_SHARING_VIOLATION, STATUS_TOO_MANY_OPENED_FILES, STATUS_DISK_FULL}
 use Rattle.smb_wire.specs.Paths.{is_separator, path_fault}
 use Rattle.smb_tree.specs.Entries.{Entry, is_folder}
-use Rattle.smb_opens.specs.Access.{is_bad_access, granted, is_writing, is_deleting}
-use Rattle.smb_opens.specs.Asked.{FileAsked, share_asked, asks_folder, asks_file, asks_by_number, asks_delete}
-use Rattle.smb_opens.specs.Found.{path_asked, entry_asked, is_file, is_root, is_read_only_file, is_pending, becomes_read_only, is_reached, has_all_opens, has_all_entries}
-use Rattle.smb_opens.specs.Sharing.{Use, has_conflict}
+use Rattle.smb_access.specs.Access.{is_bad_access, granted, is_writing, is_deleting}
+use Rattle.smb_access.specs.Asked.{FileAsked, asks_folder, asks_file, asks_by_number, asks_delete}
+use Rattle.smb_access.specs.Found.{path_asked, is_file, is_root, is_read_only_file, is_pending, becomes_read_only, is_reached}
+use Rattle.smb_opens.specs.Found.{entry_asked, has_all_opens, has_all_entries}
+use Rattle.smb_access.specs.Sharing.{has_conflict, use_asked}
 use Rattle.smb_opens.specs.State.{StoreState}
-
--- a condition, and the status where it holds
-abbrev pub StatusRow : Type 0
-StatusRow = Bool × ℕ
-
--- the status of the first row that holds, or STATUS_SUCCESS
-abbrev pub first_status : List StatusRow → ℕ
-first_status [] = STATUS_SUCCESS
-first_status (row ∷ rows) = if row.0 then row.1 else first_status rows
+use Rattle.smb_access.specs.StatusRows.{StatusRow, first_status}
 
 -- the access that a request is granted, by the entry that it names (3.3.5.9)
 abbrev pub access_granted : StoreState → FileAsked → Access
 access_granted state ask = granted ask.access (is_read_only_file (entry_asked state ask))
-
--- what a request does to an entry and shares of it: one that overwrites is a writer, whatever it is granted
--- ([MS-FSA] 2.1.5.1.2)
-abbrev pub use_asked : FileAsked → Access → Use
-use_asked ask access =
-    (if overwrites_by ask.disposition then record { 0 = bit_or access.0 FILE_WRITE_DATA } else access, share_asked ask)
 
 -- the request conflicts with an open of the entry
 abbrev pub conflicts : StoreState → FileAsked → Option Entry → Bool

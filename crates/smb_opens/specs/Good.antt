@@ -1,23 +1,18 @@
 -- Good stores: what holds between any two requests.
-use Rattle.std.specs.Prelude.{◌≡◌, ℕ, ◌<◌, ◌≤◌, ◌^◌, true, List, [], length, is_some, false, Some, Contains}
-use Rattle.std.specs.List.{AllByRecursion}
+use Rattle.std.specs.Prelude.{◌≡◌, ℕ, ◌≤◌, true, List, length, false, Some, Contains}
 use Rattle.std.specs.Option.{option_map}
-use Rattle.smb_tree.specs.Entries.{is_folder, is_folder_kind}
-use Rattle.smb_tree.specs.Content.{Row, Content, entry_at, number_at, numbered, parent, used_space}
+use Rattle.smb_tree.specs.Content.{Row, Content}
 use Rattle.smb_tree.specs.Good.{GoodContent}
 use Rattle.smb_locks.specs.declared.lock.Lock.{Lock}
 use Rattle.smb_locks.specs.Good.{GoodLockTable}
 use Rattle.smb_locks.specs.Table.{Table, locks_on}
-use Rattle.smb_opens.specs.declared.open_row.OpenRow.{OpenRow}
-use Rattle.smb_opens.specs.Close.{is_deletable, has_mark}
-use Rattle.smb_opens.specs.Numbers.{AreRising}
-use Rattle.smb_opens.specs.Opens.{open_of, open_numbers, has_open, AreAllBelow}
-use Rattle.smb_opens.specs.Sharing.{AreCompatible}
+use Rattle.smb_access.specs.declared.open_row.OpenRow.{OpenRow}
+use Rattle.smb_access.specs.Close.{is_deletable, has_mark}
+use Rattle.smb_access.specs.Numbers.{AreRising}
+use Rattle.smb_access.specs.Opens.{open_of, open_numbers, has_open, AreAllBelow}
+use Rattle.smb_access.specs.Present.{ArePresent}
+use Rattle.smb_access.specs.Sharing.{AreCompatible}
 use Rattle.smb_opens.specs.State.{StoreState}
-
--- each open's entry stands
-abbrev pub ArePresent : List Row → List OpenRow → Type 0
-ArePresent rows = AllByRecursion (λ row. is_some (numbered rows row.entry) ≡ true)
 
 -- each marked entry can be deleted, so is not the root, and has an open
 abbrev pub AreMarksDue : List Row → List OpenRow → Type 0

@@ -4,27 +4,31 @@ use Rattle.std.specs.Option.{option_map}
 use Rattle.smb_wire.specs.Dispositions.{overwrites_by}
 use Rattle.smb_wire.specs.declared.access.Access.{Access}
 use Rattle.smb_wire.specs.declared.access.ShareAccess.{ShareAccess}
+use Rattle.smb_tree.specs.declared.entry.Kind.{Kind}
 use Rattle.smb_tree.specs.Entries.{Entry}
-use Rattle.smb_tree.specs.Content.{Path, Row, entry_at, numbered, is_same_path, new_content}
+use Rattle.smb_tree.specs.Content.{Path, Row, entry_at, number_at, numbered, is_same_path, new_content}
 use Rattle.smb_wire.specs.NtStatus.{STATUS_SUCCESS}
 use Rattle.smb_locks.specs.declared.lock.Lock.{Lock}
 use Rattle.smb_locks.specs.Ranges.{Overlap}
 use Rattle.smb_locks.specs.Table.{locks_on, others_locks}
-use Rattle.smb_opens.specs.Asked.{FileAsked}
+use Rattle.smb_access.specs.Asked.{FileAsked}
 use Rattle.smb_opens.specs.Bytes.{read_status, file_bytes, write_status, written_to}
 use Rattle.smb_opens.specs.Close.{closed}
 use Rattle.smb_opens.specs.Create.{create_status}
 use Rattle.smb_opens.specs.Effect.{created, create_result}
-use Rattle.smb_opens.specs.Found.{path_asked, entry_asked}
+use Rattle.smb_access.specs.Found.{path_asked}
+use Rattle.smb_opens.specs.Found.{entry_asked}
 use Rattle.smb_opens.specs.Good.{UnmarkedTree, GoodStore}
-use Rattle.smb_opens.specs.Opens.{open_of}
+use Rattle.smb_access.specs.Opens.{open_of}
+use Rattle.smb_access.specs.Rename.{path_named}
+use Rattle.smb_opens.specs.Renames.{renamed_through}
 use Rattle.smb_opens.specs.SetInfo.{delete_set_through, size_set_through, basic_set_through}
-use Rattle.smb_opens.specs.Sharing.{Use, is_conflict}
+use Rattle.smb_access.specs.Sharing.{Use, is_conflict}
 use Rattle.smb_opens.specs.State.{StoreState}
 use Rattle.smb_opens.specs.Steps.{StoreStep, stepped_all, NoneChanges}
 use Rattle.smb_opens.specs.Views.{open_view}
-use Rattle.smb_opens.specs.declared.ask.BasicAsk.{BasicAsk}
-use Rattle.smb_opens.specs.declared.open_row.OpenRow.{OpenRow}
+use Rattle.smb_access.specs.declared.ask.BasicAsk.{BasicAsk}
+use Rattle.smb_access.specs.declared.open_row.OpenRow.{OpenRow}
 
 -- a tree that has the root alone is good, and has no mark
 abbrev pub ANewTreeIsGood : Type 0
@@ -164,3 +168,16 @@ abbrev pub AMarkedEntryIsNotOpened : Type 0
 AMarkedEntryIsNotOpened =
     (state : StoreState) (ask : FileAsked) (entry : Entry) → entry_asked state ask ≡ Some entry → entry.mark ≡ true →
     create_status state ask ≢ STATUS_SUCCESS
+
+-- an entry's kind and bytes, where it exists
+abbrev pub kind_and_bytes : Option Row → Option (Kind × List ℕ)
+kind_and_bytes = option_map (λ row. (row.1.kind, row.1.bytes))
+
+-- a rename leaves all opens and locks, and of every entry the kind and the bytes, but of one that it replaces
+abbrev pub ARenameKeepsBytes : Type 0
+ARenameKeepsBytes =
+    (state : StoreState) (number : ℕ) (name : List ℕ) (moment : ℕ) (row : OpenRow) → GoodStore state → open_of state.opens number ≡ Some row →
+    ((renamed_through state number name moment).opens ≡ state.opens)
+    × ((renamed_through state number name moment).locks ≡ state.locks)
+    × ((entry : ℕ) → (number_at state.tree.rows (path_named name) ≡ Some entry → entry ≡ row.entry) →
+    kind_and_bytes (numbered (renamed_through state number name moment).tree.rows entry) ≡ kind_and_bytes (numbered state.tree.rows entry))

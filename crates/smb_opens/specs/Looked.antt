@@ -1,31 +1,13 @@
 -- For the proofs; nothing here need be believed.
--- What the code looks at once for a CREATE, and the rows of its table over that.
-use Rattle.std.specs.Prelude.{◌==◌, ◌||◌, ◌&&◌, Bool, false, not, nat_lt, List, [], ◌∷◌, ◌++◌, Option, None, Some, slice_index}
-use Rattle.std.specs.Option.{option_map, is_none, is_some}
-use Rattle.smb_wire.specs.Access.{has_any}
-use Rattle.smb_wire.specs.Attributes.{FILE_ATTRIBUTE_READONLY}
-use Rattle.smb_wire.specs.Dispositions.{overwrites_by, must_exist_by, must_be_new_by}
-use Rattle.smb_wire.specs.NtStatus.{STATUS_INVALID_PARAMETER, STATUS_NOT_SUPPORTED, STATUS_OBJECT_NAME_INVALID, STATUS_ACCESS_DENIED, STATUS_OBJECT_PATH_NOT_FOUND, STATUS_DELETE_PENDING, STATUS_OBJECT_NAME_NOT_FOUND, STATUS_OBJECT_NAME_COLLISION, STATUS_FILE_IS_A_DIRECTORY, STATUS_NOT_A_DIRECTORY, STATUS_CANNOT_DELETE, STATUS_SHARING_VIOLATION, STATUS_TOO_MANY_OPENED_FILES, STATUS_DISK_FULL}
-use Rattle.smb_wire.specs.Paths.{is_separator, path_fault}
-use Rattle.smb_tree.specs.Entries.{Entry, is_folder_kind}
+-- What the code looks at once for a CREATE, in a store.
+use Rattle.std.specs.Option.{option_map}
 use Rattle.smb_tree.specs.Content.{Path, entry_at}
-use Rattle.smb_opens.specs.declared.open_row.OpenRow.{OpenRow}
-use Rattle.smb_tree.specs.declared.fault.TreeFault.{TreeFault}
-use Rattle.smb_tree.specs.declared.fault.TreeFault.TheVariants.{Absent, ParentAbsent, Exists, NotEmpty, TooDeep, Full, NoMemory}
-use Rattle.smb_opens.specs.declared.fault.StoreFault.{StoreFault}
-use Rattle.smb_opens.specs.declared.fault.StoreFault.TheVariants.{Status, NoMemory as NoRoom}
-use Rattle.smb_opens.specs.declared.found.Target.{Target}
-use Rattle.smb_opens.specs.declared.found.Found.{Found}
-use Rattle.smb_opens.specs.Access.{is_bad_access, granted, is_writing, is_deleting}
-use Rattle.smb_opens.specs.Asked.{FileAsked, asks_folder, asks_file, asks_by_number, asks_delete, asks_read_only}
-use Rattle.smb_opens.specs.Create.{StatusRow, use_asked}
-use Rattle.smb_opens.specs.Found.{path_asked, is_reached, is_pending, has_all_opens, has_all_entries}
-use Rattle.smb_opens.specs.Sharing.{has_conflict}
+use Rattle.smb_access.specs.declared.found.Found.{Found}
+use Rattle.smb_access.specs.Asked.{FileAsked}
+use Rattle.smb_access.specs.Found.{path_asked, is_reached, is_pending}
+use Rattle.smb_opens.specs.Found.{has_all_opens, has_all_entries}
 use Rattle.smb_opens.specs.State.{StoreState}
-
--- of an entry, what decides
-abbrev pub target_of : Entry → Target
-target_of entry = record { number = entry.number; kind = entry.kind; basic = entry.basic; mark = entry.mark }
+use Rattle.smb_access.specs.Looked.{target_of}
 
 -- what is found at a path: the entry, if any, whether the way to it is one of folders, whether it or its folder is
 -- marked, and whether an open and an entry may be added
@@ -41,92 +23,3 @@ found_at state path = record {
 -- what a request finds
 abbrev pub found_by : StoreState → FileAsked → Found
 found_by state ask = found_at state (path_asked ask)
-
-abbrev pub is_file_target : Option Target → Bool
-is_file_target None = false
-is_file_target (Some target) = not (is_folder_kind target.kind)
-
-abbrev pub is_folder_target : Option Target → Bool
-is_folder_target None = false
-is_folder_target (Some target) = is_folder_kind target.kind
-
-abbrev pub is_read_only_target : Option Target → Bool
-is_read_only_target None = false
-is_read_only_target (Some target) = not (is_folder_kind target.kind) && has_any target.basic.attributes.0 FILE_ATTRIBUTE_READONLY
-
-abbrev pub is_marked_target : Option Target → Bool
-is_marked_target None = false
-is_marked_target (Some target) = target.mark
-
-abbrev pub is_root_target : Option Target → Bool
-is_root_target None = false
-is_root_target (Some target) = target.number == 1
-
-abbrev pub target_becomes_read_only : FileAsked → Option Target → Bool
-target_becomes_read_only ask None = not (asks_folder ask) && asks_read_only ask
-target_becomes_read_only ask (Some target) = not (is_folder_kind target.kind) && overwrites_by ask.disposition && asks_read_only ask
-
-abbrev pub target_conflicts : List OpenRow → FileAsked → Option Target → Bool
-target_conflicts opens ask None = false
-target_conflicts opens ask (Some target) = has_conflict opens target.number (use_asked ask (granted ask.access (is_read_only_target (Some target))))
-
--- the first five rows, which need the request alone
-abbrev pub asked_rows : FileAsked → List StatusRow
-asked_rows ask =
-    (nat_lt 5 ask.disposition, STATUS_INVALID_PARAMETER)
-    ∷ (asks_folder ask && (asks_file ask || overwrites_by ask.disposition), STATUS_INVALID_PARAMETER)
-    ∷ (is_separator (slice_index ask.name 0), STATUS_INVALID_PARAMETER)
-    ∷ (asks_by_number ask, STATUS_NOT_SUPPORTED)
-    ∷ (is_some (path_fault ask.name), STATUS_OBJECT_NAME_INVALID)
-    ∷ []
-
--- rows 6 to 10: whether an entry may be there
-abbrev pub place_rows : FileAsked → Found → List StatusRow
-place_rows ask found = (
-  is_bad_access ask.access || asks_delete ask && not (is_deleting (granted ask.access (is_read_only_target found.target))),
-  STATUS_ACCESS_DENIED,
-)
-    ∷ (not found.reached, STATUS_OBJECT_PATH_NOT_FOUND)
-    ∷ (found.pending, STATUS_DELETE_PENDING)
-    ∷ (is_none found.target && must_exist_by ask.disposition, STATUS_OBJECT_NAME_NOT_FOUND)
-    ∷ (is_some found.target && must_be_new_by ask.disposition, STATUS_OBJECT_NAME_COLLISION)
-    ∷ []
-
--- rows 11 to 14: whether what is asked for suits the entry
-abbrev pub kind_rows : FileAsked → Option Target → List StatusRow
-kind_rows ask target =
-    (is_folder_target target && (asks_file ask || overwrites_by ask.disposition), STATUS_FILE_IS_A_DIRECTORY)
-    ∷ (is_file_target target && asks_folder ask, STATUS_NOT_A_DIRECTORY)
-    ∷ (
-      is_read_only_target target
-          && (overwrites_by ask.disposition || is_writing (granted ask.access (is_read_only_target target))),
-      STATUS_ACCESS_DENIED,
-    )
-    ∷ (
-      asks_delete ask && (is_root_target target || is_read_only_target target || target_becomes_read_only ask target),
-      STATUS_CANNOT_DELETE,
-    )
-    ∷ []
-
--- rows 16 and 17: whether there is room
-abbrev pub room_rows : Found → List StatusRow
-room_rows found =
-    (found.opens_full, STATUS_TOO_MANY_OPENED_FILES)
-    ∷ (is_none found.target && found.entries_full, STATUS_DISK_FULL)
-    ∷ []
-
--- rows 6 to 17, by what was found and the opens
-abbrev pub found_rows : List OpenRow → FileAsked → Found → List StatusRow
-found_rows opens ask found =
-    place_rows ask found
-    ++ (kind_rows ask found.target ++ ((target_conflicts opens ask found.target, STATUS_SHARING_VIOLATION) ∷ room_rows found))
-
--- a refusal of the tree, as the store tells it
-abbrev pub refusal_of : TreeFault → StoreFault
-refusal_of Full = Status STATUS_DISK_FULL
-refusal_of Absent = NoRoom
-refusal_of ParentAbsent = NoRoom
-refusal_of Exists = NoRoom
-refusal_of NotEmpty = NoRoom
-refusal_of TooDeep = NoRoom
-refusal_of NoMemory = NoRoom

@@ -2,7 +2,7 @@
 use Rattle.std.specs.Prelude.{ℕ, List}
 use Rattle.smb_tree.specs.Content.{Content}
 use Rattle.smb_locks.specs.Table.{Table}
-use Rattle.smb_opens.specs.declared.open_row.OpenRow.{OpenRow}
+use Rattle.smb_access.specs.declared.open_row.OpenRow.{OpenRow}
 
 -- the tree, the opens in rising number, the locks of each file, and the number of the next open
 pub record StoreState : Type 0 where

@@ -3,22 +3,24 @@ use Rattle.std.specs.Prelude.{◌≡◌, ℕ, ◌==◌, ◌&&◌, Bool, false, L
 use Rattle.std.specs.Option.{option_map_or}
 use Rattle.smb_wire.specs.Dispositions.{overwrites_by}
 use Rattle.smb_locks.specs.declared.ask.LockAsk.{LockAsk}
-use Rattle.smb_opens.specs.declared.ask.BasicAsk.{BasicAsk}
-use Rattle.smb_opens.specs.declared.open_row.Owner.{Owner}
-use Rattle.smb_opens.specs.Asked.{FileAsked}
+use Rattle.smb_access.specs.declared.ask.BasicAsk.{BasicAsk}
+use Rattle.smb_access.specs.declared.open_row.Owner.{Owner}
+use Rattle.smb_access.specs.Asked.{FileAsked}
 use Rattle.smb_opens.specs.Bytes.{written_to}
 use Rattle.smb_opens.specs.Close.{closed, closed_all}
 use Rattle.smb_opens.specs.Effect.{created}
 use Rattle.smb_opens.specs.Found.{entry_asked}
 use Rattle.smb_opens.specs.Locks.{locked_through, unlocked_through}
-use Rattle.smb_opens.specs.Opens.{is_on_entry, open_of}
+use Rattle.smb_access.specs.Opens.{is_on_entry, open_of}
+use Rattle.smb_opens.specs.Renames.{renamed_through}
 use Rattle.smb_opens.specs.SetInfo.{delete_set_through, size_set_through, basic_set_through}
 use Rattle.smb_opens.specs.State.{StoreState}
 
--- a request that succeeds: a CREATE at a moment; a WRITE of bytes at an offset through the open of a number, at a moment;
--- a LOCK through an open that locks, or one that unlocks; a SET_INFO through an open, of its entry's mark, of its file's
--- size or allocation size at a moment, or of its entry's times and attributes at a moment; the CLOSE of an open; the end
--- of all opens of an owner
+-- a request with what it does where it is performed (an unlock may be refused behind some of its ranges, and is the step
+-- of those before): a CREATE at a moment; a WRITE of bytes at an offset through the open of a number, at a moment; a LOCK
+-- through an open that locks, or one that unlocks; a SET_INFO through an open, of its entry's mark, of its file's size or
+-- allocation size at a moment, of its entry's times and attributes at a moment, or of its entry's name at a moment; the
+-- CLOSE of an open; the end of all opens of an owner
 pub data StoreStep : Type 0 where
   creates : FileAsked → ℕ → StoreStep
   writes : ℕ → ℕ → List ℕ → ℕ → StoreStep
@@ -27,6 +29,7 @@ pub data StoreStep : Type 0 where
   sets_delete : ℕ → Bool → StoreStep
   sets_size : ℕ → ℕ → Bool → ℕ → StoreStep
   sets_basic : ℕ → BasicAsk → ℕ → StoreStep
+  renames : ℕ → List ℕ → ℕ → StoreStep
   closes : ℕ → StoreStep
   closes_all : Owner → StoreStep
 
@@ -39,6 +42,7 @@ stepped state (unlocks number asks) = unlocked_through state number asks
 stepped state (sets_delete number is_deleted) = delete_set_through state number is_deleted
 stepped state (sets_size number size is_allocation moment) = size_set_through state number size is_allocation moment
 stepped state (sets_basic number ask moment) = basic_set_through state number ask moment
+stepped state (renames number name moment) = renamed_through state number name moment
 stepped state (closes number) = closed state number
 stepped state (closes_all owner) = closed_all state owner
 
@@ -46,7 +50,8 @@ abbrev pub stepped_all : StoreState → List StoreStep → StoreState
 stepped_all state [] = state
 stepped_all state (step ∷ steps) = stepped_all (stepped state step) steps
 
--- it writes to the entry of a number, overwrites it, or sets its size
+-- it writes to the entry of a number, overwrites it, or sets its size; a rename changes no bytes, and what it replaces no
+-- longer exists
 abbrev pub is_change_of : ℕ → StoreState → StoreStep → Bool
 is_change_of entry state (creates ask moment) =
     overwrites_by ask.disposition && option_map_or (λ found. found.number == entry) (entry_asked state ask) false
@@ -58,6 +63,7 @@ is_change_of entry state (sets_delete number is_deleted) = false
 is_change_of entry state (sets_size number size is_allocation moment) =
     option_map_or (is_on_entry entry) (open_of state.opens number) false
 is_change_of entry state (sets_basic number ask moment) = false
+is_change_of entry state (renames number name moment) = false
 is_change_of entry state (closes number) = false
 is_change_of entry state (closes_all owner) = false
 

@@ -2,45 +2,16 @@
 
 ghost use Rattle.std.specs.Prelude.{◌≡◌, ◌≢◌, OnOk, OnErr, IfErr};
 ghost use Rattle.smb_wire.specs.NtStatus.{STATUS_SUCCESS};
-ghost use Rattle.smb_opens.specs.Faults.{IsRefusal};
-ghost use Rattle.smb_opens.specs.Locks.{lock_fault_status, lock_status, unlock_status, locked_through, unlocked_through};
-ghost use Rattle.smb_opens.specs.declared.fault.StoreFault.TheVariants.{NoMemory};
-ghost use Rattle.smb_locks.specs.declared.fault.LockFault.TheVariants.{NoMemory as NoLockMemory};
+ghost use Rattle.smb_access.specs.Faults.{IsRefusal};
+ghost use Rattle.smb_opens.specs.Locks.{lock_status, unlock_status, locked_through, unlocked_through};
+ghost use Rattle.smb_access.specs.declared.fault.StoreFault.TheVariants.{NoMemory};
 
-use super::fault::StoreFault;
-use super::open_row::OpenNo;
-use super::opens::Opens;
 use super::store::Store;
-use smb_locks::{LockAsk, LockFault};
+use smb_access::locks::{lock_fault_status, lock_refusal};
+use smb_access::{OpenNo, Opens, StoreFault};
+use smb_locks::LockAsk;
 use smb_tree::Tree;
-use smb_wire::nt_status::{
-    STATUS_FILE_CLOSED, STATUS_INVALID_DEVICE_REQUEST, STATUS_INVALID_LOCK_RANGE,
-    STATUS_INVALID_PARAMETER, STATUS_LOCK_NOT_GRANTED, STATUS_RANGE_NOT_LOCKED,
-};
-
-/// The status by which an element of a LOCK is refused, or all of it for its flags.
-fn lock_fault_status(fault: LockFault) -> u32
-    ensures status { result ≡ lock_fault_status fault }
-    ensures refused { result ≢ STATUS_SUCCESS }
-{
-    match fault {
-        LockFault::BadFlags => STATUS_INVALID_PARAMETER,
-        LockFault::BadRange => STATUS_INVALID_LOCK_RANGE,
-        LockFault::Full | LockFault::NotGranted | LockFault::NoMemory => STATUS_LOCK_NOT_GRANTED,
-        LockFault::NotLocked => STATUS_RANGE_NOT_LOCKED,
-    }
-}
-
-/// The refusal of a LOCK that locks.
-fn lock_refusal(fault: LockFault) -> StoreFault
-    ensures memory { result ≡ NoMemory → fault ≡ NoLockMemory }
-    ensures status { result ≢ NoMemory → (fault ≢ NoLockMemory) × IsRefusal (lock_fault_status fault) result }
-{
-    match fault {
-        LockFault::NoMemory => StoreFault::NoMemory,
-        fault => StoreFault::Status(lock_fault_status(fault)),
-    }
-}
+use smb_wire::nt_status::{STATUS_FILE_CLOSED, STATUS_INVALID_DEVICE_REQUEST};
 
 impl<T: Tree + Drop, O: Opens + Drop> Store<T, O> {
     /// Answers a LOCK through the open of a number that locks ranges of its file ([MS-SMB2] 3.3.5.14.2): all that the

@@ -8,36 +8,36 @@ ghost use Rattle.smb_wire.specs.Units.{units_of};
 ghost use Rattle.smb_tree.specs.Entries.{is_folder_kind};
 ghost use Rattle.smb_tree.specs.Content.{entry_at, parent};
 ghost use Rattle.smb_tree.specs.Faults.{add_fault};
-ghost use Rattle.smb_opens.specs.Access.{granted};
+ghost use Rattle.smb_access.specs.Access.{granted};
 ghost use Rattle.smb_wire.specs.Dispositions.{disposition_code, overwrites_by};
 ghost use Rattle.smb_wire.specs.NtStatus.{STATUS_SUCCESS};
-ghost use Rattle.smb_opens.specs.Asked.{asked};
+ghost use Rattle.smb_access.specs.Asked.{asked};
 ghost use Rattle.smb_opens.specs.Close.{closed, closed_all, is_removed_with};
-ghost use Rattle.smb_opens.specs.Create.{create_status, first_status};
+ghost use Rattle.smb_opens.specs.Create.{create_status};
+ghost use Rattle.smb_access.specs.StatusRows.{first_status};
 ghost use Rattle.smb_opens.specs.Effect.{created, created_by, create_result, create_result_by};
-ghost use Rattle.smb_opens.specs.Faults.{IsRefusal};
-ghost use Rattle.smb_opens.specs.Found.{entry_asked, has_all_opens, has_all_entries, is_marked};
-ghost use Rattle.smb_opens.specs.Looked.{found_at, found_rows, is_read_only_target, target_conflicts, target_of};
+ghost use Rattle.smb_access.specs.Faults.{IsRefusal};
+ghost use Rattle.smb_opens.specs.Found.{entry_asked, has_all_opens, has_all_entries};
+ghost use Rattle.smb_access.specs.Found.{is_marked};
+ghost use Rattle.smb_opens.specs.Looked.{found_at};
+ghost use Rattle.smb_access.specs.Looked.{found_rows, is_read_only_target, target_conflicts, target_of};
 ghost use Rattle.smb_opens.specs.Good.{UnmarkedTree, GoodStore};
-ghost use Rattle.smb_opens.specs.Opens.{open_of, is_held_by};
+ghost use Rattle.smb_access.specs.Opens.{open_of, is_held_by};
 ghost use Rattle.smb_opens.specs.Views.{open_view};
-ghost use Rattle.smb_opens.specs.declared.fault.StoreFault.TheVariants.{NoMemory};
+ghost use Rattle.smb_access.specs.declared.fault.StoreFault.TheVariants.{NoMemory};
 
-use super::access::granted;
-use super::ask::CreateAsk;
-use super::checks::{
+use smb_access::access::granted;
+use smb_access::checks::{
     asked_path, check_kind, check_place, is_folder_target, is_pending, is_read_only_target,
     room_status,
 };
-use super::close::{clear, mark_closed};
-use super::effect::{action_on, affect, attributes_asked, kind_asked, opened_by};
-use super::fault::{StoreFault, refusal_of};
-use super::found::{Found, Target};
-use super::look::{count_entries, entry_view, find_above, find_target};
-use super::open_row::{OpenNo, Owner};
-use super::opens::Opens;
-use super::sharing::conflicts;
-use super::view::{Closed, Created, View};
+use smb_access::close::{clear, mark_closed};
+use smb_access::effect::{action_on, affect, attributes_asked, kind_asked, opened_by};
+use smb_access::fault::refusal_of;
+use smb_access::found::{Found, Target};
+use smb_access::look::{count_entries, entry_view, find_above, find_target};
+use smb_access::sharing::conflicts;
+use smb_access::{Closed, CreateAsk, Created, OpenNo, Opens, Owner, StoreFault, View};
 use smb_locks::LockTable;
 use smb_tree::{EntryNo, Tree};
 use smb_wire::nt_status::{STATUS_SHARING_VIOLATION, STATUS_SUCCESS};

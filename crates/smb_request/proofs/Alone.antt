@@ -1,24 +1,23 @@
--- The end of a connection, seen from the sessions of others.
-use Rattle.std.proofs.Common.{◌≡◌, ◌==◌, ◌<◌, ℕ, Bool, true, false, cond, not, List, [], ◌∷◌, filter, map, Some, refl, sym, ap, arith, ◌∙◌}
+-- A connection that opens or ends, seen from the sessions of others.
+use Rattle.std.proofs.Common.{◌≡◌, ◌==◌, ◌<◌, ℕ, Bool, true, false, cond, not, List, [], ◌∷◌, filter, map, inl, None, Some, refl, sym, ap, arith, ◌∙◌}
 use Rattle.std.proofs.lemmas.Bool.Decides.{nat_tests}
 use Rattle.std.specs.List.{AllByRecursion}
 use Rattle.std.specs.Map.{lookup}
 use Rattle.std.specs.BTreeMap.{is_at}
 use Rattle.std.specs.Ordering.{nat_cmp}
-use Rattle.smb_session.specs.Good.{GoodTable}
-use Rattle.smb_session.specs.Numbers.{IsRising}
+use Rattle.smb_session.specs.Numbers.{contains, IsRising}
 use Rattle.smb_session.specs.Session.{SessionState}
-use Rattle.smb_session.specs.Table.{session_at, numbers_on}
-use Rattle.smb_opens.specs.declared.open_row.OpenRow.{OpenRow}
-use Rattle.smb_opens.specs.declared.open_row.Owner.TheVariants.{Session}
+use Rattle.smb_session.specs.Table.{TableState, session_at, numbers_on, connected}
+use Rattle.smb_session.proofs.Numbers.{equal_back}
+use Rattle.smb_access.specs.declared.open_row.Owner.TheVariants.{Session}
 use Rattle.smb_opens.specs.Close.{closed_all}
-use Rattle.smb_opens.specs.Good.{GoodStore}
-use Rattle.smb_opens.specs.Opens.{is_held_by}
+use Rattle.smb_access.specs.Opens.{is_held_by}
 use Rattle.smb_opens.specs.State.{StoreState}
-use Rattle.smb_opens.proofs.Leaving.{all_left}
-use Rattle.smb_opens.proofs.Rows.{others}
-use Rattle.smb_request.specs.State.{SharedState, closed_with, shared_ended}
+use Rattle.smb_request.specs.Laws.{NumbersInOrder}
+use Rattle.smb_request.specs.State.{SharedState, closed_with, without_connection, shared_opened, shared_ended}
 use Rattle.smb_request.proofs.Numbered.{at_is}
+use Rattle.smb_request.proofs.Numbers.{others_left, order_closed}
+use Rattle.smb_request.proofs.Leaving.{Leaves, LeavesShared, IsSame, leaves_same, other_connection, others_held, none_fewer, opens_of}
 
 -- an entry that is left is found where it was
 kept_at : (p : (ℕ × SessionState) → Bool) (n : ℕ) (session : SessionState) (es : List (ℕ × SessionState)) → ((k : ℕ) → p (k, session) ≡ true) → lookup (is_at (nat_cmp n)) es ≡ Some session → lookup (is_at (nat_cmp n)) (filter p es) ≡ Some session
@@ -29,20 +28,15 @@ kept_at p n session (e ∷ es) k h =
       | false ↦ λ t. (let rest : lookup (is_at (nat_cmp n)) es ≡ Some session = grind (arith, h, t) in let later = kept_at p n session es k rest in grind (arith, t, later))
     ] refl
 
--- opens of another session are left
-pub others_held : (m n : ℕ) (rows : List OpenRow) → (m == n) ≡ false → filter (is_held_by (Session n)) (others (Session m) rows) ≡ filter (is_held_by (Session n)) rows
-others_held m n [] e = refl
-others_held m n (row ∷ rows) e = grind (arith, nat_tests, e, others_held m n rows e)
-
 -- none of these numbers is this one
 abbrev NotAmong : ℕ → List ℕ → Type 0
 NotAmong n = AllByRecursion (λ m. (m == n) ≡ false)
 
-sessions_left : (store : StoreState) (numbers : List ℕ) (n : ℕ) → NotAmong n numbers → GoodStore store → filter (is_held_by (Session n)) (closed_with store numbers).opens ≡ filter (is_held_by (Session n)) store.opens
-sessions_left store [] n none good = refl
-sessions_left store (m ∷ numbers) n none good =
-    let left = all_left store (Session m) good in
-    sessions_left (closed_all store (Session m)) numbers n none.1 left.good ∙ ap (filter (is_held_by (Session n))) left.opens ∙ others_held m n store.opens none.0
+sessions_left : (table : TableState) (store : StoreState) (numbers : List ℕ) (n : ℕ) → NotAmong n numbers → NumbersInOrder table store → opens_of (closed_with store numbers) n ≡ opens_of store n
+sessions_left table store [] n none o = refl
+sessions_left table store (m ∷ numbers) n none o =
+    sessions_left table (closed_all store (Session m)) numbers n none.1 (order_closed table store (Session m) o)
+    ∙ ap (filter (is_held_by (Session n))) (others_left store (Session m) o.opens).opens ∙ others_held m n store.opens (equal_back m n false none.0)
 
 above_all : (n c : ℕ) (es : List (ℕ × SessionState)) → AllByRecursion (λ m. n < m) (map (λ e. e.0) es) → NotAmong n (numbers_on es c)
 above_all n c [] h = tt
@@ -70,12 +64,76 @@ not_among n c session (e ∷ es) r h o =
           elim (e.1.connection == c) as (λ b. NotAmong n (cond b (e.0 ∷ numbers_on es c) (numbers_on es c))) [ true ↦ (apart, later) | false ↦ later ])
     ] refl
 
-pub end_alone : {S : Type 0} (shared : SharedState S) (connection number : ℕ) (session : SessionState) → GoodTable shared.sessions.table → GoodStore shared.store →
-    session_at shared.sessions.table number ≡ Some session → session.connection == connection ≡ false →
-    (session_at (shared_ended shared connection).sessions.table number ≡ Some session)
-    × (filter (is_held_by (Session number)) (shared_ended shared connection).store.opens ≡ filter (is_held_by (Session number)) shared.store.opens)
+-- what is left of a connection's end is in order
+order_with : (table : TableState) (store : StoreState) (numbers : List ℕ) → NumbersInOrder table store → NumbersInOrder table (closed_with store numbers)
+order_with table store [] o = o
+order_with table store (m ∷ numbers) o = order_with table (closed_all store (Session m)) numbers (order_closed table store (Session m) o)
+
+module _ (p : (ℕ × SessionState) → Bool) where
+  all_kept : (P : ℕ → Type 0) (es : List (ℕ × SessionState)) → AllByRecursion (λ e. P e.0) es → AllByRecursion (λ e. P e.0) (filter p es)
+  all_kept P [] h = h
+  all_kept P (e ∷ es) h = elim (p e) as (λ b. AllByRecursion (λ e. P e.0) (cond b (e ∷ filter p es) (filter p es))) [ true ↦ (h.0, all_kept P es h.1) | false ↦ all_kept P es h.1 ]
+
+  numbers_kept : (P : ℕ → Type 0) (es : List (ℕ × SessionState)) → AllByRecursion P (map (λ e. e.0) es) → AllByRecursion P (map (λ e. e.0) (filter p es))
+  numbers_kept P [] h = h
+  numbers_kept P (e ∷ es) h = elim (p e) as (λ b. AllByRecursion P (map (λ e. e.0) (cond b (e ∷ filter p es) (filter p es)))) [ true ↦ (h.0, numbers_kept P es h.1) | false ↦ numbers_kept P es h.1 ]
+
+  rising_kept : (es : List (ℕ × SessionState)) → IsRising (map (λ e. e.0) es) → IsRising (map (λ e. e.0) (filter p es))
+  rising_kept [] h = h
+  rising_kept (e ∷ es) h = elim (p e) as (λ b. IsRising (map (λ e. e.0) (cond b (e ∷ filter p es) (filter p es)))) [ true ↦ (numbers_kept (λ m. e.0 < m) es h.0, rising_kept es h.1) | false ↦ rising_kept es h.1 ]
+
+  none_kept : (n : ℕ) (es : List (ℕ × SessionState)) → lookup (is_at (nat_cmp n)) es ≡ None → lookup (is_at (nat_cmp n)) (filter p es) ≡ None
+  none_kept n [] h = refl
+  none_kept n (e ∷ es) h =
+      elim (is_at (nat_cmp n) e.0) as (λ b. is_at (nat_cmp n) e.0 ≡ b → lookup (is_at (nat_cmp n)) (filter p (e ∷ es)) ≡ None) [
+        | true ↦ λ t. (let q = h in grind (arith, q, t))
+        | false ↦ λ t. (let rest : lookup (is_at (nat_cmp n)) es ≡ None = (let q = h in grind (arith, q, t)) in let later = none_kept n es rest in grind (arith, t, later))
+      ] refl
+
+order_without : (table : TableState) (store : StoreState) (c : ℕ) → NumbersInOrder table store → NumbersInOrder (without_connection table c) store
+order_without table store c o = record {
+  sessions = rising_kept (λ e. not (e.1.connection == c)) table.sessions o.sessions;
+  sessions_given = all_kept (λ e. not (e.1.connection == c)) (λ k. k < table.next) table.sessions o.sessions_given;
+  opens = o.opens;
+  opens_given = o.opens_given;
+}
+
+-- no open comes
+none_comes : (table : TableState) (store : StoreState) (numbers : List ℕ) (n : ℕ) → NumbersInOrder table store → opens_of store n ≡ [] → opens_of (closed_with store numbers) n ≡ []
+none_comes table store [] n o h = h
+none_comes table store (m ∷ numbers) n o h =
+    none_comes table (closed_all store (Session m)) numbers n (order_closed table store (Session m) o)
+    (ap (filter (is_held_by (Session n))) (others_left store (Session m) o.opens).opens ∙ none_fewer (is_held_by (Session n)) (λ row. not (is_held_by (Session m) row)) store.opens h)
+
+pub end_alone : {S : Type 0} (shared : SharedState S) (c n : ℕ) (session : SessionState) → NumbersInOrder shared.sessions.table shared.store → session_at shared.sessions.table n ≡ Some session → session.connection == c ≡ false →
+    IsSame shared.sessions.table shared.store n (shared_ended shared c).sessions.table (shared_ended shared c).store
 unfolding shared_ended
-end_alone shared connection number session table store at other = (
-  kept_at (λ e. not (e.1.connection == connection)) number session shared.sessions.table.sessions (λ k. rw other refl) at,
-  sessions_left shared.store (numbers_on shared.sessions.table.sessions connection) number (not_among number connection session shared.sessions.table.sessions table.sessions at other) store,
+end_alone shared c n session o at other = (
+  kept_at (λ e. not (e.1.connection == c)) n session shared.sessions.table.sessions (λ k. rw other refl) at ∙ sym at,
+  sessions_left shared.sessions.table shared.store (numbers_on shared.sessions.table.sessions c) n (not_among n c session shared.sessions.table.sessions o.sessions at other) o,
 )
+
+pub leaves_end : {S : Type 0} (acts : ℕ → Bool) (c : ℕ) → acts c ≡ true → (shared : SharedState S) → NumbersInOrder shared.sessions.table shared.store → LeavesShared acts shared (shared_ended shared c)
+unfolding shared_ended
+leaves_end acts c a shared o =
+    let table = shared.sessions.table in
+    let numbers = numbers_on table.sessions c in
+    record {
+      order = order_without table (closed_with shared.store numbers) c (order_with table shared.store numbers o);
+      grown = omega arith;
+      alone = λ n session at other. inl (end_alone shared c n session o at (other_connection acts c session.connection a other));
+      over = λ n given none. (none_kept (λ e. not (e.1.connection == c)) n table.sessions none.0, none_comes table shared.store numbers n o none.1);
+    }
+
+-- a connection that opens changes no session
+opened_at : (acts : ℕ → Bool) (table : TableState) (store : StoreState) (c : ℕ) (b : Bool) → contains table.connections c ≡ b → NumbersInOrder table store → Leaves acts table store (connected table c) store
+opened_at acts table store c true t o = rw t (leaves_same acts table store o)
+opened_at acts table store c false t o = rw t (record {
+  order = record { sessions = o.sessions; sessions_given = o.sessions_given; opens = o.opens; opens_given = o.opens_given };
+  grown = omega arith;
+  alone = λ n session at other. inl (refl, refl);
+  over = λ n given none. none;
+})
+
+pub leaves_start : {S : Type 0} (acts : ℕ → Bool) (shared : SharedState S) (c : ℕ) → NumbersInOrder shared.sessions.table shared.store → LeavesShared acts shared (shared_opened shared c)
+leaves_start acts shared c o = opened_at acts shared.sessions.table shared.store c (contains shared.sessions.table.connections c) refl o

@@ -13,7 +13,7 @@ use Rattle.smb_session.specs.Good.{GoodTable}
 use Rattle.smb_session.specs.Sessions.{SessionsState}
 use Rattle.smb_session.specs.Numbers.{without_number}
 use Rattle.smb_request.specs.Settings.{Settings}
-use Rattle.smb_opens.specs.declared.open_row.Owner.TheVariants.{Session}
+use Rattle.smb_access.specs.declared.open_row.Owner.TheVariants.{Session}
 use Rattle.smb_opens.specs.Close.{closed_all}
 use Rattle.smb_opens.specs.State.{StoreState}
 use Rattle.smb_request.specs.State.{SharedState, closed_with, without_connection, shared_ended}

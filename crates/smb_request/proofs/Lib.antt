@@ -1,7 +1,12 @@
 pub mod Numbered
+pub mod Numbers
+pub mod Leaving
 pub mod Owners
+pub mod Configured
 pub mod Endings
 pub mod Sessions
 pub mod Alone
 pub mod Asks
+pub mod SetUp
+pub mod InfoApart
 pub mod Apart

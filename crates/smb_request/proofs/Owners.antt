@@ -15,10 +15,10 @@ use Rattle.smb_session.specs.Setup.{known_session_refusal, setup_refusal, setup_
 use Rattle.smb_session.specs.Good.{GoodTable}
 use Rattle.smb_session.proofs.Numbers.{equal_back, contains-without}
 use Rattle.smb_session.specs.Sessions.{SessionsState, setup_step}
-use Rattle.smb_opens.specs.declared.open_row.OpenRow.{OpenRow}
-use Rattle.smb_opens.specs.declared.open_row.Owner.{Owner}
-use Rattle.smb_opens.specs.declared.open_row.Owner.TheVariants.{Session, Tree}
-use Rattle.smb_opens.specs.Opens.{is_held_by}
+use Rattle.smb_access.specs.declared.open_row.OpenRow.{OpenRow}
+use Rattle.smb_access.specs.declared.open_row.Owner.{Owner}
+use Rattle.smb_access.specs.declared.open_row.Owner.TheVariants.{Session, Tree}
+use Rattle.smb_access.specs.Opens.{is_held_by}
 use Rattle.smb_request.specs.Owners.{has_tree, stands, is_owned, AreOwned}
 use Rattle.smb_request.specs.Held.{opens_left}
 use Rattle.smb_request.proofs.Numbered.{at_is, at_same}

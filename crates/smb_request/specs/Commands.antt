@@ -26,8 +26,8 @@ command_row Cancel = record { needs = Nothing; handling = Passed }
 command_row Echo = record { needs = Nothing; handling = Built }
 command_row QueryDirectory = record { needs = Open; handling = NotBuilt }
 command_row ChangeNotify = record { needs = Open; handling = NotBuilt }
-command_row QueryInfo = record { needs = Open; handling = NotBuilt }
-command_row SetInfo = record { needs = Open; handling = NotBuilt }
+command_row QueryInfo = record { needs = Open; handling = Built }
+command_row SetInfo = record { needs = Open; handling = Built }
 command_row OplockBreak = record { needs = Open; handling = NotBuilt }
 
 -- the command of a request

@@ -8,12 +8,12 @@ use Rattle.smb_body.specs.declared.close.CloseFlags.{CloseFlags}
 use Rattle.smb_body.specs.declared.close.CloseResponse.{CloseResponse}
 use Rattle.smb_body.specs.Create.{CreateAsked}
 use Rattle.smb_body.specs.Replies.{answers_create, answers_close, answers_flush}
-use Rattle.smb_opens.specs.declared.open_row.OpenRow.{OpenRow}
-use Rattle.smb_opens.specs.declared.open_row.Owner.TheVariants.{Tree}
-use Rattle.smb_opens.specs.declared.view.View.{View}
-use Rattle.smb_opens.specs.declared.view.Created.{Created}
-use Rattle.smb_opens.specs.Opens.{open_of, is_held_by}
-use Rattle.smb_opens.specs.Asked.{FileAsked}
+use Rattle.smb_access.specs.declared.open_row.OpenRow.{OpenRow}
+use Rattle.smb_access.specs.declared.open_row.Owner.TheVariants.{Tree}
+use Rattle.smb_access.specs.declared.view.View.{View}
+use Rattle.smb_access.specs.declared.view.Created.{Created}
+use Rattle.smb_access.specs.Opens.{open_of, is_held_by}
+use Rattle.smb_access.specs.Asked.{FileAsked}
 use Rattle.smb_opens.specs.Create.{create_status}
 use Rattle.smb_opens.specs.Effect.{created, create_result}
 use Rattle.smb_opens.specs.Views.{open_view}

@@ -12,15 +12,18 @@ use Rattle.smb_request.specs.declared.outcome.Outcome.{Outcome}
 use Rattle.smb_request.specs.declared.outcome.Outcome.TheVariants.{Succeeded, GoesOn, Failed}
 use Rattle.smb_request.specs.declared.status.Status.{Status}
 use Rattle.smb_session.specs.Table.{TableState}
-use Rattle.smb_opens.specs.declared.open_row.OpenRow.{OpenRow}
-use Rattle.smb_opens.specs.declared.open_row.Owner.TheVariants.{Session}
-use Rattle.smb_opens.specs.Opens.{is_held_by}
+use Rattle.smb_access.specs.declared.open_row.OpenRow.{OpenRow}
+use Rattle.smb_access.specs.declared.open_row.Owner.TheVariants.{Session}
+use Rattle.smb_access.specs.Opens.{is_held_by}
 use Rattle.smb_request.specs.Settings.{Settings, is_lawful}
 use Rattle.smb_request.specs.Owners.{AreOwned}
 
--- what is held of what is shared between calls: the configuration keeps its rules, and each open is owned
-pub record IsSharedKept (settings : Settings) (table : TableState) (opens : List OpenRow) : Type 0 where
+-- what is held of what is shared between calls: the configuration keeps its rules, the share is named and has room as it
+-- says, and each open is owned
+pub record IsSharedKept (settings : Settings) (share : List ℕ) (table : TableState) (capacity : ℕ) (opens : List OpenRow) : Type 0 where
   pub lawful : is_lawful settings ≡ true
+  pub named : share ≡ settings.share
+  pub room : capacity ≡ settings.capacity
   pub owned : AreOwned table opens
 
 -- the opens that are left where a session ended, or none

@@ -1,24 +1,31 @@
 -- What follows from the definitions.
-use Rattle.std.specs.Prelude.{◌≡◌, ◌⊎◌, ℕ, ◌==◌, true, false, List, [], filter, Option, None, Some, is_some}
+use Rattle.std.specs.Prelude.{◌≡◌, ◌⊎◌, ℕ, ◌<◌, ◌==◌, true, false, List, [], filter, map, Option, None, Some, is_some}
+use Rattle.std.specs.List.{AllByRecursion}
 use Rattle.smb_session.specs.Authenticator.{Meaning}
 use Rattle.smb_session.specs.Good.{GoodTable}
+use Rattle.smb_session.specs.Numbers.{IsRising}
 use Rattle.smb_session.specs.Session.{SessionState}
-use Rattle.smb_session.specs.Table.{session_at}
-use Rattle.smb_opens.specs.declared.open_row.Owner.TheVariants.{Session}
+use Rattle.smb_session.specs.Table.{TableState, session_at}
+use Rattle.smb_access.specs.declared.open_row.Owner.TheVariants.{Session}
 use Rattle.smb_opens.specs.Good.{GoodStore}
-use Rattle.smb_opens.specs.Opens.{is_held_by}
+use Rattle.smb_access.specs.Numbers.{AreRising}
+use Rattle.smb_access.specs.Opens.{is_held_by, open_numbers, AreAllBelow}
+use Rattle.smb_opens.specs.State.{StoreState}
 use Rattle.smb_wire.specs.declared.dialect.Dialect.{Dialect}
 use Rattle.smb_request.specs.declared.context.Context.{Context}
 use Rattle.smb_request.specs.Request.{performed}
-use Rattle.smb_request.specs.State.{SharedState, shared_ended}
+use Rattle.smb_request.specs.State.{SharedState, shared_opened, shared_ended}
 
--- the end of a connection leaves each session of another one as it is, with its trees and its opens
-abbrev pub AnEndIsAlone : {S : Type 0} → Meaning S → Type 0
-AnEndIsAlone {S} authenticator =
-    (shared : SharedState S) (connection number : ℕ) (session : SessionState) → GoodTable shared.sessions.table → GoodStore shared.store →
-    session_at shared.sessions.table number ≡ Some session → session.connection == connection ≡ false →
-    (session_at (shared_ended shared connection).sessions.table number ≡ Some session)
-    × (filter (is_held_by (Session number)) (shared_ended shared connection).store.opens ≡ filter (is_held_by (Session number)) shared.store.opens)
+-- the sessions and the opens stand in rising number, and each number was given
+pub record NumbersInOrder (table : TableState) (store : StoreState) : Type 0 where
+  pub sessions : IsRising (map (λ e. e.0) table.sessions)
+  pub sessions_given : AllByRecursion (λ e. e.0 < table.next) table.sessions
+  pub opens : AreRising (open_numbers store.opens)
+  pub opens_given : AreAllBelow store.next store.opens
+
+-- so do those that are shared
+abbrev pub IsInOrder : {S : Type 0} → SharedState S → Type 0
+IsInOrder shared = NumbersInOrder shared.sessions.table shared.store
 
 -- a session is as it was, with its trees and its opens
 abbrev pub IsAsItWas : {S : Type 0} → SharedState S → SharedState S → ℕ → Type 0
@@ -30,12 +37,27 @@ IsAsItWas before after number =
 abbrev pub IsOver : {S : Type 0} → SharedState S → ℕ → Type 0
 IsOver after number = (session_at after.sessions.table number ≡ None) × (filter (is_held_by (Session number)) after.store.opens ≡ [])
 
+-- what is good is in order, and that is kept by a connection that opens or ends, and by a request
+abbrev pub OrderIsKept : {S : Type 0} → Meaning S → Type 0
+OrderIsKept {S} authenticator =
+    ((shared : SharedState S) → GoodTable shared.sessions.table → GoodStore shared.store → IsInOrder shared)
+    × ((shared : SharedState S) (connection : ℕ) → IsInOrder shared → IsInOrder (shared_opened shared connection))
+    × ((shared : SharedState S) (connection : ℕ) → IsInOrder shared → IsInOrder (shared_ended shared connection))
+    × ((connection moment : ℕ) (shared : SharedState S) (dialect : Option Dialect) (context : Context) (request : List ℕ) →
+    IsInOrder shared → IsInOrder (performed authenticator connection moment shared dialect context request).shared)
+
+-- the end of a connection leaves each session of another one as it is, with its trees and its opens
+abbrev pub AnEndIsAlone : {S : Type 0} → Meaning S → Type 0
+AnEndIsAlone {S} authenticator =
+    (shared : SharedState S) (connection number : ℕ) (session : SessionState) → IsInOrder shared →
+    session_at shared.sessions.table number ≡ Some session → session.connection == connection ≡ false →
+    IsAsItWas shared (shared_ended shared connection) number
+
 -- a request on a connection leaves each session of another one as it is; or ends it whole, a finished one, as a
 -- SESSION_SETUP does that names it as the previous session of its user
 abbrev pub ARequestIsAlone : {S : Type 0} → Meaning S → Type 0
 ARequestIsAlone {S} authenticator =
     (connection moment : ℕ) (shared : SharedState S) (dialect : Option Dialect) (context : Context) (request : List ℕ) (number : ℕ) (session : SessionState) →
-    GoodTable shared.sessions.table → GoodStore shared.store →
-    session_at shared.sessions.table number ≡ Some session → session.connection == connection ≡ false →
+    IsInOrder shared → session_at shared.sessions.table number ≡ Some session → session.connection == connection ≡ false →
     IsAsItWas shared (performed authenticator connection moment shared dialect context request).shared number
     ⊎ (IsOver (performed authenticator connection moment shared dialect context request).shared number × (is_some session.user ≡ true))

@@ -9,9 +9,13 @@ pub mod Smb1
 pub mod Session
 pub mod Bytes
 pub mod Locks
+pub mod InfoTypes
+pub mod QueryInfo
+pub mod SetInfo
 pub mod Files
 pub mod Request
 pub mod Held
+pub mod Information
 pub mod InPlace
 pub mod Outcome
 pub mod Commands

@@ -2,7 +2,7 @@
 -- What a command gives, as a response.
 use Rattle.std.specs.Prelude.{◌≡◌, ◌≤◌, length, Option, None, Some}
 use Rattle.smb_wire.specs.declared.dialect.Dialect.{Dialect}
-use Rattle.smb_body.specs.Replies.{ReplyValue, answers_error, answers_session_setup, answers_logoff, answers_tree_connect, answers_tree_disconnect, answers_create, answers_close, answers_flush, answers_read, answers_write, answers_lock, answers_echo}
+use Rattle.smb_body.specs.Replies.{ReplyValue, answers_error, answers_session_setup, answers_logoff, answers_tree_connect, answers_tree_disconnect, answers_create, answers_close, answers_flush, answers_read, answers_write, answers_lock, answers_echo, answers_query_info, answers_set_info}
 use Rattle.smb_session.specs.Authenticator.{Meaning}
 use Rattle.smb_wire.specs.NtStatus.{STATUS_SUCCESS}
 use Rattle.smb_opens.specs.Bytes.{read_status, file_bytes}
@@ -11,13 +11,14 @@ use Rattle.smb_request.specs.declared.context.ResponseIds.{ResponseIds}
 use Rattle.smb_request.specs.declared.outcome.SetupTold.{SetupTold}
 use Rattle.smb_request.specs.declared.outcome.Success.{Success}
 use Rattle.smb_request.specs.declared.outcome.ReadAsk.{ReadAsk}
-use Rattle.smb_request.specs.declared.outcome.Success.TheVariants.{Negotiate, SessionSetup, Logoff, TreeConnect, TreeDisconnect, Create, Close, Flush, Write, Lock, Echo}
+use Rattle.smb_request.specs.declared.outcome.Success.TheVariants.{Negotiate, SessionSetup, Logoff, TreeConnect, TreeDisconnect, Create, Close, Flush, Write, Lock, Echo, SetInfo}
 use Rattle.smb_request.specs.declared.outcome.Outcome.{Outcome}
-use Rattle.smb_request.specs.declared.outcome.Outcome.TheVariants.{Succeeded, Reads, GoesOn, Failed}
+use Rattle.smb_request.specs.declared.outcome.Outcome.TheVariants.{Succeeded, Reads, Informs, GoesOn, Failed}
 use Rattle.smb_request.specs.declared.outcome.Told.{Told}
 use Rattle.smb_request.specs.declared.status.Status.{Status}
 use Rattle.smb_request.specs.declared.status.Status.TheVariants.{MoreProcessingRequired}
 use Rattle.smb_request.specs.Negotiate.{negotiate_answer}
+use Rattle.smb_request.specs.QueryInfo.{written_status}
 use Rattle.smb_request.specs.Session.{tree_response}
 use Rattle.smb_request.specs.State.{SharedState, hello_of}
 use Rattle.smb_request.specs.Response.{ResponseState, RequestStep, with_body, answered}
@@ -39,12 +40,14 @@ success_value authenticator shared Flush = answers_flush
 success_value authenticator shared (Write response) = answers_write response
 success_value authenticator shared Lock = answers_lock
 success_value authenticator shared Echo = answers_echo
+success_value authenticator shared SetInfo = answers_set_info
 
 -- the response to a command, from what is shared after it
 abbrev pub outcome_response : {S : Type 0} → Meaning S → SharedState S → ResponseIds → Outcome → ResponseState
 outcome_response authenticator shared ids (Succeeded told) = with_body ids Status.Success (success_value authenticator shared told)
 outcome_response authenticator shared ids (Reads ask) =
     with_body ids Status.Success (answers_read (file_bytes shared.store ask.open_number ask.offset ask.length))
+outcome_response authenticator shared ids (Informs told) = with_body ids (written_status told.written) (answers_query_info told.bytes.items)
 outcome_response authenticator shared ids (GoesOn told) = with_body ids MoreProcessingRequired (setup_value told)
 outcome_response authenticator shared ids (Failed status) = with_body ids status answers_error
 
@@ -66,9 +69,11 @@ pub record IsReadable {S : Type 0} (shared : SharedState S) (ask : ReadAsk) : Ty
   pub lawful : read_status shared.store ask.open_number ask.offset ask.length ask.minimum_count ≡ STATUS_SUCCESS
   pub there : ask.there ≡ length (file_bytes shared.store ask.open_number ask.offset ask.length)
 
--- what comes of a command can be spelled: a token is short enough for a response, and a READ is answered by bytes
+-- what comes of a command can be spelled: a token, and what a class tells, is short enough for a response, and a READ is
+-- answered by bytes
 abbrev pub CanBeSpelled : {S : Type 0} → SharedState S → Outcome → Type 0
 CanBeSpelled shared (Succeeded told) = IsShortSuccess told
 CanBeSpelled shared (Reads ask) = IsReadable shared ask
+CanBeSpelled shared (Informs told) = length told.bytes.items ≤ 65536
 CanBeSpelled shared (GoesOn told) = length told.token.items ≤ 4096
 CanBeSpelled shared (Failed status) = Unit {0}

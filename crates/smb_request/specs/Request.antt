@@ -25,6 +25,8 @@ use Rattle.smb_request.specs.Session.{session_set_up, session_logged_off, tree_j
 use Rattle.smb_request.specs.Files.{file_created, file_closed, file_flushed, names_open}
 use Rattle.smb_request.specs.Bytes.{file_read, file_written}
 use Rattle.smb_request.specs.Locks.{lock_asks, locks_changed}
+use Rattle.smb_request.specs.QueryInfo.{information_queried}
+use Rattle.smb_request.specs.SetInfo.{information_set}
 use Rattle.smb_request.specs.Commands.{command_row, needs_of, needs_session, needs_tree}
 
 -- the session and the tree that a request acts under: its own, or for a related one those of the request before it
@@ -54,7 +56,7 @@ negotiated authenticator moment shared dialect under dialects = option_map_or
     (answered dialect (refused shared under NotSupported))
 
 module _ {S : Type 0} (authenticator : Meaning S) (connection moment : ℕ) (shared : SharedState S) (dialect : Option Dialect) (under : Under) where
-  -- a command that is not built (those of its requests don't come here) and CANCEL (neither does it)
+  -- QUERY_DIRECTORY, which is not built, and CANCEL: their requests don't come here
   abbrev pub acted_not : RequestStep S
   acted_not = answered dialect (refused shared under NotSupported)
 
@@ -74,8 +76,8 @@ module _ {S : Type 0} (authenticator : Meaning S) (connection moment : ℕ) (sha
   acted (asks_echo asked) = answered dialect (record { shared = shared; response = success under answers_echo })
   acted (asks_cancel asked) = acted_not
   acted (asks_query_directory asked) = acted_not
-  acted (asks_query_info asked) = acted_not
-  acted (asks_set_info asked) = acted_not
+  acted (asks_query_info asked) = answered dialect (information_queried shared under asked.file_id.persistent asked)
+  acted (asks_set_info asked) = answered dialect (information_set moment shared under asked.file_id.persistent asked)
 
   -- a request by what its body says: an unreadable body is refused first, then what doesn't stand
   unfoldable pub by_body : Option RequestValue → RequestStep S

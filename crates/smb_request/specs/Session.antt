@@ -13,8 +13,8 @@ use Rattle.smb_session.specs.declared.fault.SessionFault.{SessionFault}
 use Rattle.smb_session.specs.declared.fault.SessionFault.TheVariants.{UnknownSession, UnknownTree, NoShare, NotAccepted, NoDialect, NoMemory}
 use Rattle.smb_session.specs.declared.setup.SetupStatus.{SetupStatus}
 use Rattle.smb_session.specs.declared.setup.SetupStatus.TheVariants.{Success, MoreProcessingRequired, LogonFailure}
-use Rattle.smb_opens.specs.declared.open_row.Owner.{Owner}
-use Rattle.smb_opens.specs.declared.open_row.Owner.TheVariants.{Session, Tree}
+use Rattle.smb_access.specs.declared.open_row.Owner.{Owner}
+use Rattle.smb_access.specs.declared.open_row.Owner.TheVariants.{Session, Tree}
 use Rattle.smb_opens.specs.Close.{closed_all}
 use Rattle.smb_opens.specs.State.{StoreState}
 use Rattle.smb_request.specs.declared.status.Status.{Status}

@@ -5,7 +5,7 @@ use Rattle.smb_session.specs.Numbers.{without_number}
 use Rattle.smb_session.specs.Table.{TableState, connected, numbers_on}
 use Rattle.smb_session.specs.Sessions.{SessionsState, new_sessions}
 use Rattle.smb_tree.specs.Content.{new_content}
-use Rattle.smb_opens.specs.declared.open_row.Owner.TheVariants.{Session}
+use Rattle.smb_access.specs.declared.open_row.Owner.TheVariants.{Session}
 use Rattle.smb_opens.specs.Close.{closed_all}
 use Rattle.smb_opens.specs.State.{StoreState}
 use Rattle.smb_request.specs.Settings.{Settings}

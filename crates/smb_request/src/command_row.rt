@@ -58,8 +58,8 @@ pub(crate) fn row_of(command: Command) -> Row
         Command::Echo => (Needs::Nothing, Handling::Built),
         Command::QueryDirectory => (Needs::Open, Handling::NotBuilt),
         Command::ChangeNotify => (Needs::Open, Handling::NotBuilt),
-        Command::QueryInfo => (Needs::Open, Handling::NotBuilt),
-        Command::SetInfo => (Needs::Open, Handling::NotBuilt),
+        Command::QueryInfo => (Needs::Open, Handling::Built),
+        Command::SetInfo => (Needs::Open, Handling::Built),
         Command::OplockBreak => (Needs::Open, Handling::NotBuilt),
     };
     Row { needs, handling }

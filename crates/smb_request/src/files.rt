@@ -1,9 +1,9 @@
 //! CREATE and CLOSE ([MS-SMB2] 3.3.5.9, 3.3.5.10).
 
 ghost use Rattle.std.specs.Prelude.{◌≡◌, true, IsSome, IfOk, OnErr};
-ghost use Rattle.smb_opens.specs.Opens.{open_of};
+ghost use Rattle.smb_access.specs.Opens.{open_of};
 ghost use Rattle.smb_body.specs.Create.{create_asked};
-ghost use Rattle.smb_opens.specs.Asked.{asked};
+ghost use Rattle.smb_access.specs.Asked.{asked};
 ghost use Rattle.smb_request.specs.Owners.{stands};
 ghost use Rattle.smb_request.specs.Files.{file_asked, create_response, file_created, names_open, close_response, file_closed};
 ghost use Rattle.smb_request.specs.Outcome.{told_response, CanBeSpelled};

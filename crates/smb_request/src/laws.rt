@@ -1,13 +1,15 @@
 //! The laws of what connections share.
 
-ghost use Rattle.smb_request.specs.Laws.{AnEndIsAlone, ARequestIsAlone};
+ghost use Rattle.smb_request.specs.Laws.{OrderIsKept, AnEndIsAlone, ARequestIsAlone};
 
 use smb_session::Authenticator;
 
 /// The end of a connection leaves each session of another one as it is, with its trees and its opens, and so does a request
-/// on a connection, but for a finished session that a SESSION_SETUP ends whole. This is so with any authenticator: the
-/// contract is the statement, and the body does nothing.
+/// on a connection, but for a finished session that a SESSION_SETUP ends whole. Both take only that the numbers of sessions
+/// and opens are in order, which they keep. This is so with any authenticator: the contract is the statement, and the body
+/// does nothing.
 pub fn laws_of_connections<A: Authenticator>()
+    ensures order { OrderIsKept A.meaning }
     ensures end { AnEndIsAlone A.meaning }
     ensures request { ARequestIsAlone A.meaning }
 {}

@@ -5,8 +5,9 @@
 //! the body, looks whether the session, the tree connect and the open exist that the row asks for, and has the command
 //! give an outcome, which is spelled in one place (`outcome.rt`), straight where the response is sent from. What a
 //! request leaves and what answers it is one definition, `specs/Request.antt`, over the state of `specs/State.antt`,
-//! with the commands' own in `specs/Session.antt` and `specs/Files.antt`. It knows no stream, no chain and no frame:
-//! these are smb_engine's, where the definition of the share goes on.
+//! with the commands' own in `specs/Session.antt`, `specs/Files.antt`, `specs/Bytes.antt`, `specs/Locks.antt`,
+//! `specs/QueryInfo.antt` and `specs/SetInfo.antt`. It knows no stream, no chain and no frame: these are smb_engine's,
+//! where the definition of the share goes on.
 //!
 //! Want of memory is an [`Unanswered`], which tells whether the request was performed.
 #![tactic(auto)]
@@ -16,13 +17,16 @@ mod command_row;
 mod config;
 mod context;
 mod files;
+mod information;
 mod laws;
 mod locks;
 mod negotiate;
 mod outcome;
+mod query_info;
 mod request;
 mod response;
 mod session;
+mod set_info;
 mod shared;
 pub mod smb1;
 mod status;

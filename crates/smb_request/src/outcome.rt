@@ -8,6 +8,7 @@ ghost use Rattle.smb_request.specs.InPlace.{answer_held, answer_behind};
 ghost use Rattle.smb_request.specs.Outcome.{setup_value, success_value, told_response, IsShortSuccess, CanBeSpelled};
 
 use super::context::{ResponseIds, Under};
+use super::information::InformationTold;
 use super::response::{Answered, put_response};
 use super::session::TREE;
 use super::shared::Shared;
@@ -42,6 +43,7 @@ pub(crate) enum Success {
     Write(WriteResponse),
     Lock,
     Echo,
+    SetInfo,
 }
 
 /// A READ that is answered by bytes.
@@ -62,6 +64,8 @@ pub(crate) enum Outcome {
     Succeeded(Success),
     /// STATUS_SUCCESS, with bytes of a file, which go from the file tree straight into the response.
     Reads(ReadAsk),
+    /// STATUS_SUCCESS, or STATUS_BUFFER_OVERFLOW, with what an information class tells.
+    Informs(InformationTold),
     /// STATUS_MORE_PROCESSING_REQUIRED: the client is to send a further token.
     GoesOn(SetupTold),
     /// Another status, with the error body.
@@ -128,6 +132,7 @@ impl<A: Authenticator + Drop, T: Tree + Drop, O: Opens + Drop> Shared<A, T, O> {
             Success::Write(response) => Reply::Write(*response),
             Success::Lock => Reply::Lock,
             Success::Echo => Reply::Echo,
+            Success::SetInfo => Reply::SetInfo,
         }
     }
 
@@ -146,6 +151,7 @@ impl<A: Authenticator + Drop, T: Tree + Drop, O: Opens + Drop> Shared<A, T, O> {
                 put_response(Status::Success, ids, &self.success_reply(success), out)
             }
             Outcome::Reads(ask) => self.put_read(ids, ask, out),
+            Outcome::Informs(told) => put_response(told.status(), ids, &told.reply(), out),
             Outcome::GoesOn(told) => put_response(
                 Status::MoreProcessingRequired,
                 ids,

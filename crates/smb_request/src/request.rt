@@ -164,10 +164,13 @@ impl<A: Authenticator + Drop, T: Tree + Drop, O: Opens + Drop> Shared<A, T, O> {
             }
             Request::Lock(asked) => self.change_locks(under, asked.file_id.persistent, asked),
             Request::Echo(_) => Ok(Told::succeeded(under, Success::Echo)),
-            Request::Cancel(_)
-            | Request::QueryDirectory(_)
-            | Request::QueryInfo(_)
-            | Request::SetInfo(_) => Ok(Told::failed(under, Status::NotSupported)),
+            Request::QueryInfo(asked) => self.query_info(under, asked.file_id.persistent, asked),
+            Request::SetInfo(asked) => {
+                self.set_info(moment, under, asked.file_id.persistent, asked)
+            }
+            Request::Cancel(_) | Request::QueryDirectory(_) => {
+                Ok(Told::failed(under, Status::NotSupported))
+            }
         }
     }
 

@@ -10,15 +10,19 @@ ghost use Rattle.smb_body.specs.Replies.{reply_value, reply_spelling};
 ghost use Rattle.smb_session.specs.Good.{GoodTable};
 ghost use Rattle.smb_session.specs.Sessions.{new_sessions};
 ghost use Rattle.smb_tree.specs.Content.{new_content};
+ghost use Rattle.smb_info.specs.FileSystemInformation.{is_volume_label};
+ghost use Rattle.smb_info.specs.Volumes.{volume_facts};
 ghost use Rattle.smb_opens.specs.Good.{GoodStore};
 ghost use Rattle.smb_request.specs.Settings.{settings_of, is_lawful};
 ghost use Rattle.smb_request.specs.Negotiate.{negotiate_answer};
+ghost use Rattle.smb_request.specs.QueryInfo.{volume_of};
 ghost use Rattle.smb_request.specs.State.{new_shared, hello_of, shared_opened, shared_ended};
 ghost use Rattle.smb_request.specs.Owners.{AreOwned};
 
 use super::config::Config;
 use super::negotiate;
 use smb_body::{Reply, write_reply};
+use smb_info::Volume;
 use smb_opens::{Opens, Owner, Store};
 use smb_session::{Authenticator, Sessions};
 use smb_tree::Tree;
@@ -44,7 +48,7 @@ impl<A: Authenticator + Drop, T: Tree + Drop, O: Opens + Drop> Model for Shared<
 
     ghost view = { λ s. record { settings = settings_of s.config; sessions = s.sessions; store = s.store } };
 
-    ghost invariant = { λ s. IsSharedKept (settings_of s.config) s.sessions.table s.store.opens };
+    ghost invariant = { λ s. IsSharedKept (settings_of s.config) s.sessions.share s.sessions.table s.store.tree.capacity s.store.opens };
 }
 
 /// Adds the bytes of a unit.
@@ -129,6 +133,21 @@ impl<A: Authenticator + Drop, T: Tree + Drop, O: Opens + Drop> Shared<A, T, O> {
         )
     }
 
+    /// The share as a volume.
+    pub(crate) fn volume(&self) -> Volume<'_>
+        ensures facts { volume_facts result ≡ volume_of self.now }
+        ensures label { is_volume_label (volume_of self.now).label ≡ true }
+        ensures used { (volume_of self.now).used ≤ (volume_of self.now).capacity }
+    {
+        self.good();
+        Volume {
+            created: self.config.created,
+            label: self.config.label.as_str(),
+            capacity: self.store.tree().capacity(),
+            used: self.store.tree().used(),
+        }
+    }
+
     /// Lets a connection begin sessions from now on. An error changes nothing.
     pub fn connect(&mut self, connection: u64) -> Result<(), AllocError>
         ensures ok { OnOk result (self.new ≡ shared_opened self.old connection) }
@@ -186,10 +205,12 @@ impl<A: Authenticator + Drop, T: Tree + Drop, O: Opens + Drop> Shared<A, T, O> {
         }
     }
 
-    /// The configuration keeps its rules, the sessions and the files are good, and each open is owned. (The body
-    /// does nothing.)
+    /// The configuration keeps its rules, the share has its name and its capacity, the sessions and the files are good,
+    /// and each open is owned. (The body does nothing.)
     pub fn good(&self)
         ensures lawful { is_lawful self.now.settings ≡ true }
+        ensures named { self.now.sessions.share ≡ self.now.settings.share }
+        ensures room { self.now.store.tree.capacity ≡ self.now.settings.capacity }
         ensures sessions { GoodTable self.now.sessions.table }
         ensures store { GoodStore self.now.store }
         ensures owned { AreOwned self.now.sessions.table self.now.store.opens }

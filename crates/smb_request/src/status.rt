@@ -4,15 +4,19 @@ ghost use Rattle.std.specs.Prelude.{◌≡◌};
 ghost use Rattle.smb_request.specs.Status.{status_code};
 
 use smb_wire::nt_status::{
-    STATUS_BAD_NETWORK_NAME, STATUS_FILE_CLOSED, STATUS_INVALID_PARAMETER, STATUS_LOGON_FAILURE,
-    STATUS_MORE_PROCESSING_REQUIRED, STATUS_NETWORK_NAME_DELETED, STATUS_NOT_SUPPORTED,
-    STATUS_REQUEST_NOT_ACCEPTED, STATUS_SUCCESS, STATUS_USER_SESSION_DELETED,
+    STATUS_BAD_NETWORK_NAME, STATUS_BUFFER_OVERFLOW, STATUS_FILE_CLOSED,
+    STATUS_INFO_LENGTH_MISMATCH, STATUS_INVALID_INFO_CLASS, STATUS_INVALID_PARAMETER,
+    STATUS_LOGON_FAILURE, STATUS_MORE_PROCESSING_REQUIRED, STATUS_NETWORK_NAME_DELETED,
+    STATUS_NOT_SUPPORTED, STATUS_REQUEST_NOT_ACCEPTED, STATUS_SUCCESS, STATUS_USER_SESSION_DELETED,
 };
 
 /// An NTSTATUS that the share answers.
 #[derive(Clone, Copy, Debug, PartialEq, Eq)]
 pub enum Status {
     Success,
+    BufferOverflow,
+    InvalidInfoClass,
+    InfoLengthMismatch,
     InvalidParameter,
     MoreProcessingRequired,
     LogonFailure,
@@ -33,6 +37,9 @@ impl Status {
     {
         match self {
             Status::Success => STATUS_SUCCESS,
+            Status::BufferOverflow => STATUS_BUFFER_OVERFLOW,
+            Status::InvalidInfoClass => STATUS_INVALID_INFO_CLASS,
+            Status::InfoLengthMismatch => STATUS_INFO_LENGTH_MISMATCH,
             Status::InvalidParameter => STATUS_INVALID_PARAMETER,
             Status::MoreProcessingRequired => STATUS_MORE_PROCESSING_REQUIRED,
             Status::LogonFailure => STATUS_LOGON_FAILURE,

@@ -127,13 +127,14 @@ pub trait Tree {
     /// [`Absent`](TreeFault::Absent) where no entry has the number, [`ParentAbsent`](TreeFault::ParentAbsent) where
     /// no folder stands around the path, or it is the entry or lies beneath it, [`Exists`](TreeFault::Exists) where
     /// another folder stands at the path, [`TooDeep`](TreeFault::TooDeep) where an entry would have a path of more
-    /// than 32 components, [`NoMemory`](TreeFault::NoMemory) where an allocation is refused.
+    /// than 32 components; [`NoMemory`](TreeFault::NoMemory) where an allocation is refused, and none of these holds.
     fn move_entry(&mut self, number: EntryNo, path: &PathView<'_>) -> Result<(), TreeFault>
         requires { number ≢ 1 }
         ensures ok { OnOk result (content self.new ≡ moved (content self.old) number (parts_of path.now)) }
         ensures lawful { OnOk result (move_fault (content self.old) number (folded_path (parts_of path.now)) ≡ None) }
         ensures err { OnErr result (content self.new ≡ content self.old) }
-        ensures why { IfErr result (λ fault. fault ≢ NoMemory → move_fault (content self.old) number (folded_path (parts_of path.now)) ≡ Some fault) };
+        ensures why { IfErr result (λ fault. fault ≢ NoMemory → move_fault (content self.old) number (folded_path (parts_of path.now)) ≡ Some fault) }
+        ensures memory { IfErr result (λ fault. fault ≡ NoMemory → move_fault (content self.old) number (folded_path (parts_of path.now)) ≡ None) };
 
     /// Adds the bytes of a file from an offset on, at most `count`, behind those of a vector; past the file's
     /// end there are none. They are copied once. After a refusal the vector holds what it held.

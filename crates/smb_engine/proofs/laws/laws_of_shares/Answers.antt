@@ -1,5 +1,6 @@
 use Rattle.smb_engine.proofs.Ends.{an_end_is_the_last}
 use Rattle.smb_engine.proofs.Order.{good_in_order, run_in_order, others_left}
+use Rattle.smb_engine.proofs.Sessions.{good_numbers, run_numbers, sessions_left, over_stays}
 use Rattle.smb_engine.proofs.Cuts.{cuts_do_not_matter, however_cut, run_goes_on, run_stays, unread_is_enough}
 use Rattle.smb_engine.proofs.laws.laws_of_shares.Goals as goal
 
@@ -20,6 +21,15 @@ returns-clause-unread g c = unread_is_enough g.A.Authenticator.meaning
 
 pub returns-clause-alone : goal.returns-clause-alone
 returns-clause-alone g c = others_left g.A.Authenticator.meaning
+
+pub returns-clause-numbers : goal.returns-clause-numbers
+returns-clause-numbers g c = (good_numbers g.A.Authenticator.meaning, run_numbers g.A.Authenticator.meaning)
+
+pub returns-clause-sessions : goal.returns-clause-sessions
+returns-clause-sessions g c = sessions_left g.A.Authenticator.meaning
+
+pub returns-clause-over : goal.returns-clause-over
+returns-clause-over g c = over_stays g.A.Authenticator.meaning
 
 pub returns-clause-last : goal.returns-clause-last
 returns-clause-last g c = λ s o events connection. an_end_is_the_last g.A.Authenticator.meaning connection s events o

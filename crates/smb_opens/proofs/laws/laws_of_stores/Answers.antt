@@ -3,15 +3,16 @@ use Rattle.smb_tree.specs.Content.{numbered}
 use Rattle.smb_opens.proofs.Again.{others_left, opens_left, entry_there}
 use Rattle.smb_opens.proofs.Barred.{kept_out, writers_out, no_two_locks, own_locks}
 use Rattle.smb_opens.proofs.Quiet.{read_later}
-use Rattle.smb_opens.proofs.Rows.{found}
+use Rattle.smb_access.proofs.Rows.{found}
 use Rattle.smb_opens.proofs.OnePath.{new_tree, one_path, opened_leaves}
 use Rattle.smb_opens.proofs.Conflicts.{conflict_mutual}
-use Rattle.smb_opens.proofs.Mores.{more_conflicts}
+use Rattle.smb_access.proofs.Mores.{more_conflicts}
 use Rattle.smb_opens.proofs.Elsewhere.{closed_elsewhere, closed_here}
 use Rattle.smb_opens.proofs.Returned.{returned_shown}
+use Rattle.smb_opens.proofs.RenameLaws.{rename_keeps}
 use Rattle.smb_opens.proofs.SetLaws.{leaves_others, times_set, mark_set, front, not_opened}
 use Rattle.smb_opens.proofs.StoreSettings.{size_keeps}
-use Rattle.smb_opens.specs.SetInfo.{size_set}
+use Rattle.smb_access.specs.SetInfo.{size_set}
 use Rattle.smb_opens.proofs.laws.laws_of_stores.Goals as goal
 
 pub returns : goal.returns
@@ -37,4 +38,5 @@ returns c = record {
   size_set = λ state number size is_allocation moment row one. leaves_others (size_set size is_allocation moment) state number row (size_keeps size is_allocation moment).number one;
   front = front;
   not_opened = not_opened;
+  renamed = rename_keeps;
 }

@@ -1,10 +1,18 @@
-use Rattle.smb_request.proofs.Alone.{end_alone}
-use Rattle.smb_request.proofs.Apart.{request_alone}
+use Rattle.std.specs.Prelude.{true, refl}
+use Rattle.smb_request.proofs.Alone.{end_alone, leaves_start, leaves_end}
+use Rattle.smb_request.proofs.Apart.{request_alone, request_order}
+use Rattle.smb_request.proofs.Numbers.{order_good}
 use Rattle.smb_request.proofs.laws.laws_of_connections.Goals as goal
 
 pub returns : goal.returns
 returns g c = record {
-  end = λ shared connection number session table store at other. end_alone shared connection number session table store at other;
-  request = λ connection moment shared dialect context request number session table store at other.
-      request_alone g.A.Authenticator.meaning connection moment shared dialect context request number session (record { table = table; store = store; at_number = at; other = other });
+  order = (
+    (λ shared table store. order_good shared.sessions.table shared.store table store),
+    (λ shared connection o. (leaves_start (λ x. true) shared connection o).order),
+    (λ shared connection o. (leaves_end (λ x. true) connection refl shared o).order),
+    (λ connection moment shared dialect context request o. request_order g.A.Authenticator.meaning connection moment shared dialect context request o),
+  );
+  end = λ shared connection number session o at other. end_alone shared connection number session o at other;
+  request = λ connection moment shared dialect context request number session o at other.
+      request_alone g.A.Authenticator.meaning connection moment shared dialect context request number session o at other;
 }

@@ -1,8 +1,9 @@
 use Rattle.std.proofs.Common.{◌≡◌, ◌-◌, true, false, Some, refl, arith, sym, ap, subst, ◌∙◌}
 use Rattle.std.specs.Option.{option_copied}
 use Rattle.smb_tree.specs.Content.{Content}
-use Rattle.smb_opens.specs.Close.{has_mark, is_deletable, closed, is_removed_with}
-use Rattle.smb_opens.specs.Opens.{open_of}
+use Rattle.smb_access.specs.Close.{has_mark, is_deletable}
+use Rattle.smb_opens.specs.Close.{closed, is_removed_with}
+use Rattle.smb_access.specs.Opens.{open_of}
 use Rattle.smb_opens.specs.State.{StoreState}
 use Rattle.smb_opens.proofs.Closing.{tree_marked_marked, kept_closed_by, closed_by, removed_by, no_view}
 use Rattle.smb_opens.proofs.Held.{none_elsewhere}

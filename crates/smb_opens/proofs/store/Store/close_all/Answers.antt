@@ -1,9 +1,9 @@
 use Rattle.std.proofs.Common.{sym, ap, ◌∙◌, arith}
-use Rattle.smb_opens.specs.Opens.{first_held_by}
+use Rattle.smb_access.specs.Opens.{first_held_by}
 use Rattle.smb_opens.specs.State.{StoreState}
 use Rattle.smb_opens.proofs.Closing.{good_closed, opens_closed}
 use Rattle.smb_opens.proofs.Kept.{closed_first, closed_last, some_of}
-use Rattle.smb_opens.proofs.Rows.{others, first_stands, length-without, others_closed, others_all}
+use Rattle.smb_access.proofs.Rows.{others, first_stands, length-without, others_closed, others_all}
 use Rattle.smb_opens.proofs.store.Store.close_all.Goals as goal
 
 pub close-requires : goal.close-requires

@@ -1,7 +1,7 @@
 use Rattle.std.proofs.Common.{◌≡◌, length}
 use Rattle.smb_opens.specs.Close.{closed_all}
 use Rattle.smb_opens.specs.Good.{GoodStore}
-use Rattle.smb_opens.proofs.Rows.{others}
+use Rattle.smb_access.proofs.Rows.{others}
 use Rattle.smb_opens.proofs.store.Store.close_all.Given as goal
 
 abbrev pub invariant-loop-number : goal.invariant-loop-number

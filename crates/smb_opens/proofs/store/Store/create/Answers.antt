@@ -3,7 +3,7 @@ use Rattle.std.specs.Prelude.{OnOk, IfOk}
 use Rattle.smb_wire.specs.declared.access.Access.{Access}
 use Rattle.smb_wire.specs.Paths.{folded_path}
 use Rattle.smb_wire.specs.PathViews.{parts_of}
-use Rattle.smb_opens.specs.Asked.{asked}
+use Rattle.smb_access.specs.Asked.{asked}
 use Rattle.smb_opens.specs.Effect.{created_by, create_result_by}
 use Rattle.smb_opens.specs.Found.{entry_asked}
 use Rattle.smb_opens.proofs.Passing.{access_found, status_told, refused_memory, lawful_ok, free_found, room_found, above_found, alone_found, file_found, absent_found}

@@ -4,11 +4,12 @@ use Rattle.smb_wire.specs.Paths.{folded_path}
 use Rattle.smb_wire.specs.PathViews.{parts_of}
 use Rattle.smb_tree.specs.Content.{entry_at, parent}
 use Rattle.smb_tree.specs.Faults.{add_fault}
-use Rattle.smb_opens.specs.Asked.{asked}
-use Rattle.smb_opens.specs.Found.{has_all_opens, is_marked}
+use Rattle.smb_access.specs.Asked.{asked}
+use Rattle.smb_opens.specs.Found.{has_all_opens}
+use Rattle.smb_access.specs.Found.{is_marked}
 use Rattle.smb_opens.specs.State.{StoreState}
-use Rattle.smb_opens.specs.declared.open_row.OpenRow.{OpenRow}
-use Rattle.smb_opens.proofs.Counts.{end_some}
+use Rattle.smb_access.specs.declared.open_row.OpenRow.{OpenRow}
+use Rattle.smb_access.proofs.Counts.{end_some}
 use Rattle.smb_opens.proofs.Made.{undone, kept_undone, good_added, kept_added, shown_added, told_added, no_view, no_number}
 use Rattle.smb_opens.proofs.store.Store.create_new.Goals as goal
 

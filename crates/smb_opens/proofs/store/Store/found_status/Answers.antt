@@ -1,6 +1,6 @@
 use Rattle.std.proofs.Common.{sym, ap, ◌∙◌}
-use Rattle.smb_opens.specs.Asked.{asked}
-use Rattle.smb_opens.specs.Looked.{target_conflicts}
+use Rattle.smb_access.specs.Asked.{asked}
+use Rattle.smb_access.specs.Looked.{target_conflicts}
 use Rattle.smb_opens.specs.State.{StoreState}
 use Rattle.smb_opens.proofs.Passing.{conflicting, roomy}
 use Rattle.smb_opens.proofs.store.Store.found_status.Goals as goal

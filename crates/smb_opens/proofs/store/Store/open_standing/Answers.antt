@@ -1,13 +1,14 @@
 use Rattle.std.proofs.Common.{Some, ap, ◌∙◌}
 use Rattle.std.specs.Option.{option_map}
-use Rattle.smb_opens.specs.Access.{granted}
-use Rattle.smb_opens.specs.Asked.{asked}
-use Rattle.smb_opens.specs.Effect.{action_on}
-use Rattle.smb_opens.specs.Found.{has_all_opens, path_asked, entry_asked}
-use Rattle.smb_opens.specs.Looked.{target_of, target_conflicts}
+use Rattle.smb_access.specs.Access.{granted}
+use Rattle.smb_access.specs.Asked.{asked}
+use Rattle.smb_access.specs.Effect.{action_on}
+use Rattle.smb_opens.specs.Found.{has_all_opens, entry_asked}
+use Rattle.smb_access.specs.Found.{path_asked}
+use Rattle.smb_access.specs.Looked.{target_of, target_conflicts}
 use Rattle.smb_opens.specs.State.{StoreState}
-use Rattle.smb_opens.specs.declared.open_row.OpenRow.{OpenRow}
-use Rattle.smb_opens.specs.declared.found.Target.{Target}
+use Rattle.smb_access.specs.declared.open_row.OpenRow.{OpenRow}
+use Rattle.smb_access.specs.declared.found.Target.{Target}
 use Rattle.smb_opens.proofs.Made.{alone_opened, undone, kept_undone, target_entry, target_numbered, good_standing, shown_standing, kept_standing, told_standing, made_standing, no_view}
 use Rattle.smb_opens.proofs.store.Store.open_standing.Goals as goal
 

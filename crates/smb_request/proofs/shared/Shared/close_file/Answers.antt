@@ -1,7 +1,8 @@
-use Rattle.std.proofs.Common.{◌≡◌, not, true, is_some, IsSome, sym, subst}
-use Rattle.smb_opens.specs.Opens.{has_number, open_of}
+use Rattle.std.proofs.Common.{◌≡◌, not, true, is_some, IsSome, sym, subst, ◌∙◌}
+use Rattle.smb_access.specs.Opens.{has_number, open_of}
 use Rattle.smb_opens.proofs.Closing.{opens_closed}
 use Rattle.smb_request.proofs.Numbered.{is_there}
+use Rattle.smb_request.proofs.Configured.{closed_kept}
 use Rattle.smb_request.proofs.Owners.{owned_some}
 use Rattle.smb_request.proofs.shared.Shared.close_file.Goals as goal
 
@@ -12,5 +13,7 @@ invariant_of-self g c =
     rw (c.close-closed.ensures.store, opens_closed c.self.inside.store c.args.open_number there)
     (record {
       lawful = c.self.invariant.lawful;
+      named = c.self.invariant.named;
+      room = closed_kept c.self.inside.store c.args.open_number ∙ c.self.invariant.room;
       owned = owned_some c.self.inside.sessions.table (λ row. not (has_number c.args.open_number row)) c.self.inside.store.opens c.self.invariant.owned;
     })

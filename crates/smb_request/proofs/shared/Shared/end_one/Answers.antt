@@ -1,4 +1,8 @@
-use Rattle.std.proofs.Common.{length, ap, arith}
+use Rattle.std.proofs.Common.{length, ap, arith, ◌∙◌}
+use Rattle.smb_session.specs.Sessions.{SessionsState}
+use Rattle.smb_access.specs.declared.open_row.Owner.TheVariants.{Session}
+use Rattle.smb_opens.specs.State.{StoreState}
+use Rattle.smb_request.proofs.Configured.{all_kept}
 use Rattle.smb_request.specs.Settings.{settings_of}
 use Rattle.smb_request.proofs.Endings.{ended_one, ended_none, ended_same, ended_first, shared_one, shared_none}
 use Rattle.smb_request.proofs.Owners.{owned_same, owned_ended}
@@ -28,6 +32,8 @@ invariant_of-self g c =
     let step = rw c.in_default.is at c.end_connection.ensures.table in
     record {
       lawful = c.self.invariant.lawful;
+      named = ap (λ (s : SessionsState g.row.A.Denot). s.share) c.end_connection.ensures.kept ∙ c.self.invariant.named;
+      room = c.self.invariant.room;
       owned = owned_same c.self.inside.sessions.table c.end_connection.new.self.table c.self.inside.store.opens
           (ended_same c.self.inside.sessions.table c.end_connection.new.self.table c.args.connection step) c.self.invariant.owned;
     }
@@ -35,4 +41,9 @@ invariant_of-self g c =
 pub invariant_of-self-2 : goal.invariant_of-self-2
 invariant_of-self-2 g c =
     rw (c.close_all.ensures.left, ended_first c.self.inside.sessions.table c.end_connection.new.self.table c.args.connection c.in-Some.session c.in-Some.ensures.table)
-    (record { lawful = c.self.invariant.lawful; owned = owned_ended c.self.inside.sessions.table c.in-Some.session c.self.inside.store.opens c.self.invariant.owned })
+    (record {
+      lawful = c.self.invariant.lawful;
+      named = ap (λ (s : SessionsState g.row.A.Denot). s.share) c.end_connection.ensures.kept ∙ c.self.invariant.named;
+      room = ap (λ (s : StoreState). s.tree.capacity) c.close_all.ensures.store ∙ all_kept c.self.inside.store (Session c.in-Some.session) ∙ c.self.invariant.room;
+      owned = owned_ended c.self.inside.sessions.table c.in-Some.session c.self.inside.store.opens c.self.invariant.owned;
+    })

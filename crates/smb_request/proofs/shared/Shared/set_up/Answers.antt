@@ -2,6 +2,8 @@ use Rattle.std.proofs.Common.{sym, ap, subst, ◌∙◌}
 use Rattle.smb_session.specs.Sessions.{SetupStep}
 use Rattle.smb_request.specs.Owners.{AreOwned}
 use Rattle.smb_request.specs.Held.{opens_left}
+use Rattle.smb_opens.specs.State.{StoreState}
+use Rattle.smb_request.proofs.Configured.{ended_kept}
 use Rattle.smb_request.proofs.Owners.{owned_setup}
 use Rattle.smb_request.proofs.Sessions.{setup-connections}
 use Rattle.smb_request.proofs.shared.Shared.set_up.Goals as goal
@@ -17,5 +19,7 @@ invariant_of-self-2 g c =
     rw c.close_ended.ensures.left
     (record {
       lawful = c.self.invariant.lawful;
+      named = ap (λ (s : SetupStep g.row.A.Denot). s.state.share) step ∙ c.self.invariant.named;
+      room = ap (λ (s : StoreState). s.tree.capacity) c.close_ended.ensures.store ∙ ended_kept c.self.inside.store _ ∙ c.self.invariant.room;
       owned = subst (λ (s : SetupStep g.row.A.Denot). AreOwned s.state.table (opens_left s.told.ended c.self.inside.store.opens)) (sym step) owned;
     })

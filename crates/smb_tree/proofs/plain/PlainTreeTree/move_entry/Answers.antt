@@ -1,7 +1,9 @@
 use Rattle.std.proofs.Common.{◌≡◌, ℕ, List, sym, ap, ◌∙◌, arith}
+use Rattle.std.specs.Prelude.{Result, Ok, Err, IfErr}
 use Rattle.smb_wire.specs.PathViews.{parts_of}
 use Rattle.smb_wire.specs.Paths.{folded_path}
 use Rattle.smb_tree.specs.Content.{Path, Row, entry_at}
+use Rattle.smb_tree.specs.declared.fault.TreeFault.TheVariants.{NoMemory}
 use Rattle.smb_tree.specs.Moves.{renamed, without_other}
 use Rattle.smb_tree.specs.Plain.{row_of, rows_of}
 use Rattle.smb_tree.specs.Tree.{content_kept}
@@ -61,3 +63,12 @@ pub returns-clause-lawful : goal.returns-clause-lawful
 returns-clause-lawful c =
     let found = place_found c.self.inside.entries.items c.args.number c.in-Some.i c.index.result.now (c.in-Some.ensures.place _ c.index.ensures) in
     rw (← c.self.view_is) (fault_found (content_kept c.self.inside) c.args.number (row_of c.index.result.now) (folded_path (parts_of c.path_of-from.result)) (folded_path (parts_of c.args.path.now)) c.move_fault.result found (ap folded_path c.path_of-from.ensures) c.move_fault.ensures ∙ c.in_default-move_fault.is)
+
+refused_by : {X E P : Type 0} (r : Result X E) (Q : E → Type 0) → P → IfErr r (λ e. Q e → P)
+refused_by (Ok x) Q p = tt
+refused_by (Err e) Q p = λ _. p
+
+pub returns-in_err-texts-clause-memory : goal.returns-in_err-texts-clause-memory
+returns-in_err-texts-clause-memory c =
+    let found = place_found c.self.inside.entries.items c.args.number c.in-Some.i c.index.result.now (c.in-Some.ensures.place _ c.index.ensures) in
+    refused_by c.from_residual.result (λ fault. fault ≡ NoMemory) (rw (← c.self.view_is) (fault_found (content_kept c.self.inside) c.args.number (row_of c.index.result.now) (folded_path (parts_of c.path_of-from.result)) (folded_path (parts_of c.args.path.now)) c.move_fault.result found (ap folded_path c.path_of-from.ensures) c.move_fault.ensures ∙ c.in_default-move_fault.is))

@@ -1,0 +1,17 @@
+pub mod Keyed
+pub mod Rows
+pub mod Trees
+pub mod Counts
+pub mod Changes
+pub mod Removed
+pub mod Marks
+pub mod Seen
+pub mod Mores
+pub mod Closing
+pub mod Overwrites
+pub mod Writes
+pub mod Settings
+pub mod Above
+pub mod Under
+pub mod Looks
+pub mod Renaming

@@ -1,0 +1,255 @@
+//! The rows of CREATE's table ([MS-SMB2] 3.3.5.9).
+
+ghost use Rattle.std.specs.Prelude.{◌||◌, ◌&&◌, not, ◌≡◌, ◌≢◌, ◌++◌, List, None, slice_index, IfOk, IfErr, OnOk};
+ghost use Rattle.smb_wire.specs.Paths.{is_separator, path_fault, path_spelled};
+ghost use Rattle.smb_wire.specs.PathViews.{parts_of};
+ghost use Rattle.smb_wire.specs.Units.{units_of};
+ghost use Rattle.smb_access.specs.Asked.{asked, asks_folder, asks_file, asks_by_number, asks_delete, asks_read_only};
+ghost use Rattle.smb_wire.specs.Dispositions.{disposition_code};
+ghost use Rattle.smb_wire.specs.NtStatus.{STATUS_SUCCESS};
+ghost use Rattle.smb_access.specs.Access.{is_bad_access, is_deleting, granted};
+ghost use Rattle.smb_access.specs.StatusRows.{StatusRow, first_status};
+ghost use Rattle.smb_access.specs.Looked.{asked_rows, place_rows, kind_rows, room_rows, is_file_target, is_folder_target, is_read_only_target, is_marked_target, is_root_target, target_becomes_read_only};
+
+use super::access::{granted, is_bad_access, is_deleting, is_writing};
+use super::ask::CreateAsk;
+use super::found::{Found, ROOT, Target};
+use bitflags::Flags;
+use smb_wire::nt_status::{
+    STATUS_ACCESS_DENIED, STATUS_CANNOT_DELETE, STATUS_DELETE_PENDING, STATUS_DISK_FULL,
+    STATUS_FILE_IS_A_DIRECTORY, STATUS_INVALID_PARAMETER, STATUS_NOT_A_DIRECTORY,
+    STATUS_NOT_SUPPORTED, STATUS_OBJECT_NAME_COLLISION, STATUS_OBJECT_NAME_INVALID,
+    STATUS_OBJECT_NAME_NOT_FOUND, STATUS_OBJECT_PATH_NOT_FOUND, STATUS_SUCCESS,
+    STATUS_TOO_MANY_OPENED_FILES,
+};
+use smb_wire::{CreateDisposition, CreateOptions, FileAttributes, PathView, Units, split_path};
+
+const SEPARATOR: u16 = 0x5C;
+
+/// Whether a folder is asked for.
+pub fn asks_folder(ask: &CreateAsk<'_>) -> bool
+    ensures { result ≡ asks_folder (asked ask.now) }
+{
+    ask.options.intersects(CreateOptions::DIRECTORY_FILE)
+}
+
+// Whether a file is asked for.
+fn asks_file(ask: &CreateAsk<'_>) -> bool
+    ensures { result ≡ asks_file (asked ask.now) }
+{
+    ask.options.intersects(CreateOptions::NON_DIRECTORY_FILE)
+}
+
+// Whether an entry is asked for by its number.
+fn asks_by_number(ask: &CreateAsk<'_>) -> bool
+    ensures { result ≡ asks_by_number (asked ask.now) }
+{
+    ask.options.intersects(CreateOptions::OPEN_BY_FILE_ID)
+}
+
+/// Whether the entry is to be deleted when the open is closed.
+pub fn asks_delete(ask: &CreateAsk<'_>) -> bool
+    ensures { result ≡ asks_delete (asked ask.now) }
+{
+    ask.options.intersects(CreateOptions::DELETE_ON_CLOSE)
+}
+
+// Whether the attribute of a read-only file is given.
+fn asks_read_only(ask: &CreateAsk<'_>) -> bool
+    ensures { result ≡ asks_read_only (asked ask.now) }
+{
+    ask.attributes.intersects(FileAttributes::READONLY)
+}
+
+// Whether a name begins with a separator.
+fn begins_with_separator(name: Units<'_>) -> bool
+    ensures { result ≡ is_separator (slice_index (units_of name.entry) 0) }
+{
+    name.len() > 0 && name.unit(0) == SEPARATOR
+}
+
+/// Whether a folder stands there.
+pub fn is_folder_target(target: &Option<Target>) -> bool
+    ensures { result ≡ is_folder_target target.now }
+{
+    match target {
+        Some(target) => target.kind.is_folder(),
+        None => false,
+    }
+}
+
+// Whether a file stands there.
+fn is_file_target(target: &Option<Target>) -> bool
+    ensures { result ≡ is_file_target target.now }
+{
+    match target {
+        Some(target) => !target.kind.is_folder(),
+        None => false,
+    }
+}
+
+/// Whether a read-only file stands there.
+pub fn is_read_only_target(target: &Option<Target>) -> bool
+    ensures { result ≡ is_read_only_target target.now }
+{
+    match target {
+        Some(target) => {
+            !target.kind.is_folder() && target.basic.attributes.intersects(FileAttributes::READONLY)
+        }
+        None => false,
+    }
+}
+
+// Whether a marked entry stands there.
+fn is_marked_target(target: &Option<Target>) -> bool
+    ensures { result ≡ is_marked_target target.now }
+{
+    match target {
+        Some(target) => target.mark,
+        None => false,
+    }
+}
+
+/// Whether what stands there is marked, or the folder that it is in.
+pub fn is_pending(target: &Option<Target>, above: &Option<Target>) -> bool
+    ensures { result ≡ (is_marked_target target.now || is_marked_target above.now) }
+{
+    is_marked_target(target) || is_marked_target(above)
+}
+
+// Whether the root stands there.
+fn is_root_target(target: &Option<Target>) -> bool
+    ensures { result ≡ is_root_target target.now }
+{
+    match target {
+        Some(target) => target.number == ROOT,
+        None => false,
+    }
+}
+
+// Whether a read-only file stands there once the request is performed, and none did before.
+fn target_becomes_read_only(
+    ask: &CreateAsk<'_>,
+    disposition: CreateDisposition,
+    target: &Option<Target>,
+) -> bool
+    requires { disposition_code disposition ≡ ask.now.disposition.0 }
+    ensures { result ≡ target_becomes_read_only (asked ask.now) target.now }
+{
+    match target {
+        Some(target) => {
+            disposition.overwrites() && asks_read_only(ask) && !target.kind.is_folder()
+        }
+        None => !asks_folder(ask) && asks_read_only(ask),
+    }
+}
+
+/// The disposition and the path that a request names, or the status that answers it whatever stands.
+pub fn asked_path<'a>(ask: &CreateAsk<'a>) -> Result<(CreateDisposition, PathView<'a>), u32>
+    ensures disposition { IfOk result (λ pair. disposition_code pair.0 ≡ ask.now.disposition.0) }
+    ensures path { IfOk result (λ pair. parts_of pair.1 ≡ path_spelled (units_of ask.now.name)) }
+    ensures fault { OnOk result (path_fault (units_of ask.now.name) ≡ None) }
+    ensures lawful { OnOk result ((rows : List StatusRow) → first_status (asked_rows (asked ask.now) ++ rows) ≡ first_status rows) }
+    ensures err { IfErr result (λ status. (rows : List StatusRow) → first_status (asked_rows (asked ask.now) ++ rows) ≡ status) }
+    ensures refused { IfErr result (λ status. status ≢ STATUS_SUCCESS) }
+{
+    let Some(disposition) = ask.disposition.known() else {
+        return Err(STATUS_INVALID_PARAMETER);
+    };
+    if asks_folder(ask) && (asks_file(ask) || disposition.overwrites()) {
+        return Err(STATUS_INVALID_PARAMETER);
+    }
+    if begins_with_separator(ask.name) {
+        return Err(STATUS_INVALID_PARAMETER);
+    }
+    if asks_by_number(ask) {
+        return Err(STATUS_NOT_SUPPORTED);
+    }
+    match split_path(ask.name) {
+        Ok(path) => Ok((disposition, path)),
+        Err(_) => Err(STATUS_OBJECT_NAME_INVALID),
+    }
+}
+
+// Whether no access is asked for, or an unknown one, or DELETE is needed and not granted.
+fn is_denied(ask: &CreateAsk<'_>, target: &Option<Target>) -> bool
+    ensures { result ≡ (is_bad_access ask.now.access.0 || asks_delete (asked ask.now) && not (is_deleting (granted ask.now.access.0 (is_read_only_target target.now)))) }
+{
+    if is_bad_access(ask.access) {
+        return true;
+    }
+    asks_delete(ask) && !is_deleting(granted(ask.access, is_read_only_target(target)))
+}
+
+/// Whether an entry may be where a request names it, or the status that answers it.
+pub fn check_place(
+    ask: &CreateAsk<'_>,
+    disposition: CreateDisposition,
+    found: &Found,
+) -> Result<(), u32>
+    requires { disposition_code disposition ≡ ask.now.disposition.0 }
+    ensures lawful { OnOk result ((rows : List StatusRow) → first_status (place_rows (asked ask.now) found.now ++ rows) ≡ first_status rows) }
+    ensures err { IfErr result (λ status. (rows : List StatusRow) → first_status (place_rows (asked ask.now) found.now ++ rows) ≡ status) }
+{
+    let exists = found.target.is_some();
+    if is_denied(ask, &found.target) {
+        return Err(STATUS_ACCESS_DENIED);
+    }
+    if !found.reached {
+        return Err(STATUS_OBJECT_PATH_NOT_FOUND);
+    }
+    if found.pending {
+        return Err(STATUS_DELETE_PENDING);
+    }
+    if !exists && disposition.must_exist() {
+        return Err(STATUS_OBJECT_NAME_NOT_FOUND);
+    }
+    if exists && disposition.must_be_new() {
+        return Err(STATUS_OBJECT_NAME_COLLISION);
+    }
+    Ok(())
+}
+
+/// Whether what a request asks for suits the entry that it found, or the status that answers it.
+pub fn check_kind(
+    ask: &CreateAsk<'_>,
+    disposition: CreateDisposition,
+    target: &Option<Target>,
+) -> Result<(), u32>
+    requires { disposition_code disposition ≡ ask.now.disposition.0 }
+    ensures lawful { OnOk result ((rows : List StatusRow) → first_status (kind_rows (asked ask.now) target.now ++ rows) ≡ first_status rows) }
+    ensures err { IfErr result (λ status. (rows : List StatusRow) → first_status (kind_rows (asked ask.now) target.now ++ rows) ≡ status) }
+{
+    let overwrites = disposition.overwrites();
+    let read_only = is_read_only_target(target);
+    if is_folder_target(target) && (asks_file(ask) || overwrites) {
+        return Err(STATUS_FILE_IS_A_DIRECTORY);
+    }
+    if is_file_target(target) && asks_folder(ask) {
+        return Err(STATUS_NOT_A_DIRECTORY);
+    }
+    if read_only && (overwrites || is_writing(granted(ask.access, read_only))) {
+        return Err(STATUS_ACCESS_DENIED);
+    }
+    if asks_delete(ask)
+        && (is_root_target(target)
+            || read_only
+            || target_becomes_read_only(ask, disposition, target))
+    {
+        return Err(STATUS_CANNOT_DELETE);
+    }
+    Ok(())
+}
+
+/// The status of a request by whether there is room.
+pub fn room_status(found: &Found) -> u32
+    ensures { result ≡ first_status (room_rows found.now) }
+{
+    if found.opens_full {
+        return STATUS_TOO_MANY_OPENED_FILES;
+    }
+    if found.target.is_none() && found.entries_full {
+        return STATUS_DISK_FULL;
+    }
+    STATUS_SUCCESS
+}

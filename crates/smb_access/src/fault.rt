@@ -1,0 +1,40 @@
+//! Why a store refuses.
+
+ghost use Rattle.std.specs.Prelude.{◌≡◌};
+ghost use Rattle.smb_access.specs.Looked.{refusal_of};
+ghost use Rattle.smb_access.specs.declared.fault.StoreFault.TheVariants.{NoMemory};
+
+use smb_tree::TreeFault;
+use smb_wire::nt_status::STATUS_DISK_FULL;
+use std::alloc::AllocError;
+use thiserror::Error;
+
+/// A refusal of a store, which is as it was.
+#[derive(Clone, Copy, Debug, PartialEq, Eq, Error)]
+pub enum StoreFault {
+    /// The request is answered by this NTSTATUS ([MS-ERREF] 2.3.1), which is not SUCCESS.
+    #[error("status {0:#x}")]
+    Status(u32),
+    /// An allocation was refused.
+    #[error("no memory")]
+    NoMemory,
+}
+
+impl From<AllocError> for StoreFault {
+    ghost from_gives = { λ _ fault. fault ≡ NoMemory };
+
+    fn from(_error: AllocError) -> StoreFault {
+        StoreFault::NoMemory
+    }
+}
+
+/// What a tree's refusal is to a store. A store asks a tree for nothing that is refused for other reasons than want of room
+/// and of memory.
+pub fn refusal_of(refusal: TreeFault) -> StoreFault
+    ensures { result ≡ refusal_of refusal }
+{
+    match refusal {
+        TreeFault::Full => StoreFault::Status(STATUS_DISK_FULL),
+        _ => StoreFault::NoMemory,
+    }
+}

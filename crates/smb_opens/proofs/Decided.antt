@@ -1,0 +1,285 @@
+-- What the rows of a rename say of the move, and what the move says of the rows.
+use Rattle.std.proofs.Common.{◌≡◌, ◌≢◌, ◌==◌, ◌⊎◌, inl, inr, ℕ, ◌≤◌, ◌||◌, ◌&&◌, Bool, true, false, not, nat_lt, List, [], ◌∷◌, ◌++◌, length, if◌then◌else◌, Option, None, Some, is_some, refl, sym, ap, arith, ◌∙◌}
+use Rattle.std.proofs.lemmas.Bool.{eqb-true}
+use Rattle.std.proofs.lemmas.Bool.Decides.{nat_tests}
+use Rattle.std.specs.List.{AllByRecursion}
+use Rattle.std.specs.Option.{option_map, option_map_or}
+use Rattle.smb_wire.specs.NtStatus.{STATUS_SUCCESS, STATUS_INVALID_PARAMETER, STATUS_OBJECT_NAME_INVALID, STATUS_ACCESS_DENIED, STATUS_DELETE_PENDING, STATUS_OBJECT_PATH_NOT_FOUND, STATUS_OBJECT_NAME_COLLISION}
+use Rattle.smb_tree.specs.declared.fault.TreeFault.{TreeFault}
+use Rattle.smb_tree.specs.declared.fault.TreeFault.TheVariants.{ParentAbsent, Exists, TooDeep}
+use Rattle.smb_tree.specs.Entries.{Entry, is_folder, is_folder_kind}
+use Rattle.smb_tree.specs.Content.{Path, Row, Content, is_same_path, entry_at, number_at, numbered, parent}
+use Rattle.smb_tree.specs.Faults.{is_other_folder, would_be_too_deep, move_fault, move_fault_of}
+use Rattle.smb_tree.specs.Good.{GoodContent}
+use Rattle.smb_tree.specs.Laws.{AreApart}
+use Rattle.smb_tree.specs.Moves.{is_within, replaced}
+use Rattle.smb_tree.proofs.Heads.{within_or_not, replaced-within}
+use Rattle.smb_tree.proofs.Keys.{same_path-eq, same_path-itself}
+use Rattle.smb_access.specs.declared.fault.StoreFault.{StoreFault}
+use Rattle.smb_access.specs.declared.fault.StoreFault.TheVariants.{Status, NoMemory as NoRoom}
+use Rattle.smb_access.specs.declared.open_row.OpenRow.{OpenRow}
+use Rattle.smb_access.specs.declared.view.View.{View}
+use Rattle.smb_access.specs.Access.{is_deleting}
+use Rattle.smb_access.specs.StatusRows.{StatusRow, first_status}
+use Rattle.smb_access.specs.Faults.{IsRefusal}
+use Rattle.smb_access.specs.Found.{is_pending, is_reached}
+use Rattle.smb_access.specs.Looked.{target_of}
+use Rattle.smb_access.specs.Rename.{is_beneath, path_numbered, has_open_beneath, is_not_replaced, rename_rows}
+use Rattle.smb_access.specs.Ways.{IsMoveRefusal, way_between, is_own_target, is_kept_target, name_rows, way_rows}
+use Rattle.smb_opens.proofs.Passing.{pass_at}
+use Rattle.smb_access.proofs.Trees.{folder_target, reached_told}
+use Rattle.smb_access.proofs.Under.{beneath_parent, number_found, path_at}
+
+-- rows 3 to 11, by three of their conditions
+abbrev pub rows_by : List Row → List OpenRow → View → Path → Path → Bool → Bool → Bool → Bool → List StatusRow
+rows_by rows opens view from to replace own taken kept =
+    (not (is_deleting view.access) || view.entry == 1, STATUS_ACCESS_DENIED)
+    ∷ (view.mark, STATUS_DELETE_PENDING)
+    ∷ (is_beneath from to, STATUS_INVALID_PARAMETER)
+    ∷ (not (is_reached rows to), STATUS_OBJECT_PATH_NOT_FOUND)
+    ∷ (own, STATUS_SUCCESS)
+    ∷ (is_folder_kind view.kind && has_open_beneath rows opens from, STATUS_ACCESS_DENIED)
+    ∷ (is_pending rows to, STATUS_DELETE_PENDING)
+    ∷ (taken && not replace, STATUS_OBJECT_NAME_COLLISION)
+    ∷ (kept, STATUS_ACCESS_DENIED)
+    ∷ []
+
+own_by : (n : ℕ) (o : Option Entry) → is_own_target n (option_map target_of o) ≡ option_map_or (λ k. k == n) (option_map (λ (e : Entry). e.number) o) false
+own_by n None = refl
+own_by n (Some e) = refl
+
+number_by : (o : Option ℕ) (n : ℕ) → option_map_or (λ k. k == n) o false ≡ true → o ≡ Some n
+number_by None n h = absurd (let e : false ≡ true = h in cc)
+number_by (Some k) n h = ap (λ (m : ℕ). Some m) (eqb-true k n h)
+
+-- the target is the entry itself exactly where the paths are the same
+own_is : (rows : List Row) (n : ℕ) (row : Row) (to : Path) → AreApart rows → numbered rows n ≡ Some row → is_own_target n (option_map target_of (entry_at rows to)) ≡ is_same_path row.0 to
+own_is rows n row to a h =
+    own_by n (entry_at rows to) ∙ elim (is_same_path row.0 to) as (λ b. is_same_path row.0 to ≡ b → option_map_or (λ k. k == n) (number_at rows to) false ≡ b) [
+      | true ↦ λ s. (
+          let at : number_at rows to ≡ Some n = ap (number_at rows) (sym (same_path-eq row.0 to s)) ∙ number_found rows n row a h in
+          let itself : n == n ≡ true = grind (arith, nat_tests) in
+          ap (λ (o : Option ℕ). option_map_or (λ k. k == n) o false) at ∙ itself
+          )
+      | false ↦ λ s. elim (option_map_or (λ k. k == n) (number_at rows to) false) as (λ b. option_map_or (λ k. k == n) (number_at rows to) false ≡ b → b ≡ false) [
+        | true ↦ λ t. absurd (
+            let same : to ≡ row.0 = path_at rows to n row a h (number_by (number_at rows to) n t) in
+            let yes : is_same_path row.0 to ≡ true = ap (is_same_path row.0) same ∙ same_path-itself row.0 in
+            cc
+            )
+        | false ↦ λ _. refl
+      ] refl
+    ] refl
+
+taken_is : (o : Option Entry) → is_some (option_map target_of o) ≡ is_some o
+taken_is None = refl
+taken_is (Some e) = refl
+
+kept_is : (opens : List OpenRow) (o : Option Entry) → is_kept_target opens (option_map target_of o) ≡ is_not_replaced opens o
+kept_is opens None = refl
+kept_is opens (Some e) = refl
+
+-- rows 3 to 11 over what was found are those of the table
+pub way_told : (rows : List Row) (opens : List OpenRow) (view : View) (row : Row) (to : Path) (replace : Bool) → AreApart rows → numbered rows view.entry ≡ Some row → path_numbered rows view.entry ≡ row.0 →
+    way_rows rows opens view (way_between rows row.0 to) replace ≡ rows_by rows opens view row.0 to replace (is_same_path row.0 to) (is_some (entry_at rows to)) (is_not_replaced opens (entry_at rows to))
+way_told rows opens view row to replace a h e =
+    let own = own_is rows view.entry row to a h in
+    ap (λ (p : Path). (not (is_deleting view.access) || view.entry == 1, STATUS_ACCESS_DENIED)
+    ∷ (view.mark, STATUS_DELETE_PENDING)
+    ∷ (is_beneath row.0 to, STATUS_INVALID_PARAMETER)
+    ∷ (not (is_reached rows to), STATUS_OBJECT_PATH_NOT_FOUND)
+    ∷ (is_own_target view.entry (option_map target_of (entry_at rows to)), STATUS_SUCCESS)
+    ∷ (is_folder_kind view.kind && has_open_beneath rows opens p, STATUS_ACCESS_DENIED)
+    ∷ (is_pending rows to, STATUS_DELETE_PENDING)
+    ∷ (is_some (option_map target_of (entry_at rows to)) && not replace, STATUS_OBJECT_NAME_COLLISION)
+    ∷ (is_kept_target opens (option_map target_of (entry_at rows to)), STATUS_ACCESS_DENIED)
+    ∷ []) e
+    ∙ (λ i. rows_by rows opens view row.0 to replace (own i) (taken_is (entry_at rows to) i) (kept_is opens (entry_at rows to) i))
+
+-- what is known where rows 3 to 11 let a rename pass
+pub record MayMove (rows : List Row) (opens : List OpenRow) (view : View) (from to : Path) : Type 0 where
+  pub other : (view.entry == 1) ≡ false
+  pub unmarked : view.mark ≡ false
+  pub outside : is_beneath from to ≡ false
+  pub reached : is_reached rows to ≡ true
+
+pub record MayReplace (rows : List Row) (opens : List OpenRow) (view : View) (replace : Bool) (from to : Path) : Type 0 where
+  pub apart : is_same_path from to ≡ false
+  pub closed : (is_folder_kind view.kind && has_open_beneath rows opens from) ≡ false
+  pub pending : is_pending rows to ≡ false
+  pub taken : (is_some (entry_at rows to) && not replace) ≡ false
+  pub kept : is_not_replaced opens (entry_at rows to) ≡ false
+
+second_off : (a b : Bool) → (a || b) ≡ false → b ≡ false
+second_off true b h = absurd (let e : true ≡ false = h in cc)
+second_off false b h = h
+
+off_not : (b : Bool) → not b ≡ false → b ≡ true
+off_not true h = refl
+off_not false h = absurd (let e : true ≡ false = h in cc)
+
+pub passes : (rows : List Row) (opens : List OpenRow) (view : View) (from to : Path) (replace : Bool) →
+    first_status (rows_by rows opens view from to replace (is_same_path from to) (is_some (entry_at rows to)) (is_not_replaced opens (entry_at rows to))) ≡ STATUS_SUCCESS →
+    MayMove rows opens view from to × ((is_same_path from to ≡ true) ⊎ MayReplace rows opens view replace from to)
+passes rows opens view from to replace e =
+    let p = pass_at (not (is_deleting view.access) || view.entry == 1) STATUS_ACCESS_DENIED _ (λ q. omega (arith, q)) e in
+    let p2 = pass_at view.mark STATUS_DELETE_PENDING _ (λ q. omega (arith, q)) p.1 in
+    let p3 = pass_at (is_beneath from to) STATUS_INVALID_PARAMETER _ (λ q. omega (arith, q)) p2.1 in
+    let p4 = pass_at (not (is_reached rows to)) STATUS_OBJECT_PATH_NOT_FOUND _ (λ q. omega (arith, q)) p3.1 in (
+      record { other = second_off (not (is_deleting view.access)) (view.entry == 1) p.0; unmarked = p2.0; outside = p3.0; reached = off_not (is_reached rows to) p4.0 },
+      elim (is_same_path from to) as (λ b. is_same_path from to ≡ b → first_status ((b, STATUS_SUCCESS) ∷ (is_folder_kind view.kind && has_open_beneath rows opens from, STATUS_ACCESS_DENIED) ∷ (is_pending rows to, STATUS_DELETE_PENDING) ∷ (is_some (entry_at rows to) && not replace, STATUS_OBJECT_NAME_COLLISION) ∷ (is_not_replaced opens (entry_at rows to), STATUS_ACCESS_DENIED) ∷ []) ≡ STATUS_SUCCESS → (b ≡ true) ⊎ MayReplace rows opens view replace from to) [
+        | true ↦ λ s f. inl refl
+        | false ↦ λ s f. inr (
+            let p6 = pass_at (is_folder_kind view.kind && has_open_beneath rows opens from) STATUS_ACCESS_DENIED _ (λ q. omega (arith, q)) f in
+            let p7 = pass_at (is_pending rows to) STATUS_DELETE_PENDING _ (λ q. omega (arith, q)) p6.1 in
+            let p8 = pass_at (is_some (entry_at rows to) && not replace) STATUS_OBJECT_NAME_COLLISION _ (λ q. omega (arith, q)) p7.1 in
+            let p9 = pass_at (is_not_replaced opens (entry_at rows to)) STATUS_ACCESS_DENIED _ (λ q. omega (arith, q)) p8.1 in
+            record { apart = s; closed = p6.0; pending = p7.0; taken = p8.0; kept = p9.0 }
+            )
+      ] refl p4.1,
+    )
+
+-- nothing stands in the way of a move but the length of a path
+short_rows : (from : Path) (rows : List Row) → AllByRecursion (λ row. length row.0 ≤ 32) rows → would_be_too_deep rows from from ≡ false
+short_rows from [] h = refl
+short_rows from (x ∷ rows) h =
+    elim (within_or_not from x.0) [
+      | inl s ↦ (
+          let same : replaced from from x.0 ≡ x.0 = ap (replaced from from) s.1 ∙ replaced-within from from s.0 ∙ sym s.1 in
+          let low : nat_lt 32 (length (replaced from from x.0)) ≡ false = rw same (let short = h.0 in grind (arith, nat_tests, short)) in
+          grind (arith, low, short_rows from rows h.1)
+          )
+      | inr k ↦ grind (arith, k, short_rows from rows h.1)
+    ]
+
+folder_above : (content : Content) (to : Path) → GoodContent content → is_reached content.rows to ≡ true → is_folder (entry_at content.rows (parent to)) ≡ true
+folder_above content to good h =
+    sym (folder_target (entry_at content.rows (parent to))) ∙ reached_told content good to (option_map target_of (entry_at content.rows (parent to))) refl ∙ h
+
+outside_parent : (from to : Path) → (from ≡ [] → ⊥) → is_beneath from to ≡ false → is_within from (parent to) ≡ false
+outside_parent [] to some h = absurd (some refl)
+outside_parent (c ∷ from) [] some h = refl
+outside_parent (c ∷ from) (d ∷ to) some h = sym (beneath_parent (c ∷ from) (d ∷ to) (omega arith)) ∙ h
+
+not_root : (content : Content) (n : ℕ) (row : Row) → GoodContent content → numbered content.rows n ≡ Some row → (n == 1) ≡ false → row.0 ≡ [] → ⊥
+not_root content n row good h other e =
+    let here : number_at content.rows row.0 ≡ Some n = number_found content.rows n row good.apart h in
+    let root : number_at content.rows row.0 ≡ Some 1 = ap (number_at content.rows) e ∙ good.first in
+    let same : n ≡ 1 = cc in
+    let yes : (n == 1) ≡ true = rw same refl in
+    cc
+
+fault_by : (a b c d : Bool) → a ≡ true → b ≡ false → c ≡ false → (if not a || b then Some ParentAbsent else if c then Some Exists else if d then Some TooDeep else None) ≡ (if d then Some TooDeep else None)
+fault_by a b c d e f g = rw (e, f, g) refl
+
+other_own : (n : ℕ) (o : Option Entry) → is_own_target n (option_map target_of o) ≡ true → is_other_folder n o ≡ false
+other_own n None h = refl
+other_own n (Some e) h = grind (arith, h)
+
+other_kept : (n : ℕ) (opens : List OpenRow) (o : Option Entry) → is_not_replaced opens o ≡ false → is_other_folder n o ≡ false
+other_kept n opens None h = refl
+other_kept n opens (Some e) h = grind (arith, h)
+
+-- what a tree refuses of a rename that passes
+pub fault_left : (content : Content) (opens : List OpenRow) (view : View) (replace : Bool) (row : Row) (to : Path) → GoodContent content → numbered content.rows view.entry ≡ Some row → MayMove content.rows opens view row.0 to →
+    ((is_same_path row.0 to ≡ true) ⊎ MayReplace content.rows opens view replace row.0 to) → move_fault content view.entry to ≡ (if would_be_too_deep content.rows row.0 to then Some TooDeep else None)
+fault_left content opens view replace row to good h may either =
+    let rows : List Row = content.rows in
+    let around = outside_parent row.0 to (not_root content view.entry row good h may.other) may.outside in
+    ap (move_fault_of rows view.entry to) h
+    ∙ fault_by (is_folder (entry_at rows (parent to))) (is_within row.0 (parent to)) (is_other_folder view.entry (entry_at rows to)) (would_be_too_deep rows row.0 to) (folder_above content to good may.reached) around (file either)
+  where
+    file : ((is_same_path row.0 to ≡ true) ⊎ MayReplace content.rows opens view replace row.0 to) → is_other_folder view.entry (entry_at content.rows to) ≡ false
+    file (inl s) = other_own view.entry (entry_at content.rows to) (own_is content.rows view.entry row to good.apart h ∙ s)
+    file (inr m) = other_kept view.entry opens (entry_at content.rows to) m.kept
+
+-- the status of what a tree refuses
+abbrev pub code_of : Option TreeFault → ℕ
+code_of None = STATUS_SUCCESS
+code_of (Some fault) = STATUS_OBJECT_NAME_INVALID
+
+code_deep : (deep : Bool) → first_status ((deep, STATUS_OBJECT_NAME_INVALID) ∷ []) ≡ code_of (if deep then Some TooDeep else None)
+code_deep true = refl
+code_deep false = refl
+
+none_before : (xs ys : List StatusRow) → AllByRecursion (λ row. row.0 ≡ false) xs → first_status (xs ++ ys) ≡ first_status ys
+none_before [] ys h = refl
+none_before (x ∷ xs) ys h = rw (h.0) (none_before xs ys h.1)
+
+refused_before : (xs ys : List StatusRow) → first_status xs ≢ STATUS_SUCCESS → first_status (xs ++ ys) ≡ first_status xs
+refused_before [] ys h = absurd (h refl)
+refused_before (x ∷ xs) ys h =
+    elim (x.0) as (λ b. (if b then x.1 else first_status xs) ≢ STATUS_SUCCESS → (if b then x.1 else first_status (xs ++ ys)) ≡ (if b then x.1 else first_status xs)) [
+      | true ↦ λ _. refl
+      | false ↦ λ k. refused_before xs ys k
+    ] h
+
+-- rows 3 to 12
+abbrev rest_rows : List Row → List OpenRow → View → Path → Path → Bool → List StatusRow
+rest_rows rows opens view from to replace =
+    rows_by rows opens view from to replace (is_same_path from to) (is_some (entry_at rows to)) (is_not_replaced opens (entry_at rows to)) ++ (would_be_too_deep rows from to, STATUS_OBJECT_NAME_INVALID) ∷ []
+
+-- rows 8 to 12
+abbrev later_rows : List Row → List OpenRow → View → Path → Path → Bool → List StatusRow
+later_rows rows opens view from to replace =
+    (is_folder_kind view.kind && has_open_beneath rows opens from, STATUS_ACCESS_DENIED)
+    ∷ (is_pending rows to, STATUS_DELETE_PENDING)
+    ∷ (is_some (entry_at rows to) && not replace, STATUS_OBJECT_NAME_COLLISION)
+    ∷ (is_not_replaced opens (entry_at rows to), STATUS_ACCESS_DENIED)
+    ∷ (would_be_too_deep rows from to, STATUS_OBJECT_NAME_INVALID)
+    ∷ []
+
+own_passes : (a b c d own : Bool) (w x y z : ℕ) (rest : List StatusRow) → a ≡ false → b ≡ false → c ≡ false → d ≡ false → own ≡ true → first_status ((a, w) ∷ (b, x) ∷ (c, y) ∷ (d, z) ∷ (own, STATUS_SUCCESS) ∷ rest) ≡ STATUS_SUCCESS
+own_passes a b c d own w x y z rest e f g h i = rw (e, f, g, h, i) refl
+
+code_none : (deep : Bool) → deep ≡ false → STATUS_SUCCESS ≡ code_of (if deep then Some TooDeep else None)
+code_none deep e = rw e refl
+
+-- the status of a rename that passes rows 1 to 11
+pub status_moved : (content : Content) (opens : List OpenRow) (view : View) (row : Row) (to : Path) (name : List ℕ) (replace : Bool) → GoodContent content → numbered content.rows view.entry ≡ Some row →
+    ((rest : List StatusRow) → first_status (name_rows name ++ rest) ≡ first_status rest) →
+    first_status (rows_by content.rows opens view row.0 to replace (is_same_path row.0 to) (is_some (entry_at content.rows to)) (is_not_replaced opens (entry_at content.rows to))) ≡ STATUS_SUCCESS →
+    first_status (rename_rows content.rows opens view name replace row.0 to) ≡ code_of (move_fault content view.entry to)
+status_moved content opens view row to name replace good h lawful e =
+    let p = passes content.rows opens view row.0 to replace e in
+    lawful (rest_rows content.rows opens view row.0 to replace) ∙ rest p.0 p.1 ∙ ap code_of (sym (fault_left content opens view replace row to good h p.0 p.1))
+  where
+    own_deep : is_same_path row.0 to ≡ true → would_be_too_deep content.rows row.0 to ≡ false
+    own_deep s = ap (would_be_too_deep content.rows row.0) (sym (same_path-eq row.0 to s)) ∙ short_rows row.0 content.rows good.shallow
+
+    denied : first_status (rows_by content.rows opens view row.0 to replace (is_same_path row.0 to) (is_some (entry_at content.rows to)) (is_not_replaced opens (entry_at content.rows to))) ≡ STATUS_SUCCESS → (not (is_deleting view.access) || view.entry == 1) ≡ false
+    denied f = (pass_at (not (is_deleting view.access) || view.entry == 1) STATUS_ACCESS_DENIED _ (λ q. omega (arith, q)) f).0
+
+    rest : MayMove content.rows opens view row.0 to → ((is_same_path row.0 to ≡ true) ⊎ MayReplace content.rows opens view replace row.0 to) → first_status (rest_rows content.rows opens view row.0 to replace) ≡ code_of (if would_be_too_deep content.rows row.0 to then Some TooDeep else None)
+    rest may (inl s) =
+        let reached : not (is_reached content.rows to) ≡ false = rw (may.reached) refl in
+        own_passes (not (is_deleting view.access) || view.entry == 1) view.mark (is_beneath row.0 to) (not (is_reached content.rows to)) (is_same_path row.0 to) STATUS_ACCESS_DENIED STATUS_DELETE_PENDING STATUS_INVALID_PARAMETER STATUS_OBJECT_PATH_NOT_FOUND (later_rows content.rows opens view row.0 to replace) (denied e) may.unmarked may.outside reached s
+        ∙ code_none (would_be_too_deep content.rows row.0 to) (own_deep s)
+    rest may (inr m) =
+        let reached : not (is_reached content.rows to) ≡ false = rw (may.reached) refl in
+        none_before (rows_by content.rows opens view row.0 to replace (is_same_path row.0 to) (is_some (entry_at content.rows to)) (is_not_replaced opens (entry_at content.rows to))) ((would_be_too_deep content.rows row.0 to, STATUS_OBJECT_NAME_INVALID) ∷ [])
+        (denied e, (may.unmarked, (may.outside, (reached, (m.apart, (m.closed, (m.pending, (m.taken, (m.kept, tt)))))))))
+        ∙ code_deep (would_be_too_deep content.rows row.0 to)
+
+-- a rename that rows 3 to 11 refuse
+pub status_refused : (content : Content) (opens : List OpenRow) (view : View) (row : Row) (to : Path) (name : List ℕ) (replace : Bool) →
+    ((rest : List StatusRow) → first_status (name_rows name ++ rest) ≡ first_status rest) →
+    first_status (rows_by content.rows opens view row.0 to replace (is_same_path row.0 to) (is_some (entry_at content.rows to)) (is_not_replaced opens (entry_at content.rows to))) ≢ STATUS_SUCCESS →
+    first_status (rename_rows content.rows opens view name replace row.0 to) ≡ first_status (rows_by content.rows opens view row.0 to replace (is_same_path row.0 to) (is_some (entry_at content.rows to)) (is_not_replaced opens (entry_at content.rows to)))
+status_refused content opens view row to name replace lawful k =
+    lawful (rest_rows content.rows opens view row.0 to replace)
+    ∙ refused_before (rows_by content.rows opens view row.0 to replace (is_same_path row.0 to) (is_some (entry_at content.rows to)) (is_not_replaced opens (entry_at content.rows to))) ((would_be_too_deep content.rows row.0 to, STATUS_OBJECT_NAME_INVALID) ∷ []) k
+
+-- a rename that rows 1 and 2 refuse
+pub status_named : (rows : List Row) (opens : List OpenRow) (view : View) (name : List ℕ) (replace : Bool) (from to : Path) (status : ℕ) → ((rest : List StatusRow) → first_status (name_rows name ++ rest) ≡ status) →
+    status ≡ first_status (rename_rows rows opens view name replace from to)
+status_named rows opens view name replace from to status h = sym (h (rest_rows rows opens view from to replace))
+
+-- a refusal of the move is one of the rename
+pub refusal_by : (o : Option TreeFault) (status : ℕ) (fault : StoreFault) → status ≡ code_of o → IsMoveRefusal o fault → IsRefusal status fault
+refusal_by None status (Status code) e h = absurd (h.0 refl)
+refusal_by (Some f) status (Status code) e h =
+    let same : code ≡ status = h.1 ∙ sym e in
+    let bad = h.1 in
+    (same, λ q. omega (arith, bad, q))
+refusal_by o status NoRoom e h = e ∙ ap code_of h

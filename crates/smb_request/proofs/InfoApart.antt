@@ -1,0 +1,73 @@
+-- QUERY_INFO and SET_INFO: what holds of the state that they leave, where it holds with the tree alone changed.
+use Rattle.std.proofs.Common.{◌≡◌, ◌==◌, ◌||◌, ℕ, Bool, true, false, not, nat_lt, if◌then◌else◌, List, length, Option, None, Some, refl}
+use Rattle.std.specs.Option.{option_map_or}
+use Rattle.smb_wire.specs.NtStatus.{STATUS_SUCCESS}
+use Rattle.smb_wire.specs.Paths.{path_spelled}
+use Rattle.smb_body.specs.declared.query_info.QueryInfoRequest.{QueryInfoRequest}
+use Rattle.smb_body.specs.Replies.{answers_set_info}
+use Rattle.smb_body.specs.SetInfo.{SetInfoAsked}
+use Rattle.smb_info.specs.declared.set_info.SetInformationClass.{SetInformationClass}
+use Rattle.smb_info.specs.SetInformation.{SetAsked, asks_basic, asks_rename, asks_mark, asks_allocation, asks_end, set_class, set_length, is_readable, asked_of}
+use Rattle.smb_tree.specs.Content.{Content}
+use Rattle.smb_access.specs.declared.open_row.OpenRow.{OpenRow}
+use Rattle.smb_access.specs.Opens.{open_of}
+use Rattle.smb_access.specs.Rename.{renamed_tree}
+use Rattle.smb_access.specs.SetInfo.{changed_in, delete_set, size_set, entry_set}
+use Rattle.smb_opens.specs.State.{StoreState}
+use Rattle.smb_request.specs.declared.context.Under.{Under}
+use Rattle.smb_request.specs.declared.status.Status.TheVariants.{InvalidParameter, InvalidInfoClass, InfoLengthMismatch, NotSupported, Store}
+use Rattle.smb_request.specs.InfoTypes.{FILE, FILESYSTEM, SECURITY, QUOTA}
+use Rattle.smb_request.specs.QueryInfo.{information_queried}
+use Rattle.smb_request.specs.Response.{CommandStep, success, refused}
+use Rattle.smb_request.specs.SetInfo.{set_status, set_through, set_as_asked, class_set, information_set}
+use Rattle.smb_request.specs.State.{SharedState, with_store}
+
+-- what a store has beside its tree is as it was
+with_tree : {X : Type 0} (part : StoreState → X) → ((state : StoreState) (tree : Content) → part (record state { tree = tree }) ≡ part state) → (tree : OpenRow → Content) (store : StoreState) (found : Option OpenRow) →
+    part (option_map_or (λ (row : OpenRow). let x : StoreState = record store { tree = tree row } in x) found store) ≡ part store
+with_tree part same tree store None = refl
+with_tree part same tree store (Some row) = same store (tree row)
+
+set_beside : {X : Type 0} (part : StoreState → X) → ((state : StoreState) (tree : Content) → part (record state { tree = tree }) ≡ part state) → (store : StoreState) (k moment : ℕ) (ask : SetAsked) → part (set_through store k moment ask) ≡ part store
+set_beside part same store k moment (asks_basic ask) = with_tree part same (λ row. changed_in (entry_set ask moment) store.tree row.entry) store (open_of store.opens k)
+set_beside part same store k moment (asks_rename replace name) = with_tree part same (λ row. renamed_tree store.tree row.entry (path_spelled name) moment) store (open_of store.opens k)
+set_beside part same store k moment (asks_mark mark) = with_tree part same (λ row. changed_in (delete_set mark) store.tree row.entry) store (open_of store.opens k)
+set_beside part same store k moment (asks_allocation size) = with_tree part same (λ row. changed_in (size_set size true moment) store.tree row.entry) store (open_of store.opens k)
+set_beside part same store k moment (asks_end size) = with_tree part same (λ row. changed_in (size_set size false moment) store.tree row.entry) store (open_of store.opens k)
+
+pub set_opens : (store : StoreState) (k moment : ℕ) (ask : SetAsked) → (set_through store k moment ask).opens ≡ store.opens
+set_opens = set_beside (λ state. state.opens) (λ state tree. refl)
+
+pub set_next : (store : StoreState) (k moment : ℕ) (ask : SetAsked) → (set_through store k moment ask).next ≡ store.next
+set_next = set_beside (λ state. state.next) (λ state tree. refl)
+
+module _ {S : Type 0} (Left : SharedState S → Type 0) (shared : SharedState S) (same : Left shared) (under : Under) (k : ℕ) where
+  pub queried_left : (asked : QueryInfoRequest) → Left (information_queried shared under k asked).shared
+  unfolding information_queried
+  queried_left asked = same
+
+  module _ (moment : ℕ) (set : (ask : SetAsked) → Left (with_store shared (set_through shared.store k moment ask))) where
+    by_status : (ask : SetAsked) (status : ℕ) (b : Bool) →
+        Left (let x : CommandStep S = if b then record { shared = with_store shared (set_through shared.store k moment ask); response = success under answers_set_info } else refused shared under (Store status) in x).shared
+    by_status ask status true = set ask
+    by_status ask status false = same
+
+    by_class : (buffer : List ℕ) (class : SetInformationClass) (b c : Bool) →
+        Left (let x : CommandStep S = if b then refused shared under InfoLengthMismatch else if c then refused shared under InvalidParameter else set_as_asked moment shared under k (asked_of buffer class) in x).shared
+    by_class buffer class true c = same
+    by_class buffer class false true = same
+    by_class buffer class false false =
+        by_status (asked_of buffer class) (set_status shared.store k (asked_of buffer class)) (set_status shared.store k (asked_of buffer class) == STATUS_SUCCESS)
+
+    by_type : (buffer : List ℕ) (class : Option SetInformationClass) (a b : Bool) →
+        Left (let x : CommandStep S = if a then refused shared under NotSupported else if b then refused shared under InvalidParameter else
+        option_map_or (class_set moment shared under k buffer) class (refused shared under InvalidInfoClass) in x).shared
+    by_type buffer class true b = same
+    by_type buffer class false true = same
+    by_type buffer None false false = same
+    by_type buffer (Some class) false false = by_class buffer class (nat_lt (length buffer) (set_length class)) (not (is_readable buffer class))
+
+    pub info_set_left : (asked : SetInfoAsked) → Left (information_set moment shared under k asked).shared
+    unfolding information_set
+    info_set_left asked = by_type asked.buffer (set_class asked.file_info_class.0)
+        (asked.info_type.0 == FILESYSTEM || asked.info_type.0 == SECURITY || asked.info_type.0 == QUOTA) (not (asked.info_type.0 == FILE))

@@ -1,0 +1,116 @@
+-- SESSION_SETUP, seen from the sessions of other connections.
+use Rattle.std.proofs.Common.{◌≡◌, ◌==◌, ◌<◌, ℕ, Bool, true, false, if◌then◌else◌, List, [], ◌∷◌, ◌++◌, Option, None, Some, is_some, refl, sym, ap, arith, ◌∙◌}
+use Rattle.std.proofs.lemmas.Bool.Decides.{nat_tests}
+use Rattle.std.specs.List.{AllByRecursion}
+use Rattle.std.specs.Option.{option_map_or}
+use Rattle.std.specs.Map.{lookup}
+use Rattle.std.specs.BTreeMap.{is_at}
+use Rattle.std.specs.Ordering.{nat_cmp}
+use Rattle.smb_session.specs.Session.{SessionState}
+use Rattle.smb_session.specs.Table.{TableState, session_at, session_changed, session_ended}
+use Rattle.smb_access.specs.declared.open_row.Owner.TheVariants.{Session}
+use Rattle.smb_request.proofs.Numbered.{at_is}
+use Rattle.std.specs.Option.{option_eq}
+use Rattle.std.specs.Str.{bytes_eq}
+use Rattle.smb_session.specs.declared.fault.SessionFault.TheVariants.{UnknownSession}
+use Rattle.smb_session.specs.Authenticator.{Answered, continues, accepts, denies, Meaning}
+use Rattle.smb_session.specs.Session.{fresh_session, finished_by}
+use Rattle.smb_session.specs.Sessions.{setup_step}
+use Rattle.smb_session.specs.Setup.{known_session_refusal, setup_refusal, setup_number, is_of_user, table_answered, setup_result}
+use Rattle.smb_session.specs.Table.{begun}
+use Rattle.smb_body.specs.SessionSetup.{SessionSetupAsked}
+use Rattle.smb_opens.specs.Close.{closed_all}
+use Rattle.smb_request.specs.Session.{closed_for, setup_answered, session_set_up}
+use Rattle.smb_opens.specs.State.{StoreState}
+use Rattle.smb_session.specs.declared.fault.SessionFault.{SessionFault}
+use Rattle.smb_request.specs.declared.context.Under.{Under}
+use Rattle.smb_request.specs.Response.{refused}
+use Rattle.smb_request.specs.Session.{status_of_refusal}
+use Rattle.smb_request.specs.State.{SharedState}
+use Rattle.smb_request.specs.Laws.{NumbersInOrder}
+use Rattle.smb_request.proofs.Leaving.{Leaves, LeavesShared, IsApart, leaves_then, leaves_same, leaves_begun, leaves_changed, leaves_ended, leaves_whole, other_connection, look_removed, gone}
+
+finished : (user : List ℕ) (session : SessionState) → is_of_user user session ≡ true → is_some session.user ≡ true
+finished user session h = elim session.user as (λ o. option_eq bytes_eq o (Some user) ≡ true → is_some o ≡ true) [ None ↦ λ q. cc | Some u ↦ λ q. refl ] h
+
+-- what is given the next number is found there
+at_last : (n : ℕ) (x : SessionState) (es : List (ℕ × SessionState)) → AllByRecursion (λ e. e.0 < n) es → lookup (is_at (nat_cmp n)) (es ++ (n, x) ∷ []) ≡ Some x
+at_last n x [] a = (let key = at_is n n in grind (arith, nat_tests, key))
+at_last n x (e ∷ es) a = (let key = at_is n e.0 in let less = a.0 in let ih = at_last n x es a.1 in grind (arith, nat_tests, key, less, ih))
+
+module _ (acts : ℕ → Bool) (c : ℕ) (a : acts c ≡ true) (table : TableState) (store : StoreState) (o : NumbersInOrder table store) where
+  -- the session that is set up is new, or an unfinished one of this connection
+  apart_begun : IsApart acts (begun table c) table.next
+  apart_begun n session at other =
+      elim (n == table.next) as (λ b. (n == table.next) ≡ b → b ≡ false) [
+        | true ↦ λ t. (
+            let is : n ≡ table.next = grind (arith, nat_tests, t) in
+            let here : Some (fresh_session c) ≡ Some session = sym (at_last table.next (fresh_session c) table.sessions o.sessions_given) ∙ ap (session_at (begun table c)) (sym is) ∙ at in
+            let fresh : fresh_session c ≡ session = cc in
+            let yes : acts session.connection ≡ true = ap (λ (x : SessionState). acts x.connection) (sym fresh) ∙ a in
+            cc)
+        | false ↦ λ t. refl
+      ] refl
+
+  apart_stood : (s : ℕ) → option_map_or (known_session_refusal c) (session_at table s) (Some UnknownSession) ≡ None → IsApart acts table s
+  apart_stood s e n session at other =
+      elim (n == s) as (λ b. (n == s) ≡ b → b ≡ false) [
+        | true ↦ λ t. (
+            let is : n ≡ s = grind (arith, nat_tests, t) in
+            let here : session_at table s ≡ Some session = ap (session_at table) (sym is) ∙ at in
+            let apart = other_connection acts c session.connection a other in
+            grind (arith, e, here, apart))
+        | false ↦ λ t. refl
+      ] refl
+
+  -- where an accepted one is finished, behind the end of its previous session
+  apart_ended : (number previous : ℕ) → IsApart acts table number → IsApart acts (session_ended table previous) number
+  apart_ended number previous apart n session at other =
+      elim (n == previous) as (λ b. (n == previous) ≡ b → (n == number) ≡ false) [
+        | true ↦ λ t. (let is : n ≡ previous = grind (arith, nat_tests, t) in let none : session_at (session_ended table previous) n ≡ None = ap (λ p. session_at (session_ended table p) n) (sym is) ∙ gone n table.sessions o.sessions in let no : None ≡ Some session = sym none ∙ at in cc)
+        | false ↦ λ t. apart n session (sym (look_removed n previous table.sessions t) ∙ at) other
+      ] refl
+
+  accepted_found : (number previous : ℕ) (user : List ℕ) (found : Option SessionState) → session_at table previous ≡ found → IsApart acts table number →
+      Leaves acts table store
+      (session_changed (finished_by user) (option_map_or (session_ended table) (if option_map_or (is_of_user user) found false then Some previous else None) table) number)
+      (closed_for store (if option_map_or (is_of_user user) found false then Some previous else None))
+  accepted_found number previous user None e apart = leaves_changed acts table store o number apart (finished_by user)
+  accepted_found number previous user (Some session) e apart =
+      elim (is_of_user user session) as (λ b. is_of_user user session ≡ b →
+      Leaves acts table store
+      (session_changed (finished_by user) (option_map_or (session_ended table) (if b then Some previous else None) table) number)
+      (closed_for store (if b then Some previous else None))) [
+        | true ↦ λ t. (
+            let whole = leaves_whole acts table store o previous session e (finished user session t) in
+            leaves_then acts table (session_ended table previous) (session_changed (finished_by user) (session_ended table previous) number) store (closed_all store (Session previous)) (closed_all store (Session previous)) o whole
+            (leaves_changed acts (session_ended table previous) (closed_all store (Session previous)) whole.order number (apart_ended number previous apart) (finished_by user)))
+        | false ↦ λ t. leaves_changed acts table store o number apart (finished_by user)
+      ] refl
+
+  -- what an answer leaves
+  answered_left : (number previous : ℕ) (answer : Answered) → IsApart acts table number → Leaves acts table store (table_answered table number previous answer) (closed_for store (setup_result table number previous answer).ended)
+  answered_left number previous (continues token) apart = leaves_same acts table store o
+  answered_left number previous denies apart = leaves_ended acts table store o number apart
+  answered_left number previous (accepts user flags token) apart = accepted_found number previous user (session_at table previous) refl apart
+
+module _ (acts : ℕ → Bool) (c : ℕ) (a : acts c ≡ true) (table : TableState) (store : StoreState) (o : NumbersInOrder table store) where
+  step_left : (s flags previous : ℕ) (answer : Answered) (b : Bool) → (s == 0) ≡ b → setup_refusal table c s flags ≡ None →
+      (let table' : TableState = if b then begun table c else table in let number : ℕ = if b then table.next else s in Leaves acts table store (table_answered table' number previous answer) (closed_for store (setup_result table' number previous answer).ended))
+  step_left s flags previous answer true t e =
+      let first = leaves_begun acts table store o c in
+      leaves_then acts table (begun table c) (table_answered (begun table c) table.next previous answer) store store (closed_for store (setup_result (begun table c) table.next previous answer).ended) o first
+      (answered_left acts c a (begun table c) store first.order table.next previous answer (apart_begun acts c a table store o))
+  step_left s flags previous answer false t e = answered_left acts c a table store o s previous answer (apart_stood acts c a table store o s (grind (arith, e, t)))
+
+module _ {S : Type 0} (m : Meaning S) (acts : ℕ → Bool) (c : ℕ) (a : acts c ≡ true) (shared : SharedState S) (o : NumbersInOrder shared.sessions.table shared.store) where
+  set_up_at : (under : Under) (asked : SessionSetupAsked) (refusal : Option SessionFault) → setup_refusal shared.sessions.table c under.session_id asked.flags.0 ≡ refusal →
+      LeavesShared acts shared (option_map_or (λ fault. refused shared under (status_of_refusal fault)) refusal (setup_answered shared under (setup_step m shared.sessions c under.session_id asked.previous_session_id asked.security_buffer))).shared
+  set_up_at under asked (Some fault) e = leaves_same acts shared.sessions.table shared.store o
+  set_up_at under asked None e =
+      let s = under.session_id in
+      step_left acts c a shared.sessions.table shared.store o s asked.flags.0 asked.previous_session_id (m.answer shared.sessions.authenticator (setup_number shared.sessions.table s) asked.security_buffer) (s == 0) refl e
+
+  pub set_up_left : (under : Under) (asked : SessionSetupAsked) → LeavesShared acts shared (session_set_up m c shared under asked).shared
+  unfolding session_set_up
+  set_up_left under asked = set_up_at under asked (setup_refusal shared.sessions.table c under.session_id asked.flags.0) refl

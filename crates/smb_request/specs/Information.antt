@@ -1,0 +1,47 @@
+-- For the proofs; nothing here need be believed.
+-- What the code holds of an information class, and of what is refused before one is looked at.
+use Rattle.std.specs.Prelude.{◌≡◌, ◌≢◌, ℕ, ◌==◌, ◌||◌, not, nat_lt, Option, Some, None, if◌then◌else◌}
+use Rattle.std.specs.Option.{option_map_or}
+use Rattle.smb_body.specs.declared.query_info.QueryInfoRequest.{QueryInfoRequest}
+use Rattle.smb_info.specs.declared.fault.InfoFault.{InfoFault}
+use Rattle.smb_info.specs.declared.fault.InfoFault.TheVariants.{BadClass, TooSmall, Unreadable, NoMemory}
+use Rattle.smb_info.specs.Information.{Information, told, information_written, info_fault}
+use Rattle.smb_request.specs.declared.information.InformationTold.{InformationTold}
+use Rattle.smb_request.specs.declared.status.Status.{Status}
+use Rattle.smb_request.specs.declared.status.Status.TheVariants.{InvalidParameter, InvalidInfoClass, InfoLengthMismatch, NotSupported}
+use Rattle.smb_request.specs.InfoTypes.{FILE, FILESYSTEM, SECURITY, QUOTA}
+
+-- the status of a refusal; want of memory has none
+abbrev pub fault_status : InfoFault → Option Status
+fault_status BadClass = Some InvalidInfoClass
+fault_status TooSmall = Some InfoLengthMismatch
+fault_status Unreadable = Some InvalidParameter
+fault_status NoMemory = None
+
+-- why a QUERY_INFO is refused by its InfoType, and why whatever its class tells
+abbrev pub query_type_refusal : ℕ → Option Status
+query_type_refusal info_type =
+    if info_type == SECURITY || info_type == QUOTA then Some NotSupported else
+    if not (info_type == FILE || info_type == FILESYSTEM) then Some InvalidParameter else None
+
+abbrev pub request_refusal : QueryInfoRequest → Option Status
+request_refusal asked = option_map_or
+    (λ status. Some status)
+    (query_type_refusal asked.info_type.0)
+    (if nat_lt 65536 asked.output_buffer_length then Some InvalidParameter else None)
+
+-- why a SET_INFO is refused by its InfoType
+abbrev pub set_type_refusal : ℕ → Option Status
+set_type_refusal info_type =
+    if info_type == FILESYSTEM || info_type == SECURITY || info_type == QUOTA then Some NotSupported else
+    if not (info_type == FILE) then Some InvalidParameter else None
+
+-- what is told of information
+pub record IsToldOf (information : Option Information) (room : ℕ) (it : InformationTold) : Type 0 where
+  pub bytes : it.bytes.items ≡ told information room
+  pub written : it.written ≡ information_written information room
+  pub lawful : info_fault information room ≡ None
+
+-- why nothing is told of it; memory may be wanted at any time
+abbrev pub IsWhy : Option Information → ℕ → InfoFault → Type 0
+IsWhy information room fault = fault ≢ NoMemory → info_fault information room ≡ Some fault

@@ -1,0 +1,67 @@
+-- SET_INFO ([MS-SMB2] 3.3.5.21).
+use Rattle.std.specs.Prelude.{ℕ, ◌==◌, ◌||◌, true, false, not, nat_lt, List, length, if◌then◌else◌}
+use Rattle.std.specs.Option.{option_map_or}
+use Rattle.smb_wire.specs.NtStatus.{STATUS_SUCCESS}
+use Rattle.smb_body.specs.SetInfo.{SetInfoAsked}
+use Rattle.smb_body.specs.Replies.{answers_set_info}
+use Rattle.smb_info.specs.declared.set_info.SetInformationClass.{SetInformationClass}
+use Rattle.smb_info.specs.SetInformation.{SetAsked, asks_basic, asks_rename, asks_mark, asks_allocation, asks_end, set_class, set_length, is_readable, asked_of}
+use Rattle.smb_opens.specs.Renames.{rename_status, renamed_through}
+use Rattle.smb_opens.specs.SetInfo.{delete_status, delete_set_through, size_status, size_set_through, basic_status, basic_set_through}
+use Rattle.smb_opens.specs.State.{StoreState}
+use Rattle.smb_request.specs.declared.status.Status.TheVariants.{InvalidParameter, InvalidInfoClass, InfoLengthMismatch, NotSupported, Store}
+use Rattle.smb_request.specs.declared.context.Under.{Under}
+use Rattle.smb_request.specs.InfoTypes.{FILE, FILESYSTEM, SECURITY, QUOTA}
+use Rattle.smb_request.specs.Response.{CommandStep, success, refused}
+use Rattle.smb_request.specs.State.{SharedState, with_store}
+
+-- the status that the store gives what is asked of the entry of an open (3.3.5.21.1)
+abbrev pub set_status : StoreState → ℕ → SetAsked → ℕ
+set_status store open_number (asks_basic ask) = basic_status store open_number ask
+set_status store open_number (asks_rename replace name) = rename_status store open_number name replace
+set_status store open_number (asks_mark mark) = delete_status store open_number mark
+set_status store open_number (asks_allocation size) = size_status store open_number size
+set_status store open_number (asks_end size) = size_status store open_number size
+
+-- the store with it set at a moment
+abbrev pub set_through : StoreState → ℕ → ℕ → SetAsked → StoreState
+set_through store open_number moment (asks_basic ask) = basic_set_through store open_number ask moment
+set_through store open_number moment (asks_rename replace name) = renamed_through store open_number name moment
+set_through store open_number moment (asks_mark mark) = delete_set_through store open_number mark
+set_through store open_number moment (asks_allocation size) = size_set_through store open_number size true moment
+set_through store open_number moment (asks_end size) = size_set_through store open_number size false moment
+
+-- what is asked, by the status that the store gives it: a refusal changes nothing
+abbrev pub set_by_status : {S : Type 0} → ℕ → SharedState S → Under → ℕ → SetAsked → ℕ → CommandStep S
+set_by_status moment shared under open_number ask status =
+    if status == STATUS_SUCCESS
+    then record {
+      shared = with_store shared (set_through shared.store open_number moment ask);
+      response = success under answers_set_info;
+    }
+    else refused shared under (Store status)
+
+abbrev pub set_as_asked : {S : Type 0} → ℕ → SharedState S → Under → ℕ → SetAsked → CommandStep S
+set_as_asked moment shared under open_number ask =
+    set_by_status moment shared under open_number ask (set_status shared.store open_number ask)
+
+-- a class that can be set, as its buffer asks ([MS-FSCC] 2.4)
+abbrev pub class_set : {S : Type 0} → ℕ → SharedState S → Under → ℕ → List ℕ → SetInformationClass → CommandStep S
+class_set moment shared under open_number buffer class =
+    -- the buffer is shorter than the fixed part (3.3.5.21.1)
+    if nat_lt (length buffer) (set_length class) then refused shared under InfoLengthMismatch else
+    -- a rename says no name ([MS-FSCC] 2.4.42)
+    if not (is_readable buffer class) then refused shared under InvalidParameter else
+    set_as_asked moment shared under open_number (asked_of buffer class)
+
+-- SET_INFO (3.3.5.21) of the open of a number
+unfoldable pub information_set : {S : Type 0} → ℕ → SharedState S → Under → ℕ → SetInfoAsked → CommandStep S
+information_set moment shared under open_number asked =
+    -- the share as a file system, a security descriptor, or quotas (3.3.5.21.2 to 3.3.5.21.4)
+    if asked.info_type.0 == FILESYSTEM || asked.info_type.0 == SECURITY || asked.info_type.0 == QUOTA
+    then refused shared under NotSupported else
+    -- no InfoType (2.2.39)
+    if not (asked.info_type.0 == FILE) then refused shared under InvalidParameter else
+    -- no class that can be set has the number (3.3.5.21.1)
+    option_map_or (class_set moment shared under open_number asked.buffer) (set_class asked.file_info_class.0)
+    (refused shared under InvalidInfoClass)
