@@ -67,6 +67,13 @@ def query_info(message_id, open_number, information_class, session_id=0, tree_id
     return frame(header(16, message_id, session_id=session_id, tree_id=tree_id) + body)
 
 
+def query_directory(message_id, open_number, information_class, flags, pattern, room, session_id=0, tree_id=0):
+    """A frame of a QUERY_DIRECTORY of an open's folder."""
+    units = pattern.encode('utf-16-le')
+    body = struct.pack('<HBBIQQHHI', 33, information_class, flags, 0, open_number, open_number, 96, len(units), room)
+    return frame(header(14, message_id, session_id=session_id, tree_id=tree_id) + body + units)
+
+
 def set_info(message_id, open_number, information_class, buffer, session_id=0, tree_id=0):
     """A frame of a SET_INFO of an open's entry, in a session and a tree."""
     body = struct.pack('<HBBIHHIQQ', 33, 1, information_class, len(buffer), 96, 0, 0, open_number, open_number)

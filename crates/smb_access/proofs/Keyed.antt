@@ -2,9 +2,10 @@
 use Rattle.std.proofs.Common.{◌≡◌, ◌==◌, ◌<◌, ◌≤◌, ◌+◌, ◌&&◌, ℕ, zero, suc, List, [], ◌∷◌, ◌++◌, drop, length, slice_get, nat_lt, true, false, cond, Option, None, Some, is_some, refl, sym, ap, arith, ◌∙◌}
 use Rattle.std.proofs.lemmas.Bool.Decides.{nat_tests}
 use Rattle.std.specs.List.{AllByRecursion}
-use Rattle.std.specs.Map.{lookup, values_of, remove_entry}
+use Rattle.std.specs.Map.{lookup, values_of, remove_entry, set_value}
 use Rattle.smb_access.specs.declared.open_row.OpenRow.{OpenRow}
-use Rattle.smb_access.specs.Opens.{open_of, without_open, open_on_entry_after, AreAllBelow}
+use Rattle.smb_access.specs.declared.scan.Scan.{Scan}
+use Rattle.smb_access.specs.Opens.{open_of, without_open, with_scan, open_on_entry_after, AreAllBelow}
 use Rattle.smb_access.specs.Plain.{AreKeyed}
 
 pub lookup_open_of : (es : List (ℕ × OpenRow)) (n : ℕ) → AreKeyed es → lookup (λ k. n == k) es ≡ open_of (values_of es) n
@@ -103,3 +104,54 @@ pub value_at : (es : List (ℕ × OpenRow)) (p : ℕ) (key : ℕ) (row : OpenRow
 value_at [] p key row e = cc
 value_at (x ∷ es) zero key row e = (let same : x ≡ (key, row) = cc in ap (λ (y : ℕ × OpenRow). Some y.1) same)
 value_at (x ∷ es) (suc p) key row e = value_at es p key row e
+
+-- an open's scan is set
+abbrev scanned : Scan → OpenRow → OpenRow
+scanned scan row = record row { scan = scan }
+
+scan_above : (es : List (ℕ × OpenRow)) (n m : ℕ) (scan : Scan) → AreKeyed es → AllByRecursion (λ later. m < later.0) es → n ≤ m → with_scan n scan (values_of es) ≡ values_of es
+scan_above [] n m scan k h l = refl
+scan_above (e ∷ es) n m scan k h l =
+    let other : (e.1.number == n) ≡ false = (let key = k.0 in let above = h.0 in grind (arith, nat_tests, key, above, l)) in
+    let ih = scan_above es n m scan k.2 h.1 l in
+    rw other (ap (λ (rows : List OpenRow). e.1 ∷ rows) ih)
+
+pub values_scanned : (es : List (ℕ × OpenRow)) (n : ℕ) (scan : Scan) (row : OpenRow) → AreKeyed es → lookup (λ k. n == k) es ≡ Some row → values_of (set_value (λ k. n == k) es (scanned scan row)) ≡ with_scan n scan (values_of es)
+values_scanned [] n scan row k h = cc
+values_scanned (e ∷ es) n scan row k h =
+    elim (n == e.0) as (λ b. (n == e.0) ≡ b → values_of (set_value (λ k. n == k) (e ∷ es) (scanned scan row)) ≡ with_scan n scan (values_of (e ∷ es))) [
+      | true ↦ λ t. (
+          let is : e.1 ≡ row = (let q = h in let some : Some e.1 ≡ Some row = grind (arith, q, t) in cc) in
+          let here : (e.1.number == n) ≡ true = (let key = k.0 in grind (arith, nat_tests, key, t)) in
+          let rest : with_scan n scan (values_of es) ≡ values_of es = (let at : n ≤ e.0 = grind (arith, nat_tests, t) in scan_above es n e.0 scan k.2 k.1 at) in
+          rw (t, here, rest, is) refl)
+      | false ↦ λ t. (
+          let other : (e.1.number == n) ≡ false = (let key = k.0 in grind (arith, nat_tests, key, t)) in
+          let later : lookup (λ k. n == k) es ≡ Some row = (let q = h in grind (arith, q, t)) in
+          rw (t, other) (ap (λ (rows : List OpenRow). e.1 ∷ rows) (values_scanned es n scan row k.2 later)))
+    ] refl
+
+above_set : (es : List (ℕ × OpenRow)) (m n : ℕ) (row : OpenRow) → AllByRecursion (λ later. m < later.0) es → AllByRecursion (λ later. m < later.0) (set_value (λ k. n == k) es row)
+above_set [] m n row b = b
+above_set (e ∷ es) m n row b =
+    elim (n == e.0) as (λ t. AllByRecursion (λ (later : ℕ × OpenRow). m < later.0) (cond t ((e.0, row) ∷ es) (e ∷ set_value (λ k. n == k) es row))) [ true ↦ (b.0, b.1) | false ↦ (b.0, above_set es m n row b.1) ]
+
+pub keyed_scanned : (es : List (ℕ × OpenRow)) (n : ℕ) (scan : Scan) (row : OpenRow) → AreKeyed es → lookup (λ k. n == k) es ≡ Some row → AreKeyed (set_value (λ k. n == k) es (scanned scan row))
+keyed_scanned [] n scan row k h = cc
+keyed_scanned (e ∷ es) n scan row k h =
+    elim (n == e.0) as (λ b. (n == e.0) ≡ b → AreKeyed (cond b ((e.0, scanned scan row) ∷ es) (e ∷ set_value (λ k. n == k) es (scanned scan row)))) [
+      | true ↦ λ t. (
+          let is : e.1 ≡ row = (let q = h in let some : Some e.1 ≡ Some row = grind (arith, q, t) in cc) in
+          (k.0 ∙ ap (λ (r : OpenRow). r.number) is, k.1, k.2))
+      | false ↦ λ t. (
+          let later : lookup (λ k. n == k) es ≡ Some row = (let q = h in grind (arith, q, t)) in
+          (k.0, above_set es e.0 n (scanned scan row) k.1, keyed_scanned es n scan row k.2 later))
+    ] refl
+
+pub values_unscanned : (es : List (ℕ × OpenRow)) (n : ℕ) (scan : Scan) → AreKeyed es → lookup (λ k. n == k) es ≡ None → with_scan n scan (values_of es) ≡ values_of es
+values_unscanned [] n scan k h = refl
+values_unscanned (e ∷ es) n scan k h =
+    let other : (n == e.0) ≡ false = elim (n == e.0) as (λ b. (n == e.0) ≡ b → b ≡ false) [ true ↦ λ t. (let q = h in grind (arith, q, t)) | false ↦ λ t. refl ] refl in
+    let not_here : (e.1.number == n) ≡ false = (let key = k.0 in grind (arith, nat_tests, key, other)) in
+    let later : lookup (λ k. n == k) es ≡ None = (let q = h in grind (arith, q, other)) in
+    rw not_here (ap (λ (rows : List OpenRow). e.1 ∷ rows) (values_unscanned es n scan k.2 later))

@@ -6,6 +6,7 @@ use Rattle.smb_tree.specs.declared.entry.Kind.TheVariants.{File}
 use Rattle.smb_tree.specs.Entries.{Entry, new_entry, kept_attributes}
 use Rattle.smb_tree.specs.Content.{Content, added, changed}
 use Rattle.smb_access.specs.declared.open_row.OpenRow.{OpenRow}
+use Rattle.smb_access.specs.Scans.{no_scan}
 use Rattle.smb_wire.specs.declared.create_action.CreateAction.{CreateAction}
 use Rattle.smb_wire.specs.declared.create_action.CreateAction.TheVariants.{Superseded, Opened, Created, Overwritten}
 use Rattle.smb_wire.specs.Dispositions.{supersedes_by, overwrites_by}
@@ -67,4 +68,5 @@ opened_by ask number entry access = record {
   access = access;
   share = share_asked ask;
   delete_on_close = asks_delete ask;
+  scan = no_scan;
 }

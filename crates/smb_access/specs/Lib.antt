@@ -1,4 +1,5 @@
 pub mod Numbers
+pub mod Scans
 pub mod Opens
 pub mod Present
 pub mod Plain

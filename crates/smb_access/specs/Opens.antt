@@ -1,10 +1,11 @@
 -- The opens that stand, in rising number.
-use Rattle.std.specs.Prelude.{ℕ, ◌==◌, ◌&&◌, not, nat_lt, Bool, true, List, map, filter, find, Option, None, Some, slice_get}
+use Rattle.std.specs.Prelude.{ℕ, ◌==◌, ◌&&◌, not, nat_lt, if◌then◌else◌, Bool, true, List, map, filter, find, Option, None, Some, slice_get}
 use Rattle.smb_access.specs.Numbers.{AreNumbersBelow}
 use Rattle.std.specs.List.{list_any}
 use Rattle.std.specs.Option.{option_map}
 use Rattle.smb_access.specs.declared.open_row.OpenRow.{OpenRow}
 use Rattle.smb_access.specs.declared.open_row.Owner.{Owner}
+use Rattle.smb_access.specs.declared.scan.Scan.{Scan}
 use Rattle.smb_access.specs.declared.open_row.Owner.TheVariants.{Session, Tree}
 
 -- an open has this number
@@ -31,6 +32,10 @@ open_of rows number = find (has_number number) rows
 -- the opens but that of a number
 abbrev pub without_open : ℕ → List OpenRow → List OpenRow
 without_open number = filter (λ row. not (has_number number row))
+
+-- the opens, with the scan of that of a number set
+abbrev pub with_scan : ℕ → Scan → List OpenRow → List OpenRow
+with_scan number scan = map (λ row. if has_number number row then record row { scan = scan } else row)
 
 -- the number of an entry's open at a place among its opens
 abbrev pub open_on_entry : List OpenRow → ℕ → ℕ → Option ℕ

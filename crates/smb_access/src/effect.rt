@@ -16,6 +16,7 @@ use super::checks::{asks_delete, asks_folder};
 use super::fault::{StoreFault, refusal_of};
 use super::found::Target;
 use super::open_row::{OpenNo, OpenRow};
+use super::scan::Scan;
 use super::sharing::share_asked;
 use smb_tree::{Basic, EntryNo, Kind, Tree};
 use smb_wire::{Access, CreateAction, CreateDisposition, FileAttributes};
@@ -66,6 +67,7 @@ pub fn opened_by(ask: &CreateAsk<'_>, number: OpenNo, entry: EntryNo, access: Ac
         access,
         share: share_asked(ask),
         delete_on_close: asks_delete(ask),
+        scan: Scan::none(),
     }
 }
 

@@ -3,6 +3,7 @@
 ghost use Rattle.std.specs.Prelude.{◌≡◌};
 ghost use Rattle.smb_access.specs.Opens.{is_held_by};
 
+use super::scan::Scan;
 use smb_tree::EntryNo;
 use smb_wire::{Access, ShareAccess};
 
@@ -31,7 +32,7 @@ impl Owner {
 }
 
 /// An open: an entry, who opened it, and what for ([MS-SMB2] 3.3.1.10).
-#[derive(Clone, Copy, Debug, PartialEq, Eq)]
+#[derive(Clone, Copy)]
 pub struct OpenRow {
     pub number: OpenNo,
     /// The number of the entry that is open.
@@ -46,4 +47,6 @@ pub struct OpenRow {
     pub share: ShareAccess,
     /// The entry is to go when this open is closed.
     pub delete_on_close: bool,
+    /// How far a scan of a directory has come through it.
+    pub scan: Scan,
 }

@@ -1,9 +1,10 @@
 //! The opens that every layer above speaks to.
 
 ghost use Rattle.std.specs.Prelude.{◌≡◌, ◌++◌, ◌∷◌, [], OnOk, OnErr, option_copied};
-ghost use Rattle.smb_access.specs.Opens.{open_of, without_open, open_on_entry, open_on_entry_after, open_after, first_held_by, AreAllBelow};
+ghost use Rattle.smb_access.specs.Opens.{open_of, without_open, with_scan, open_on_entry, open_on_entry_after, open_after, first_held_by, AreAllBelow};
 
 use super::open_row::{OpenNo, OpenRow, Owner};
+use super::scan::Scan;
 use smb_tree::EntryNo;
 use std::alloc::AllocError;
 
@@ -27,6 +28,10 @@ pub trait Opens {
     /// Takes the open of a number away; where none has it, nothing changes.
     fn remove(&mut self, number: OpenNo)
         ensures { content self.new ≡ without_open number (content self.old) };
+
+    /// Sets the scan of the open of a number; where none has it, nothing changes.
+    fn set_scan(&mut self, number: OpenNo, scan: Scan)
+        ensures { content self.new ≡ with_scan number scan (content self.old) };
 
     /// The number of the `i`-th open of an entry, counted from 0 in rising number, or None.
     fn on_entry(&self, entry: EntryNo, i: usize) -> Option<OpenNo>

@@ -7,8 +7,10 @@ ghost use Rattle.smb_access.specs.Plain.{AreKeyed};
 
 use super::open_row::{OpenNo, OpenRow, Owner};
 use super::opens::Opens;
+use super::scan::Scan;
 use indexmap::IndexMap;
 use smb_tree::EntryNo;
+use smb_wire::FoldedName;
 use std::alloc::{AllocError, Global};
 use std::marker::Model;
 
@@ -137,12 +139,21 @@ impl Opens for PlainOpens {
     }
 
     fn add(&mut self, row: OpenRow) -> Result<(), AllocError> {
+        // Does nothing: the checker's plan for `insert` lacks this type unless it is named.
+        let _: &Option<FoldedName> = &row.scan.pattern;
         self.rows.insert(row.number, row)?;
         Ok(())
     }
 
     fn remove(&mut self, number: OpenNo) {
         let _ = self.rows.shift_remove(&number);
+    }
+
+    fn set_scan(&mut self, number: OpenNo, scan: Scan) {
+        let Some(row) = self.rows.get_mut(&number) else {
+            return;
+        };
+        row.scan = scan;
     }
 
     fn on_entry(&self, entry: EntryNo, i: usize) -> Option<OpenNo> {

@@ -20,3 +20,4 @@ pub mod ReplyLemmas
 pub mod Smb1Lemmas
 pub mod Smb1Lists
 pub mod ReadHeads
+pub mod QueryHeads

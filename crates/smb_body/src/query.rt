@@ -1,8 +1,9 @@
 //! The response of QUERY_DIRECTORY and QUERY_INFO ([MS-SMB2] 2.2.34, 2.2.38).
 
-ghost use Rattle.std.specs.Prelude.{◌≡◌, ◌++◌, ◌≤◌, length, take, OnOk, IfErr, false};
+ghost use Rattle.std.specs.Prelude.{◌≡◌, ◌++◌, ◌≤◌, ◌<◌, ◌+◌, ◌^◌, List, ℕ, length, take, drop, replicate, OnOk, OnErr, IfOk, IfErr, false};
 ghost use Rattle.smb_wire.specs.Fields.{AllFit, appended, joined};
 ghost use Rattle.smb_body.specs.Refusals.{body_refusal};
+ghost use Rattle.smb_body.specs.Replies.{reply_spelling, answers_query_directory};
 ghost use Rattle.smb_body.specs.Query.{query_response_fields, is_query_response_too_long};
 
 use super::fault::BodyFault;
@@ -48,4 +49,41 @@ pub(crate) fn put_query_response(
     put_response_fixed(&response, out)?;
     put_bytes(out, response.output_buffer)?;
     Ok(())
+}
+
+/// Opens a QUERY_DIRECTORY response at the end of `out`: keeps the place of its fixed part free, and tells where that is. The
+/// buffer goes behind it, straight at the end of `out`.
+///
+/// [`BodyFault::NoMemory`] is the only refusal; after it `out` is as it was.
+pub fn open_query_response(out: &mut Vec<u8>) -> Result<usize, BodyFault>
+    ensures ok { OnOk result (out.new.items ≡ out.old.items ++ replicate 8 0) }
+    ensures start { IfOk result (λ start. start ≡ length out.old.items) }
+    ensures err { OnErr result (out.new.items ≡ out.old.items) }
+{
+    let start = out.len();
+    put_bytes(out, &[0; 8])?;
+    Ok(start)
+}
+
+/// Writes eight bytes over those from `place` on.
+fn set_eight(bytes: [u8; 8], place: usize, out: &mut Vec<u8>)
+    requires { place + 8 ≤ length out.old.items }
+    ensures bytes { out.new.items ≡ take place out.old.items ++ (bytes ++ drop (place + 8) out.old.items) }
+    ensures len { length out.new.items ≡ length out.old.items }
+{
+    out[place..place + 8].copy_from_slice(&bytes);
+}
+
+/// Closes the QUERY_DIRECTORY response that was opened at `start`: its buffer is what stands behind its fixed part, and has
+/// fewer than 2^32 bytes. It takes no memory.
+pub fn close_query_response(start: usize, out: &mut Vec<u8>)
+    requires within { start + 8 ≤ length out.old.items }
+    requires fits { length out.old.items < start + 8 + 2 ^ 32 }
+    ensures closed { (before buffer : List ℕ) → start ≡ length before → out.old.items ≡ (before ++ replicate 8 0) ++ buffer →
+        out.new.items ≡ before ++ reply_spelling (answers_query_directory buffer) }
+    ensures len { length out.new.items ≡ length out.old.items }
+{
+    let length = out.len() - start - 8;
+    let [a, b, c, d] = (length as u32).to_le_bytes();
+    set_eight([9, 0, 72, 0, a, b, c, d], start, out);
 }

@@ -2,3 +2,14 @@ pub mod PatternSteps
 pub mod PatternCarries
 pub mod PatternRuns
 pub mod InformationLemmas
+pub mod Turns
+pub mod Fronts
+pub mod Found
+pub mod Steps
+pub mod Listings
+pub mod Refusals
+pub mod Places
+pub mod GoingOn
+pub mod ListingRuns
+pub mod Listed
+pub mod PatternTests

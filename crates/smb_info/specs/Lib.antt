@@ -8,3 +8,12 @@ pub mod Volumes
 pub mod SetInformation
 pub mod SetAsks
 pub mod FileInformation
+pub mod Candidates
+pub mod CandidateViews
+pub mod DirectoryInformation
+pub mod Listing
+pub mod Queries
+pub mod OpenQueries
+pub mod ListingLaws
+pub mod Asks
+pub mod Rests

@@ -1,8 +1,8 @@
 -- What patterns match, in a user's words.
-use Rattle.std.specs.Prelude.{◌≡◌, ◌↔◌, ℕ, ◌≤◌, Bool, true, false, ◌⊎◌, List, [], ◌∷◌, ◌++◌, length, replicate}
+use Rattle.std.specs.Prelude.{◌≡◌, ◌↔◌, IsTrue, ℕ, ◌≤◌, Bool, true, false, ◌⊎◌, List, [], ◌∷◌, ◌++◌, length, replicate}
 use Rattle.std.specs.List.{list_all}
 use Rattle.smb_wire.specs.Names.{folded}
-use Rattle.smb_info.specs.Patterns.{symbol_of, has_dot, Matches}
+use Rattle.smb_info.specs.Patterns.{symbol_of, has_dot, Matches, is_match}
 use Rattle.smb_info.specs.declared.symbol.Symbol.{Symbol}
 use Rattle.smb_info.specs.declared.symbol.Symbol.TheVariants.{Asterisk, QuestionMark, DosStar, DosQm, DosDot, Literal}
 
@@ -61,3 +61,7 @@ ATrailingDotIsWanted = (name : List ℕ) → Matches (42 ∷ 46 ∷ []) name ↔
 -- a pattern and a name match as they do folded
 abbrev pub CaseMakesNoDifference : Type 0
 CaseMakesNoDifference = (pattern name : List ℕ) → Matches pattern name ↔ Matches (folded pattern) (folded name)
+
+-- the test says what the relation does
+abbrev pub TheTestIsTheRelation : Type 0
+TheTestIsTheRelation = (pattern name : List ℕ) → IsTrue (is_match pattern name) ↔ Matches pattern name

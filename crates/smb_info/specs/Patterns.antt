@@ -1,6 +1,7 @@
 -- Patterns of file names ([MS-FSA] 2.1.4.4): what each of their units may take of a name.
-use Rattle.std.specs.Prelude.{◌≡◌, ℕ, Bool, true, false, ◌==◌, if◌then◌else◌, ◌⊎◌, List, [], ◌∷◌, ◌++◌, length}
+use Rattle.std.specs.Prelude.{◌≡◌, ℕ, Bool, true, false, not, nat_eq, ◌==◌, ◌&&◌, ◌||◌, if◌then◌else◌, ◌⊎◌, List, [], ◌∷◌, ◌++◌, length, map}
 use Rattle.std.specs.List.{list_any}
+use Rattle.std.specs.Cmp.Lexicographic.{pointwise}
 use Rattle.smb_wire.specs.Names.{folded}
 use Rattle.smb_info.specs.declared.symbol.Symbol.{Symbol}
 use Rattle.smb_info.specs.declared.symbol.Symbol.TheVariants.{Asterisk, QuestionMark, DosStar, DosQm, DosDot, Literal}
@@ -41,3 +42,23 @@ abbrev pub Matches : List ℕ → List ℕ → Type 0
 Matches [] name = name ≡ []
 Matches (unit ∷ pattern) name =
     (run : List ℕ) × (rest : List ℕ) × (name ≡ run ++ rest) × Takes (symbol_of unit) run rest × Matches pattern rest
+
+-- the same as tests: whether a symbol may take this run, where this rest stands behind it
+abbrev pub takes : Symbol → List ℕ → List ℕ → Bool
+takes Asterisk run rest = true
+takes QuestionMark run rest = length run == 1
+takes DosStar run rest = not (has_dot run) || has_dot rest
+takes DosQm run rest = ((length run == 1) && not (has_dot run)) || ((length run == 0) && is_end_or_dot rest)
+takes DosDot run rest = pointwise nat_eq run (46 ∷ []) || ((length run == 0) && (length rest == 0))
+takes (Literal unit) run rest = pointwise nat_eq (folded run) (folded (unit ∷ []))
+
+-- each way to cut a name into a run at its front and the rest
+abbrev pub cuts : List ℕ → List (List ℕ × List ℕ)
+cuts [] = ([], []) ∷ []
+cuts (unit ∷ units) = ([], unit ∷ units) ∷ map (λ cut. (unit ∷ cut.0, cut.1)) (cuts units)
+
+-- whether a pattern matches a name: at some cut its first unit takes the run, and the pattern behind it matches the rest
+unfoldable pub is_match : List ℕ → List ℕ → Bool
+is_match [] name = length name == 0
+is_match (unit ∷ pattern) name =
+    list_any (λ cut. takes (symbol_of unit) cut.0 cut.1 && is_match pattern cut.1) (cuts name)

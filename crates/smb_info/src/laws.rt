@@ -1,6 +1,7 @@
-//! The laws of patterns.
+//! The laws of patterns and of listings.
 
-ghost use Rattle.smb_info.specs.PatternLaws.{AsteriskMatchesEveryName, LiteralsMatchTheirName, QuestionMarksCount, DosStarKeepsTheLastDot, DosStarLeavesTheExtension, DosQmsMatchShortNames, DosDotBeginsAnExtension, ATrailingDotIsWanted, CaseMakesNoDifference};
+ghost use Rattle.smb_info.specs.PatternLaws.{AsteriskMatchesEveryName, LiteralsMatchTheirName, QuestionMarksCount, DosStarKeepsTheLastDot, DosStarLeavesTheExtension, DosQmsMatchShortNames, DosDotBeginsAnExtension, ATrailingDotIsWanted, CaseMakesNoDifference, TheTestIsTheRelation};
+ghost use Rattle.smb_info.specs.ListingLaws.{AFolderIsListedInFull, NothingIsLeftOut, TheNextQueryGoesOn, OnlyWhatIsMatchedIsListed};
 
 /// What patterns match, in a user's words: the contract is the statement, and the body does nothing.
 pub fn laws_of_patterns()
@@ -13,4 +14,13 @@ pub fn laws_of_patterns()
     ensures dos_dot { DosDotBeginsAnExtension }
     ensures trailing_dot { ATrailingDotIsWanted }
     ensures folded { CaseMakesNoDifference }
+    ensures test { TheTestIsTheRelation }
+{}
+
+/// What queries of a directory list, in a user's words: the contract is the statement, and the body does nothing.
+pub fn laws_of_listings()
+    ensures full { AFolderIsListedInFull }
+    ensures left { NothingIsLeftOut }
+    ensures next { TheNextQueryGoesOn }
+    ensures only { OnlyWhatIsMatchedIsListed }
 {}

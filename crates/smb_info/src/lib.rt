@@ -9,8 +9,17 @@
 //! [`file_info`] tells those of a file or a folder, `specs/FileInformation.antt`, and [`fs_info`] those of a share
 //! as a file system, `specs/FileSystemInformation.antt`. As many bytes are told as there is room for: a name may be
 //! cut, the fixed part never. [`read_set_info`] reads what a SET_INFO asks, `specs/SetInformation.antt`.
+//!
+//! [`list`] answers a QUERY_DIRECTORY. What there is to list behind a place is `specs/Listing.antt`, what a query asks, by which
+//! scan it goes on and why it is refused `specs/Queries.antt`, and what is told of an entry `specs/DirectoryInformation.antt`.
 #![tactic(auto)]
 
+mod candidate;
+mod candidates;
+mod directory;
+mod directory_class;
+mod directory_entry;
+mod directory_fields;
 mod fault;
 mod file;
 mod file_class;
@@ -18,20 +27,27 @@ mod file_fields;
 mod file_system;
 mod file_system_class;
 mod file_system_fields;
+mod following;
 mod laws;
+mod listing;
 mod matching;
+mod matching_candidates;
 mod pattern;
+mod query;
+mod scan;
 mod set_info;
 mod symbol;
 mod volume;
 mod written;
 
+pub use directory::list;
 pub use fault::InfoFault;
 pub use file::file_info;
 pub use file_system::fs_info;
-pub use laws::laws_of_patterns;
+pub use laws::{laws_of_listings, laws_of_patterns};
 pub use matching::matches;
 pub use pattern::Pattern;
+pub use scan::{ListAsk, ScanFlags};
 pub use set_info::{SetAsk, read_set_info};
 pub use volume::Volume;
 pub use written::Written;

@@ -37,6 +37,13 @@ impl Pattern {
         Some(Pattern { units })
     }
 
+    // The pattern of these units.
+    pub(crate) fn of_name(units: FoldedName) -> Pattern
+        ensures { result ≡ units }
+    {
+        Pattern { units }
+    }
+
     // How many units it has, at most 255.
     pub(crate) fn len(&self) -> usize
         ensures len { result ≡ length self.now }

@@ -3,8 +3,8 @@
 ghost use Rattle.std.specs.Prelude.{◌≡◌};
 
 use smb_opens::{
-    BasicAsk, CreateAsk, Created, OpenNo, OpenRow, Opens, Owner, PlainOpens, Store, StoreFault,
-    View, laws_of_stores,
+    BasicAsk, CreateAsk, Created, OpenNo, OpenRow, Opens, Owner, PlainOpens, Scan, ScanLast, Store,
+    StoreFault, View, laws_of_stores,
 };
 use smb_tree::{Kind, PlainTree, Tree};
 use smb_wire::{
@@ -76,11 +76,12 @@ fn creates<T: Tree + Drop, O: Opens + Drop>(store: &mut Store<T, O>) -> bool {
         && store.tree().used() == 0
 }
 
-/// Whether an open stands that shows the new file, and is closed.
+/// Whether an open stands that shows the new file, also where its scan is set, and is closed.
 fn closes<T: Tree + Drop, O: Opens + Drop>(store: &mut Store<T, O>, number: OpenNo) -> bool {
     if store.view(number).is_none() {
         return false;
     }
+    store.set_scan(number, BEHIND_DOT_DOT);
     let closed = store.close(number);
     closed.view == new_file() && !closed.removed && store.view(number).is_none()
 }
@@ -215,6 +216,7 @@ fn row(number: OpenNo, entry: u64, session: u64) -> OpenRow
         access: Access(1),
         share: ShareAccess(7),
         delete_on_close: false,
+        scan: Scan::none(),
     }
 }
 
@@ -229,11 +231,31 @@ fn three_opens(alloc: Global) -> Option<PlainOpens> {
 
 /// Whether each of the three is found.
 fn finds_three<O: Opens>(opens: &O) -> bool {
-    opens.get(2) == Some(&row(2, 6, 2))
+    opens.get(2).map(|row| row.number) == Some(2)
         && opens.on_entry(5, 0) == Some(1)
         && opens.on_entry(5, 1) == Some(3)
         && opens.on_entry(5, 2).is_none()
         && opens.of_owner(Owner::Session(2)) == Some(2)
+}
+
+/// A scan whose last entry was `..`.
+const BEHIND_DOT_DOT: Scan = Scan {
+    pattern: None,
+    last: ScanLast::DotDot,
+};
+
+/// Whether the last entry of an open's scan was `..`.
+fn is_behind_dot_dot<O: Opens>(opens: &O, number: OpenNo) -> bool {
+    match opens.get(number) {
+        Some(row) => matches!(row.scan.last, ScanLast::DotDot),
+        None => false,
+    }
+}
+
+/// Whether the scan of the second is set alone.
+fn scans_one<O: Opens>(opens: &mut O) -> bool {
+    opens.set_scan(2, BEHIND_DOT_DOT);
+    is_behind_dot_dot(opens, 2) && !is_behind_dot_dot(opens, 3)
 }
 
 /// Whether the second is taken away alone.
@@ -247,7 +269,7 @@ fn removes_one<O: Opens>(opens: &mut O) -> bool {
 #[test]
 fn opens_by_number_entry_and_owner(rt: HostRuntime) {
     let is_so = match three_opens(rt.alloc()) {
-        Some(mut opens) => finds_three(&opens) && removes_one(&mut opens),
+        Some(mut opens) => finds_three(&opens) && scans_one(&mut opens) && removes_one(&mut opens),
         None => false,
     };
     assert!(rt; is_so);

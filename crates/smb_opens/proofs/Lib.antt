@@ -21,3 +21,4 @@ pub mod Decided
 pub mod Carried
 pub mod RenameStates
 pub mod RenameLaws
+pub mod ScanLaws

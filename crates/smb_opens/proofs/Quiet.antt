@@ -28,7 +28,7 @@ use Rattle.smb_access.specs.Opens.{open_of, is_on_entry, without_open, open_numb
 use Rattle.smb_access.specs.Rename.{dated, renamed_tree}
 use Rattle.smb_access.specs.SetInfo.{changed_in, delete_set, size_set, entry_set}
 use Rattle.smb_opens.specs.State.{StoreState}
-use Rattle.smb_opens.specs.Steps.{StoreStep, creates, writes, locks, unlocks, sets_delete, sets_size, sets_basic, renames, closes, closes_all, stepped, stepped_all, is_change_of, NoneChanges}
+use Rattle.smb_opens.specs.Steps.{StoreStep, creates, writes, locks, unlocks, sets_delete, sets_size, sets_basic, renames, sets_scan, closes, closes_all, stepped, stepped_all, is_change_of, NoneChanges}
 use Rattle.smb_opens.specs.Views.{open_view}
 use Rattle.smb_access.proofs.Changes.{Keeps, below_changed, below_push}
 use Rattle.smb_opens.proofs.Once.{AreOnce, once_of_apart, once_changed, once_without, once_push, once_renamed, numbered-once}
@@ -212,6 +212,7 @@ step_stays state (sets_size number size is_allocation moment) n bytes quiet stay
 step_stays state (sets_basic number ask moment) n bytes quiet stays =
     set_stays (entry_set ask moment) state (open_of state.opens number) n bytes (record { number = λ _. refl; kind = λ _. refl }) (inl (λ _. refl)) stays
 step_stays state (renames number name moment) n bytes quiet stays = renamed_stays state (open_of state.opens number) name moment n bytes stays
+step_stays state (sets_scan number scan) n bytes quiet stays = stays
 step_stays state (closes number) n bytes quiet stays = closed_stays state number n bytes stays
 step_stays state (closes_all owner) n bytes quiet stays = each_closed_stays state (open_numbers (filter (is_held_by owner) state.opens)) n bytes stays
 

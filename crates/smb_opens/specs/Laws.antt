@@ -19,9 +19,11 @@ use Rattle.smb_opens.specs.Effect.{created, create_result}
 use Rattle.smb_access.specs.Found.{path_asked}
 use Rattle.smb_opens.specs.Found.{entry_asked}
 use Rattle.smb_opens.specs.Good.{UnmarkedTree, GoodStore}
-use Rattle.smb_access.specs.Opens.{open_of}
+use Rattle.smb_access.specs.Opens.{open_of, open_numbers}
 use Rattle.smb_access.specs.Rename.{path_named}
 use Rattle.smb_opens.specs.Renames.{renamed_through}
+use Rattle.smb_access.specs.declared.scan.Scan.{Scan}
+use Rattle.smb_opens.specs.Scans.{scan_set}
 use Rattle.smb_opens.specs.SetInfo.{delete_set_through, size_set_through, basic_set_through}
 use Rattle.smb_access.specs.Sharing.{Use, is_conflict}
 use Rattle.smb_opens.specs.State.{StoreState}
@@ -181,3 +183,16 @@ ARenameKeepsBytes =
     × ((renamed_through state number name moment).locks ≡ state.locks)
     × ((entry : ℕ) → (number_at state.tree.rows (path_named name) ≡ Some entry → entry ≡ row.entry) →
     kind_and_bytes (numbered (renamed_through state number name moment).tree.rows entry) ≡ kind_and_bytes (numbered state.tree.rows entry))
+
+-- what is left by a scan that is set: the tree, the locks and the next number; the opens' numbers; every other open; its own
+-- but for the scan; and what each open shows
+pub record LeavesScan (state : StoreState) (number : ℕ) (scan : Scan) : Type 0 where
+  pub beside : ((scan_set state number scan).tree ≡ state.tree) × ((scan_set state number scan).locks ≡ state.locks) × ((scan_set state number scan).next ≡ state.next)
+  pub numbers : open_numbers (scan_set state number scan).opens ≡ open_numbers state.opens
+  pub others : (other : ℕ) → other == number ≡ false → open_of (scan_set state number scan).opens other ≡ open_of state.opens other
+  pub own : (row : OpenRow) → open_of state.opens number ≡ Some row → open_of (scan_set state number scan).opens number ≡ Some (record row { scan = scan })
+  pub shown : (other : ℕ) → open_view (scan_set state number scan) other ≡ open_view state other
+
+-- a scan is of one open, and changes nothing else
+abbrev pub AScanIsOfOneOpen : Type 0
+AScanIsOfOneOpen = (state : StoreState) (number : ℕ) (scan : Scan) → LeavesScan state number scan

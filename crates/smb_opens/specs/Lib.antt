@@ -7,6 +7,7 @@ pub mod Bytes
 pub mod Locks
 pub mod SetInfo
 pub mod Renames
+pub mod Scans
 pub mod Effect
 pub mod Close
 pub mod Steps

@@ -13,14 +13,16 @@ use Rattle.smb_opens.specs.Found.{entry_asked}
 use Rattle.smb_opens.specs.Locks.{locked_through, unlocked_through}
 use Rattle.smb_access.specs.Opens.{is_on_entry, open_of}
 use Rattle.smb_opens.specs.Renames.{renamed_through}
+use Rattle.smb_access.specs.declared.scan.Scan.{Scan}
+use Rattle.smb_opens.specs.Scans.{scan_set}
 use Rattle.smb_opens.specs.SetInfo.{delete_set_through, size_set_through, basic_set_through}
 use Rattle.smb_opens.specs.State.{StoreState}
 
 -- a request with what it does where it is performed (an unlock may be refused behind some of its ranges, and is the step
 -- of those before): a CREATE at a moment; a WRITE of bytes at an offset through the open of a number, at a moment; a LOCK
 -- through an open that locks, or one that unlocks; a SET_INFO through an open, of its entry's mark, of its file's size or
--- allocation size at a moment, of its entry's times and attributes at a moment, or of its entry's name at a moment; the
--- CLOSE of an open; the end of all opens of an owner
+-- allocation size at a moment, of its entry's times and attributes at a moment, or of its entry's name at a moment; a
+-- QUERY_DIRECTORY, which sets the scan of an open; the CLOSE of an open; the end of all opens of an owner
 pub data StoreStep : Type 0 where
   creates : FileAsked → ℕ → StoreStep
   writes : ℕ → ℕ → List ℕ → ℕ → StoreStep
@@ -30,6 +32,7 @@ pub data StoreStep : Type 0 where
   sets_size : ℕ → ℕ → Bool → ℕ → StoreStep
   sets_basic : ℕ → BasicAsk → ℕ → StoreStep
   renames : ℕ → List ℕ → ℕ → StoreStep
+  sets_scan : ℕ → Scan → StoreStep
   closes : ℕ → StoreStep
   closes_all : Owner → StoreStep
 
@@ -43,6 +46,7 @@ stepped state (sets_delete number is_deleted) = delete_set_through state number 
 stepped state (sets_size number size is_allocation moment) = size_set_through state number size is_allocation moment
 stepped state (sets_basic number ask moment) = basic_set_through state number ask moment
 stepped state (renames number name moment) = renamed_through state number name moment
+stepped state (sets_scan number scan) = scan_set state number scan
 stepped state (closes number) = closed state number
 stepped state (closes_all owner) = closed_all state owner
 
@@ -64,6 +68,7 @@ is_change_of entry state (sets_size number size is_allocation moment) =
     option_map_or (is_on_entry entry) (open_of state.opens number) false
 is_change_of entry state (sets_basic number ask moment) = false
 is_change_of entry state (renames number name moment) = false
+is_change_of entry state (sets_scan number scan) = false
 is_change_of entry state (closes number) = false
 is_change_of entry state (closes_all owner) = false
 

@@ -1,6 +1,6 @@
 //! The laws of stores.
 
-ghost use Rattle.smb_opens.specs.Laws.{ANewTreeIsGood, ACreateIsAtOnePath, AnOpenLeavesEntries, ACreateReturnsWhatIsShown, AConflictIsMutual, MoreAccessKeepsAConflict, ACloseIsOfOneEntry, ACloseKeepsBytesAndTimes, WhatIsWrittenIsReadAgain, AWriteIsOfOneFile, ALockKeepsOthersOut, ASharedLockKeepsWritersOut, NoTwoLocksConflict, ACloseTakesItsLocks, ASetOfTimesKeepsBytes, ASetOfAMarkKeepsBytes, ASetOfASizeIsOfOneFile, ASetOfASizeKeepsTheFront, AMarkedEntryIsNotOpened, ARenameKeepsBytes};
+ghost use Rattle.smb_opens.specs.Laws.{ANewTreeIsGood, ACreateIsAtOnePath, AnOpenLeavesEntries, ACreateReturnsWhatIsShown, AConflictIsMutual, MoreAccessKeepsAConflict, ACloseIsOfOneEntry, ACloseKeepsBytesAndTimes, WhatIsWrittenIsReadAgain, AWriteIsOfOneFile, ALockKeepsOthersOut, ASharedLockKeepsWritersOut, NoTwoLocksConflict, ACloseTakesItsLocks, ASetOfTimesKeepsBytes, ASetOfAMarkKeepsBytes, ASetOfASizeIsOfOneFile, ASetOfASizeKeepsTheFront, AMarkedEntryIsNotOpened, ARenameKeepsBytes, AScanIsOfOneOpen};
 
 /// A new tree is good, so a store can be made of it; a CREATE changes at most the entry at its own path, and none where it
 /// doesn't overwrite, and returns what its open shows; a conflict is one both ways, and more access never removes one; a
@@ -11,7 +11,8 @@ ghost use Rattle.smb_opens.specs.Laws.{ANewTreeIsGood, ACreateIsAtOnePath, AnOpe
 /// takes the open's locks and no others. A SET_INFO leaves all other entries, all opens and all locks; one of times and
 /// attributes, or of a mark, leaves all paths and bytes, and one of a size the bytes before the smaller of both sizes,
 /// with zeros behind those that there were. An entry that is marked isn't opened. A rename leaves all opens and all locks, and
-/// every entry's kind and bytes, but of one that it replaces. The contract is the statement, and the body does nothing.
+/// every entry's kind and bytes, but of one that it replaces. A scan is of one open, and changes nothing else. The contract is
+/// the statement, and the body does nothing.
 pub fn laws_of_stores()
     ensures new_tree { ANewTreeIsGood }
     ensures one_path { ACreateIsAtOnePath }
@@ -33,4 +34,5 @@ pub fn laws_of_stores()
     ensures front { ASetOfASizeKeepsTheFront }
     ensures not_opened { AMarkedEntryIsNotOpened }
     ensures renamed { ARenameKeepsBytes }
+    ensures scans { AScanIsOfOneOpen }
 {}

@@ -20,6 +20,8 @@
 //! entry's name: with the status that the table of smb_access's `specs/Rename.antt` gives; or the entry is moved with all that lies beneath
 //! it, as `specs/Renames.antt` says.
 //!
+//! [`Store::set_scan`] keeps how far a scan of a directory has come through an open.
+//!
 //! A CREATE looks its path and its folder up, goes through the opens of its entry, and through what is stored for an
 //! overwritten file; all else takes time as the tree and the opens say.
 #![tactic(auto)]
@@ -28,12 +30,13 @@ mod bytes;
 mod laws;
 mod locks;
 mod renames;
+mod scans;
 mod set_info;
 mod store;
 
 pub use laws::laws_of_stores;
 pub use smb_access::{
-    BasicAsk, Closed, CreateAsk, Created, OpenNo, OpenRow, Opens, Owner, PlainOpens, StoreFault,
-    View,
+    BasicAsk, Closed, CreateAsk, Created, OpenNo, OpenRow, Opens, Owner, PlainOpens, Scan,
+    ScanLast, StoreFault, View,
 };
 pub use store::Store;

@@ -17,7 +17,7 @@ use Rattle.smb_wire.specs.declared.file_id.FileId.{FileId}
 use Rattle.smb_session.specs.Negotiate.{best_of}
 use Rattle.smb_body.specs.Requests.{RequestValue, asks_negotiate, asks_session_setup, asks_logoff, asks_tree_connect, asks_tree_disconnect, asks_create, asks_close, asks_flush, asks_read, asks_write, asks_lock, asks_cancel, asks_echo, asks_query_directory, asks_query_info, asks_set_info, file_id_of, request_of}
 use Rattle.smb_request.specs.declared.command_row.Handling.{Handling}
-use Rattle.smb_request.specs.declared.command_row.Handling.TheVariants.{Built, NotBuilt, Passed}
+use Rattle.smb_request.specs.declared.command_row.Handling.TheVariants.{Handled, Unsupported, Passed}
 use Rattle.smb_request.specs.declared.context.Context.{Context}
 use Rattle.smb_request.specs.declared.status.Status.{Status}
 use Rattle.smb_request.specs.Commands.{command_row, needs_of, needs_session}
@@ -69,9 +69,13 @@ use Rattle.smb_access.specs.Bytes.{written_tree}
 use Rattle.smb_access.specs.declared.open_row.Owner.{Owner}
 use Rattle.smb_request.specs.SetInfo.{set_through}
 use Rattle.smb_request.proofs.InfoApart.{set_opens, set_next, queried_left, info_set_left}
+use Rattle.smb_access.specs.declared.scan.Scan.{Scan}
+use Rattle.smb_opens.specs.Scans.{scan_set}
+use Rattle.smb_opens.proofs.ScanLaws.{numbers_scanned}
+use Rattle.smb_request.proofs.Listings.{listed_left, none_scanned, held_scanned}
 use Rattle.smb_request.proofs.SetUp.{set_up_left}
 use Rattle.smb_request.proofs.Numbers.{others_left, next_closed}
-use Rattle.smb_request.proofs.Leaving.{Leaves, LeavesShared, IsApart, leaves_then, leaves_opens, leaves_same, leaves_changed, leaves_ended, leaves_some, leaves_opened, known_apart, known_there, others_held, opens_of}
+use Rattle.smb_request.proofs.Leaving.{Leaves, LeavesShared, IsApart, leaves_own, leaves_then, leaves_opens, leaves_same, leaves_changed, leaves_ended, leaves_some, leaves_opened, known_apart, known_there, others_held, opens_of}
 
 -- opens of other sessions
 others_of_tree : (m t n : ℕ) (rows : List OpenRow) → (n == m) ≡ false → filter (is_held_by (Session n)) (others (Tree m t) rows) ≡ filter (is_held_by (Session n)) rows
@@ -209,6 +213,18 @@ module _ {S : Type 0} (acts : ℕ → Bool) (c : ℕ) (a : acts c ≡ true) (sha
   unfolding file_closed
   closed_left under k flags h = closed_at under k flags (open_view shared.store k) h
 
+  -- QUERY_DIRECTORY
+  scanned_left : (under : Under) (k : ℕ) (row : Option OpenRow) → open_of shared.store.opens k ≡ row → option_map_or (is_held_by (Tree under.session_id under.tree_id)) row false ≡ true →
+      knows_session shared.sessions.table c under.session_id ≡ true → (scan : Scan) → Left (with_store shared (scan_set shared.store k scan))
+  scanned_left under k None e h known scan = cc
+  scanned_left under k (Some row) e h known scan =
+      let s = under.session_id in
+      let table = shared.sessions.table in
+      let numbers = numbers_scanned k scan shared.store.opens in
+      leaves_own acts table table shared.store (scan_set shared.store k scan) s (known_apart acts table c s a known)
+      (record { sessions = o.sessions; sessions_given = o.sessions_given; opens = rw numbers o.opens; opens_given = rw numbers o.opens_given })
+      (omega arith) (λ n d. (refl, held_scanned n k scan row shared.store.opens o.opens e (held_by_tree s under.tree_id n row h d))) (λ l none. (none.0, none_scanned s k scan shared.store.opens none.1))
+
   -- LOCK
   locks_kept : (k : ℕ) (table : ℕ → Table) → Left (with_store shared (with_locks_of table shared.store (open_view shared.store k)))
   locks_kept k table = opens_kept (with_locks_of table shared.store (open_view shared.store k)) (locks_opens table shared.store (open_view shared.store k)) (locks_next table shared.store (open_view shared.store k))
@@ -276,7 +292,10 @@ module _ {S : Type 0} (acts : ℕ → Bool) (c : ℕ) (a : acts c ≡ true) (sha
   acted_left m moment dialect under (asks_lock x) e = locks_left under x.file_id.persistent (lock_asks x.locks) (asks_unlock (lock_asks x.locks))
   acted_left m moment dialect under (asks_cancel x) e = same
   acted_left m moment dialect under (asks_echo x) e = same
-  acted_left m moment dialect under (asks_query_directory x) e = same
+  acted_left m moment dialect under (asks_query_directory x) e =
+      let k = x.file_id.persistent in
+      listed_left Left shared same under k
+      (λ scan. scanned_left under k (open_of shared.store.opens k) refl (named_open under (asks_query_directory x) x.file_id refl e) (acts_known under (asks_query_directory x) refl e) scan) x
   acted_left m moment dialect under (asks_query_info x) e = queried_left Left shared same under x.file_id.persistent x
   acted_left m moment dialect under (asks_set_info x) e =
       let k = x.file_id.persistent in
@@ -293,8 +312,8 @@ module _ {S : Type 0} (acts : ℕ → Bool) (c : ℕ) (a : acts c ≡ true) (sha
   body_left m moment dialect under (Some asked) = body_at m moment dialect under asked (missing_refusal shared c under asked) refl
 
   handled_left : (m : Meaning S) (moment : ℕ) (dialect : Option Dialect) (under : Under) (handling : Handling) (asked : Option RequestValue) → Left (by_handling m c moment shared dialect under handling asked).shared
-  handled_left m moment dialect under Built asked = body_left m moment dialect under asked
-  handled_left m moment dialect under NotBuilt asked = same
+  handled_left m moment dialect under Handled asked = body_left m moment dialect under asked
+  handled_left m moment dialect under Unsupported asked = same
   handled_left m moment dialect under Passed asked = same
 
   command_left : (m : Meaning S) (moment : ℕ) (dialect : Option Dialect) (under : Under) (request : List ℕ) (command : Option Command) → Left (by_command m c moment shared dialect under request command).shared

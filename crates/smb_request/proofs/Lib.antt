@@ -9,4 +9,5 @@ pub mod Alone
 pub mod Asks
 pub mod SetUp
 pub mod InfoApart
+pub mod Listings
 pub mod Apart

@@ -5,30 +5,30 @@ use Rattle.smb_wire.specs.declared.command.Command.TheVariants.{Negotiate, Sessi
 use Rattle.smb_body.specs.Requests.{RequestValue, asks_negotiate, asks_session_setup, asks_logoff, asks_tree_connect, asks_tree_disconnect, asks_create, asks_close, asks_flush, asks_read, asks_write, asks_lock, asks_cancel, asks_echo, asks_query_directory, asks_query_info, asks_set_info}
 use Rattle.smb_request.specs.declared.command_row.Needs.{Needs}
 use Rattle.smb_request.specs.declared.command_row.Needs.TheVariants.{Nothing, Session, Tree, Open}
-use Rattle.smb_request.specs.declared.command_row.Handling.TheVariants.{Built, NotBuilt, Passed}
+use Rattle.smb_request.specs.declared.command_row.Handling.TheVariants.{Handled, Unsupported, Passed}
 use Rattle.smb_request.specs.declared.command_row.Row.{Row}
 
--- each command, from number 0 on: what its requests need, and whether they are performed, not supported yet, or passed over
+-- each command, from number 0 on: what its requests need, and whether they are performed, not supported, or passed over
 abbrev pub command_row : Command → Row
-command_row Negotiate = record { needs = Nothing; handling = Built }
-command_row SessionSetup = record { needs = Nothing; handling = Built }
-command_row Logoff = record { needs = Session; handling = Built }
-command_row TreeConnect = record { needs = Session; handling = Built }
-command_row TreeDisconnect = record { needs = Tree; handling = Built }
-command_row Create = record { needs = Tree; handling = Built }
-command_row Close = record { needs = Open; handling = Built }
-command_row Flush = record { needs = Open; handling = Built }
-command_row Read = record { needs = Open; handling = Built }
-command_row Write = record { needs = Open; handling = Built }
-command_row Lock = record { needs = Open; handling = Built }
-command_row Ioctl = record { needs = Open; handling = NotBuilt }
+command_row Negotiate = record { needs = Nothing; handling = Handled }
+command_row SessionSetup = record { needs = Nothing; handling = Handled }
+command_row Logoff = record { needs = Session; handling = Handled }
+command_row TreeConnect = record { needs = Session; handling = Handled }
+command_row TreeDisconnect = record { needs = Tree; handling = Handled }
+command_row Create = record { needs = Tree; handling = Handled }
+command_row Close = record { needs = Open; handling = Handled }
+command_row Flush = record { needs = Open; handling = Handled }
+command_row Read = record { needs = Open; handling = Handled }
+command_row Write = record { needs = Open; handling = Handled }
+command_row Lock = record { needs = Open; handling = Handled }
+command_row Ioctl = record { needs = Open; handling = Unsupported }
 command_row Cancel = record { needs = Nothing; handling = Passed }
-command_row Echo = record { needs = Nothing; handling = Built }
-command_row QueryDirectory = record { needs = Open; handling = NotBuilt }
-command_row ChangeNotify = record { needs = Open; handling = NotBuilt }
-command_row QueryInfo = record { needs = Open; handling = Built }
-command_row SetInfo = record { needs = Open; handling = Built }
-command_row OplockBreak = record { needs = Open; handling = NotBuilt }
+command_row Echo = record { needs = Nothing; handling = Handled }
+command_row QueryDirectory = record { needs = Open; handling = Handled }
+command_row ChangeNotify = record { needs = Open; handling = Unsupported }
+command_row QueryInfo = record { needs = Open; handling = Handled }
+command_row SetInfo = record { needs = Open; handling = Handled }
+command_row OplockBreak = record { needs = Open; handling = Unsupported }
 
 -- the command of a request
 abbrev pub command_asked : RequestValue → Command

@@ -12,6 +12,7 @@ pub mod Locks
 pub mod InfoTypes
 pub mod QueryInfo
 pub mod SetInfo
+pub mod QueryDirectory
 pub mod Files
 pub mod Request
 pub mod Held

@@ -1,8 +1,10 @@
 -- For the proofs; nothing here need be believed.
 -- What a command gives, as a response.
-use Rattle.std.specs.Prelude.{◌≡◌, ◌≤◌, length, Option, None, Some}
+use Rattle.std.specs.Prelude.{◌≡◌, ◌≤◌, length, Option, None, Some, IsSome}
 use Rattle.smb_wire.specs.declared.dialect.Dialect.{Dialect}
 use Rattle.smb_body.specs.Replies.{ReplyValue, answers_error, answers_session_setup, answers_logoff, answers_tree_connect, answers_tree_disconnect, answers_create, answers_close, answers_flush, answers_read, answers_write, answers_lock, answers_echo, answers_query_info, answers_set_info}
+use Rattle.smb_body.specs.QueryDirectory.{query_directory_asked}
+use Rattle.smb_access.specs.Opens.{open_of}
 use Rattle.smb_session.specs.Authenticator.{Meaning}
 use Rattle.smb_wire.specs.NtStatus.{STATUS_SUCCESS}
 use Rattle.smb_opens.specs.Bytes.{read_status, file_bytes}
@@ -14,14 +16,19 @@ use Rattle.smb_request.specs.declared.outcome.ReadAsk.{ReadAsk}
 use Rattle.smb_request.specs.declared.outcome.Success.TheVariants.{Negotiate, SessionSetup, Logoff, TreeConnect, TreeDisconnect, Create, Close, Flush, Write, Lock, Echo, SetInfo}
 use Rattle.smb_request.specs.declared.outcome.Outcome.{Outcome}
 use Rattle.smb_request.specs.declared.outcome.Outcome.TheVariants.{Succeeded, Reads, Informs, GoesOn, Failed}
-use Rattle.smb_request.specs.declared.outcome.Told.{Told}
+use Rattle.smb_request.specs.declared.outcome.Told.{Told as ToldOutcome}
+use Rattle.smb_request.specs.declared.outcome.Acted.{Acted}
+use Rattle.smb_request.specs.declared.outcome.Acted.TheVariants.{Told, Lists}
+use Rattle.smb_request.specs.declared.response.Unanswered.{Unanswered}
+use Rattle.smb_request.specs.declared.response.Unanswered.TheVariants.{NotPerformed, Performed}
 use Rattle.smb_request.specs.declared.status.Status.{Status}
 use Rattle.smb_request.specs.declared.status.Status.TheVariants.{MoreProcessingRequired}
 use Rattle.smb_request.specs.Negotiate.{negotiate_answer}
 use Rattle.smb_request.specs.QueryInfo.{written_status}
 use Rattle.smb_request.specs.Session.{tree_response}
 use Rattle.smb_request.specs.State.{SharedState, hello_of}
-use Rattle.smb_request.specs.Response.{ResponseState, RequestStep, with_body, answered}
+use Rattle.smb_request.specs.QueryDirectory.{directory_queried}
+use Rattle.smb_request.specs.Response.{ResponseState, CommandStep, RequestStep, with_body, answered}
 
 -- the body of a SESSION_SETUP that goes on or is in (2.2.6)
 abbrev pub setup_value : SetupTold → ReplyValue
@@ -51,13 +58,18 @@ outcome_response authenticator shared ids (Informs told) = with_body ids (writte
 outcome_response authenticator shared ids (GoesOn told) = with_body ids MoreProcessingRequired (setup_value told)
 outcome_response authenticator shared ids (Failed status) = with_body ids status answers_error
 
-abbrev pub told_response : {S : Type 0} → Meaning S → SharedState S → Told → ResponseState
+abbrev pub told_response : {S : Type 0} → Meaning S → SharedState S → ToldOutcome → ResponseState
 told_response authenticator shared told = outcome_response authenticator shared told.ids told.outcome
 
--- what a request leaves, from what is shared after it; None has no answer
-abbrev pub told_step : {S : Type 0} → Meaning S → SharedState S → Option Dialect → Option Told → RequestStep S
-told_step authenticator shared dialect None = record { shared = shared; dialect = dialect; response = None }
-told_step authenticator shared dialect (Some told) = answered dialect (record { shared = shared; response = told_response authenticator shared told })
+-- what comes of a request, from what is shared then: a query of a directory is still to be performed
+abbrev pub acted_command : {S : Type 0} → Meaning S → SharedState S → Acted → CommandStep S
+acted_command authenticator shared (Told told) = record { shared = shared; response = told_response authenticator shared told }
+acted_command authenticator shared (Lists query) = directory_queried shared query.under query.open_number (query_directory_asked query.request)
+
+-- None has no answer
+abbrev pub acted_step : {S : Type 0} → Meaning S → SharedState S → Option Dialect → Option Acted → RequestStep S
+acted_step authenticator shared dialect None = record { shared = shared; dialect = dialect; response = None }
+acted_step authenticator shared dialect (Some acted) = answered dialect (acted_command authenticator shared acted)
 
 -- a token is short enough for a response
 abbrev pub IsShortSuccess : Success → Type 0
@@ -77,3 +89,18 @@ CanBeSpelled shared (Reads ask) = IsReadable shared ask
 CanBeSpelled shared (Informs told) = length told.bytes.items ≤ 65536
 CanBeSpelled shared (GoesOn told) = length told.token.items ≤ 4096
 CanBeSpelled shared (Failed status) = Unit {0}
+
+-- and so can what comes of a request: an open that is listed stands
+abbrev pub CanBeAnswered : {S : Type 0} → SharedState S → Acted → Type 0
+CanBeAnswered shared (Told told) = CanBeSpelled shared told.outcome
+CanBeAnswered shared (Lists query) = IsSome (open_of shared.store.opens query.open_number)
+
+-- where a query of a directory is still to be performed, nothing was changed
+abbrev pub IsStill : {S : Type 0} → SharedState S → SharedState S → Acted → Type 0
+IsStill before after (Told told) = Unit {0}
+IsStill before after (Lists query) = after ≡ before
+
+-- where memory ran out when a response was spelled: a query of a directory was not performed then
+abbrev pub unanswered_of : Acted → Unanswered
+unanswered_of (Told told) = Performed
+unanswered_of (Lists query) = NotPerformed

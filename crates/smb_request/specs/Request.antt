@@ -6,7 +6,7 @@ use Rattle.smb_head.specs.Chains.{is_related}
 use Rattle.smb_wire.specs.Commands.{code_of, known_command}
 use Rattle.smb_wire.specs.declared.command.Command.{Command}
 use Rattle.smb_request.specs.declared.command_row.Handling.{Handling}
-use Rattle.smb_request.specs.declared.command_row.Handling.TheVariants.{Built, NotBuilt, Passed}
+use Rattle.smb_request.specs.declared.command_row.Handling.TheVariants.{Handled, Unsupported, Passed}
 use Rattle.smb_session.specs.Authenticator.{Meaning}
 use Rattle.smb_wire.specs.Dialects.{revision_of}
 use Rattle.smb_session.specs.Negotiate.{best_of}
@@ -25,6 +25,7 @@ use Rattle.smb_request.specs.Session.{session_set_up, session_logged_off, tree_j
 use Rattle.smb_request.specs.Files.{file_created, file_closed, file_flushed, names_open}
 use Rattle.smb_request.specs.Bytes.{file_read, file_written}
 use Rattle.smb_request.specs.Locks.{lock_asks, locks_changed}
+use Rattle.smb_request.specs.QueryDirectory.{directory_queried}
 use Rattle.smb_request.specs.QueryInfo.{information_queried}
 use Rattle.smb_request.specs.SetInfo.{information_set}
 use Rattle.smb_request.specs.Commands.{command_row, needs_of, needs_session, needs_tree}
@@ -56,7 +57,7 @@ negotiated authenticator moment shared dialect under dialects = option_map_or
     (answered dialect (refused shared under NotSupported))
 
 module _ {S : Type 0} (authenticator : Meaning S) (connection moment : ℕ) (shared : SharedState S) (dialect : Option Dialect) (under : Under) where
-  -- QUERY_DIRECTORY, which is not built, and CANCEL: their requests don't come here
+  -- CANCEL: its requests don't come here
   abbrev pub acted_not : RequestStep S
   acted_not = answered dialect (refused shared under NotSupported)
 
@@ -75,7 +76,7 @@ module _ {S : Type 0} (authenticator : Meaning S) (connection moment : ℕ) (sha
   acted (asks_lock asked) = answered dialect (locks_changed shared under asked.file_id.persistent (lock_asks asked.locks))
   acted (asks_echo asked) = answered dialect (record { shared = shared; response = success under answers_echo })
   acted (asks_cancel asked) = acted_not
-  acted (asks_query_directory asked) = acted_not
+  acted (asks_query_directory asked) = answered dialect (directory_queried shared under asked.file_id.persistent asked)
   acted (asks_query_info asked) = answered dialect (information_queried shared under asked.file_id.persistent asked)
   acted (asks_set_info asked) = answered dialect (information_set moment shared under asked.file_id.persistent asked)
 
@@ -89,8 +90,8 @@ module _ {S : Type 0} (authenticator : Meaning S) (connection moment : ℕ) (sha
 
   -- what becomes of it by its command's row: one that is passed over has no answer
   abbrev pub by_handling : Handling → Option RequestValue → RequestStep S
-  by_handling Built asked = by_body asked
-  by_handling NotBuilt asked = answered dialect (refused shared under NotSupported)
+  by_handling Handled asked = by_body asked
+  by_handling Unsupported asked = answered dialect (refused shared under NotSupported)
   by_handling Passed asked = record { shared = shared; dialect = dialect; response = None }
 
   -- a request of a known command, or of none

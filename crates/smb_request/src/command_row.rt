@@ -23,9 +23,9 @@ pub(crate) enum Needs {
 #[derive(Clone, Copy, Debug, PartialEq, Eq)]
 pub(crate) enum Handling {
     /// It is performed, where what it needs exists, and answered.
-    Built,
+    Handled,
     /// It is answered with STATUS_NOT_SUPPORTED, whatever its body.
-    NotBuilt,
+    Unsupported,
     /// It is not answered, and changes nothing.
     Passed,
 }
@@ -42,25 +42,25 @@ pub(crate) fn row_of(command: Command) -> Row
     ensures { result ≡ command_row command }
 {
     let (needs, handling) = match command {
-        Command::Negotiate => (Needs::Nothing, Handling::Built),
-        Command::SessionSetup => (Needs::Nothing, Handling::Built),
-        Command::Logoff => (Needs::Session, Handling::Built),
-        Command::TreeConnect => (Needs::Session, Handling::Built),
-        Command::TreeDisconnect => (Needs::Tree, Handling::Built),
-        Command::Create => (Needs::Tree, Handling::Built),
-        Command::Close => (Needs::Open, Handling::Built),
-        Command::Flush => (Needs::Open, Handling::Built),
-        Command::Read => (Needs::Open, Handling::Built),
-        Command::Write => (Needs::Open, Handling::Built),
-        Command::Lock => (Needs::Open, Handling::Built),
-        Command::Ioctl => (Needs::Open, Handling::NotBuilt),
+        Command::Negotiate => (Needs::Nothing, Handling::Handled),
+        Command::SessionSetup => (Needs::Nothing, Handling::Handled),
+        Command::Logoff => (Needs::Session, Handling::Handled),
+        Command::TreeConnect => (Needs::Session, Handling::Handled),
+        Command::TreeDisconnect => (Needs::Tree, Handling::Handled),
+        Command::Create => (Needs::Tree, Handling::Handled),
+        Command::Close => (Needs::Open, Handling::Handled),
+        Command::Flush => (Needs::Open, Handling::Handled),
+        Command::Read => (Needs::Open, Handling::Handled),
+        Command::Write => (Needs::Open, Handling::Handled),
+        Command::Lock => (Needs::Open, Handling::Handled),
+        Command::Ioctl => (Needs::Open, Handling::Unsupported),
         Command::Cancel => (Needs::Nothing, Handling::Passed),
-        Command::Echo => (Needs::Nothing, Handling::Built),
-        Command::QueryDirectory => (Needs::Open, Handling::NotBuilt),
-        Command::ChangeNotify => (Needs::Open, Handling::NotBuilt),
-        Command::QueryInfo => (Needs::Open, Handling::Built),
-        Command::SetInfo => (Needs::Open, Handling::Built),
-        Command::OplockBreak => (Needs::Open, Handling::NotBuilt),
+        Command::Echo => (Needs::Nothing, Handling::Handled),
+        Command::QueryDirectory => (Needs::Open, Handling::Handled),
+        Command::ChangeNotify => (Needs::Open, Handling::Unsupported),
+        Command::QueryInfo => (Needs::Open, Handling::Handled),
+        Command::SetInfo => (Needs::Open, Handling::Handled),
+        Command::OplockBreak => (Needs::Open, Handling::Unsupported),
     };
     Row { needs, handling }
 }

@@ -49,7 +49,10 @@ pub(crate) fn fault_status(fault: InfoFault) -> Result<Status, AllocError>
 {
     match fault {
         InfoFault::BadClass => Ok(Status::InvalidInfoClass),
+        InfoFault::BadPattern => Ok(Status::ObjectNameInvalid),
         InfoFault::TooSmall => Ok(Status::InfoLengthMismatch),
+        InfoFault::NoMatch(_) => Ok(Status::NoSuchFile),
+        InfoFault::NoMore => Ok(Status::NoMoreFiles),
         InfoFault::Unreadable => Ok(Status::InvalidParameter),
         InfoFault::NoMemory => Err(AllocError),
     }

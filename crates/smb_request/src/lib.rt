@@ -22,6 +22,7 @@ mod laws;
 mod locks;
 mod negotiate;
 mod outcome;
+mod query_directory;
 mod query_info;
 mod request;
 mod response;

@@ -9,6 +9,7 @@ ghost use Rattle.smb_request.specs.Outcome.{setup_value, success_value, told_res
 
 use super::context::{ResponseIds, Under};
 use super::information::InformationTold;
+use super::query_directory::DirectoryQuery;
 use super::response::{Answered, put_response};
 use super::session::TREE;
 use super::shared::Shared;
@@ -77,6 +78,15 @@ pub(crate) enum Outcome {
 pub(crate) struct Told {
     pub(crate) ids: ResponseIds,
     pub(crate) outcome: Outcome,
+}
+
+/// What comes of a request that is answered.
+#[derive(Drop)]
+pub(crate) enum Acted<'a> {
+    /// It was performed, and its response is to be spelled.
+    Told(Told),
+    /// A query of a directory, which is performed when its response is spelled.
+    Lists(DirectoryQuery<'a>),
 }
 
 impl Told {

@@ -10,13 +10,14 @@ ghost use Rattle.smb_session.specs.Negotiate.{best_of};
 ghost use Rattle.smb_request.specs.Response.{answered};
 ghost use Rattle.smb_request.specs.Request.{acts_under, missing_refusal, negotiated, acted, by_body, by_command, performed};
 ghost use Rattle.smb_request.specs.Held.{is_performed};
-ghost use Rattle.smb_request.specs.InPlace.{answer_held, performed_behind};
-ghost use Rattle.smb_request.specs.Outcome.{told_response, told_step, CanBeSpelled};
+ghost use Rattle.smb_request.specs.InPlace.{answer_held, answer_behind, performed_behind};
+ghost use Rattle.smb_request.specs.Outcome.{told_response, acted_command, acted_step, unanswered_of, IsStill, CanBeSpelled, CanBeAnswered};
 ghost use Rattle.smb_request.specs.Commands.{needs_session, needs_tree};
 
 use super::command_row::{Handling, Needs, needs_of, row_of};
-use super::context::{Context, Under};
-use super::outcome::{Success, Told};
+use super::context::{Context, ResponseIds, Under};
+use super::outcome::{Acted, Success, Told};
+use super::query_directory::DirectoryQuery;
 use super::response::{Answered, Unanswered};
 use super::shared::Shared;
 use super::status::Status;
@@ -127,109 +128,153 @@ impl<A: Authenticator + Drop, T: Tree + Drop, O: Opens + Drop> Shared<A, T, O> {
 
     /// Performs a request whose body is read, and whose session, tree and open stand. After an error, for want of memory,
     /// all is as it was.
-    fn act(
+    fn act<'a>(
         &mut self,
         connection: u64,
         moment: u64,
         dialect: &mut Option<Dialect>,
         under: Under,
-        request: &Request<'_>,
-    ) -> Result<Told, AllocError>
+        request: &Request<'a>,
+    ) -> Result<Acted<'a>, AllocError>
         requires { missing_refusal self.old connection under (request_value request.now) ≡ None }
-        ensures ok { IfOk result (λ told. answered dialect.new (record { shared = self.new; response = told_response A.meaning self.new told })
+        ensures ok { IfOk result (λ it. answered dialect.new (acted_command A.meaning self.new it)
             ≡ acted A.meaning connection moment self.old dialect.old under (request_value request.now)) }
-        ensures spelled { IfOk result (λ told. CanBeSpelled self.new told.outcome) }
+        ensures answered { IfOk result (CanBeAnswered self.new) }
+        ensures still { IfOk result (IsStill self.old self.new) }
         ensures err { OnErr result (self.new ≡ self.old) }
         ensures known { self.new.sessions.table.connections ≡ self.old.sessions.table.connections }
     {
-        match request {
+        let told = match request {
             Request::Negotiate(asked) => {
-                Ok(self.negotiated(connection, moment, dialect, under, asked.dialects))
+                self.negotiated(connection, moment, dialect, under, asked.dialects)
             }
-            Request::SessionSetup(asked) => self.set_up(connection, under, asked),
-            Request::Logoff(_) => self.log_off(connection, under),
-            Request::TreeConnect(asked) => self.connect_tree(connection, under, asked.path),
-            Request::TreeDisconnect(_) => self.disconnect_tree(connection, under),
-            Request::Create(asked) => self.create_file(moment, under, asked),
+            Request::SessionSetup(asked) => self.set_up(connection, under, asked)?,
+            Request::Logoff(_) => self.log_off(connection, under)?,
+            Request::TreeConnect(asked) => self.connect_tree(connection, under, asked.path)?,
+            Request::TreeDisconnect(_) => self.disconnect_tree(connection, under)?,
+            Request::Create(asked) => self.create_file(moment, under, asked)?,
             Request::Close(asked) => {
-                Ok(self.close_file(under, asked.file_id.persistent, asked.flags))
+                self.close_file(under, asked.file_id.persistent, asked.flags)
             }
             Request::Flush(asked) => {
                 self.store.flush(asked.file_id.persistent);
-                Ok(Told::succeeded(under, Success::Flush))
+                Told::succeeded(under, Success::Flush)
             }
-            Request::Read(asked) => Ok(self.read_file(under, asked.file_id.persistent, asked)),
+            Request::Read(asked) => self.read_file(under, asked.file_id.persistent, asked),
             Request::Write(asked) => {
-                self.write_file(moment, under, asked.file_id.persistent, asked)
+                self.write_file(moment, under, asked.file_id.persistent, asked)?
             }
-            Request::Lock(asked) => self.change_locks(under, asked.file_id.persistent, asked),
-            Request::Echo(_) => Ok(Told::succeeded(under, Success::Echo)),
-            Request::QueryInfo(asked) => self.query_info(under, asked.file_id.persistent, asked),
+            Request::Lock(asked) => self.change_locks(under, asked.file_id.persistent, asked)?,
+            Request::Echo(_) => Told::succeeded(under, Success::Echo),
+            Request::QueryDirectory(asked) => return Ok(Acted::Lists(DirectoryQuery::of(
+                under, asked,
+            ))),
+            Request::QueryInfo(asked) => self.query_info(under, asked.file_id.persistent, asked)?,
             Request::SetInfo(asked) => {
-                self.set_info(moment, under, asked.file_id.persistent, asked)
+                self.set_info(moment, under, asked.file_id.persistent, asked)?
             }
-            Request::Cancel(_) | Request::QueryDirectory(_) => {
-                Ok(Told::failed(under, Status::NotSupported))
-            }
-        }
+            Request::Cancel(_) => Told::failed(under, Status::NotSupported),
+        };
+        Ok(Acted::Told(told))
     }
 
-    /// Performs a request of a command that is built. After an error, for want of memory, all is as it was.
+    /// Performs a request of a command that is handled. After an error, for want of memory, all is as it was.
     #[tactic(auto, unfolding(crate::specs::Request::by_body))]
-    fn by_body(
+    fn by_body<'a>(
         &mut self,
         connection: u64,
         moment: u64,
         dialect: &mut Option<Dialect>,
         under: Under,
         command: Command,
-        request: &[u8],
-    ) -> Result<Told, AllocError>
-        ensures ok { IfOk result (λ told. answered dialect.new (record { shared = self.new; response = told_response A.meaning self.new told })
+        request: &'a [u8],
+    ) -> Result<Acted<'a>, AllocError>
+        ensures ok { IfOk result (λ it. answered dialect.new (acted_command A.meaning self.new it)
             ≡ by_body A.meaning connection moment self.old dialect.old under (request_of (code_of command) request.now)) }
-        ensures spelled { IfOk result (λ told. CanBeSpelled self.new told.outcome) }
+        ensures answered { IfOk result (CanBeAnswered self.new) }
+        ensures still { IfOk result (IsStill self.old self.new) }
         ensures err { OnErr result (self.new ≡ self.old) }
         ensures known { self.new.sessions.table.connections ≡ self.old.sessions.table.connections }
     {
         let _ = &self.sessions;
         let request = match read_body(command.code().0, request) {
             Ok(request) => request,
-            Err(_) => return Ok(Told::failed(under, Status::InvalidParameter)),
+            Err(_) => return Ok(Acted::Told(Told::failed(under, Status::InvalidParameter))),
         };
         match self.standing_refusal(connection, under, &request) {
-            Some(status) => Ok(Told::failed(under, status)),
+            Some(status) => Ok(Acted::Told(Told::failed(under, status))),
             None => self.act(connection, moment, dialect, under, &request),
         }
     }
 
     /// Performs a request of a known command, or of none; None where it has no answer. After an error, for want of
     /// memory, all is as it was.
-    fn by_command(
+    fn by_command<'a>(
         &mut self,
         connection: u64,
         moment: u64,
         dialect: &mut Option<Dialect>,
         under: Under,
         command: Option<Command>,
-        request: &[u8],
-    ) -> Result<Option<Told>, AllocError>
-        ensures ok { IfOk result (λ told. told_step A.meaning self.new dialect.new told
+        request: &'a [u8],
+    ) -> Result<Option<Acted<'a>>, AllocError>
+        ensures ok { IfOk result (λ it. acted_step A.meaning self.new dialect.new it
             ≡ by_command A.meaning connection moment self.old dialect.old under request.now command) }
-        ensures spelled { IfOk result (λ told. IfSome told (λ t. CanBeSpelled self.new t.outcome)) }
+        ensures answered { IfOk result (λ it. IfSome it (CanBeAnswered self.new)) }
+        ensures still { IfOk result (λ it. IfSome it (IsStill self.old self.new)) }
         ensures err { OnErr result (self.new ≡ self.old) }
         ensures known { self.new.sessions.table.connections ≡ self.old.sessions.table.connections }
     {
         let _ = &self.sessions;
         let Some(command) = command else {
-            return Ok(Some(Told::failed(under, Status::InvalidParameter)));
+            let told = Told::failed(under, Status::InvalidParameter);
+            return Ok(Some(Acted::Told(told)));
         };
         match row_of(command).handling {
-            Handling::Built => {
-                let told = self.by_body(connection, moment, dialect, under, command, request)?;
-                Ok(Some(told))
+            Handling::Handled => {
+                let acted = self.by_body(connection, moment, dialect, under, command, request)?;
+                Ok(Some(acted))
             }
-            Handling::NotBuilt => Ok(Some(Told::failed(under, Status::NotSupported))),
+            Handling::Unsupported => {
+                let told = Told::failed(under, Status::NotSupported);
+                Ok(Some(Acted::Told(told)))
+            }
             Handling::Passed => Ok(None),
+        }
+    }
+
+    /// The session and the tree that the response tells.
+    fn ids_of(&self, acted: &Acted<'_>) -> ResponseIds
+        ensures { result ≡ (acted_command A.meaning self.now acted.now).response.ids }
+    {
+        match acted {
+            Acted::Told(told) => told.ids,
+            Acted::Lists(query) => ResponseIds::of(query.under),
+        }
+    }
+
+    /// Adds the body of what comes of a request to `out`. After an error `out` is as it was.
+    fn answer(&mut self, acted: &Acted<'_>, out: &mut Vec<u8>) -> Result<Answered, Unanswered>
+        requires { CanBeAnswered self.old acted.now }
+        ensures shared { OnOk result (self.new ≡ (acted_command A.meaning self.old acted.now).shared) }
+        ensures ok { IfOk result (λ r. answer_held r out.new.items
+            ≡ answer_behind out.old.items (acted_command A.meaning self.old acted.now).response) }
+        ensures len { OnOk result (length out.new.items ≤ length out.old.items + 65552) }
+        ensures err { IfErr result (λ unanswered. unanswered ≡ unanswered_of acted.now) }
+        ensures state { OnErr result (self.new ≡ self.old) }
+        ensures out { OnErr result (out.new.items ≡ out.old.items) }
+        ensures kept { take (length out.old.items) out.new.items ≡ out.old.items }
+        ensures known { self.new.sessions.table.connections ≡ self.old.sessions.table.connections }
+    {
+        match acted {
+            Acted::Told(told) => match self.put_told(told, out) {
+                Ok(answered) => Ok(answered),
+                Err(_) => Err(Unanswered::Performed),
+            },
+            Acted::Lists(query) => match self.query_directory(query, out) {
+                Ok(answered) => Ok(answered),
+                Err(_) => Err(Unanswered::NotPerformed),
+            },
         }
     }
 
@@ -260,16 +305,17 @@ impl<A: Authenticator + Drop, T: Tree + Drop, O: Opens + Drop> Shared<A, T, O> {
     {
         let under = acts_under(*context, header);
         let command = header.command.known();
-        let Ok(told) = self.by_command(connection, moment, dialect, under, command, request) else {
+        let Ok(acted) = self.by_command(connection, moment, dialect, under, command, request) else {
             return Err(Unanswered::NotPerformed);
         };
-        *context = Context::after(under, told.as_ref().map(|told| told.ids));
-        let Some(told) = told else {
+        let Some(acted) = acted else {
+            *context = Context::after(under, None);
             return Ok(None);
         };
-        match self.put_told(&told, out) {
+        *context = Context::after(under, Some(self.ids_of(&acted)));
+        match self.answer(&acted, out) {
             Ok(answered) => Ok(Some(answered)),
-            Err(_) => Err(Unanswered::Performed),
+            Err(unanswered) => Err(unanswered),
         }
     }
 }

@@ -4,10 +4,11 @@ ghost use Rattle.std.specs.Prelude.{◌≡◌};
 ghost use Rattle.smb_request.specs.Status.{status_code};
 
 use smb_wire::nt_status::{
-    STATUS_BAD_NETWORK_NAME, STATUS_BUFFER_OVERFLOW, STATUS_FILE_CLOSED,
+    STATUS_ACCESS_DENIED, STATUS_BAD_NETWORK_NAME, STATUS_BUFFER_OVERFLOW, STATUS_FILE_CLOSED,
     STATUS_INFO_LENGTH_MISMATCH, STATUS_INVALID_INFO_CLASS, STATUS_INVALID_PARAMETER,
     STATUS_LOGON_FAILURE, STATUS_MORE_PROCESSING_REQUIRED, STATUS_NETWORK_NAME_DELETED,
-    STATUS_NOT_SUPPORTED, STATUS_REQUEST_NOT_ACCEPTED, STATUS_SUCCESS, STATUS_USER_SESSION_DELETED,
+    STATUS_NO_MORE_FILES, STATUS_NO_SUCH_FILE, STATUS_NOT_SUPPORTED, STATUS_OBJECT_NAME_INVALID,
+    STATUS_REQUEST_NOT_ACCEPTED, STATUS_SUCCESS, STATUS_USER_SESSION_DELETED,
 };
 
 /// An NTSTATUS that the share answers.
@@ -15,10 +16,14 @@ use smb_wire::nt_status::{
 pub enum Status {
     Success,
     BufferOverflow,
+    NoMoreFiles,
     InvalidInfoClass,
     InfoLengthMismatch,
     InvalidParameter,
+    NoSuchFile,
     MoreProcessingRequired,
+    AccessDenied,
+    ObjectNameInvalid,
     LogonFailure,
     NotSupported,
     NetworkNameDeleted,
@@ -38,10 +43,14 @@ impl Status {
         match self {
             Status::Success => STATUS_SUCCESS,
             Status::BufferOverflow => STATUS_BUFFER_OVERFLOW,
+            Status::NoMoreFiles => STATUS_NO_MORE_FILES,
             Status::InvalidInfoClass => STATUS_INVALID_INFO_CLASS,
             Status::InfoLengthMismatch => STATUS_INFO_LENGTH_MISMATCH,
             Status::InvalidParameter => STATUS_INVALID_PARAMETER,
+            Status::NoSuchFile => STATUS_NO_SUCH_FILE,
             Status::MoreProcessingRequired => STATUS_MORE_PROCESSING_REQUIRED,
+            Status::AccessDenied => STATUS_ACCESS_DENIED,
+            Status::ObjectNameInvalid => STATUS_OBJECT_NAME_INVALID,
             Status::LogonFailure => STATUS_LOGON_FAILURE,
             Status::NotSupported => STATUS_NOT_SUPPORTED,
             Status::NetworkNameDeleted => STATUS_NETWORK_NAME_DELETED,

@@ -163,7 +163,7 @@ next_is rows folder after r e =
     let both = and_parts (is_child folder r) (is_after after (name_of r)) found.1 in
     record { one = found.0; child = both.0; follows = both.1 }
 
-fewer : (rows : List Row) (folder : Path) (after : Option (List ℕ)) (r : Row) → next_child rows folder after ≡ Some r → length (children_after rows folder (Some (name_of r))) < length (children_after rows folder after)
+pub fewer : (rows : List Row) (folder : Path) (after : Option (List ℕ)) (r : Row) → next_child rows folder after ≡ Some r → length (children_after rows folder (Some (name_of r))) < length (children_after rows folder after)
 fewer rows folder after r e =
     let next = next_is rows folder after r e in
     filter_less (passes folder after) (passes folder (Some (name_of r))) rows r (narrower folder after r next.follows) next.one
@@ -175,7 +175,7 @@ abbrev walk : ℕ → List Row → Path → Option (List ℕ) → List Row
 walk zero rows folder after = []
 walk (suc steps) rows folder after = and_on (walk steps rows folder) (next_child rows folder after)
 
-by_number : (rows : List Row) (number : ℕ) (folder : Row) (after : Option (List ℕ)) → AreApart rows → numbered rows number ≡ Some folder → option_and_then (numbered rows) (child_after rows number after) ≡ next_child rows folder.0 after
+pub by_number : (rows : List Row) (number : ℕ) (folder : Row) (after : Option (List ℕ)) → AreApart rows → numbered rows number ≡ Some folder → option_and_then (numbered rows) (child_after rows number after) ≡ next_child rows folder.0 after
 by_number rows number folder after a h =
     ap (λ (o : Option Row). option_and_then (numbered rows) (option_and_then (λ (f : Row). option_map (λ (row : Row). row.1.number) (next_child rows f.0 after)) o)) h
     ∙ elim (next_child rows folder.0 after) as (λ o. next_child rows folder.0 after ≡ o → option_and_then (numbered rows) (option_map (λ (row : Row). row.1.number) o) ≡ o) [

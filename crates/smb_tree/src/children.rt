@@ -22,7 +22,7 @@ fn is_child(stored: &Stored, folder: Units<'_>) -> bool
 }
 
 // The name of a stored entry.
-fn name_of(stored: &Stored) -> FoldedName
+pub fn name_of(stored: &Stored) -> FoldedName
     ensures { result ≡ name_of (row_of stored.now) }
 {
     let text = text_of(stored);

@@ -8,7 +8,7 @@ ghost use Rattle.smb_tree.specs.Plain.{row_of, rows_of};
 ghost use Rattle.smb_tree.specs.declared.fault.TreeFault.TheVariants.{NoMemory, Absent, Full};
 
 use super::bytes::{add_part, put_at};
-use super::children::{has_children, next_child};
+use super::children::{has_children, name_of, next_child};
 use super::entry::{Basic, EntryNo, EntryView, Kind};
 use super::entry_copy::EntryCopy;
 use super::fault::TreeFault;
@@ -197,6 +197,11 @@ impl Tree for PlainTree {
     fn child_after(&self, number: EntryNo, after: Option<&FoldedName>) -> Option<EntryNo> {
         let i = place_of(&self.entries, number)?;
         next_child(&self.entries, text_of(&self.entries[i]), after)
+    }
+
+    fn name(&self, number: EntryNo) -> Option<FoldedName> {
+        let i = place_of(&self.entries, number)?;
+        Some(name_of(&self.entries[i]))
     }
 
     fn next_no(&self) -> Option<EntryNo> {

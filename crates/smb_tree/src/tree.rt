@@ -4,10 +4,10 @@ ghost use Rattle.std.specs.Prelude.{◌≡◌, ◌≢◌, ◌++◌, None, Some, 
 ghost use Rattle.std.specs.Option.{option_map, option_copied};
 ghost use Rattle.smb_wire.specs.Paths.{folded_path};
 ghost use Rattle.smb_wire.specs.PathViews.{parts_of};
-ghost use Rattle.smb_tree.specs.Content.{number_at, next_number, used_space, added, with_size, with_basic, with_mark, removed, bytes_read, with_bytes};
+ghost use Rattle.smb_tree.specs.Content.{numbered, number_at, next_number, used_space, added, with_size, with_basic, with_mark, removed, bytes_read, with_bytes};
 ghost use Rattle.smb_tree.specs.Moves.{moved};
 ghost use Rattle.smb_tree.specs.WholeNames.{copied, entry_copied};
-ghost use Rattle.smb_tree.specs.Children.{child_after};
+ghost use Rattle.smb_tree.specs.Children.{name_of, child_after};
 ghost use Rattle.smb_tree.specs.Faults.{add_fault, size_fault, basic_fault, mark_fault, remove_fault, move_fault, copy_fault, read_fault, write_fault};
 ghost use Rattle.smb_tree.specs.Views.{shown, entry_shown};
 ghost use Rattle.smb_tree.specs.declared.fault.TreeFault.TheVariants.{NoMemory};
@@ -47,6 +47,11 @@ pub trait Tree {
     /// where no further child stands or no entry has the number.
     fn child_after(&self, number: EntryNo, after: Option<&FoldedName>) -> Option<EntryNo>
         ensures { result ≡ child_after (content self.now).rows number (option_copied after.entry) };
+
+    /// The name of the entry of a number: the last component of its path, folded; the root's is empty. None where no
+    /// entry has the number.
+    fn name(&self, number: EntryNo) -> Option<FoldedName>
+        ensures { result ≡ option_map name_of (numbered (content self.now).rows number) };
 
     /// The number that the next entry gets, or None once the numbers are spent: the last is the greatest but
     /// one of 64 bits.

@@ -1,4 +1,5 @@
 use Rattle.smb_info.proofs.PatternRuns.{asterisk_matches, literals_match, question_marks_match, dos_star_matches, extension_matches, dos_qms_match, dos_dot_matches, trailing_dot_matches, same_folded}
+use Rattle.smb_info.proofs.PatternTests.{match_decides}
 use Rattle.smb_info.proofs.laws.laws_of_patterns.Goals as goal
 
 pub returns-clause-asterisk : goal.returns-clause-asterisk
@@ -27,3 +28,6 @@ returns-clause-trailing_dot c = trailing_dot_matches
 
 pub returns-clause-folded : goal.returns-clause-folded
 returns-clause-folded c = same_folded
+
+pub returns-clause-test : goal.returns-clause-test
+returns-clause-test c = match_decides

@@ -10,6 +10,7 @@ use Rattle.smb_access.proofs.Mores.{more_conflicts}
 use Rattle.smb_opens.proofs.Elsewhere.{closed_elsewhere, closed_here}
 use Rattle.smb_opens.proofs.Returned.{returned_shown}
 use Rattle.smb_opens.proofs.RenameLaws.{rename_keeps}
+use Rattle.smb_opens.proofs.ScanLaws.{scan_leaves}
 use Rattle.smb_opens.proofs.SetLaws.{leaves_others, times_set, mark_set, front, not_opened}
 use Rattle.smb_opens.proofs.StoreSettings.{size_keeps}
 use Rattle.smb_access.specs.SetInfo.{size_set}
@@ -39,4 +40,5 @@ returns c = record {
   front = front;
   not_opened = not_opened;
   renamed = rename_keeps;
+  scans = scan_leaves;
 }

@@ -1,0 +1,213 @@
+-- QUERY_DIRECTORY: what holds of the state that it leaves, where it holds with the scan of an open set.
+use Rattle.std.proofs.Common.{◌≡◌, ◌≢◌, ◌==◌, ◌||◌, not, ◌<◌, ◌≤◌, ◌+◌, ◌^◌, ℕ, zero, suc, Bool, true, false, cond, filter, length, take, replicate, length-append, nat_le, List, [], ◌∷◌, ◌++◌, if◌then◌else◌, nat_lt, Option, None, Some, refl, sym, ap, arith, ◌∙◌}
+use Rattle.std.proofs.lemmas.Bool.Decides.{nat_tests}
+use Rattle.std.specs.Prelude.{option_and_then}
+use Rattle.std.specs.List.{AllByRecursion}
+use Rattle.std.specs.Option.{option_map_or}
+use Rattle.smb_body.specs.QueryDirectory.{QueryDirectoryAsked}
+use Rattle.smb_access.specs.declared.scan.Scan.{Scan}
+use Rattle.smb_opens.specs.Scans.{scan_set}
+use Rattle.smb_opens.specs.Views.{open_view}
+use Rattle.smb_info.specs.Queries.{ListAsked, sought_by, bytes_by, bytes_listed}
+use Rattle.smb_info.specs.Candidates.{Candidate}
+use Rattle.smb_info.specs.DirectoryInformation.{directory_class, laid}
+use Rattle.smb_info.specs.Listing.{fitting, wanted}
+use Rattle.smb_info.specs.declared.directory_class.DirectoryInformationClass.{DirectoryInformationClass}
+use Rattle.smb_tree.specs.Content.{Row}
+use Rattle.smb_opens.specs.State.{StoreState}
+use Rattle.smb_info.specs.OpenQueries.{open_list_fault, open_bytes_listed, open_scan_after, IsListRefusal}
+use Rattle.smb_info.specs.declared.fault.InfoFault.{InfoFault}
+use Rattle.smb_info.specs.declared.fault.InfoFault.TheVariants.{BadClass, BadPattern, TooSmall, NoMatch, NoMore, Unreadable, NoMemory}
+use Rattle.smb_request.specs.declared.status.Status.{Status}
+use Rattle.smb_request.specs.declared.status.Status.TheVariants.{InfoLengthMismatch, InvalidParameter, NotSupported}
+use Rattle.smb_request.specs.declared.context.Under.{Under}
+use Rattle.smb_request.specs.Context.{ids_of}
+use Rattle.smb_request.specs.QueryDirectory.{list_asked_by, directory_refusal, listing_refused_by, listed_unless, listed_as_asked, directory_queried}
+use Rattle.smb_request.specs.Response.{CommandStep, RequestStep, failure, refused}
+use Rattle.smb_request.specs.State.{SharedState, with_store}
+use Rattle.smb_session.specs.Table.{TableState}
+use Rattle.smb_access.specs.declared.open_row.OpenRow.{OpenRow}
+use Rattle.smb_access.specs.declared.open_row.Owner.TheVariants.{Session}
+use Rattle.smb_access.specs.Numbers.{AreRising}
+use Rattle.smb_access.specs.Opens.{open_of, open_numbers, has_number, with_scan, is_held_by}
+use Rattle.smb_opens.proofs.ScanLaws.{looks_same}
+use Rattle.smb_info.specs.Information.{Information, fixed_length, info_fault}
+use Rattle.smb_request.specs.Information.{fault_status, request_refusal}
+use Rattle.smb_body.specs.declared.query_info.QueryInfoRequest.{QueryInfoRequest}
+use Rattle.smb_session.specs.Authenticator.{Meaning}
+use Rattle.smb_wire.specs.declared.dialect.Dialect.{Dialect}
+use Rattle.smb_request.specs.InfoTypes.{FILE, FILESYSTEM, SECURITY, QUOTA}
+use Rattle.smb_request.specs.Held.{is_performed}
+use Rattle.smb_request.specs.Outcome.{acted_step, IsStill, unanswered_of}
+use Rattle.smb_request.specs.declared.outcome.Acted.{Acted}
+use Rattle.smb_request.specs.declared.outcome.Acted.TheVariants.{Told, Lists}
+use Rattle.smb_request.specs.declared.response.Unanswered.{Unanswered}
+use Rattle.smb_request.specs.Owners.{AreOwned, is_owned}
+use Rattle.smb_request.specs.QueryInfo.{room_refusal, query_refusal, queried_by, informed}
+
+module _ {S : Type 0} (Left : SharedState S → Type 0) (shared : SharedState S) (same : Left shared) (under : Under) (k : ℕ)
+    (set : (scan : Scan) → Left (with_store shared (scan_set shared.store k scan))) where
+  refused_at : (fault : InfoFault) → Left (listing_refused_by shared k fault)
+  refused_at BadClass = same
+  refused_at BadPattern = same
+  refused_at TooSmall = same
+  refused_at (NoMatch scan) = set scan
+  refused_at NoMore = same
+  refused_at Unreadable = same
+  refused_at NoMemory = same
+
+  unless_at : (ask : ListAsked) (fault : Option InfoFault) → Left (listed_unless shared under k ask fault).shared
+  unless_at ask None = set (open_scan_after shared.store k ask)
+  unless_at ask (Some fault) = refused_at fault
+
+  by_refusal : (ask : ListAsked) (status : Option Status) → Left (option_map_or (λ status. refused shared under status) status (listed_as_asked shared under k ask)).shared
+  by_refusal ask None = unless_at ask (open_list_fault shared.store k ask)
+  by_refusal ask (Some status) = same
+
+  pub listed_left : (asked : QueryDirectoryAsked) → Left (directory_queried shared under k asked).shared
+  unfolding directory_queried
+  listed_left asked = by_refusal (list_asked_by asked) (directory_refusal (open_view shared.store k) asked)
+
+-- the response tells the session and the tree that the request acts under
+ids_unless : {S : Type 0} (shared : SharedState S) (under : Under) (k : ℕ) (ask : ListAsked) (fault : Option InfoFault) → (listed_unless shared under k ask fault).response.ids ≡ ids_of under
+ids_unless shared under k ask None = refl
+ids_unless shared under k ask (Some fault) = refl
+
+ids_by_refusal : {S : Type 0} (shared : SharedState S) (under : Under) (k : ℕ) (ask : ListAsked) (status : Option Status) →
+    (option_map_or (λ status. refused shared under status) status (listed_as_asked shared under k ask)).response.ids ≡ ids_of under
+ids_by_refusal shared under k ask None = ids_unless shared under k ask (open_list_fault shared.store k ask)
+ids_by_refusal shared under k ask (Some status) = refl
+
+pub queried_ids : {S : Type 0} (shared : SharedState S) (under : Under) (k : ℕ) (asked : QueryDirectoryAsked) → (directory_queried shared under k asked).response.ids ≡ ids_of under
+unfolding directory_queried
+queried_ids shared under k asked = ids_by_refusal shared under k (list_asked_by asked) (directory_refusal (open_view shared.store k) asked)
+
+-- each open is owned as before
+owned_by : (table : TableState) (scan : Scan) (row : OpenRow) (b : Bool) → is_owned table (let x : OpenRow = if b then record row { scan = scan } else row in x) ≡ is_owned table row
+owned_by table scan row true = refl
+owned_by table scan row false = refl
+
+pub owned_scanned : (table : TableState) (n : ℕ) (scan : Scan) (rows : List OpenRow) → AreOwned table rows → AreOwned table (with_scan n scan rows)
+owned_scanned table n scan [] h = h
+owned_scanned table n scan (row ∷ rows) h = (owned_by table scan row (has_number n row) ∙ h.0, owned_scanned table n scan rows h.1)
+
+abbrev AllAbove : ℕ → List OpenRow → Type 0
+AllAbove n rows = AllByRecursion (λ later. n < later) (open_numbers rows)
+
+-- the opens of a session that does not hold the one of the number are as they were
+held_by : (m : ℕ) (scan : Scan) (row : OpenRow) (b : Bool) → is_held_by (Session m) (let x : OpenRow = if b then record row { scan = scan } else row in x) ≡ is_held_by (Session m) row
+held_by m scan row true = refl
+held_by m scan row false = refl
+
+pub none_scanned : (m n : ℕ) (scan : Scan) (rows : List OpenRow) → filter (is_held_by (Session m)) rows ≡ [] → filter (is_held_by (Session m)) (with_scan n scan rows) ≡ []
+none_scanned m n scan [] h = refl
+none_scanned m n scan (row ∷ rows) h =
+    elim (is_held_by (Session m) row) as (λ b. is_held_by (Session m) row ≡ b → filter (is_held_by (Session m)) (with_scan n scan (row ∷ rows)) ≡ []) [
+      | true ↦ λ t. (let no : row ∷ filter (is_held_by (Session m)) rows ≡ [] = (let k = h in grind (arith, k, t)) in cc)
+      | false ↦ λ t. (
+          let rest : filter (is_held_by (Session m)) rows ≡ [] = (let k = h in grind (arith, k, t)) in
+          let here = held_by m scan row (has_number n row) ∙ t in
+          rw here (none_scanned m n scan rows rest))
+    ] refl
+
+pub held_scanned : (m n : ℕ) (scan : Scan) (held : OpenRow) (rows : List OpenRow) → AreRising (open_numbers rows) → open_of rows n ≡ Some held → is_held_by (Session m) held ≡ false →
+    filter (is_held_by (Session m)) (with_scan n scan rows) ≡ filter (is_held_by (Session m)) rows
+held_scanned m n scan held [] r h o = refl
+held_scanned m n scan held (row ∷ rows) r h o =
+    elim (row.number == n) as (λ b. (row.number == n) ≡ b → filter (is_held_by (Session m)) (with_scan n scan (row ∷ rows)) ≡ filter (is_held_by (Session m)) (row ∷ rows)) [
+      | true ↦ λ t. (
+          let here : row.number ≡ n = grind (arith, nat_tests, t) in
+          let is : row ≡ held = (let q = h in let some : Some row ≡ Some held = grind (arith, q, t) in cc) in
+          let other : is_held_by (Session m) row ≡ false = ap (is_held_by (Session m)) is ∙ o in
+          rw (t, other) (same_above m n scan rows (rw (← here) r.0)))
+      | false ↦ λ t. (
+          let later : open_of rows n ≡ Some held = (let q = h in grind (arith, q, t)) in
+          let ih = held_scanned m n scan held rows r.1 later o in
+          rw t (by_held m row (filter (is_held_by (Session m)) (with_scan n scan rows)) (filter (is_held_by (Session m)) rows) (is_held_by (Session m) row) ih))
+    ] refl
+  where
+    by_held : (m : ℕ) (row : OpenRow) (xs ys : List OpenRow) (b : Bool) → xs ≡ ys → (let x : List OpenRow = if b then row ∷ xs else xs in x) ≡ (let y : List OpenRow = if b then row ∷ ys else ys in y)
+    by_held m row xs ys b e = ap (λ (zs : List OpenRow). if b then row ∷ zs else zs) e
+
+    same_above : (m n : ℕ) (scan : Scan) (rows : List OpenRow) → AllAbove n rows → filter (is_held_by (Session m)) (with_scan n scan rows) ≡ filter (is_held_by (Session m)) rows
+    same_above m n scan [] a = refl
+    same_above m n scan (row ∷ rows) a =
+        let other : (row.number == n) ≡ false = (let above = a.0 in grind (arith, nat_tests, above)) in
+        rw other (ap (λ (zs : List OpenRow). if is_held_by (Session m) row then row ∷ zs else zs) (same_above m n scan rows a.1))
+
+-- why a class tells nothing, as a status
+same_refusal : (information : Option Information) (room : ℕ) → room_refusal information room ≡ option_and_then fault_status (info_fault information room)
+same_refusal None room = refl
+same_refusal (Some information) room =
+    elim (nat_lt room (fixed_length information)) as (λ b. (let x : Option Status = if b then Some InfoLengthMismatch else None in x) ≡ option_and_then fault_status (let y : Option InfoFault = if b then Some TooSmall else None in y)) [ true ↦ refl | false ↦ refl ]
+
+pub why_status : (information : Option Information) (room : ℕ) (fault : InfoFault) (status : Status) → (fault ≢ NoMemory → info_fault information room ≡ Some fault) → fault_status fault ≡ Some status → room_refusal information room ≡ Some status
+why_status information room fault status why e =
+    let there : fault ≢ NoMemory = λ q. (let none : fault_status fault ≡ None = ap fault_status q in let no : None ≡ Some status = sym none ∙ e in cc) in
+    same_refusal information room ∙ ap (option_and_then fault_status) (why there) ∙ e
+
+pub told_fault : (fault : InfoFault) (status : Status) → fault_status fault ≡ Some status → fault ≢ NoMemory
+told_fault fault status e = λ q. (let none : fault_status fault ≡ None = ap fault_status q in let no : None ≡ Some status = sym none ∙ e in cc)
+
+-- a refusal of the listing is the one that the definitions give
+pub refusal_is : (refusal : Option InfoFault) (fault : InfoFault) → IsListRefusal refusal fault → fault ≢ NoMemory → refusal ≡ Some fault
+refusal_is refusal BadClass r n = r
+refusal_is refusal BadPattern r n = r
+refusal_is refusal TooSmall r n = r
+refusal_is refusal (NoMatch scan) r n = r
+refusal_is refusal NoMore r n = r
+refusal_is refusal Unreadable r n = r
+refusal_is refusal NoMemory r n = absurd (n refl)
+
+-- what is listed is no longer than there is room for
+fits_room : (class : DirectoryInformationClass) (room : ℕ) (cs : List Candidate) (n : ℕ) → length (laid class (fitting class room cs n)) ≤ room
+unfolding fitting laid
+fits_room class room cs zero = omega arith
+fits_room class room cs (suc n) =
+    elim (nat_le (length (laid class (take (suc n) cs))) room) as (λ b. nat_le (length (laid class (take (suc n) cs))) room ≡ b → length (laid class (cond b (take (suc n) cs) (fitting class room cs n))) ≤ room) [
+      | true ↦ λ t. grind (arith, nat_tests, t)
+      | false ↦ λ t. fits_room class room cs n
+    ] refl
+
+by_class : (rows : List Row) (folder : ℕ) (scan : Scan) (ask : ListAsked) (class : Option DirectoryInformationClass) → length (bytes_by rows folder scan ask class) ≤ ask.room
+by_class rows folder scan ask None = omega arith
+by_class rows folder scan ask (Some class) =
+    let sought = sought_by folder scan ask in
+    fits_room class ask.room (wanted rows sought) (length (wanted rows sought))
+
+pub listed_within : (store : StoreState) (n : ℕ) (ask : ListAsked) → length (open_bytes_listed store n ask) ≤ ask.room
+listed_within store n ask =
+    elim (open_of store.opens n) as (λ o. length (option_map_or (λ (row : OpenRow). bytes_listed store.tree.rows row.entry row.scan ask) o []) ≤ ask.room) [
+      | None ↦ omega arith
+      | Some row ↦ by_class store.tree.rows row.entry row.scan ask (directory_class ask.class)
+    ]
+
+-- the response fits behind its fixed part
+pub fits_behind : (before opened listed after : List ℕ) (start room : ℕ) → opened ≡ before ++ replicate 8 0 → start ≡ length before → after ≡ opened ++ listed → length listed ≤ room → room ≤ 65536 →
+    (length after < start + 8 + 2 ^ 32) × (length after ≤ length before + 65552)
+fits_behind before opened listed after start room o s a l r =
+    let one : length opened ≡ length before + 8 = ap length o ∙ length-append before (replicate 8 0) in
+    let two : length after ≡ length opened + length listed = ap length a ∙ length-append opened listed in
+    (omega (arith, one, two, s, l, r), omega (arith, one, two, s, l, r))
+
+-- a query that is refused by its class or by its room
+room_left : (a b c : Bool) (room : Option Status) →
+    option_map_or (λ (status : Status). Some status) (let x : Option Status = if a then Some NotSupported else if b then Some InvalidParameter else None in x) (let y : Option Status = if c then Some InvalidParameter else None in y) ≡ None →
+    (let z : Option Status = if a then Some NotSupported else if b then Some InvalidParameter else if c then Some InvalidParameter else room in z) ≡ room
+room_left true b c room h = cc
+room_left false true c room h = cc
+room_left false false true room h = cc
+room_left false false false room h = refl
+
+pub queried_refused : {S : Type 0} (shared : SharedState S) (under : Under) (asked : QueryInfoRequest) (information : Option Information) (status : Status) → request_refusal asked ≡ None → room_refusal information asked.output_buffer_length ≡ Some status →
+    queried_by shared under asked information ≡ refused shared under status
+queried_refused shared under asked information status h e =
+    let refusal : query_refusal information asked ≡ Some status =
+    room_left (asked.info_type.0 == SECURITY || asked.info_type.0 == QUOTA) (not (asked.info_type.0 == FILE || asked.info_type.0 == FILESYSTEM)) (nat_lt 65536 asked.output_buffer_length) (room_refusal information asked.output_buffer_length) h ∙ e in
+    ap (λ (r : Option Status). let x : CommandStep _ = record { shared = shared; response = option_map_or (failure under) r (informed under information asked.output_buffer_length) } in x) refusal
+
+-- where memory ran out when a response was spelled, and what was performed then
+pub unanswered_left : {S : Type 0} (m : Meaning S) (mid before : SharedState S) (dialect : Option Dialect) (it : Acted) (unanswered : Unanswered) (step : RequestStep S) → acted_step m mid dialect (Some it) ≡ step → IsStill before mid it → unanswered ≡ unanswered_of it →
+    mid ≡ (if is_performed unanswered then step.shared else before)
+unanswered_left m mid before dialect (Told told) unanswered step e still u = rw u (ap (λ (s : RequestStep _). s.shared) e)
+unanswered_left m mid before dialect (Lists query) unanswered step e still u = rw u still

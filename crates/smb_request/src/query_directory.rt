@@ -1,0 +1,184 @@
+//! QUERY_DIRECTORY ([MS-SMB2] 3.3.5.18).
+
+ghost use Rattle.std.specs.Prelude.{◌≡◌, ◌≢◌, ◌≤◌, ◌+◌, Some, IfOk, OnOk, OnErr, IsSome, length, take};
+ghost use Rattle.smb_access.specs.Opens.{open_of};
+ghost use Rattle.smb_body.specs.QueryDirectory.{query_directory_asked};
+ghost use Rattle.smb_info.specs.Asks.{list_asked};
+ghost use Rattle.smb_info.specs.declared.fault.InfoFault.TheVariants.{NoMemory};
+ghost use Rattle.smb_opens.specs.Views.{open_view};
+ghost use Rattle.smb_request.specs.InPlace.{answer_held, answer_behind};
+ghost use Rattle.smb_request.specs.QueryDirectory.{list_asked_by, directory_refusal, view_refusal, listed_as_asked, listing_refused, directory_queried};
+
+use super::context::{ResponseIds, Under};
+use super::information::fault_status;
+use super::response::{Answered, put_response};
+use super::shared::Shared;
+use super::status::Status;
+use bitflags::Flags;
+use smb_body::{QueryDirectoryRequest, Reply, close_query_response, open_query_response};
+use smb_info::{InfoFault, ListAsk, ScanFlags, list};
+use smb_opens::{Opens, View};
+use smb_session::Authenticator;
+use smb_tree::{Kind, Tree};
+use smb_wire::Access;
+use std::alloc::AllocError;
+
+/// The most bytes that one request is answered by.
+const MOST_AT_ONCE: u32 = 65_536;
+
+/// A query of the directory of an open. It is performed where its response is put, so that what it lists is written once.
+#[derive(Clone, Copy)]
+pub(crate) struct DirectoryQuery<'a> {
+    pub(crate) under: Under,
+    pub(crate) open_number: u64,
+    pub(crate) request: QueryDirectoryRequest<'a>,
+}
+
+impl<'a> DirectoryQuery<'a> {
+    /// What a request asks that acts under this.
+    pub(crate) fn of(under: Under, request: &QueryDirectoryRequest<'a>) -> DirectoryQuery<'a>
+        ensures { result ≡ record { under = under; open_number = request.now.file_id.persistent; request = request.now } }
+    {
+        DirectoryQuery {
+            under,
+            open_number: request.file_id.persistent,
+            request: *request,
+        }
+    }
+}
+
+/// What is asked of the directory.
+fn list_ask<'a>(request: &QueryDirectoryRequest<'a>) -> ListAsk<'a>
+    ensures { list_asked result ≡ list_asked_by (query_directory_asked request.now) }
+{
+    ListAsk {
+        class: request.file_information_class.0,
+        flags: ScanFlags(request.flags.0),
+        pattern: request.file_name,
+        room: request.output_buffer_length,
+    }
+}
+
+/// Why the open that shows this may not list, or None.
+fn view_refusal(view: &View) -> Option<Status>
+    ensures { result ≡ view_refusal view.now }
+{
+    match view.kind {
+        Kind::File => Some(Status::InvalidParameter),
+        Kind::Folder if view.access.intersects(Access::READ_DATA) => None,
+        Kind::Folder => Some(Status::AccessDenied),
+    }
+}
+
+impl<A: Authenticator + Drop, T: Tree + Drop, O: Opens + Drop> Shared<A, T, O> {
+    /// Why a query is refused before its class is looked at, or None.
+    fn directory_refusal(
+        &self,
+        open_number: u64,
+        request: &QueryDirectoryRequest<'_>,
+    ) -> Option<Status>
+        ensures { result ≡ directory_refusal (open_view self.now.store open_number) (query_directory_asked request.now) }
+    {
+        if request.output_buffer_length > MOST_AT_ONCE {
+            return Some(Status::InvalidParameter);
+        }
+        match self.store.view(open_number) {
+            Some(view) => view_refusal(&view),
+            None => Some(Status::InvalidParameter),
+        }
+    }
+
+    /// Adds the body of a listing's refusal to `out`, and keeps the scan that the query started. After an error all is as it
+    /// was.
+    fn refuse_listing(
+        &mut self,
+        query: &DirectoryQuery<'_>,
+        fault: InfoFault,
+        out: &mut Vec<u8>,
+    ) -> Result<Answered, AllocError>
+        ensures told { OnOk result (fault ≢ NoMemory) }
+        ensures shared { OnOk result (self.new ≡ (listing_refused self.old query.now.under query.now.open_number fault).shared) }
+        ensures ok { IfOk result (λ r. answer_held r out.new.items
+            ≡ answer_behind out.old.items (listing_refused self.old query.now.under query.now.open_number fault).response) }
+        ensures len { OnOk result (length out.new.items ≤ length out.old.items + 65552) }
+        ensures err { OnErr result (self.new ≡ self.old) }
+        ensures out { OnErr result (out.new.items ≡ out.old.items) }
+        ensures kept { take (length out.old.items) out.new.items ≡ out.old.items }
+        ensures known { self.new.sessions.table.connections ≡ self.old.sessions.table.connections }
+    {
+        let ids = ResponseIds::of(query.under);
+        let answered = put_response(fault_status(fault)?, ids, &Reply::Error, out)?;
+        if let InfoFault::NoMatch(scan) = fault {
+            self.store.set_scan(query.open_number, scan);
+        }
+        Ok(answered)
+    }
+
+    /// Lists what is asked, straight to where it is sent from, and moves the open's scan behind it. After an error all is as
+    /// it was.
+    fn list_directory(
+        &mut self,
+        query: &DirectoryQuery<'_>,
+        out: &mut Vec<u8>,
+    ) -> Result<Answered, AllocError>
+        requires open { IsSome (open_of self.old.store.opens query.now.open_number) }
+        requires room { (query_directory_asked query.now.request).output_buffer_length ≤ 65536 }
+        ensures shared { OnOk result (self.new ≡ (listed_as_asked self.old query.now.under query.now.open_number (list_asked_by (query_directory_asked query.now.request))).shared) }
+        ensures ok { IfOk result (λ r. answer_held r out.new.items ≡ answer_behind out.old.items
+            (listed_as_asked self.old query.now.under query.now.open_number (list_asked_by (query_directory_asked query.now.request))).response) }
+        ensures len { OnOk result (length out.new.items ≤ length out.old.items + 65552) }
+        ensures err { OnErr result (self.new ≡ self.old) }
+        ensures out { OnErr result (out.new.items ≡ out.old.items) }
+        ensures kept { take (length out.old.items) out.new.items ≡ out.old.items }
+        ensures known { self.new.sessions.table.connections ≡ self.old.sessions.table.connections }
+    {
+        let Ok(start) = open_query_response(out) else {
+            return Err(AllocError);
+        };
+        match list(
+            &self.store,
+            query.open_number,
+            &list_ask(&query.request),
+            out,
+        ) {
+            Ok(scan) => {
+                close_query_response(start, out);
+                self.store.set_scan(query.open_number, scan);
+                Ok(Answered {
+                    status: Status::Success,
+                    ids: ResponseIds::of(query.under),
+                })
+            }
+            Err(fault) => {
+                out.truncate(start);
+                let answered = self.refuse_listing(query, fault, out)?;
+                Ok(answered)
+            }
+        }
+    }
+
+    /// QUERY_DIRECTORY ([MS-SMB2] 3.3.5.18) of the open of a number: adds the body of its response to `out`. After an error,
+    /// for want of memory, all is as it was.
+    #[tactic(auto, unfolding(crate::specs::QueryDirectory::directory_queried))]
+    pub(crate) fn query_directory(
+        &mut self,
+        query: &DirectoryQuery<'_>,
+        out: &mut Vec<u8>,
+    ) -> Result<Answered, AllocError>
+        requires { IsSome (open_of self.old.store.opens query.now.open_number) }
+        ensures shared { OnOk result (self.new ≡ (directory_queried self.old query.now.under query.now.open_number (query_directory_asked query.now.request)).shared) }
+        ensures ok { IfOk result (λ r. answer_held r out.new.items ≡ answer_behind out.old.items
+            (directory_queried self.old query.now.under query.now.open_number (query_directory_asked query.now.request)).response) }
+        ensures len { OnOk result (length out.new.items ≤ length out.old.items + 65552) }
+        ensures err { OnErr result (self.new ≡ self.old) }
+        ensures out { OnErr result (out.new.items ≡ out.old.items) }
+        ensures kept { take (length out.old.items) out.new.items ≡ out.old.items }
+        ensures known { self.new.sessions.table.connections ≡ self.old.sessions.table.connections }
+    {
+        let _ = &self.sessions;
+        if let Some(status) = self.directory_refusal(query.open_number, &query.request) {
+            return put_response(status, ResponseIds::of(query.under), &Reply::Error, out);
+        }
+        self.list_directory(query, out)
+    }
+}
