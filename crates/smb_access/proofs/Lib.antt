@@ -9,9 +9,4 @@ pub mod Seen
 pub mod Mores
 pub mod Closing
 pub mod Overwrites
-pub mod Writes
-pub mod Settings
 pub mod Above
-pub mod Under
-pub mod Looks
-pub mod Renaming

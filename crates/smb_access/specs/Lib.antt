@@ -10,11 +10,6 @@ pub mod Found
 pub mod Sharing
 pub mod Looked
 pub mod Views
-pub mod Bytes
-pub mod Locks
-pub mod SetInfo
-pub mod Rename
-pub mod Ways
 pub mod Effect
 pub mod Close
 pub mod Faults

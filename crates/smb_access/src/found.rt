@@ -3,7 +3,7 @@
 use smb_tree::{Basic, EntryNo, Kind};
 
 /// The number of the root.
-pub(crate) const ROOT: EntryNo = 1;
+pub const ROOT: EntryNo = 1;
 
 /// Of the entry that a request names, what decides.
 #[derive(Clone, Copy, Debug)]

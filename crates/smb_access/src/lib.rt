@@ -1,7 +1,8 @@
-//! What one open may do, and what a request does to its entry ([MS-SMB2] 3.3.5.9 to 3.3.5.14, 3.3.5.21).
+//! What an open is, which one is granted, and what its end does ([MS-SMB2] 3.3.5.9, 3.3.5.10).
 //!
 //! An inner crate of smb_opens: that crate joins these parts to a store, and exports the types of this one on. Here is what
-//! needs no store: functions over any tree, any opens and plain values.
+//! needs no store: functions over any tree, any opens and plain values. What a request does through an open that was granted is
+//! in smb_entry.
 //!
 //! An open is an entry, who opened it and what for: an [`OpenRow`]. [`Opens`] is any list of them in rising number, as
 //! `specs/Opens.antt` says, and [`PlainOpens`] the plain one. What an open shows of its entry is a [`View`] (`specs/Views.antt`).
@@ -13,9 +14,6 @@
 //!   (`specs/Access.antt`), [`sharing`] which two opens of an entry conflict (`specs/Sharing.antt`), and [`effect`] overwrites an
 //!   entry and makes the open (`specs/Effect.antt`).
 //! - CLOSE: [`close`] marks an entry, and removes one that is marked and has no open (`specs/Close.antt`).
-//! - READ and WRITE: [`bytes`] (`specs/Bytes.antt`). LOCK: [`locks`] (`specs/Locks.antt`). SET_INFO: [`set_info`]
-//!   (`specs/SetInfo.antt`), of what a [`BasicAsk`] asks; a rename: [`rename`] (`specs/Rename.antt`), and [`beneath`], which tells what
-//!   lies beneath what.
 //!
 //! Calls take time as the tree and the opens say: [`sharing::conflicts`] goes through the opens of an entry once, and
 //! [`look::count_entries`] through all numbers of entries.
@@ -23,25 +21,20 @@
 
 pub mod access;
 mod ask;
-pub mod beneath;
-pub mod bytes;
 pub mod checks;
 pub mod close;
 pub mod effect;
 pub mod fault;
 pub mod found;
-pub mod locks;
 pub mod look;
 mod open_row;
 mod opens;
 mod plain;
-pub mod rename;
 mod scan;
-pub mod set_info;
 pub mod sharing;
 mod view;
 
-pub use ask::{BasicAsk, CreateAsk};
+pub use ask::CreateAsk;
 pub use fault::StoreFault;
 pub use open_row::{OpenNo, OpenRow, Owner};
 pub use opens::Opens;

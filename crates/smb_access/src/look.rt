@@ -13,11 +13,8 @@ ghost use Rattle.smb_access.specs.Views.{view_shown, view_at};
 
 use super::found::Target;
 use super::view::View;
-use smb_tree::{EntryNo, EntryView, Kind, Tree};
+use smb_tree::{EntryNo, EntryView, Kind, Tree, allocation_size};
 use smb_wire::{Access, PathView};
-
-/// How many bytes a cluster has.
-pub(crate) const CLUSTER: u64 = 4096;
 
 /// Of the entry at a path, what decides, or None.
 pub fn find_target<T: Tree>(tree: &T, path: &PathView<'_>) -> Option<Target>
@@ -61,7 +58,7 @@ fn view_of(entry: &EntryView<'_>, access: Access) -> View
         last_write_time: entry.basic.last_write_time,
         change_time: entry.basic.change_time,
         size: entry.size,
-        allocation_size: entry.size.div_ceil(CLUSTER) * CLUSTER,
+        allocation_size: allocation_size(entry.size),
         attributes: entry.kind.shown_attributes(entry.basic.attributes),
         mark: entry.mark,
         access,

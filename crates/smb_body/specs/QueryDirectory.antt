@@ -5,7 +5,7 @@ use Rattle.smb_wire.specs.Pairs.{units_in, unit_bytes, AreUnits}
 use Rattle.smb_wire.specs.Units.{units_of}
 use Rattle.smb_body.specs.Buffers.{body, behind, has_fixed_part, file_id_at, slice, is_within, HoldsText}
 use Rattle.smb_body.specs.declared.types.InformationClass.{InformationClass}
-use Rattle.smb_body.specs.declared.query_directory.QueryDirectoryFlags.{QueryDirectoryFlags}
+use Rattle.smb_wire.specs.declared.query_directory_flags.QueryDirectoryFlags.{QueryDirectoryFlags}
 use Rattle.smb_wire.specs.declared.file_id.FileId.{FileId}
 use Rattle.smb_body.specs.declared.query_directory.QueryDirectoryRequest.{QueryDirectoryRequest}
 

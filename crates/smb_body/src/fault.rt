@@ -9,13 +9,13 @@ use thiserror::Error;
 /// A refusal of this crate.
 #[derive(Clone, Copy, Debug, PartialEq, Eq, Error)]
 pub enum BodyFault {
-    /// B1: the bytes say no body of this command.
+    /// The bytes say no body of this command.
     #[error("the body is unreadable")]
     Unreadable,
-    /// B2: the vector handed in could not grow. It is as it was.
+    /// The vector handed in could not grow. It is as it was.
     #[error("no memory")]
     NoMemory,
-    /// B3: a length or a count passes its field.
+    /// A length or a count passes its field.
     #[error("a length passes its field")]
     TooLong,
 }

@@ -48,7 +48,7 @@ pub use lock_element::LockElement;
 pub use lock_list::LockList;
 pub use negotiate::{NegotiateRequest, NegotiateResponse, SecurityMode};
 pub use query::{QueryResponse, close_query_response, open_query_response};
-pub use query_directory::{QueryDirectoryFlags, QueryDirectoryRequest};
+pub use query_directory::QueryDirectoryRequest;
 pub use query_info::{QueryInfoFlags, QueryInfoRequest};
 pub use read::{ReadFlags, ReadRequest, ReadResponse, put_read_head};
 pub use reply::{Reply, write_reply};

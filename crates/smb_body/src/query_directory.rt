@@ -9,23 +9,9 @@ use super::buffer::{body, file_id_in, text};
 use super::fault::BodyFault;
 use super::types::InformationClass;
 use smb_wire::{
-    FileId, Units, WireFault, put_bytes, put_u8, put_u16, put_u32, put_u64, u8_in, u16_in, u32_in,
+    FileId, QueryDirectoryFlags, Units, WireFault, put_bytes, put_u8, put_u16, put_u32, put_u64,
+    u8_in, u16_in, u32_in,
 };
-
-/// Flags of a QUERY_DIRECTORY request ([MS-SMB2] 2.2.33).
-#[derive(Clone, Copy, Debug, PartialEq, Eq)]
-pub struct QueryDirectoryFlags(pub u8);
-
-impl QueryDirectoryFlags {
-    /// The scan starts anew.
-    pub const RESTART_SCANS: QueryDirectoryFlags = QueryDirectoryFlags(1);
-
-    /// One entry at most is returned.
-    pub const RETURN_SINGLE_ENTRY: QueryDirectoryFlags = QueryDirectoryFlags(2);
-
-    /// The scan starts anew.
-    pub const REOPEN: QueryDirectoryFlags = QueryDirectoryFlags(0x10);
-}
 
 /// A QUERY_DIRECTORY request ([MS-SMB2] 2.2.33).
 #[derive(Clone, Copy, Debug)]

@@ -5,17 +5,17 @@ use thiserror::Error;
 /// A refusal of the share.
 #[derive(Clone, Copy, Debug, PartialEq, Eq, Error)]
 pub enum ServeFault {
-    /// S1: 64 connections are open, or the numbers of connections are spent.
+    /// 64 connections are open, or the numbers of connections are spent.
     #[error("too many connections")]
     TooManyConnections,
-    /// S2: memory could not be had. The first `done` requests of the call, or of the event, were performed,
+    /// Memory could not be had. The first `done` requests of the call, or of the event, were performed,
     /// and then its connection has ended; an opening changed nothing.
     #[error("no memory, after {done} requests")]
     NoMemory { done: usize },
-    /// S3: an opening out of turn, or an event on a number that was never opened.
+    /// An opening out of turn, or an event on a number that was never opened.
     #[error("a bad event")]
     BadEvent,
-    /// S4: the configuration breaks its rules.
+    /// The configuration breaks its rules.
     #[error("the configuration breaks its rules")]
     BadConfig,
 }

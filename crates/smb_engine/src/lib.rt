@@ -8,7 +8,7 @@
 //! request). The definition reads each stream from its first byte; the share holds what is unread alone. That it does not matter how the bytes were
 //! cut is a law of the definition, with others of `specs/Laws.antt`: [`laws_of_shares`].
 //!
-//! Refusals are [`ServeFault`]s, S1 to S4. A piece takes time in proportion to its bytes and to those of its
+//! Refusals are [`ServeFault`]s. A piece takes time in proportion to its bytes and to those of its
 //! replies; a connection is found in logarithmic time.
 #![tactic(auto)]
 

@@ -2,6 +2,7 @@
 use Rattle.std.specs.Prelude.{ℕ, List, [], ◌∷◌, length, is_some, not, Bool, ◌&&◌, ◌||◌, ◌==◌, nat_lt, if◌then◌else◌, Option, None, Some, unwrap_or}
 use Rattle.smb_wire.specs.Access.{has_any}
 use Rattle.smb_wire.specs.Names.{folded}
+use Rattle.smb_wire.specs.QueryDirectoryFlags.{RESTART_SCANS, RETURN_SINGLE_ENTRY, REOPEN}
 use Rattle.smb_tree.specs.Content.{Row}
 use Rattle.smb_access.specs.declared.scan.Scan.{Scan}
 use Rattle.smb_access.specs.declared.scan.ScanLast.TheVariants.{Start}
@@ -20,23 +21,11 @@ pub record ListAsked : Type 0 where
   pub pattern : List ℕ
   pub room : ℕ
 
--- the flag by which a scan starts anew (2.2.33)
-abbrev pub RESTART_SCANS : ℕ
-RESTART_SCANS = 1
-
--- the flag by which at most one entry is wanted (2.2.33)
-abbrev pub RETURN_SINGLE_ENTRY : ℕ
-RETURN_SINGLE_ENTRY = 2
-
--- another flag by which a scan starts anew (2.2.33)
-abbrev pub REOPEN : ℕ
-REOPEN = 16
-
--- the scan is to start anew
+-- the scan is to start anew (2.2.33)
 abbrev pub restarts : ListAsked → Bool
 restarts ask = has_any ask.flags RESTART_SCANS || has_any ask.flags REOPEN
 
--- at most one entry is wanted
+-- at most one entry is wanted (2.2.33)
 abbrev pub wants_one : ListAsked → Bool
 wants_one ask = has_any ask.flags RETURN_SINGLE_ENTRY
 

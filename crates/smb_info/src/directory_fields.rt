@@ -4,18 +4,15 @@ ghost use Rattle.std.specs.Prelude.{◌≡◌, ◌<◌, ◌^◌, ◌*◌, ◌++�
 ghost use Rattle.smb_wire.specs.Fields.{AllFit, appended};
 ghost use Rattle.smb_wire.specs.Number.{spelling};
 ghost use Rattle.smb_wire.specs.Units.{units_of};
-ghost use Rattle.smb_tree.specs.Entries.{allocation_size, shown_attributes};
+ghost use Rattle.smb_tree.specs.Entries.{shown_attributes};
 ghost use Rattle.smb_info.specs.CandidateViews.{candidate};
 ghost use Rattle.smb_info.specs.DirectoryInformation.{directory_information_of, fields_of, directory_fields, full_directory_fields, both_directory_fields, names_fields, id_both_directory_fields, id_full_directory_fields};
 ghost use Rattle.smb_info.specs.Information.{whole};
 
 use super::candidate::CandidateView;
 use super::directory_class::DirectoryInformationClass;
-use smb_tree::EntryView;
+use smb_tree::{EntryView, allocation_size};
 use smb_wire::{WireFault, put_bytes, put_u8, put_u16, put_u32, put_u64};
-
-// The size of a cluster in bytes.
-const CLUSTER: u64 = 4096;
 
 /// Adds what a class tells of an entry, behind which the next one begins `next` bytes on. After an error some of it
 /// stands there.
@@ -66,13 +63,6 @@ fn attributes(entry: &EntryView<'_>) -> u32
     entry.kind.shown_attributes(entry.basic.attributes).0
 }
 
-// The space that a file takes: whole clusters.
-fn allocation_size(entry: &CandidateView<'_>) -> u64
-    ensures { result ≡ allocation_size entry.now.entry.size }
-{
-    entry.entry.size.div_ceil(CLUSTER) * CLUSTER
-}
-
 // The length of a name in bytes.
 fn name_length(entry: &CandidateView<'_>) -> u32
     requires { 2 * length (units_of entry.now.name) < 2 ^ 32 }
@@ -94,7 +84,7 @@ fn put_directory(next: u32, entry: &CandidateView<'_>, out: &mut Vec<u8>) -> Res
     put_u64(out, entry.entry.basic.last_write_time)?;
     put_u64(out, entry.entry.basic.change_time)?;
     put_u64(out, entry.entry.size)?;
-    put_u64(out, allocation_size(entry))?;
+    put_u64(out, allocation_size(entry.entry.size))?;
     put_u32(out, attributes(&entry.entry))?;
     put_u32(out, name_length(entry))?;
     Ok(())

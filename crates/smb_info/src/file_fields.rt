@@ -2,20 +2,16 @@
 
 ghost use Rattle.std.specs.Prelude.{◌≡◌, ◌<◌, ◌++◌, length, take, OnOk};
 ghost use Rattle.smb_wire.specs.Fields.{AllFit, appended};
-ghost use Rattle.smb_tree.specs.Entries.{allocation_size};
 ghost use Rattle.smb_tree.specs.WholeNames.{copied};
 ghost use Rattle.smb_info.specs.FileInformation.{file_information_of, attributes_of, flag, basic_fields, standard_fields, network_open_fields, attribute_tag_fields, all_fields};
 ghost use Rattle.smb_info.specs.Information.{whole};
 
 use super::file_class::FileInformationClass;
-use smb_tree::EntryCopy;
+use smb_tree::{EntryCopy, allocation_size};
 use smb_wire::{Access, WireFault, put_bytes, put_u8, put_u16, put_u32, put_u64};
 
 // A backslash.
 const SEPARATOR: u16 = 0x5c;
-
-// The size of a cluster in bytes.
-const CLUSTER: u64 = 4096;
 
 /// Adds all that a class tells. After an error some of it stands there.
 pub(crate) fn put_information(
@@ -56,13 +52,6 @@ fn attributes(entry: &EntryCopy) -> u32
     entry.kind.shown_attributes(entry.basic.attributes).0
 }
 
-// The space that a file takes: whole clusters.
-fn allocation_size(entry: &EntryCopy) -> u64
-    ensures { result ≡ allocation_size entry.now.size }
-{
-    entry.size.div_ceil(CLUSTER) * CLUSTER
-}
-
 // A yes as 1, a no as 0.
 fn flag(yes: bool) -> u8
     ensures value { result ≡ flag yes }
@@ -90,7 +79,7 @@ fn put_standard(entry: &EntryCopy, out: &mut Vec<u8>) -> Result<(), WireFault>
     ensures fits { OnOk result (AllFit (standard_fields (copied entry.now))) }
     ensures kept { take (length out.old.items) out.new.items ≡ out.old.items }
 {
-    put_u64(out, allocation_size(entry))?;
+    put_u64(out, allocation_size(entry.size))?;
     put_u64(out, entry.size)?;
     put_u32(out, 1)?;
     put_u8(out, flag(entry.mark))?;
@@ -108,7 +97,7 @@ fn put_network_open(entry: &EntryCopy, out: &mut Vec<u8>) -> Result<(), WireFaul
     put_u64(out, entry.basic.last_access_time)?;
     put_u64(out, entry.basic.last_write_time)?;
     put_u64(out, entry.basic.change_time)?;
-    put_u64(out, allocation_size(entry))?;
+    put_u64(out, allocation_size(entry.size))?;
     put_u64(out, entry.size)?;
     put_u32(out, attributes(entry))?;
     put_u32(out, 0)?;

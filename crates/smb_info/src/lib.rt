@@ -47,7 +47,7 @@ pub use file_system::fs_info;
 pub use laws::{laws_of_listings, laws_of_patterns};
 pub use matching::matches;
 pub use pattern::Pattern;
-pub use scan::{ListAsk, ScanFlags};
+pub use scan::ListAsk;
 pub use set_info::{SetAsk, read_set_info};
 pub use volume::Volume;
 pub use written::Written;

@@ -7,10 +7,10 @@ ghost use Rattle.smb_info.specs.Asks.{list_asked};
 ghost use Rattle.smb_info.specs.Queries.{is_started_by, wants_one, pattern_by, scan_by, unmatched_fault};
 
 use super::fault::InfoFault;
-use super::scan::{ListAsk, ScanFlags};
+use super::scan::ListAsk;
 use bitflags::Flags;
 use smb_access::{Scan, ScanLast};
-use smb_wire::{FoldedName, Units};
+use smb_wire::{FoldedName, QueryDirectoryFlags, Units};
 
 // `*` in UTF-16.
 const ASTERISK: &[u8] = b"*\0";
@@ -26,8 +26,8 @@ fn asterisk() -> FoldedName
 pub(crate) fn is_started_by(scan: &Scan, ask: &ListAsk<'_>) -> bool
     ensures { result ≡ is_started_by scan.now (list_asked ask.now) }
 {
-    ask.flags.intersects(ScanFlags::RESTART_SCANS)
-        || ask.flags.intersects(ScanFlags::REOPEN)
+    ask.flags.intersects(QueryDirectoryFlags::RESTART_SCANS)
+        || ask.flags.intersects(QueryDirectoryFlags::REOPEN)
         || scan.pattern.is_none()
 }
 
@@ -35,7 +35,8 @@ pub(crate) fn is_started_by(scan: &Scan, ask: &ListAsk<'_>) -> bool
 pub(crate) fn wants_one(ask: &ListAsk<'_>) -> bool
     ensures { result ≡ wants_one (list_asked ask.now) }
 {
-    ask.flags.intersects(ScanFlags::RETURN_SINGLE_ENTRY)
+    ask.flags
+        .intersects(QueryDirectoryFlags::RETURN_SINGLE_ENTRY)
 }
 
 // The pattern of the scan before; where there was none, that of every name.

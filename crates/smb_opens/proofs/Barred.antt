@@ -10,7 +10,7 @@ use Rattle.smb_locks.proofs.Ends.{read_test_from_bar, write_test_from_bar, test_
 use Rattle.smb_locks.proofs.Tables.{good_on, on_dropped, compatible_pair}
 use Rattle.smb_access.specs.declared.open_row.OpenRow.{OpenRow}
 use Rattle.smb_access.specs.declared.view.View.{View}
-use Rattle.smb_access.specs.Bytes.{keeps_from_reading, keeps_from_writing, read_status_by, write_status_by}
+use Rattle.smb_entry.specs.Bytes.{keeps_from_reading, keeps_from_writing, read_status_by, write_status_by}
 use Rattle.smb_opens.specs.Bytes.{read_status, write_status}
 use Rattle.smb_opens.specs.Close.{closed, closed_open}
 use Rattle.smb_opens.specs.Good.{GoodStore}

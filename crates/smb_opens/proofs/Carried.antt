@@ -24,11 +24,11 @@ use Rattle.smb_access.specs.Found.{is_marked, is_pending}
 use Rattle.smb_access.specs.Present.{ArePresent}
 use Rattle.smb_opens.specs.Good.{AreMarksDue, IsKept}
 use Rattle.smb_access.specs.Opens.{has_open}
-use Rattle.smb_access.specs.Rename.{is_beneath, path_numbered, has_open_beneath, is_not_replaced}
+use Rattle.smb_entry.specs.Rename.{is_beneath, path_numbered, has_open_beneath, is_not_replaced}
 use Rattle.smb_opens.specs.State.{StoreState}
 use Rattle.smb_access.proofs.Removed.{leaf, length-removed}
 use Rattle.smb_access.proofs.Trees.{at_path, above_at}
-use Rattle.smb_access.proofs.Under.{number_found, path_found}
+use Rattle.smb_entry.proofs.Under.{number_found, path_found}
 
 -- a move leaves kind, bytes and mark
 pub same_mark : (from : Path) (parts : List (List ℕ)) (p : Path) (e : Entry) → (respelled from parts p e).mark ≡ e.mark

@@ -12,7 +12,7 @@ use Rattle.smb_access.specs.declared.fault.StoreFault.TheVariants.{NoMemory}
 use Rattle.smb_access.specs.declared.view.View.{View}
 use Rattle.smb_access.specs.Faults.{IsRefusal}
 use Rattle.smb_opens.specs.Good.{IsKept}
-use Rattle.smb_access.specs.Locks.{lock_fault_status}
+use Rattle.smb_entry.specs.Locks.{lock_fault_status}
 use Rattle.smb_opens.specs.Locks.{lock_status}
 use Rattle.smb_opens.specs.State.{StoreState}
 use Rattle.smb_opens.specs.Views.{open_view}

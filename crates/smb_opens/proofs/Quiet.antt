@@ -16,7 +16,7 @@ use Rattle.smb_access.specs.declared.open_row.OpenRow.{OpenRow}
 use Rattle.smb_access.specs.declared.view.View.{View}
 use Rattle.smb_access.specs.Asked.{FileAsked, kind_asked, attributes_asked}
 use Rattle.smb_opens.specs.Bytes.{file_bytes, written_to}
-use Rattle.smb_access.specs.Bytes.{written_file, written_tree}
+use Rattle.smb_entry.specs.Bytes.{written_file, written_tree}
 use Rattle.smb_access.specs.Close.{is_deletable, tree_marked, is_due}
 use Rattle.smb_opens.specs.Close.{closed_open, closed, closed_each}
 use Rattle.smb_access.specs.Effect.{overwritten, overwritten_tree, tree_after}
@@ -25,8 +25,8 @@ use Rattle.smb_access.specs.Found.{path_asked}
 use Rattle.smb_tree.specs.Good.{GoodContent}
 use Rattle.smb_opens.specs.Locks.{with_locks_of}
 use Rattle.smb_access.specs.Opens.{open_of, is_on_entry, without_open, open_numbers, is_held_by}
-use Rattle.smb_access.specs.Rename.{dated, renamed_tree}
-use Rattle.smb_access.specs.SetInfo.{changed_in, delete_set, size_set, entry_set}
+use Rattle.smb_entry.specs.Rename.{dated, renamed_tree}
+use Rattle.smb_entry.specs.SetInfo.{changed_in, delete_set, size_set, entry_set}
 use Rattle.smb_opens.specs.State.{StoreState}
 use Rattle.smb_opens.specs.Steps.{StoreStep, creates, writes, locks, unlocks, sets_delete, sets_size, sets_basic, renames, sets_scan, closes, closes_all, stepped, stepped_all, is_change_of, NoneChanges}
 use Rattle.smb_opens.specs.Views.{open_view}
@@ -34,7 +34,7 @@ use Rattle.smb_access.proofs.Changes.{Keeps, below_changed, below_push}
 use Rattle.smb_opens.proofs.Once.{AreOnce, once_of_apart, once_changed, once_without, once_push, once_renamed, numbered-once}
 use Rattle.smb_access.proofs.Removed.{below_removed}
 use Rattle.smb_opens.proofs.StoreSettings.{size_keeps}
-use Rattle.smb_access.proofs.Writes.{writes_keep}
+use Rattle.smb_entry.proofs.Writes.{writes_keep}
 use Rattle.smb_opens.proofs.Again.{read_again, opens_left}
 
 -- the bytes of the entry of a number, if it exists

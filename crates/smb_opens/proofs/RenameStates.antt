@@ -9,24 +9,24 @@ use Rattle.smb_tree.specs.Faults.{move_fault}
 use Rattle.smb_tree.specs.Moves.{moved}
 use Rattle.smb_access.specs.declared.found.Target.{Target}
 use Rattle.smb_access.specs.declared.open_row.OpenRow.{OpenRow}
-use Rattle.smb_access.specs.declared.rename.Way.{Way}
+use Rattle.smb_entry.specs.declared.rename.Way.{Way}
 use Rattle.smb_access.specs.declared.view.View.{View}
 use Rattle.smb_access.specs.StatusRows.{StatusRow, first_status}
 use Rattle.smb_opens.specs.Good.{IsKept}
 use Rattle.smb_access.specs.Looked.{target_of}
-use Rattle.smb_access.specs.Rename.{path_named, path_numbered, has_open_beneath, is_not_replaced, rename_rows, rename_status_by, dated, renamed_tree}
+use Rattle.smb_entry.specs.Rename.{path_named, path_numbered, has_open_beneath, is_not_replaced, rename_rows, rename_status_by, dated, renamed_tree}
 use Rattle.smb_opens.specs.Renames.{rename_status, renamed_through}
 use Rattle.smb_opens.specs.State.{StoreState}
 use Rattle.smb_opens.specs.Views.{open_view}
-use Rattle.smb_access.specs.Ways.{way_between, count_replaced, name_rows, way_rows}
+use Rattle.smb_entry.specs.Ways.{way_between, count_replaced, name_rows, way_rows}
 use Rattle.smb_opens.proofs.Carried.{IsMoving, IsEither, kept_moved}
 use Rattle.smb_access.proofs.Changes.{Shrinks, keeps_of, good_changed}
 use Rattle.smb_opens.proofs.Decided.{rows_by, way_told, MayReplace, passes, code_of, status_moved, status_refused, status_named}
-use Rattle.smb_access.proofs.Renaming.{moved_there}
+use Rattle.smb_entry.proofs.Renaming.{moved_there}
 use Rattle.smb_opens.proofs.Shows.{ShownBy, entry_of}
 use Rattle.smb_opens.proofs.StoreSettings.{at_shown, kept_changed}
 use Rattle.smb_opens.proofs.Through.{marks_kept}
-use Rattle.smb_access.proofs.Under.{path_found}
+use Rattle.smb_entry.proofs.Under.{path_found}
 
 -- the status, by what an open shows
 status_by_view : (state : StoreState) (number : ℕ) (view : View) (name : List ℕ) (replace : Bool) → Some view ≡ open_view state number →

@@ -11,7 +11,7 @@ use Rattle.smb_tree.specs.Entries.{Entry}
 use Rattle.smb_tree.proofs.AfterWrites.{other_changed}
 use Rattle.smb_tree.proofs.Apart.{numbered-changed}
 use Rattle.smb_tree.proofs.Parts.{length-resized}
-use Rattle.smb_access.specs.declared.ask.BasicAsk.{BasicAsk}
+use Rattle.smb_entry.specs.declared.ask.BasicAsk.{BasicAsk}
 use Rattle.smb_access.specs.declared.open_row.OpenRow.{OpenRow}
 use Rattle.smb_access.specs.Asked.{FileAsked}
 use Rattle.smb_access.specs.StatusRows.{StatusRow, first_status}
@@ -20,7 +20,7 @@ use Rattle.smb_opens.specs.Found.{entry_asked}
 use Rattle.smb_access.specs.Found.{path_asked, is_pending}
 use Rattle.smb_opens.specs.Laws.{LeavesOthers, path_and_bytes}
 use Rattle.smb_access.specs.Opens.{open_of}
-use Rattle.smb_access.specs.SetInfo.{changed_in, delete_set, resized_file, leaves_size, size_set, entry_set}
+use Rattle.smb_entry.specs.SetInfo.{changed_in, delete_set, resized_file, leaves_size, size_set, entry_set}
 use Rattle.smb_opens.specs.SetInfo.{changed_through, delete_set_through, size_set_through, basic_set_through}
 use Rattle.smb_opens.specs.State.{StoreState}
 use Rattle.smb_opens.proofs.StoreSettings.{size_keeps}

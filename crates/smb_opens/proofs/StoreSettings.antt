@@ -11,7 +11,7 @@ use Rattle.smb_tree.specs.Entries.{Entry, is_folder_kind}
 use Rattle.smb_tree.proofs.Apart.{numbered-changed, number-from_numbered}
 use Rattle.smb_tree.proofs.Parts.{length-resized}
 use Rattle.smb_tree.proofs.Spaces.{space_changed}
-use Rattle.smb_access.specs.declared.ask.BasicAsk.{BasicAsk}
+use Rattle.smb_entry.specs.declared.ask.BasicAsk.{BasicAsk}
 use Rattle.smb_access.specs.declared.fault.StoreFault.{StoreFault}
 use Rattle.smb_access.specs.declared.open_row.OpenRow.{OpenRow}
 use Rattle.smb_access.specs.declared.view.View.{View}
@@ -21,15 +21,15 @@ use Rattle.smb_access.specs.StatusRows.{first_status}
 use Rattle.smb_tree.specs.Good.{GoodContent}
 use Rattle.smb_opens.specs.Good.{AreMarksDue, IsKept}
 use Rattle.smb_access.specs.Opens.{open_of, has_open}
-use Rattle.smb_access.specs.SetInfo.{changed_in, shows_read_only_file, has_entries, delete_rows, delete_set, has_no_space, resized_file, leaves_size, size_set, entry_set}
+use Rattle.smb_entry.specs.SetInfo.{changed_in, shows_read_only_file, has_entries, delete_rows, delete_set, has_no_space, resized_file, leaves_size, size_set, entry_set}
 use Rattle.smb_opens.specs.SetInfo.{changed_through, size_set_through}
 use Rattle.smb_opens.specs.State.{StoreState}
 use Rattle.smb_access.proofs.Changes.{Keeps, Shrinks, keeps_of, good_changed, length-changed, present_changed}
 use Rattle.smb_access.proofs.Marks.{deletable_changed, mark_elsewhere}
-use Rattle.smb_access.proofs.Settings.{changed_alike}
+use Rattle.smb_entry.proofs.Settings.{changed_alike}
 use Rattle.smb_opens.proofs.Shows.{ShownBy, entry_of}
 use Rattle.smb_opens.proofs.Through.{kind_shown, marks_kept}
-use Rattle.smb_access.proofs.Writes.{good_within}
+use Rattle.smb_entry.proofs.Writes.{good_within}
 
 -- the entry that is shown exists
 pub at_shown : (state : StoreState) (number : ℕ) (view : View) → (s : ShownBy state number view) → numbered state.tree.rows view.entry ≡ Some s.row

@@ -16,7 +16,7 @@ use Rattle.smb_access.specs.declared.fault.StoreFault.TheVariants.{Status, NoMem
 use Rattle.smb_access.specs.declared.open_row.OpenRow.{OpenRow}
 use Rattle.smb_access.specs.declared.view.View.{View}
 use Rattle.smb_opens.specs.Bytes.{file_bytes, written_to}
-use Rattle.smb_access.specs.Bytes.{keeps_from_writing, write_rows, write_status_by, has_no_room, written_file, written_tree}
+use Rattle.smb_entry.specs.Bytes.{keeps_from_writing, write_rows, write_status_by, has_no_room, written_file, written_tree}
 use Rattle.smb_access.specs.StatusRows.{first_status}
 use Rattle.smb_access.specs.Faults.{IsRefusal}
 use Rattle.smb_tree.specs.Good.{GoodContent}
@@ -26,7 +26,7 @@ use Rattle.smb_access.proofs.Changes.{present_changed, length-changed}
 use Rattle.smb_access.proofs.Marks.{deletable_changed, mark_changed}
 use Rattle.smb_opens.proofs.Shows.{ShownBy, entry_of}
 use Rattle.smb_access.proofs.Trees.{of_number}
-use Rattle.smb_access.proofs.Writes.{writes_keep, good_within, has_room, space_of_bytes}
+use Rattle.smb_entry.proofs.Writes.{writes_keep, good_within, has_room, space_of_bytes}
 
 pub kind_shown : (state : StoreState) (number : ℕ) (view : View) → (s : ShownBy state number view) → is_folder_kind view.kind ≡ false → is_folder_kind s.row.1.kind ≡ false
 kind_shown state number view s file = ap (λ (v : View). is_folder_kind v.kind) (sym s.shown) ∙ file

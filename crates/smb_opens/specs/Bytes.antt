@@ -6,7 +6,7 @@ use Rattle.smb_access.specs.declared.open_row.OpenRow.{OpenRow}
 use Rattle.smb_access.specs.Opens.{open_of}
 use Rattle.smb_opens.specs.State.{StoreState}
 use Rattle.smb_opens.specs.Views.{open_view}
-use Rattle.smb_access.specs.Bytes.{read_status_by, write_status_by, written_tree}
+use Rattle.smb_entry.specs.Bytes.{read_status_by, write_status_by, written_tree}
 
 -- the status of a READ of the open of a number
 abbrev pub read_status : StoreState → ℕ → ℕ → ℕ → ℕ → ℕ

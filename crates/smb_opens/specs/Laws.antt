@@ -20,7 +20,7 @@ use Rattle.smb_access.specs.Found.{path_asked}
 use Rattle.smb_opens.specs.Found.{entry_asked}
 use Rattle.smb_opens.specs.Good.{UnmarkedTree, GoodStore}
 use Rattle.smb_access.specs.Opens.{open_of, open_numbers}
-use Rattle.smb_access.specs.Rename.{path_named}
+use Rattle.smb_entry.specs.Rename.{path_named}
 use Rattle.smb_opens.specs.Renames.{renamed_through}
 use Rattle.smb_access.specs.declared.scan.Scan.{Scan}
 use Rattle.smb_opens.specs.Scans.{scan_set}
@@ -29,7 +29,7 @@ use Rattle.smb_access.specs.Sharing.{Use, is_conflict}
 use Rattle.smb_opens.specs.State.{StoreState}
 use Rattle.smb_opens.specs.Steps.{StoreStep, stepped_all, NoneChanges}
 use Rattle.smb_opens.specs.Views.{open_view}
-use Rattle.smb_access.specs.declared.ask.BasicAsk.{BasicAsk}
+use Rattle.smb_entry.specs.declared.ask.BasicAsk.{BasicAsk}
 use Rattle.smb_access.specs.declared.open_row.OpenRow.{OpenRow}
 
 -- a tree that has the root alone is good, and has no mark

@@ -9,7 +9,7 @@ use Rattle.smb_locks.specs.Unlocking.{unlock_all_error}
 use Rattle.smb_access.specs.declared.view.View.{View}
 use Rattle.smb_opens.specs.State.{StoreState}
 use Rattle.smb_opens.specs.Views.{open_view}
-use Rattle.smb_access.specs.Locks.{lock_status_by, locks_shown}
+use Rattle.smb_entry.specs.Locks.{lock_status_by, locks_shown}
 
 -- the status of a LOCK that locks, through the open of a number: the first of its elements that is refused beside those
 -- before it, and their flags before all (3.3.5.14.2)

@@ -4,7 +4,7 @@ use Rattle.std.specs.Option.{option_map_or}
 use Rattle.smb_wire.specs.Paths.{path_spelled}
 use Rattle.smb_access.specs.declared.open_row.OpenRow.{OpenRow}
 use Rattle.smb_access.specs.Opens.{open_of}
-use Rattle.smb_access.specs.Rename.{rename_status_by, renamed_tree}
+use Rattle.smb_entry.specs.Rename.{rename_status_by, renamed_tree}
 use Rattle.smb_opens.specs.State.{StoreState}
 use Rattle.smb_opens.specs.Views.{open_view}
 

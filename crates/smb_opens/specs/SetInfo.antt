@@ -2,12 +2,12 @@
 use Rattle.std.specs.Prelude.{ℕ, Bool}
 use Rattle.std.specs.Option.{option_map_or}
 use Rattle.smb_tree.specs.Entries.{Entry}
-use Rattle.smb_access.specs.declared.ask.BasicAsk.{BasicAsk}
+use Rattle.smb_entry.specs.declared.ask.BasicAsk.{BasicAsk}
 use Rattle.smb_access.specs.declared.open_row.OpenRow.{OpenRow}
 use Rattle.smb_access.specs.Opens.{open_of}
 use Rattle.smb_opens.specs.State.{StoreState}
 use Rattle.smb_opens.specs.Views.{open_view}
-use Rattle.smb_access.specs.SetInfo.{changed_in, delete_status_by, delete_set, size_status_by, size_set, basic_status_by, entry_set}
+use Rattle.smb_entry.specs.SetInfo.{changed_in, delete_status_by, delete_set, size_status_by, size_set, basic_status_by, entry_set}
 
 -- the store with the entry of an open changed, by the number of the open; without such an open it is as it was
 abbrev pub changed_through : (Entry → Entry) → StoreState → ℕ → StoreState

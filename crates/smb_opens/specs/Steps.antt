@@ -3,7 +3,7 @@ use Rattle.std.specs.Prelude.{◌≡◌, ℕ, ◌==◌, ◌&&◌, Bool, false, L
 use Rattle.std.specs.Option.{option_map_or}
 use Rattle.smb_wire.specs.Dispositions.{overwrites_by}
 use Rattle.smb_locks.specs.declared.ask.LockAsk.{LockAsk}
-use Rattle.smb_access.specs.declared.ask.BasicAsk.{BasicAsk}
+use Rattle.smb_entry.specs.declared.ask.BasicAsk.{BasicAsk}
 use Rattle.smb_access.specs.declared.open_row.Owner.{Owner}
 use Rattle.smb_access.specs.Asked.{FileAsked}
 use Rattle.smb_opens.specs.Bytes.{written_to}

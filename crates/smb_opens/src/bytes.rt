@@ -2,16 +2,16 @@
 
 ghost use Rattle.std.specs.Prelude.{◌≡◌, ◌≢◌, ◌++◌, IsSome, IfOk, IfErr, OnOk, OnErr, length};
 ghost use Rattle.smb_wire.specs.NtStatus.{STATUS_SUCCESS};
-ghost use Rattle.smb_access.specs.Bytes.{keeps_from_reading, keeps_from_writing};
+ghost use Rattle.smb_entry.specs.Bytes.{keeps_from_reading, keeps_from_writing};
 ghost use Rattle.smb_opens.specs.Bytes.{read_status, file_bytes, write_status, written_to};
 ghost use Rattle.smb_access.specs.Faults.{IsRefusal};
 ghost use Rattle.smb_access.specs.Opens.{open_of};
 ghost use Rattle.smb_access.specs.declared.fault.StoreFault.TheVariants.{NoMemory};
 
 use super::store::Store;
-use smb_access::bytes::{bytes_there, may_read, may_write, write_file};
 use smb_access::fault::refusal_of;
 use smb_access::{OpenNo, Opens, StoreFault, View};
+use smb_entry::bytes::{bytes_there, may_read, may_write, write_file};
 use smb_tree::Tree;
 use smb_wire::nt_status::STATUS_FILE_CLOSED;
 

@@ -1,9 +1,9 @@
 //! Opens of files and folders, and the store that joins them to a tree ([MS-SMB2] 3.3.5.9 to 3.3.5.14, 3.3.5.21).
 //!
-//! What one open may do, and what a request does to its entry, is in the crate smb_access, of which all types are exported
+//! Which open is granted is in the crate smb_access, and what a request does through one in smb_entry; all their types are exported
 //! here: an open is an [`OpenRow`], [`Opens`] any list of them in rising number, and [`PlainOpens`] the plain one.
 //! A [`Store`] is a tree, its opens and their locks; its state is `specs/State.antt`, and what holds of it between any two
-//! calls `specs/Good.antt`. A file of specs/ here says of a store what the one of its name in smb_access says of its parts.
+//! calls `specs/Good.antt`. A file of specs/ here says of a store what the one of its name in those crates says of its parts.
 //!
 //! [`Store::create`] answers a CREATE: with the status that the table of `specs/Create.antt` gives; or, where no row holds, with what
 //! `specs/Effect.antt` does: one entry at most is added or overwritten, and one open comes last. A refusal changes
@@ -17,7 +17,7 @@
 //!
 //! [`Store::set_delete`], [`Store::set_size`] and [`Store::set_basic`] answer a SET_INFO, as `specs/SetInfo.antt` says: of
 //! the mark of an entry, of the size of a file, and of an entry's times and attributes. [`Store::rename`] answers one of an
-//! entry's name: with the status that the table of smb_access's `specs/Rename.antt` gives; or the entry is moved with all that lies beneath
+//! entry's name: with the status that the table of smb_entry's `specs/Rename.antt` gives; or the entry is moved with all that lies beneath
 //! it, as `specs/Renames.antt` says.
 //!
 //! [`Store::set_scan`] keeps how far a scan of a directory has come through an open.
@@ -36,7 +36,8 @@ mod store;
 
 pub use laws::laws_of_stores;
 pub use smb_access::{
-    BasicAsk, Closed, CreateAsk, Created, OpenNo, OpenRow, Opens, Owner, PlainOpens, Scan,
-    ScanLast, StoreFault, View,
+    Closed, CreateAsk, Created, OpenNo, OpenRow, Opens, Owner, PlainOpens, Scan, ScanLast,
+    StoreFault, View,
 };
+pub use smb_entry::BasicAsk;
 pub use store::Store;

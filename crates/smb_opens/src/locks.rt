@@ -7,8 +7,8 @@ ghost use Rattle.smb_opens.specs.Locks.{lock_status, unlock_status, locked_throu
 ghost use Rattle.smb_access.specs.declared.fault.StoreFault.TheVariants.{NoMemory};
 
 use super::store::Store;
-use smb_access::locks::{lock_fault_status, lock_refusal};
 use smb_access::{OpenNo, Opens, StoreFault};
+use smb_entry::locks::{lock_fault_status, lock_refusal};
 use smb_locks::LockAsk;
 use smb_tree::Tree;
 use smb_wire::nt_status::{STATUS_FILE_CLOSED, STATUS_INVALID_DEVICE_REQUEST};

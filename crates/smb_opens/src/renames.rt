@@ -7,8 +7,8 @@ ghost use Rattle.smb_access.specs.Faults.{IsRefusal};
 ghost use Rattle.smb_opens.specs.Renames.{rename_status, renamed_through};
 
 use super::store::Store;
-use smb_access::rename::{count_replaced, find_way, move_to, path_named, way_status};
 use smb_access::{OpenNo, Opens, StoreFault};
+use smb_entry::rename::{count_replaced, find_way, move_to, path_named, way_status};
 use smb_tree::Tree;
 use smb_wire::Units;
 use smb_wire::nt_status::{STATUS_FILE_CLOSED, STATUS_SUCCESS};

@@ -6,11 +6,12 @@ ghost use Rattle.smb_access.specs.Faults.{IsRefusal};
 ghost use Rattle.smb_opens.specs.SetInfo.{delete_status, delete_set_through, size_status, size_set_through, basic_status, basic_set_through};
 
 use super::store::Store;
-use smb_access::set_info::{
+use smb_access::{OpenNo, Opens, StoreFault};
+use smb_entry::BasicAsk;
+use smb_entry::set_info::{
     has_entries, has_no_space, leaves_size, mark_entry, may_delete, may_set_basic, may_size,
     set_entry, size_file,
 };
-use smb_access::{BasicAsk, OpenNo, Opens, StoreFault};
 use smb_tree::Tree;
 use smb_wire::nt_status::STATUS_FILE_CLOSED;
 

@@ -65,7 +65,7 @@ use Rattle.smb_request.specs.Response.{success, refused}
 use Rattle.smb_request.specs.Session.{status_of_refusal, session_logged_off, tree_joined, tree_left}
 use Rattle.smb_request.specs.State.{SharedState, with_store}
 use Rattle.smb_request.specs.Laws.{NumbersInOrder, IsInOrder, IsAsItWas, IsOver}
-use Rattle.smb_access.specs.Bytes.{written_tree}
+use Rattle.smb_entry.specs.Bytes.{written_tree}
 use Rattle.smb_access.specs.declared.open_row.Owner.{Owner}
 use Rattle.smb_request.specs.SetInfo.{set_through}
 use Rattle.smb_request.proofs.InfoApart.{set_opens, set_next, queried_left, info_set_left}

@@ -10,7 +10,7 @@ use Rattle.smb_access.specs.declared.open_row.Owner.{Owner}
 use Rattle.smb_access.specs.declared.open_row.Owner.TheVariants.{Session}
 use Rattle.smb_access.specs.declared.view.View.{View}
 use Rattle.smb_access.specs.Asked.{FileAsked}
-use Rattle.smb_access.specs.Bytes.{written_tree}
+use Rattle.smb_entry.specs.Bytes.{written_tree}
 use Rattle.smb_opens.specs.Bytes.{written_to}
 use Rattle.smb_access.specs.Close.{is_deletable, is_due, tree_marked, tree_cleared}
 use Rattle.smb_opens.specs.Close.{closed_open, closed, closed_each, closed_all}

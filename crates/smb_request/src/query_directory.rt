@@ -16,7 +16,7 @@ use super::shared::Shared;
 use super::status::Status;
 use bitflags::Flags;
 use smb_body::{QueryDirectoryRequest, Reply, close_query_response, open_query_response};
-use smb_info::{InfoFault, ListAsk, ScanFlags, list};
+use smb_info::{InfoFault, ListAsk, list};
 use smb_opens::{Opens, View};
 use smb_session::Authenticator;
 use smb_tree::{Kind, Tree};
@@ -53,7 +53,7 @@ fn list_ask<'a>(request: &QueryDirectoryRequest<'a>) -> ListAsk<'a>
 {
     ListAsk {
         class: request.file_information_class.0,
-        flags: ScanFlags(request.flags.0),
+        flags: request.flags,
         pattern: request.file_name,
         room: request.output_buffer_length,
     }

@@ -9,24 +9,24 @@ use thiserror::Error;
 /// A refusal of the sessions. Each leaves them, and the authenticator, as they were.
 #[derive(Clone, Copy, Debug, PartialEq, Eq, Error)]
 pub enum SessionFault {
-    /// J1: the number is not that of a finished session of this connection; in a SESSION_SETUP, of none of
+    /// The number is not that of a finished session of this connection; in a SESSION_SETUP, of none of
     /// this connection ([MS-SMB2] 3.3.5.2.9).
     #[error("no such session on this connection")]
     UnknownSession,
-    /// J2: the session is not connected to this tree ([MS-SMB2] 3.3.5.2.11).
+    /// The session is not connected to this tree ([MS-SMB2] 3.3.5.2.11).
     #[error("no such tree in this session")]
     UnknownTree,
-    /// J3: the path is not `\\server\share`, or names another share ([MS-SMB2] 3.3.5.7).
+    /// The path is not `\\server\share`, or names another share ([MS-SMB2] 3.3.5.7).
     #[error("no such share")]
     NoShare,
-    /// J4: the request is not accepted: the session is finished already, another connection is to be bound,
+    /// The request is not accepted: the session is finished already, another connection is to be bound,
     /// or there are as many sessions or trees as there may be ([MS-SMB2] 3.3.5.5).
     #[error("the request is not accepted")]
     NotAccepted,
-    /// J5: no dialect of the list is spoken ([MS-SMB2] 3.3.5.4).
+    /// No dialect of the list is spoken ([MS-SMB2] 3.3.5.4).
     #[error("no dialect is spoken")]
     NoDialect,
-    /// J6: memory could not be had.
+    /// Memory could not be had.
     #[error("no memory")]
     NoMemory,
 }

@@ -3,7 +3,7 @@
 //! [`Sessions`] are made over an [`Authenticator`], which is asked once for each SESSION_SETUP that is not
 //! refused, and never else. What each call gives and leaves is one definition: a table of connections and
 //! sessions (`specs/Table.antt`, `Session.antt`), a SESSION_SETUP over it (`Setup.antt`), and both over the
-//! authenticator's state (`Sessions.antt`). A refusal, a [`SessionFault`] J1 to J6, leaves everything as it
+//! authenticator's state (`Sessions.antt`). A refusal, a [`SessionFault`], leaves everything as it
 //! was. What holds of every table between calls is `Good.antt`, which [`Sessions::good`] tells; that a session that ended is
 //! gone for good, and no number is given twice, is the contract of [`laws_of_sessions`].
 //!

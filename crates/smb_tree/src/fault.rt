@@ -10,27 +10,27 @@ use thiserror::Error;
 /// A refusal, in the order in which it is looked at; the tree is as it was.
 #[derive(Clone, Copy, Debug, PartialEq, Eq, Error)]
 pub enum TreeFault {
-    /// E1: no entry has the number; where the call is about a file's bytes, also where it is a folder.
+    /// No entry has the number; where the call is about a file's bytes, also where it is a folder.
     #[error("absent")]
     Absent,
-    /// E3: the folder in which the entry would stand is absent, or a file; where an entry is moved, also where that
+    /// The folder in which the entry would stand is absent, or a file; where an entry is moved, also where that
     /// folder is the entry or lies beneath it.
     #[error("parent absent")]
     ParentAbsent,
-    /// E2: an entry stands at the path; where an entry is moved, another folder.
+    /// An entry stands at the path; where an entry is moved, another folder.
     #[error("exists")]
     Exists,
-    /// E4: the folder has children.
+    /// The folder has children.
     #[error("not empty")]
     NotEmpty,
-    /// E7: the path has more than 32 components; where an entry is moved, also that of an entry beneath it.
+    /// The path has more than 32 components; where an entry is moved, also that of an entry beneath it.
     #[error("too deep")]
     TooDeep,
-    /// E5: there are 4,096 entries besides the root, the numbers are spent, the file would have more than
+    /// There are 4,096 entries besides the root, the numbers are spent, the file would have more than
     /// 16,777,216 bytes, or the used space would pass the capacity.
     #[error("full")]
     Full,
-    /// E6: an allocation was refused.
+    /// An allocation was refused.
     #[error("no memory")]
     NoMemory,
 }

@@ -35,9 +35,9 @@ mod texts;
 mod tree;
 mod whole_names;
 
-pub use entry::{Basic, EntryNo, EntryView, KEPT_ATTRIBUTES, Kind};
+pub use entry::{Basic, EntryNo, EntryView, KEPT_ATTRIBUTES, Kind, MOST_BYTES, allocation_size};
 pub use entry_copy::EntryCopy;
 pub use fault::TreeFault;
 pub use laws::{laws_of_contents, laws_of_moves};
-pub use plain::{MOST_BYTES, PlainTree};
+pub use plain::PlainTree;
 pub use tree::Tree;

@@ -9,7 +9,7 @@ ghost use Rattle.smb_tree.specs.declared.fault.TreeFault.TheVariants.{NoMemory, 
 
 use super::bytes::{add_part, put_at};
 use super::children::{has_children, name_of, next_child};
-use super::entry::{Basic, EntryNo, EntryView, Kind};
+use super::entry::{Basic, EntryNo, EntryView, Kind, MOST_BYTES, allocation_size};
 use super::entry_copy::EntryCopy;
 use super::fault::TreeFault;
 use super::look::{add_fault, place_of, stored_at, view_of};
@@ -22,12 +22,6 @@ use super::whole_names::whole_name;
 use smb_wire::{FileAttributes, FoldedName, PathView};
 use std::alloc::{AllocError, Global};
 use std::marker::Model;
-
-/// The most bytes of a file.
-pub const MOST_BYTES: u64 = 16_777_216;
-
-// The size of a cluster.
-const CLUSTER: u64 = 4096;
 
 /// A tree that is a list of entries, each with its whole path and its bytes. A look-up by path or number goes
 /// through the list, [`child_after`](Tree::child_after) and [`remove`](Tree::remove) twice; none of these takes
@@ -91,14 +85,6 @@ fn put(entries: &mut Vec<Stored>, stored: Stored) -> Result<(), AllocError>
 {
     entries.push(stored)?;
     Ok(())
-}
-
-// The space that so many bytes take.
-fn allocation_size(size: u64) -> u64
-    requires { size ≤ 16777216 }
-    ensures { result ≡ allocation_size size }
-{
-    size.div_ceil(CLUSTER) * CLUSTER
 }
 
 // The first fault of a size that a stored entry would get, where the other entries use so much space.

@@ -9,7 +9,7 @@ use thiserror::Error;
 /// A refusal of this crate.
 #[derive(Clone, Copy, Debug, PartialEq, Eq, Error)]
 pub enum WireFault {
-    /// W1: the vector handed in could not grow. It is as it was.
+    /// The vector handed in could not grow. It is as it was.
     #[error("no memory")]
     NoMemory,
 }
@@ -25,13 +25,13 @@ impl From<AllocError> for WireFault {
 /// Why a name is no path, in the order in which it is looked at.
 #[derive(Clone, Copy, Debug, PartialEq, Eq, Error)]
 pub enum PathFault {
-    /// W3: the name begins with a separator.
+    /// The name begins with a separator.
     #[error("leading separator")]
     LeadingSeparator,
-    /// W4: the name has more than 32 components.
+    /// The name has more than 32 components.
     #[error("too deep")]
     TooDeep,
-    /// W2: a component has not 1 to 255 units, has a unit that no component may have, or is `.` or `..`.
+    /// A component has not 1 to 255 units, has a unit that no component may have, or is `.` or `..`.
     #[error("bad name")]
     BadName,
 }

@@ -19,7 +19,7 @@
 //!
 //! What a number on the wire means has a type here, one for each meaning, which every crate above uses: [`Command`],
 //! [`Dialect`], [`Access`], [`ShareAccess`], [`CreateOptions`], [`CreateDisposition`], [`CreateAction`],
-//! [`FileAttributes`], [`LockFlags`], [`FileId`]; [`nt_status`] is the one list of statuses. Their numbers stand in
+//! [`FileAttributes`], [`LockFlags`], [`QueryDirectoryFlags`], [`FileId`]; [`nt_status`] is the one list of statuses. Their numbers stand in
 //! `specs/` by the standard's names.
 #![tactic(auto)]
 
@@ -40,6 +40,7 @@ pub mod nt_status;
 mod number;
 mod parts;
 mod paths;
+mod query_directory_flags;
 mod split;
 mod units;
 
@@ -58,5 +59,6 @@ pub use lock_flags::LockFlags;
 pub use names::{compare_folded, fold_unit, same_name};
 pub use number::{laws_of_numbers, put_u16, put_u32, put_u64, u16_at, u32_at, u64_at};
 pub use paths::PathView;
+pub use query_directory_flags::QueryDirectoryFlags;
 pub use split::{laws_of_components, split_path};
 pub use units::{Units, laws_of_units};

@@ -3,14 +3,15 @@
 use smb_body::{
     AdditionalInformation, Capabilities, Channel, CloseFlags, CloseRequest, CreateRequest,
     Dialects, FlushRequest, Guid, ImpersonationLevel, InfoType, InformationClass, LockList,
-    LockRequest, LockSequence, NegotiateRequest, OplockLevel, QueryDirectoryFlags,
-    QueryDirectoryRequest, QueryInfoFlags, QueryInfoRequest, ReadFlags, ReadRequest, Request,
-    ReservedRequest, SecurityFlags, SecurityMode, SessionSecurityMode, SessionSetupFlags,
-    SessionSetupRequest, SetInfoRequest, SmbCreateFlags, TreeConnectRequest, WriteFlags,
-    WriteRequest, laws_of_requests, read_body, write_request,
+    LockRequest, LockSequence, NegotiateRequest, OplockLevel, QueryDirectoryRequest,
+    QueryInfoFlags, QueryInfoRequest, ReadFlags, ReadRequest, Request, ReservedRequest,
+    SecurityFlags, SecurityMode, SessionSecurityMode, SessionSetupFlags, SessionSetupRequest,
+    SetInfoRequest, SmbCreateFlags, TreeConnectRequest, WriteFlags, WriteRequest, laws_of_requests,
+    read_body, write_request,
 };
 use smb_wire::{
-    Access, CreateDisposition, CreateOptions, FileAttributes, FileId, ShareAccess, Units,
+    Access, CreateDisposition, CreateOptions, FileAttributes, FileId, QueryDirectoryFlags,
+    ShareAccess, Units,
 };
 use std::alloc::Global;
 

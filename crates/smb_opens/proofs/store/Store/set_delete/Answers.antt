@@ -1,6 +1,6 @@
 use Rattle.std.proofs.Common.{Bool, sym, ap, ◌∙◌}
 use Rattle.smb_access.specs.StatusRows.{first_status}
-use Rattle.smb_access.specs.SetInfo.{delete_rows, delete_set}
+use Rattle.smb_entry.specs.SetInfo.{delete_rows, delete_set}
 use Rattle.smb_opens.specs.State.{StoreState}
 use Rattle.smb_opens.specs.Views.{open_view}
 use Rattle.smb_opens.proofs.Shows.{shown_by}

@@ -1,0 +1,5 @@
+pub mod Writes
+pub mod Settings
+pub mod Under
+pub mod Looks
+pub mod Renaming

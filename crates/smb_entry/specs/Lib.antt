@@ -1,0 +1,5 @@
+pub mod Bytes
+pub mod Locks
+pub mod SetInfo
+pub mod Rename
+pub mod Ways

@@ -1,0 +1,78 @@
+-- For the proofs; nothing here need be believed.
+-- What the code finds where a rename leads, and the rows over that.
+use Rattle.std.specs.Prelude.{◌≡◌, ◌≢◌, ℕ, ◌==◌, ◌||◌, ◌&&◌, Bool, false, not, List, [], ◌∷◌, length, take, slice_index, Option, None, Some, is_some, if◌then◌else◌}
+use Rattle.std.specs.Option.{option_map, option_map_or}
+use Rattle.smb_wire.specs.NtStatus.{STATUS_SUCCESS, STATUS_INVALID_PARAMETER, STATUS_OBJECT_NAME_INVALID, STATUS_ACCESS_DENIED, STATUS_DELETE_PENDING, STATUS_OBJECT_PATH_NOT_FOUND, STATUS_OBJECT_NAME_COLLISION}
+use Rattle.smb_wire.specs.Paths.{is_separator, path_fault}
+use Rattle.smb_tree.specs.Entries.{is_folder_kind}
+use Rattle.smb_tree.specs.declared.fault.TreeFault.{TreeFault}
+use Rattle.smb_tree.specs.Content.{Path, Row, entry_at, number_at}
+use Rattle.smb_access.specs.declared.fault.StoreFault.{StoreFault}
+use Rattle.smb_access.specs.declared.fault.StoreFault.TheVariants.{Status, NoMemory as NoRoom}
+use Rattle.smb_access.specs.declared.open_row.OpenRow.{OpenRow}
+use Rattle.smb_access.specs.declared.found.Target.{Target}
+use Rattle.smb_entry.specs.declared.rename.Way.{Way}
+use Rattle.smb_access.specs.declared.view.View.{View}
+use Rattle.smb_access.specs.Access.{is_deleting}
+use Rattle.smb_access.specs.StatusRows.{StatusRow}
+use Rattle.smb_access.specs.Found.{is_pending, is_reached}
+use Rattle.smb_access.specs.Looked.{target_of, is_read_only_target}
+use Rattle.smb_access.specs.Opens.{has_open}
+use Rattle.smb_entry.specs.Rename.{is_beneath, path_numbered, has_open_beneath}
+
+-- what is found between two paths
+abbrev pub way_between : List Row → Path → Path → Way
+way_between rows from to = record {
+  beneath = is_beneath from to;
+  reached = is_reached rows to;
+  pending = is_pending rows to;
+  target = option_map target_of (entry_at rows to);
+}
+
+-- the entry of a number is the target
+abbrev pub is_own_target : ℕ → Option Target → Bool
+is_own_target entry target = option_map_or (λ (t : Target). t.number == entry) target false
+
+-- how many entries are taken out where it gets the target's place
+abbrev pub count_replaced : ℕ → Option Target → ℕ
+count_replaced entry target = if option_map_or (λ (t : Target). not (t.number == entry)) target false then 1 else 0
+
+abbrev pub is_kept_target : List OpenRow → Option Target → Bool
+is_kept_target opens None = false
+is_kept_target opens (Some target) =
+    is_folder_kind target.kind || is_read_only_target (Some target) || has_open opens target.number
+
+-- rows 1 and 2, which need the name alone
+abbrev pub name_rows : List ℕ → List StatusRow
+name_rows name =
+    (length name == 0 || is_separator (slice_index name 0), STATUS_INVALID_PARAMETER)
+    ∷ (is_some (path_fault name), STATUS_OBJECT_NAME_INVALID)
+    ∷ []
+
+-- rows 9 to 11
+abbrev pub target_rows : List OpenRow → Way → Bool → List StatusRow
+target_rows opens way replace =
+    (way.pending, STATUS_DELETE_PENDING)
+    ∷ (is_some way.target && not replace, STATUS_OBJECT_NAME_COLLISION)
+    ∷ (is_kept_target opens way.target, STATUS_ACCESS_DENIED)
+    ∷ []
+
+-- rows 3 to 11
+abbrev pub way_rows : List Row → List OpenRow → View → Way → Bool → List StatusRow
+way_rows rows opens view way replace =
+    (not (is_deleting view.access) || view.entry == 1, STATUS_ACCESS_DENIED)
+    ∷ (view.mark, STATUS_DELETE_PENDING)
+    ∷ (way.beneath, STATUS_INVALID_PARAMETER)
+    ∷ (not way.reached, STATUS_OBJECT_PATH_NOT_FOUND)
+    ∷ (is_own_target view.entry way.target, STATUS_SUCCESS)
+    ∷ (is_folder_kind view.kind && has_open_beneath rows opens (path_numbered rows view.entry), STATUS_ACCESS_DENIED)
+    ∷ target_rows opens way replace
+
+-- the front of a path of so many components is that of the entry of a number
+abbrev pub is_front_numbered : List Row → Path → ℕ → ℕ → Bool
+is_front_numbered rows path depth entry = option_map_or (λ number. number == entry) (number_at rows (take depth path)) false
+
+-- a refusal of a move, by what the tree refuses: of what it refuses only the length of a path is left
+abbrev pub IsMoveRefusal : Option TreeFault → StoreFault → Type 0
+IsMoveRefusal fault (Status code) = (fault ≢ None) × (code ≡ STATUS_OBJECT_NAME_INVALID)
+IsMoveRefusal fault NoRoom = fault ≡ None

@@ -1,0 +1,137 @@
+//! READ and WRITE of a file, by what an open shows ([MS-SMB2] 3.3.5.12, 3.3.5.13).
+
+ghost use Rattle.std.specs.Prelude.{◌≡◌, ◌≢◌, Bool, true, false, None, Some, is_some, IfErr, OnOk, OnErr, nat_lt, ◌&&◌, length, if◌then◌else◌};
+ghost use Rattle.std.specs.Option.{option_map};
+ghost use Rattle.smb_wire.specs.NtStatus.{STATUS_SUCCESS, STATUS_DISK_FULL};
+ghost use Rattle.smb_tree.specs.Content.{numbered};
+ghost use Rattle.smb_tree.specs.Entries.{is_folder_kind, kept_basic};
+ghost use Rattle.smb_tree.specs.Faults.{write_fault};
+ghost use Rattle.smb_entry.specs.Bytes.{bytes_there, read_rows, may_not_write, write_rows, written_basic, written_tree};
+ghost use Rattle.smb_access.specs.StatusRows.{first_status};
+ghost use Rattle.smb_access.specs.declared.fault.StoreFault.TheVariants.{Status, NoMemory};
+
+use bitflags::Flags;
+use smb_access::access::{is_reading, is_writing};
+use smb_access::fault::refusal_of;
+use smb_access::{StoreFault, View};
+use smb_tree::{Basic, EntryNo, Tree};
+use smb_wire::Access;
+use smb_wire::nt_status::{
+    STATUS_ACCESS_DENIED, STATUS_END_OF_FILE, STATUS_FILE_LOCK_CONFLICT,
+    STATUS_INVALID_DEVICE_REQUEST, STATUS_INVALID_PARAMETER,
+};
+
+/// The most bytes that one request reads or writes.
+const MOST_AT_ONCE: u32 = 65_536;
+
+/// How many bytes of a file of this size there are from an offset on, at most `count`.
+pub fn bytes_there(size: u64, offset: u64, count: u32) -> u32
+    ensures { result ≡ bytes_there size offset count }
+{
+    let left = size.saturating_sub(offset);
+    if left < u64::from(count) {
+        left as u32
+    } else {
+        count
+    }
+}
+
+/// Whether a READ through an open that shows this is answered by bytes, or the status that refuses it. A lock bars it or
+/// not.
+pub fn may_read(
+    view: &View,
+    is_barred: bool,
+    offset: u64,
+    count: u32,
+    minimum: u32,
+) -> Result<(), u32>
+    ensures lawful { OnOk result (first_status (read_rows view.now is_barred offset count minimum) ≡ STATUS_SUCCESS) }
+    ensures file { OnOk result (is_folder_kind view.now.kind ≡ false) }
+    ensures why { IfErr result (λ status. first_status (read_rows view.now is_barred offset count minimum) ≡ status) }
+    ensures refused { IfErr result (λ status. status ≢ STATUS_SUCCESS) }
+{
+    if count > MOST_AT_ONCE {
+        return Err(STATUS_INVALID_PARAMETER);
+    }
+    if view.kind.is_folder() {
+        return Err(STATUS_INVALID_DEVICE_REQUEST);
+    }
+    if !is_reading(view.access) {
+        return Err(STATUS_ACCESS_DENIED);
+    }
+    if is_barred {
+        return Err(STATUS_FILE_LOCK_CONFLICT);
+    }
+    if count > 0 && offset >= view.size || bytes_there(view.size, offset, count) < minimum {
+        return Err(STATUS_END_OF_FILE);
+    }
+    Ok(())
+}
+
+/// Whether an open that shows this may not write at an offset.
+fn may_not_write(view: &View, offset: u64) -> bool
+    ensures { result ≡ may_not_write view.now offset }
+{
+    !is_writing(view.access) || !view.access.intersects(Access::WRITE_DATA) && offset < view.size
+}
+
+/// Whether a WRITE through an open that shows this goes on, which the room then decides, or the status that refuses it. A
+/// lock bars it or not.
+pub fn may_write(view: &View, is_barred: bool, offset: u64, count: usize) -> Result<(), u32>
+    ensures goes_on { OnOk result ((is_full : Bool) → first_status (write_rows view.now is_barred offset count is_full) ≡ (if nat_lt 0 count && is_full then STATUS_DISK_FULL else STATUS_SUCCESS)) }
+    ensures file { OnOk result (is_folder_kind view.now.kind ≡ false) }
+    ensures why { IfErr result (λ status. (is_full : Bool) → first_status (write_rows view.now is_barred offset count is_full) ≡ status) }
+    ensures refused { IfErr result (λ status. status ≢ STATUS_SUCCESS) }
+{
+    if count > MOST_AT_ONCE as usize {
+        return Err(STATUS_INVALID_PARAMETER);
+    }
+    if view.kind.is_folder() {
+        return Err(STATUS_INVALID_DEVICE_REQUEST);
+    }
+    if may_not_write(view, offset) {
+        return Err(STATUS_ACCESS_DENIED);
+    }
+    if is_barred {
+        return Err(STATUS_FILE_LOCK_CONFLICT);
+    }
+    Ok(())
+}
+
+/// What a file's times become that was written at a moment, its attributes as they are.
+pub fn written_basic(moment: u64, basic: Basic) -> Basic
+    ensures { kept_basic result ≡ written_basic moment basic }
+{
+    Basic {
+        last_write_time: moment,
+        change_time: moment,
+        ..basic
+    }
+}
+
+/// Puts bytes into a file, and sets its times of the last write and change. A refusal changes nothing.
+pub fn write_file<T: Tree>(
+    tree: &mut T,
+    entry: EntryNo,
+    offset: u64,
+    buffer: &[u8],
+    moment: u64,
+) -> Result<(), StoreFault>
+    requires file { option_map (λ row. is_folder_kind row.1.kind) (numbered (T.content tree.old).rows entry) ≡ Some false }
+    ensures ok { OnOk result (T.content tree.new ≡ written_tree (T.content tree.old) entry offset buffer.now moment) }
+    ensures room { OnOk result (write_fault (T.content tree.old) entry offset (length buffer.now) ≡ None) }
+    ensures err { OnErr result (T.content tree.new ≡ T.content tree.old) }
+    ensures why { IfErr result (λ fault. fault ≢ NoMemory → (fault ≡ Status STATUS_DISK_FULL) × (is_some (write_fault (T.content tree.old) entry offset (length buffer.now)) ≡ true)) }
+{
+    let Some(seen) = tree.entry(entry) else {
+        unreachable!();
+    };
+    let basic = written_basic(moment, seen.basic);
+    if let Err(fault) = tree.write(entry, offset, buffer) {
+        return Err(refusal_of(fault));
+    }
+    match tree.set_basic(entry, basic) {
+        Ok(()) => Ok(()),
+        Err(_) => unreachable!(),
+    }
+}

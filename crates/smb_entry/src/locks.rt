@@ -1,0 +1,39 @@
+//! The refusals of a LOCK ([MS-SMB2] 3.3.5.14).
+
+ghost use Rattle.std.specs.Prelude.{◌≡◌, ◌≢◌};
+ghost use Rattle.smb_wire.specs.NtStatus.{STATUS_SUCCESS};
+ghost use Rattle.smb_access.specs.Faults.{IsRefusal};
+ghost use Rattle.smb_entry.specs.Locks.{lock_fault_status};
+ghost use Rattle.smb_access.specs.declared.fault.StoreFault.TheVariants.{NoMemory};
+ghost use Rattle.smb_locks.specs.declared.fault.LockFault.TheVariants.{NoMemory as NoLockMemory};
+
+use smb_access::StoreFault;
+use smb_locks::LockFault;
+use smb_wire::nt_status::{
+    STATUS_INVALID_LOCK_RANGE, STATUS_INVALID_PARAMETER, STATUS_LOCK_NOT_GRANTED,
+    STATUS_RANGE_NOT_LOCKED,
+};
+
+/// The status by which an element of a LOCK is refused, or all of it for its flags.
+pub fn lock_fault_status(fault: LockFault) -> u32
+    ensures status { result ≡ lock_fault_status fault }
+    ensures refused { result ≢ STATUS_SUCCESS }
+{
+    match fault {
+        LockFault::BadFlags => STATUS_INVALID_PARAMETER,
+        LockFault::BadRange => STATUS_INVALID_LOCK_RANGE,
+        LockFault::Full | LockFault::NotGranted | LockFault::NoMemory => STATUS_LOCK_NOT_GRANTED,
+        LockFault::NotLocked => STATUS_RANGE_NOT_LOCKED,
+    }
+}
+
+/// The refusal of a LOCK that locks.
+pub fn lock_refusal(fault: LockFault) -> StoreFault
+    ensures memory { result ≡ NoMemory → fault ≡ NoLockMemory }
+    ensures status { result ≢ NoMemory → (fault ≢ NoLockMemory) × IsRefusal (lock_fault_status fault) result }
+{
+    match fault {
+        LockFault::NoMemory => StoreFault::NoMemory,
+        fault => StoreFault::Status(lock_fault_status(fault)),
+    }
+}

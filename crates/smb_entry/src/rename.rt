@@ -1,0 +1,199 @@
+//! A rename of an open's entry: which is refused, and the move ([MS-FSA] 2.1.5.15.11).
+
+ghost use Rattle.std.specs.Prelude.{◌≡◌, ◌≢◌, ◌++◌, List, true, None, is_some, IfOk, IfErr, OnOk, OnErr};
+ghost use Rattle.smb_wire.specs.NtStatus.{STATUS_SUCCESS};
+ghost use Rattle.smb_wire.specs.Paths.{folded_path, path_spelled};
+ghost use Rattle.smb_wire.specs.PathViews.{parts_of};
+ghost use Rattle.smb_wire.specs.Units.{units_of};
+ghost use Rattle.smb_tree.specs.Content.{numbered};
+ghost use Rattle.smb_tree.specs.Faults.{move_fault};
+ghost use Rattle.smb_tree.specs.Good.{GoodContent};
+ghost use Rattle.smb_access.specs.StatusRows.{StatusRow, first_status};
+ghost use Rattle.smb_access.specs.Present.{ArePresent};
+ghost use Rattle.smb_access.specs.Numbers.{AreRising};
+ghost use Rattle.smb_access.specs.Opens.{has_open, open_numbers};
+ghost use Rattle.smb_entry.specs.Rename.{path_numbered, renamed_tree};
+ghost use Rattle.smb_entry.specs.Ways.{IsMoveRefusal, way_between, is_own_target, count_replaced, is_kept_target, name_rows, target_rows, way_rows};
+
+use super::beneath::{has_open_beneath, is_path_beneath};
+use smb_access::access::is_deleting;
+use smb_access::checks::{is_folder_target, is_pending, is_read_only_target};
+use smb_access::found::{ROOT, Target};
+use smb_access::look::{find_above, find_target};
+use smb_access::{Opens, StoreFault, View};
+use smb_tree::{Basic, EntryNo, Tree, TreeFault};
+use smb_wire::nt_status::{
+    STATUS_ACCESS_DENIED, STATUS_DELETE_PENDING, STATUS_INVALID_PARAMETER,
+    STATUS_OBJECT_NAME_COLLISION, STATUS_OBJECT_NAME_INVALID, STATUS_OBJECT_PATH_NOT_FOUND,
+    STATUS_SUCCESS,
+};
+use smb_wire::{PathFault, PathView, Units, split_path};
+
+/// What a rename finds where it leads.
+#[derive(Clone, Copy, Debug)]
+pub struct Way {
+    /// The new path lies beneath the entry.
+    pub beneath: bool,
+    /// Each entry above the new path is a folder.
+    pub reached: bool,
+    /// The entry at the new path, or the folder that it is in, is marked.
+    pub pending: bool,
+    /// The entry at the new path, if one exists.
+    pub target: Option<Target>,
+}
+
+/// The path that a name spells, or the status that answers it whatever exists.
+pub fn path_named(name: Units<'_>) -> Result<PathView<'_>, u32>
+    ensures path { IfOk result (λ path. parts_of path ≡ path_spelled (units_of name.entry)) }
+    ensures lawful { OnOk result ((rows : List StatusRow) → first_status (name_rows (units_of name.entry) ++ rows) ≡ first_status rows) }
+    ensures err { IfErr result (λ status. (rows : List StatusRow) → first_status (name_rows (units_of name.entry) ++ rows) ≡ status) }
+    ensures refused { IfErr result (λ status. status ≢ STATUS_SUCCESS) }
+{
+    if name.len() == 0 {
+        return Err(STATUS_INVALID_PARAMETER);
+    }
+    match split_path(name) {
+        Ok(path) => Ok(path),
+        Err(PathFault::LeadingSeparator) => Err(STATUS_INVALID_PARAMETER),
+        Err(_) => Err(STATUS_OBJECT_NAME_INVALID),
+    }
+}
+
+/// What is found between an entry, which exists, and the path that it is to get.
+pub fn find_way<T: Tree>(tree: &T, entry: EntryNo, path: &PathView<'_>) -> Way
+    requires good { GoodContent (T.content tree.now) }
+    requires there { is_some (numbered (T.content tree.now).rows entry) ≡ true }
+    ensures { result ≡ way_between (T.content tree.now).rows (path_numbered (T.content tree.now).rows entry) (folded_path (parts_of path.now)) }
+{
+    let target = find_target(tree, path);
+    let above = find_above(tree, path);
+    Way {
+        beneath: is_path_beneath(tree, entry, path),
+        reached: is_folder_target(&above),
+        pending: is_pending(&target, &above),
+        target,
+    }
+}
+
+/// Whether the entry of a number is the target.
+fn is_own_target(entry: EntryNo, target: &Option<Target>) -> bool
+    ensures { result ≡ is_own_target entry target.now }
+{
+    match target {
+        Some(target) => target.number == entry,
+        None => false,
+    }
+}
+
+/// How many entries are taken out where the entry of a number gets the target's place: one, or none.
+pub fn count_replaced(entry: EntryNo, target: &Option<Target>) -> usize
+    ensures { result ≡ count_replaced entry target.now }
+{
+    match target {
+        Some(target) if target.number != entry => 1,
+        _ => 0,
+    }
+}
+
+/// Whether an entry has an open.
+fn has_open<O: Opens>(opens: &O, entry: EntryNo) -> bool
+    ensures { result ≡ has_open (O.content opens.now) entry }
+{
+    opens.on_entry(entry, 0).is_some()
+}
+
+/// Whether a target exists that is not replaced.
+fn is_kept_target<O: Opens>(opens: &O, target: &Option<Target>) -> bool
+    ensures { result ≡ is_kept_target (O.content opens.now) target.now }
+{
+    let Some(found) = target else {
+        return false;
+    };
+    found.kind.is_folder() || is_read_only_target(target) || has_open(opens, found.number)
+}
+
+/// The status by what exists at the new path.
+fn target_status<O: Opens>(opens: &O, way: &Way, replace: bool) -> u32
+    ensures { result ≡ first_status (target_rows (O.content opens.now) way.now replace) }
+{
+    if way.pending {
+        return STATUS_DELETE_PENDING;
+    }
+    if way.target.is_some() && !replace {
+        return STATUS_OBJECT_NAME_COLLISION;
+    }
+    if is_kept_target(opens, &way.target) {
+        return STATUS_ACCESS_DENIED;
+    }
+    STATUS_SUCCESS
+}
+
+/// The status of a rename through an open that shows this, by what was found; but for the length of paths, which a move
+/// looks at. The opens are gone through only where the entry is a folder and no row before decides.
+pub fn way_status<T: Tree, O: Opens>(
+    tree: &T,
+    opens: &O,
+    view: &View,
+    way: &Way,
+    replace: bool,
+) -> u32
+    requires good { GoodContent (T.content tree.now) }
+    requires there { is_some (numbered (T.content tree.now).rows view.now.entry) ≡ true }
+    requires present { ArePresent (T.content tree.now).rows (O.content opens.now) }
+    requires rising { AreRising (open_numbers (O.content opens.now)) }
+    ensures { result ≡ first_status (way_rows (T.content tree.now).rows (O.content opens.now) view.now way.now replace) }
+{
+    if !is_deleting(view.access) || view.entry == ROOT {
+        return STATUS_ACCESS_DENIED;
+    }
+    if view.mark {
+        return STATUS_DELETE_PENDING;
+    }
+    if way.beneath {
+        return STATUS_INVALID_PARAMETER;
+    }
+    if !way.reached {
+        return STATUS_OBJECT_PATH_NOT_FOUND;
+    }
+    if is_own_target(view.entry, &way.target) {
+        return STATUS_SUCCESS;
+    }
+    if view.kind.is_folder() && has_open_beneath(tree, opens, view.entry) {
+        return STATUS_ACCESS_DENIED;
+    }
+    target_status(opens, way, replace)
+}
+
+/// Moves an entry that is not the root to another path at a moment, where nothing but the length of a path may refuse it.
+/// After a refusal the tree is as it was.
+pub fn move_to<T: Tree>(
+    tree: &mut T,
+    entry: EntryNo,
+    path: &PathView<'_>,
+    moment: u64,
+) -> Result<(), StoreFault>
+    requires good { GoodContent (T.content tree.old) }
+    requires other { entry ≢ 1 }
+    requires there { is_some (numbered (T.content tree.old).rows entry) ≡ true }
+    ensures ok { OnOk result (T.content tree.new ≡ renamed_tree (T.content tree.old) entry (parts_of path.now) moment) }
+    ensures lawful { OnOk result (move_fault (T.content tree.old) entry (folded_path (parts_of path.now)) ≡ None) }
+    ensures err { OnErr result (T.content tree.new ≡ T.content tree.old) }
+    ensures why { IfErr result (λ fault. IsMoveRefusal (move_fault (T.content tree.old) entry (folded_path (parts_of path.now))) fault) }
+{
+    let Some(seen) = tree.entry(entry) else {
+        unreachable!();
+    };
+    let basic = Basic {
+        change_time: moment,
+        ..seen.basic
+    };
+    match tree.move_entry(entry, path) {
+        Ok(()) => {}
+        Err(TreeFault::NoMemory) => return Err(StoreFault::NoMemory),
+        Err(_) => return Err(StoreFault::Status(STATUS_OBJECT_NAME_INVALID)),
+    }
+    match tree.set_basic(entry, basic) {
+        Ok(()) => Ok(()),
+        Err(_) => unreachable!(),
+    }
+}
