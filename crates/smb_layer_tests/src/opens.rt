@@ -78,10 +78,10 @@ fn creates<T: Tree + Drop, O: Opens + Drop>(store: &mut Store<T, O>) -> bool {
 
 /// Whether an open stands that shows the new file, also where its scan is set, and is closed.
 fn closes<T: Tree + Drop, O: Opens + Drop>(store: &mut Store<T, O>, number: OpenNo) -> bool {
+    store.set_scan(number, BEHIND_DOT_DOT);
     if store.view(number).is_none() {
         return false;
     }
-    store.set_scan(number, BEHIND_DOT_DOT);
     let closed = store.close(number);
     closed.view == new_file() && !closed.removed && store.view(number).is_none()
 }

@@ -105,6 +105,13 @@ impl<T: Tree + Drop, O: Opens + Drop> Store<T, O> {
         &self.opens
     }
 
+    /// The number that the next open will have, where one can still be made.
+    pub fn next_number(&self) -> OpenNo
+        ensures { result ≡ self.now.next }
+    {
+        self.next
+    }
+
     /// What the open of a number shows, or None where none has it.
     pub fn view(&self, number: OpenNo) -> Option<View>
         ensures value { result ≡ open_view self.now number }

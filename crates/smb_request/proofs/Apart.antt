@@ -1,7 +1,7 @@
 -- One request, seen from the sessions of other connections.
 use Rattle.std.proofs.Common.{◌≡◌, ◌==◌, ℕ, Bool, true, false, if◌then◌else◌, List, [], ◌∷◌, length, filter, ◌⊎◌, Option, None, Some, is_some, refl, ap, arith, ◌∙◌}
 use Rattle.std.proofs.lemmas.Bool.Decides.{nat_tests}
-use Rattle.std.specs.Option.{option_map_or}
+use Rattle.std.specs.Option.{option_map, option_map_or}
 use Rattle.smb_session.specs.Session.{SessionState}
 use Rattle.smb_session.specs.Table.{TableState, session_at, session_ended, knows_session}
 use Rattle.smb_access.specs.declared.open_row.OpenRow.{OpenRow}
@@ -9,21 +9,23 @@ use Rattle.smb_access.specs.declared.open_row.Owner.TheVariants.{Session, Tree}
 use Rattle.smb_access.specs.Opens.{open_numbers, is_held_by, open_of, without_open}
 use Rattle.smb_access.proofs.Rows.{kept_above, others}
 use Rattle.smb_head.specs.Headers.{header_of}
-use Rattle.smb_wire.specs.Commands.{code_of, known_command}
+use Rattle.smb_wire.specs.Commands.{known_command}
 use Rattle.smb_wire.specs.Dialects.{revision_of}
 use Rattle.smb_wire.specs.declared.command.Command.{Command}
 use Rattle.smb_wire.specs.declared.dialect.Dialect.{Dialect}
-use Rattle.smb_wire.specs.declared.file_id.FileId.{FileId}
 use Rattle.smb_session.specs.Negotiate.{best_of}
-use Rattle.smb_body.specs.Requests.{RequestValue, asks_negotiate, asks_session_setup, asks_logoff, asks_tree_connect, asks_tree_disconnect, asks_create, asks_close, asks_flush, asks_read, asks_write, asks_lock, asks_cancel, asks_echo, asks_query_directory, asks_query_info, asks_set_info, file_id_of, request_of}
+use Rattle.smb_body.specs.Requests.{RequestValue, asks_negotiate, asks_session_setup, asks_logoff, asks_tree_connect, asks_tree_disconnect, asks_create, asks_close, asks_flush, asks_read, asks_write, asks_lock, asks_cancel, asks_echo, asks_query_directory, asks_query_info, asks_set_info, file_id_of}
 use Rattle.smb_request.specs.declared.command_row.Handling.{Handling}
 use Rattle.smb_request.specs.declared.command_row.Handling.TheVariants.{Handled, Unsupported, Passed}
 use Rattle.smb_request.specs.declared.context.Context.{Context}
+use Rattle.smb_request.specs.declared.context.ContextOpen.{ContextOpen}
+use Rattle.smb_request.specs.declared.context.ContextOpen.TheVariants.{Nothing, Named, Refused}
+use Rattle.smb_request.specs.Context.{open_named, number_named}
 use Rattle.smb_request.specs.declared.status.Status.{Status}
 use Rattle.smb_request.specs.Commands.{command_row, needs_of, needs_session}
 use Rattle.smb_request.specs.Files.{names_open}
 use Rattle.smb_request.specs.Negotiate.{negotiate_answer}
-use Rattle.smb_request.specs.Request.{acts_under, missing_refusal, negotiated, acted, by_body, by_handling, by_command, performed}
+use Rattle.smb_request.specs.Request.{acts_under, handed_to, body_of, open_refusal, missing_refusal, negotiated, acted, by_body, by_handling, by_command, performed}
 use Rattle.smb_request.specs.Response.{answered}
 use Rattle.smb_request.specs.State.{hello_of}
 use Rattle.smb_session.specs.Authenticator.{Meaning}
@@ -268,61 +270,73 @@ module _ {S : Type 0} (acts : ℕ → Bool) (c : ℕ) (a : acts c ≡ true) (sha
   negotiated_left m moment dialect under dialects = negotiated_at m moment dialect under (best_of dialects)
 
   -- each command: a request that needs a session acts under one of this connection
-  acts_known : (under : Under) (asked : RequestValue) → needs_session (needs_of asked) ≡ true → missing_refusal shared c under asked ≡ None → knows_session shared.sessions.table c under.session_id ≡ true
-  acts_known under asked t e = grind (arith, e, t)
+  acts_known : (under : Under) (asked : RequestValue) (named : Option ContextOpen) → needs_session (needs_of asked) ≡ true → missing_refusal shared c under asked named ≡ None → knows_session shared.sessions.table c under.session_id ≡ true
+  acts_known under asked named t e = grind (arith, e, t)
 
-  named_open : (under : Under) (asked : RequestValue) (id : FileId) → file_id_of asked ≡ Some id → missing_refusal shared c under asked ≡ None → option_map_or (is_held_by (Tree under.session_id under.tree_id)) (open_of shared.store.opens id.persistent) false ≡ true
-  named_open under asked id f e =
-      let names : names_open shared.store.opens under id ≡ true = grind (arith, e, f) in
+  open_held : (under : Under) (named : ContextOpen) → open_refusal shared.store.opens under named ≡ None → option_map_or (is_held_by (Tree under.session_id under.tree_id)) (open_of shared.store.opens (number_named (Some named))) false ≡ true
+  open_held under Nothing e = cc
+  open_held under (Refused status) e = cc
+  open_held under (Named id) e =
+      let names : names_open shared.store.opens under id ≡ true = grind (arith, e) in
       grind (arith, names)
 
-  acted_left : (m : Meaning S) (moment : ℕ) (dialect : Option Dialect) (under : Under) (asked : RequestValue) → missing_refusal shared c under asked ≡ None → Left (acted m c moment shared dialect under asked).shared
-  acted_left m moment dialect under (asks_negotiate x) e = negotiated_left m moment dialect under x.dialects
-  acted_left m moment dialect under (asks_session_setup x) e = set_up_left m acts c a shared o under x
-  acted_left m moment dialect under (asks_logoff x) e = logged_off_left under
-  acted_left m moment dialect under (asks_tree_connect x) e = joined_left under x.path
-  acted_left m moment dialect under (asks_tree_disconnect x) e = disconnected_left under
-  acted_left m moment dialect under (asks_create x) e = created_left moment under x (acts_known under (asks_create x) refl e)
-  acted_left m moment dialect under (asks_close x) e =
-      let k = x.file_id.persistent in
-      closed_left under k x.flags (closed_open_left under k (open_of shared.store.opens k) refl (named_open under (asks_close x) x.file_id refl e) (acts_known under (asks_close x) refl e))
-  acted_left m moment dialect under (asks_flush x) e = same
-  acted_left m moment dialect under (asks_read x) e = read_left under x.file_id.persistent x
-  acted_left m moment dialect under (asks_write x) e = written_left moment under x.file_id.persistent x
-  acted_left m moment dialect under (asks_lock x) e = locks_left under x.file_id.persistent (lock_asks x.locks) (asks_unlock (lock_asks x.locks))
-  acted_left m moment dialect under (asks_cancel x) e = same
-  acted_left m moment dialect under (asks_echo x) e = same
-  acted_left m moment dialect under (asks_query_directory x) e =
-      let k = x.file_id.persistent in
+  named_held : (under : Under) (asked : RequestValue) (named : ContextOpen) → missing_refusal shared c under asked (Some named) ≡ None →
+      option_map_or (is_held_by (Tree under.session_id under.tree_id)) (open_of shared.store.opens (number_named (Some named))) false ≡ true
+  named_held under asked named e = open_held under named (grind (arith, e))
+
+  acted_left : (m : Meaning S) (moment : ℕ) (dialect : Option Dialect) (under : Under) (handed : Option ContextOpen) (asked : RequestValue) → missing_refusal shared c under asked (option_map (open_named handed) (file_id_of asked)) ≡ None →
+      Left (acted m c moment shared dialect under (number_named (option_map (open_named handed) (file_id_of asked))) asked).shared
+  acted_left m moment dialect under handed (asks_negotiate x) e = negotiated_left m moment dialect under x.dialects
+  acted_left m moment dialect under handed (asks_session_setup x) e = set_up_left m acts c a shared o under x
+  acted_left m moment dialect under handed (asks_logoff x) e = logged_off_left under
+  acted_left m moment dialect under handed (asks_tree_connect x) e = joined_left under x.path
+  acted_left m moment dialect under handed (asks_tree_disconnect x) e = disconnected_left under
+  acted_left m moment dialect under handed (asks_create x) e = created_left moment under x (acts_known under (asks_create x) None refl e)
+  acted_left m moment dialect under handed (asks_close x) e =
+      let named = open_named handed x.file_id in
+      let k = number_named (Some named) in
+      closed_left under k x.flags (closed_open_left under k (open_of shared.store.opens k) refl (named_held under (asks_close x) named e) (acts_known under (asks_close x) (Some named) refl e))
+  acted_left m moment dialect under handed (asks_flush x) e = same
+  acted_left m moment dialect under handed (asks_read x) e = read_left under (number_named (Some (open_named handed x.file_id))) x
+  acted_left m moment dialect under handed (asks_write x) e = written_left moment under (number_named (Some (open_named handed x.file_id))) x
+  acted_left m moment dialect under handed (asks_lock x) e = locks_left under (number_named (Some (open_named handed x.file_id))) (lock_asks x.locks) (asks_unlock (lock_asks x.locks))
+  acted_left m moment dialect under handed (asks_cancel x) e = same
+  acted_left m moment dialect under handed (asks_echo x) e = same
+  acted_left m moment dialect under handed (asks_query_directory x) e =
+      let named = open_named handed x.file_id in
+      let k = number_named (Some named) in
       listed_left Left shared same under k
-      (λ scan. scanned_left under k (open_of shared.store.opens k) refl (named_open under (asks_query_directory x) x.file_id refl e) (acts_known under (asks_query_directory x) refl e) scan) x
-  acted_left m moment dialect under (asks_query_info x) e = queried_left Left shared same under x.file_id.persistent x
-  acted_left m moment dialect under (asks_set_info x) e =
-      let k = x.file_id.persistent in
+      (λ scan. scanned_left under k (open_of shared.store.opens k) refl (named_held under (asks_query_directory x) named e) (acts_known under (asks_query_directory x) (Some named) refl e) scan) x
+  acted_left m moment dialect under handed (asks_query_info x) e = queried_left Left shared same under (number_named (Some (open_named handed x.file_id))) x
+  acted_left m moment dialect under handed (asks_set_info x) e =
+      let k = number_named (Some (open_named handed x.file_id)) in
       info_set_left Left shared same under k moment (λ ask. opens_kept (set_through shared.store k moment ask) (set_opens shared.store k moment ask) (set_next shared.store k moment ask)) x
 
-  body_at : (m : Meaning S) (moment : ℕ) (dialect : Option Dialect) (under : Under) (asked : RequestValue) (missing : Option Status) → missing_refusal shared c under asked ≡ missing →
-      Left (option_map_or (λ status. answered dialect (refused shared under status)) missing (acted m c moment shared dialect under asked)).shared
-  body_at m moment dialect under asked (Some status) e = same
-  body_at m moment dialect under asked None e = acted_left m moment dialect under asked e
+  body_at : (m : Meaning S) (moment : ℕ) (dialect : Option Dialect) (under : Under) (handed : Option ContextOpen) (asked : RequestValue) (missing : Option Status) →
+      missing_refusal shared c under asked (option_map (open_named handed) (file_id_of asked)) ≡ missing →
+      Left (option_map_or (λ status. answered dialect (refused shared under status)) missing (acted m c moment shared dialect under (number_named (option_map (open_named handed) (file_id_of asked))) asked)).shared
+  body_at m moment dialect under handed asked (Some status) e = same
+  body_at m moment dialect under handed asked None e = acted_left m moment dialect under handed asked e
 
-  body_left : (m : Meaning S) (moment : ℕ) (dialect : Option Dialect) (under : Under) (asked : Option RequestValue) → Left (by_body m c moment shared dialect under asked).shared
+  body_left : (m : Meaning S) (moment : ℕ) (dialect : Option Dialect) (under : Under) (handed : Option ContextOpen) (asked : Option RequestValue) → Left (by_body m c moment shared dialect under handed asked).shared
   unfolding by_body
-  body_left m moment dialect under None = same
-  body_left m moment dialect under (Some asked) = body_at m moment dialect under asked (missing_refusal shared c under asked) refl
+  body_left m moment dialect under handed None = same
+  body_left m moment dialect under handed (Some asked) = body_at m moment dialect under handed asked (missing_refusal shared c under asked (option_map (open_named handed) (file_id_of asked))) refl
 
-  handled_left : (m : Meaning S) (moment : ℕ) (dialect : Option Dialect) (under : Under) (handling : Handling) (asked : Option RequestValue) → Left (by_handling m c moment shared dialect under handling asked).shared
-  handled_left m moment dialect under Handled asked = body_left m moment dialect under asked
-  handled_left m moment dialect under Unsupported asked = same
-  handled_left m moment dialect under Passed asked = same
+  handled_left : (m : Meaning S) (moment : ℕ) (dialect : Option Dialect) (under : Under) (handed : Option ContextOpen) (handling : Handling) (asked : Option RequestValue) → Left (by_handling m c moment shared dialect under handed handling asked).shared
+  handled_left m moment dialect under handed Handled asked = body_left m moment dialect under handed asked
+  handled_left m moment dialect under handed Unsupported asked = same
+  handled_left m moment dialect under handed Passed asked = same
 
-  command_left : (m : Meaning S) (moment : ℕ) (dialect : Option Dialect) (under : Under) (request : List ℕ) (command : Option Command) → Left (by_command m c moment shared dialect under request command).shared
-  command_left m moment dialect under request None = same
-  command_left m moment dialect under request (Some command) = handled_left m moment dialect under (command_row command).handling (request_of (code_of command) request)
+  command_left : (m : Meaning S) (moment : ℕ) (dialect : Option Dialect) (under : Under) (handed : Option ContextOpen) (command : Option Command) (asked : Option RequestValue) → Left (by_command m c moment shared dialect under handed command asked).shared
+  command_left m moment dialect under handed None asked = same
+  command_left m moment dialect under handed (Some command) asked = handled_left m moment dialect under handed (command_row command).handling asked
 
   pub request_left : (m : Meaning S) (moment : ℕ) (dialect : Option Dialect) (context : Context) (request : List ℕ) → Left (performed m c moment shared dialect context request).shared
   unfolding performed
-  request_left m moment dialect context request = command_left m moment dialect (acts_under context request) request (known_command (header_of request).command.0)
+  request_left m moment dialect context request =
+      let command = known_command (header_of request).command.0 in
+      command_left m moment dialect (acts_under context request) (handed_to context request) command (body_of command request)
 
 -- all connections but one
 same_connection : (c : ℕ) → (c == c) ≡ true

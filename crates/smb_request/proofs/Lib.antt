@@ -11,3 +11,4 @@ pub mod SetUp
 pub mod InfoApart
 pub mod Listings
 pub mod Apart
+pub mod Handed

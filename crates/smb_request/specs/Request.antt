@@ -1,6 +1,6 @@
 -- One request: the order of checks, and each command ([MS-SMB2] 3.3.5.2).
-use Rattle.std.specs.Prelude.{ℕ, false, ◌&&◌, not, List, Option, Some, None, if◌then◌else◌}
-use Rattle.std.specs.Option.{option_map_or}
+use Rattle.std.specs.Prelude.{ℕ, ◌&&◌, not, List, Option, Some, None, if◌then◌else◌}
+use Rattle.std.specs.Option.{option_map, option_map_or, option_and_then}
 use Rattle.smb_head.specs.Headers.{header_of}
 use Rattle.smb_head.specs.Chains.{is_related}
 use Rattle.smb_wire.specs.Commands.{code_of, known_command}
@@ -18,6 +18,10 @@ use Rattle.smb_request.specs.declared.status.Status.{Status}
 use Rattle.smb_request.specs.declared.status.Status.TheVariants.{InvalidParameter, NotSupported, NetworkNameDeleted, FileClosed, UserSessionDeleted}
 use Rattle.smb_request.specs.declared.context.Under.{Under}
 use Rattle.smb_request.specs.declared.context.Context.{Context}
+use Rattle.smb_request.specs.declared.context.ContextOpen.{ContextOpen}
+use Rattle.smb_request.specs.declared.context.ContextOpen.TheVariants.{Nothing, Named, Refused}
+use Rattle.smb_access.specs.declared.open_row.OpenRow.{OpenRow}
+use Rattle.smb_request.specs.Context.{open_named, number_named, handed_on}
 use Rattle.smb_request.specs.Negotiate.{negotiate_answer}
 use Rattle.smb_request.specs.State.{SharedState, hello_of}
 use Rattle.smb_request.specs.Response.{RequestStep, Performed, with_context, success, answered, refused}
@@ -37,13 +41,24 @@ acts_under context request =
     if is_related request then context.under
     else record { session_id = (header_of request).session_id; tree_id = (header_of request).tree_id }
 
--- what a request acts under has to stand: a finished session of this connection, then a tree of that session, then an
--- open of that tree
-abbrev pub missing_refusal : {S : Type 0} → SharedState S → ℕ → Under → RequestValue → Option Status
-missing_refusal shared connection under asked =
+-- the open that is handed to a request: to one that is not related none is (3.3.5.2.7.2)
+abbrev pub handed_to : Context → List ℕ → Option ContextOpen
+handed_to context request = if is_related request then Some context.last_open else None
+
+-- why a request is refused that names this open: none was handed to it, the CREATE that was to make it was refused
+-- (3.3.5.2.7.2), or it is no open of this session and tree (3.3.5.10)
+abbrev pub open_refusal : List OpenRow → Under → ContextOpen → Option Status
+open_refusal opens under Nothing = Some InvalidParameter
+open_refusal opens under (Refused status) = Some status
+open_refusal opens under (Named id) = if names_open opens under id then None else Some FileClosed
+
+-- what a request acts under has to stand: a finished session of this connection, then a tree of that session, then the
+-- open of that tree that it names, if it names one
+abbrev pub missing_refusal : {S : Type 0} → SharedState S → ℕ → Under → RequestValue → Option ContextOpen → Option Status
+missing_refusal shared connection under asked named =
     if needs_session (needs_of asked) && not (knows_session shared.sessions.table connection under.session_id) then Some UserSessionDeleted else
     if needs_tree (needs_of asked) && not (knows_tree shared.sessions.table under.session_id under.tree_id) then Some NetworkNameDeleted else
-    if option_map_or (λ id. not (names_open shared.store.opens under id)) (file_id_of asked) false then Some FileClosed else None
+    option_and_then (open_refusal shared.store.opens under) named
 
 -- NEGOTIATE (3.3.5.4), by the dialects that its body lists: the greatest of the share's stands from now on; none is
 -- NOT_SUPPORTED
@@ -61,50 +76,60 @@ module _ {S : Type 0} (authenticator : Meaning S) (connection moment : ℕ) (sha
   abbrev pub acted_not : RequestStep S
   acted_not = answered dialect (refused shared under NotSupported)
 
-  -- a request whose body is read and whose session, tree and open exist
-  abbrev pub acted : RequestValue → RequestStep S
-  acted (asks_negotiate asked) = negotiated authenticator moment shared dialect under asked.dialects
-  acted (asks_session_setup asked) = answered dialect (session_set_up authenticator connection shared under asked)
-  acted (asks_logoff asked) = answered dialect (session_logged_off connection shared under)
-  acted (asks_tree_connect asked) = answered dialect (tree_joined connection shared under asked.path)
-  acted (asks_tree_disconnect asked) = answered dialect (tree_left connection shared under)
-  acted (asks_create asked) = answered dialect (file_created moment shared under asked)
-  acted (asks_close asked) = answered dialect (file_closed shared under asked.file_id.persistent asked.flags)
-  acted (asks_flush asked) = answered dialect (file_flushed shared under)
-  acted (asks_read asked) = answered dialect (file_read shared under asked.file_id.persistent asked)
-  acted (asks_write asked) = answered dialect (file_written moment shared under asked.file_id.persistent asked)
-  acted (asks_lock asked) = answered dialect (locks_changed shared under asked.file_id.persistent (lock_asks asked.locks))
-  acted (asks_echo asked) = answered dialect (record { shared = shared; response = success under answers_echo })
-  acted (asks_cancel asked) = acted_not
-  acted (asks_query_directory asked) = answered dialect (directory_queried shared under asked.file_id.persistent asked)
-  acted (asks_query_info asked) = answered dialect (information_queried shared under asked.file_id.persistent asked)
-  acted (asks_set_info asked) = answered dialect (information_set moment shared under asked.file_id.persistent asked)
+  -- a request whose body is read and whose session, tree and open exist, by the number of the open
+  abbrev pub acted : ℕ → RequestValue → RequestStep S
+  acted open_number (asks_negotiate asked) = negotiated authenticator moment shared dialect under asked.dialects
+  acted open_number (asks_session_setup asked) = answered dialect (session_set_up authenticator connection shared under asked)
+  acted open_number (asks_logoff asked) = answered dialect (session_logged_off connection shared under)
+  acted open_number (asks_tree_connect asked) = answered dialect (tree_joined connection shared under asked.path)
+  acted open_number (asks_tree_disconnect asked) = answered dialect (tree_left connection shared under)
+  acted open_number (asks_create asked) = answered dialect (file_created moment shared under asked)
+  acted open_number (asks_close asked) = answered dialect (file_closed shared under open_number asked.flags)
+  acted open_number (asks_flush asked) = answered dialect (file_flushed shared under)
+  acted open_number (asks_read asked) = answered dialect (file_read shared under open_number asked)
+  acted open_number (asks_write asked) = answered dialect (file_written moment shared under open_number asked)
+  acted open_number (asks_lock asked) = answered dialect (locks_changed shared under open_number (lock_asks asked.locks))
+  acted open_number (asks_echo asked) = answered dialect (record { shared = shared; response = success under answers_echo })
+  acted open_number (asks_cancel asked) = acted_not
+  acted open_number (asks_query_directory asked) = answered dialect (directory_queried shared under open_number asked)
+  acted open_number (asks_query_info asked) = answered dialect (information_queried shared under open_number asked)
+  acted open_number (asks_set_info asked) = answered dialect (information_set moment shared under open_number asked)
 
-  -- a request by what its body says: an unreadable body is refused first, then what doesn't stand
-  unfoldable pub by_body : Option RequestValue → RequestStep S
-  by_body None = answered dialect (refused shared under InvalidParameter)
-  by_body (Some asked) = option_map_or
+  -- a request whose body is read, by the open that it names: first it is refused where what it needs doesn't stand
+  abbrev pub by_open : RequestValue → Option ContextOpen → RequestStep S
+  by_open asked named = option_map_or
       (λ status. answered dialect (refused shared under status))
-      (missing_refusal shared connection under asked)
-      (acted asked)
+      (missing_refusal shared connection under asked named)
+      (acted (number_named named) asked)
+
+  -- a request by what its body says and by the open that is handed to it: an unreadable body is refused
+  unfoldable pub by_body : Option ContextOpen → Option RequestValue → RequestStep S
+  by_body handed None = answered dialect (refused shared under InvalidParameter)
+  by_body handed (Some asked) = by_open asked (option_map (open_named handed) (file_id_of asked))
 
   -- what becomes of it by its command's row: one that is passed over has no answer
-  abbrev pub by_handling : Handling → Option RequestValue → RequestStep S
-  by_handling Handled asked = by_body asked
-  by_handling Unsupported asked = answered dialect (refused shared under NotSupported)
-  by_handling Passed asked = record { shared = shared; dialect = dialect; response = None }
+  abbrev pub by_handling : Option ContextOpen → Handling → Option RequestValue → RequestStep S
+  by_handling handed Handled asked = by_body handed asked
+  by_handling handed Unsupported asked = answered dialect (refused shared under NotSupported)
+  by_handling handed Passed asked = record { shared = shared; dialect = dialect; response = None }
 
   -- a request of a known command, or of none
-  abbrev pub by_command : List ℕ → Option Command → RequestStep S
-  by_command request None = answered dialect (refused shared under InvalidParameter)
-  by_command request (Some command) = by_handling (command_row command).handling (request_of (code_of command) request)
+  abbrev pub by_command : Option ContextOpen → Option Command → Option RequestValue → RequestStep S
+  by_command handed None asked = answered dialect (refused shared under InvalidParameter)
+  by_command handed (Some command) asked = by_handling handed (command_row command).handling asked
 
--- one request that acts under this
-abbrev pub performed_under : {S : Type 0} → Meaning S → ℕ → ℕ → SharedState S → Option Dialect → Under → List ℕ → Performed S
-performed_under authenticator connection moment shared dialect under request =
-    with_context under (by_command authenticator connection moment shared dialect under request (known_command (header_of request).command.0))
+-- what the body of a request of a command says; None where it says nothing, or the command is not known
+abbrev pub body_of : Option Command → List ℕ → Option RequestValue
+body_of command request = option_and_then (λ known. request_of (code_of known) request) command
+
+-- one request that acts under this, by the open that is handed to it, its command and what its body says
+abbrev pub performed_under : {S : Type 0} → Meaning S → ℕ → ℕ → SharedState S → Option Dialect → Under → Option ContextOpen → Option Command → Option RequestValue → Performed S
+performed_under authenticator connection moment shared dialect under handed command asked =
+    with_context under (handed_on handed shared.store.next command (option_and_then file_id_of asked))
+    (by_command authenticator connection moment shared dialect under handed command asked)
 
 -- what one request on a connection leaves, and what answers it
 unfoldable pub performed : {S : Type 0} → Meaning S → ℕ → ℕ → SharedState S → Option Dialect → Context → List ℕ → Performed S
 performed authenticator connection moment shared dialect context request =
-    performed_under authenticator connection moment shared dialect (acts_under context request) request
+    let command = known_command (header_of request).command.0 in
+    performed_under authenticator connection moment shared dialect (acts_under context request) (handed_to context request) command (body_of command request)

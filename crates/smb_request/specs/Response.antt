@@ -8,6 +8,7 @@ use Rattle.smb_request.specs.declared.status.Status.TheVariants.{Success}
 use Rattle.smb_request.specs.declared.context.Under.{Under}
 use Rattle.smb_request.specs.declared.context.ResponseIds.{ResponseIds}
 use Rattle.smb_request.specs.declared.context.Context.{Context}
+use Rattle.smb_request.specs.declared.context.ContextOpen.{ContextOpen}
 use Rattle.smb_request.specs.Context.{ids_of, context_after}
 use Rattle.smb_request.specs.State.{SharedState}
 
@@ -35,12 +36,12 @@ pub record Performed (S : Type 0) : Type 0 where
   pub context : Context
   pub response : Option ResponseState
 
--- with the context that a request hands on which acted under this
-abbrev pub with_context : {S : Type 0} → Under → RequestStep S → Performed S
-with_context under step = record {
+-- with the context that a request hands on which acted under this, by the open that it hands on
+abbrev pub with_context : {S : Type 0} → Under → (Option Status → ContextOpen) → RequestStep S → Performed S
+with_context under hands step = record {
   shared = step.shared;
   dialect = step.dialect;
-  context = context_after under (option_map (λ response. response.ids) step.response);
+  context = context_after under (option_map (λ response. response.ids) step.response) (hands (option_map (λ response. response.status) step.response));
   response = step.response;
 }
 

@@ -33,7 +33,7 @@ pub mod smb1;
 mod status;
 
 pub use config::Config;
-pub use context::{Context, ResponseIds, Under};
+pub use context::{Context, ContextOpen, ResponseIds, Under};
 pub use laws::laws_of_connections;
 pub use response::{Answered, Unanswered};
 pub use shared::Shared;

@@ -35,13 +35,17 @@ pub(crate) struct DirectoryQuery<'a> {
 }
 
 impl<'a> DirectoryQuery<'a> {
-    /// What a request asks that acts under this.
-    pub(crate) fn of(under: Under, request: &QueryDirectoryRequest<'a>) -> DirectoryQuery<'a>
-        ensures { result ≡ record { under = under; open_number = request.now.file_id.persistent; request = request.now } }
+    /// What a request asks that acts under this, of the open of a number.
+    pub(crate) fn of(
+        under: Under,
+        open_number: u64,
+        request: &QueryDirectoryRequest<'a>,
+    ) -> DirectoryQuery<'a>
+        ensures { result ≡ record { under = under; open_number = open_number; request = request.now } }
     {
         DirectoryQuery {
             under,
-            open_number: request.file_id.persistent,
+            open_number,
             request: *request,
         }
     }

@@ -1,21 +1,24 @@
 //! One request: the order of checks, and each command ([MS-SMB2] 3.3.5.2).
 
-ghost use Rattle.std.specs.Prelude.{ℕ, List, Option, ◌≡◌, ◌≤◌, ◌+◌, Some, None, IfOk, IfErr, IfSome, IfNone, OnOk, OnErr, length, take, if◌then◌else◌};
-ghost use Rattle.std.specs.Option.{option_map};
+ghost use Rattle.std.specs.Prelude.{ℕ, List, Option, ◌≡◌, ◌≤◌, ◌+◌, true, IfOk, IfErr, IfSome, IfNone, IsSome, is_some, OnOk, OnErr, length, take, if◌then◌else◌};
+ghost use Rattle.std.specs.Option.{option_map, option_and_then};
+ghost use Rattle.smb_head.specs.Chains.{is_related};
 ghost use Rattle.smb_head.specs.Headers.{header_of};
-ghost use Rattle.smb_wire.specs.Commands.{code_of};
 ghost use Rattle.smb_body.specs.Dialects.{dialects_of};
-ghost use Rattle.smb_body.specs.Requests.{request_of, request_value};
+ghost use Rattle.smb_body.specs.Requests.{request_value, file_id_of};
 ghost use Rattle.smb_session.specs.Negotiate.{best_of};
 ghost use Rattle.smb_request.specs.Response.{answered};
-ghost use Rattle.smb_request.specs.Request.{acts_under, missing_refusal, negotiated, acted, by_body, by_command, performed};
+ghost use Rattle.smb_request.specs.Context.{open_named};
+ghost use Rattle.smb_request.specs.Request.{acts_under, handed_to, open_refusal, missing_refusal, negotiated, acted, by_open, by_body, by_command, body_of, performed};
 ghost use Rattle.smb_request.specs.Held.{is_performed};
 ghost use Rattle.smb_request.specs.InPlace.{answer_held, answer_behind, performed_behind};
 ghost use Rattle.smb_request.specs.Outcome.{told_response, acted_command, acted_step, unanswered_of, IsStill, CanBeSpelled, CanBeAnswered};
-ghost use Rattle.smb_request.specs.Commands.{needs_session, needs_tree};
+ghost use Rattle.smb_request.specs.Commands.{needs_of, needs_session, needs_tree};
+ghost use Rattle.smb_session.specs.Table.{knows_session, knows_tree};
+ghost use Rattle.smb_access.specs.Opens.{open_of};
 
 use super::command_row::{Handling, Needs, needs_of, row_of};
-use super::context::{Context, ResponseIds, Under};
+use super::context::{Context, ContextOpen, Under, handed_on, named_by, number_named};
 use super::outcome::{Acted, Success, Told};
 use super::query_directory::DirectoryQuery;
 use super::response::{Answered, Unanswered};
@@ -27,20 +30,58 @@ use smb_head::{Header, HeaderFlags};
 use smb_opens::Opens;
 use smb_session::Authenticator;
 use smb_tree::Tree;
-use smb_wire::{Command, Dialect};
+use smb_wire::{Command, Dialect, FileId};
 use std::alloc::AllocError;
+
+/// Whether a request is related to the one before it.
+fn is_related(header: &Header) -> bool
+    ensures { (request : List ℕ) → header.now ≡ header_of request → result ≡ is_related request }
+{
+    header.flags.contains(HeaderFlags::RELATED)
+}
 
 /// The session and the tree that a request acts under: its own, or for a related one the context's.
 fn acts_under(context: Context, header: &Header) -> Under
     ensures { (request : List ℕ) → header.now ≡ header_of request → result ≡ acts_under context request }
 {
-    if header.flags.contains(HeaderFlags::RELATED) {
+    if is_related(header) {
         context.under
     } else {
         Under {
             session_id: header.session_id,
             tree_id: header.tree_id,
         }
+    }
+}
+
+/// The open that is handed to a request; None where it is not related.
+fn handed_to(context: Context, header: &Header) -> Option<ContextOpen>
+    ensures { (request : List ℕ) → header.now ≡ header_of request → result ≡ handed_to context request }
+{
+    if is_related(header) {
+        Some(context.last_open)
+    } else {
+        None
+    }
+}
+
+/// What the body of a request of a command says.
+fn body_of(command: Option<Command>, request: &[u8]) -> Option<Request<'_>>
+    ensures { option_map request_value result ≡ body_of command request.now }
+{
+    match read_body(command?.code().0, request) {
+        Ok(asked) => Some(asked),
+        Err(_) => None,
+    }
+}
+
+/// The FileId that a request names, if its body says one.
+fn file_id_of(asked: &Option<Request<'_>>) -> Option<FileId>
+    ensures { result ≡ option_and_then file_id_of (option_map request_value asked.now) }
+{
+    match asked {
+        Some(asked) => asked.file_id(),
+        None => None,
     }
 }
 
@@ -65,14 +106,27 @@ fn needs_tree(needs: Needs) -> bool
 }
 
 impl<A: Authenticator + Drop, T: Tree + Drop, O: Opens + Drop> Shared<A, T, O> {
+    /// Why a request is refused that names this open.
+    fn open_refusal(&self, under: Under, named: ContextOpen) -> Option<Status>
+        ensures { result ≡ open_refusal self.now.store.opens under named }
+    {
+        match named {
+            ContextOpen::Nothing => Some(Status::InvalidParameter),
+            ContextOpen::Refused(status) => Some(status),
+            ContextOpen::Named(id) if self.names_open(under, id) => None,
+            ContextOpen::Named(_) => Some(Status::FileClosed),
+        }
+    }
+
     /// Why a request is refused whose session, tree or open does not stand.
     fn standing_refusal(
         &self,
         connection: u64,
         under: Under,
         request: &Request<'_>,
+        named: Option<ContextOpen>,
     ) -> Option<Status>
-        ensures { result ≡ missing_refusal self.now connection under (request_value request.now) }
+        ensures { result ≡ missing_refusal self.now connection under (request_value request.now) named }
     {
         let needs = needs_of(request);
         if needs_session(needs) && !self.sessions.knows(connection, under.session_id, None) {
@@ -85,10 +139,7 @@ impl<A: Authenticator + Drop, T: Tree + Drop, O: Opens + Drop> Shared<A, T, O> {
         {
             return Some(Status::NetworkNameDeleted);
         }
-        match request.file_id() {
-            Some(id) if !self.names_open(under, id) => Some(Status::FileClosed),
-            _ => None,
-        }
+        self.open_refusal(under, named?)
     }
 
     /// The greatest dialect of the share that a list has.
@@ -126,19 +177,22 @@ impl<A: Authenticator + Drop, T: Tree + Drop, O: Opens + Drop> Shared<A, T, O> {
         Told::succeeded(under, success)
     }
 
-    /// Performs a request whose body is read, and whose session, tree and open stand. After an error, for want of memory,
-    /// all is as it was.
+    /// Performs a request whose body is read, and whose session, tree and open stand, by the number of the open. After an
+    /// error, for want of memory, all is as it was.
     fn act<'a>(
         &mut self,
         connection: u64,
         moment: u64,
         dialect: &mut Option<Dialect>,
         under: Under,
+        open_number: u64,
         request: &Request<'a>,
     ) -> Result<Acted<'a>, AllocError>
-        requires { missing_refusal self.old connection under (request_value request.now) ≡ None }
+        requires session { needs_session (needs_of (request_value request.now)) ≡ true → knows_session self.old.sessions.table connection under.session_id ≡ true }
+        requires tree { needs_tree (needs_of (request_value request.now)) ≡ true → knows_tree self.old.sessions.table under.session_id under.tree_id ≡ true }
+        requires open { is_some (file_id_of (request_value request.now)) ≡ true → IsSome (open_of self.old.store.opens open_number) }
         ensures ok { IfOk result (λ it. answered dialect.new (acted_command A.meaning self.new it)
-            ≡ acted A.meaning connection moment self.old dialect.old under (request_value request.now)) }
+            ≡ acted A.meaning connection moment self.old dialect.old under open_number (request_value request.now)) }
         ensures answered { IfOk result (CanBeAnswered self.new) }
         ensures still { IfOk result (IsStill self.old self.new) }
         ensures err { OnErr result (self.new ≡ self.old) }
@@ -153,32 +207,59 @@ impl<A: Authenticator + Drop, T: Tree + Drop, O: Opens + Drop> Shared<A, T, O> {
             Request::TreeConnect(asked) => self.connect_tree(connection, under, asked.path)?,
             Request::TreeDisconnect(_) => self.disconnect_tree(connection, under)?,
             Request::Create(asked) => self.create_file(moment, under, asked)?,
-            Request::Close(asked) => {
-                self.close_file(under, asked.file_id.persistent, asked.flags)
-            }
+            Request::Close(asked) => { self.close_file(under, open_number, asked.flags) }
             Request::Flush(asked) => {
-                self.store.flush(asked.file_id.persistent);
+                self.store.flush(open_number);
                 Told::succeeded(under, Success::Flush)
             }
-            Request::Read(asked) => self.read_file(under, asked.file_id.persistent, asked),
-            Request::Write(asked) => {
-                self.write_file(moment, under, asked.file_id.persistent, asked)?
-            }
-            Request::Lock(asked) => self.change_locks(under, asked.file_id.persistent, asked)?,
+            Request::Read(asked) => self.read_file(under, open_number, asked),
+            Request::Write(asked) => { self.write_file(moment, under, open_number, asked)? }
+            Request::Lock(asked) => self.change_locks(under, open_number, asked)?,
             Request::Echo(_) => Told::succeeded(under, Success::Echo),
-            Request::QueryDirectory(asked) => return Ok(Acted::Lists(DirectoryQuery::of(
-                under, asked,
-            ))),
-            Request::QueryInfo(asked) => self.query_info(under, asked.file_id.persistent, asked)?,
-            Request::SetInfo(asked) => {
-                self.set_info(moment, under, asked.file_id.persistent, asked)?
+            Request::QueryDirectory(asked) => {
+                return Ok(Acted::Lists(DirectoryQuery::of(under, open_number, asked)));
             }
+            Request::QueryInfo(asked) => self.query_info(under, open_number, asked)?,
+            Request::SetInfo(asked) => { self.set_info(moment, under, open_number, asked)? }
             Request::Cancel(_) => Told::failed(under, Status::NotSupported),
         };
         Ok(Acted::Told(told))
     }
 
-    /// Performs a request of a command that is handled. After an error, for want of memory, all is as it was.
+    /// Performs a request whose body is read, by the open that it names. After an error, for want of memory, all is as it was.
+    fn by_open<'a>(
+        &mut self,
+        connection: u64,
+        moment: u64,
+        dialect: &mut Option<Dialect>,
+        under: Under,
+        request: &Request<'a>,
+        handed: Option<ContextOpen>,
+    ) -> Result<Acted<'a>, AllocError>
+        ensures ok { IfOk result (λ it. answered dialect.new (acted_command A.meaning self.new it)
+            ≡ by_open A.meaning connection moment self.old dialect.old under (request_value request.now) (option_map (open_named handed) (file_id_of (request_value request.now)))) }
+        ensures answered { IfOk result (CanBeAnswered self.new) }
+        ensures still { IfOk result (IsStill self.old self.new) }
+        ensures err { OnErr result (self.new ≡ self.old) }
+        ensures known { self.new.sessions.table.connections ≡ self.old.sessions.table.connections }
+    {
+        let _ = &self.sessions;
+        let named = named_by(handed, request.file_id());
+        match self.standing_refusal(connection, under, request, named) {
+            Some(status) => Ok(Acted::Told(Told::failed(under, status))),
+            None => self.act(
+                connection,
+                moment,
+                dialect,
+                under,
+                number_named(named),
+                request,
+            ),
+        }
+    }
+
+    /// Performs a request of a command that is handled, by what its body says. After an error, for want of memory, all is as
+    /// it was.
     #[tactic(auto, unfolding(crate::specs::Request::by_body))]
     fn by_body<'a>(
         &mut self,
@@ -186,24 +267,23 @@ impl<A: Authenticator + Drop, T: Tree + Drop, O: Opens + Drop> Shared<A, T, O> {
         moment: u64,
         dialect: &mut Option<Dialect>,
         under: Under,
-        command: Command,
-        request: &'a [u8],
+        handed: Option<ContextOpen>,
+        asked: &Option<Request<'a>>,
     ) -> Result<Acted<'a>, AllocError>
         ensures ok { IfOk result (λ it. answered dialect.new (acted_command A.meaning self.new it)
-            ≡ by_body A.meaning connection moment self.old dialect.old under (request_of (code_of command) request.now)) }
+            ≡ by_body A.meaning connection moment self.old dialect.old under handed (option_map request_value asked.now)) }
         ensures answered { IfOk result (CanBeAnswered self.new) }
         ensures still { IfOk result (IsStill self.old self.new) }
         ensures err { OnErr result (self.new ≡ self.old) }
         ensures known { self.new.sessions.table.connections ≡ self.old.sessions.table.connections }
     {
         let _ = &self.sessions;
-        let request = match read_body(command.code().0, request) {
-            Ok(request) => request,
-            Err(_) => return Ok(Acted::Told(Told::failed(under, Status::InvalidParameter))),
-        };
-        match self.standing_refusal(connection, under, &request) {
-            Some(status) => Ok(Acted::Told(Told::failed(under, status))),
-            None => self.act(connection, moment, dialect, under, &request),
+        match asked {
+            Some(request) => self.by_open(connection, moment, dialect, under, request, handed),
+            None => {
+                let told = Told::failed(under, Status::InvalidParameter);
+                Ok(Acted::Told(told))
+            }
         }
     }
 
@@ -215,11 +295,12 @@ impl<A: Authenticator + Drop, T: Tree + Drop, O: Opens + Drop> Shared<A, T, O> {
         moment: u64,
         dialect: &mut Option<Dialect>,
         under: Under,
+        handed: Option<ContextOpen>,
         command: Option<Command>,
-        request: &'a [u8],
+        asked: &Option<Request<'a>>,
     ) -> Result<Option<Acted<'a>>, AllocError>
         ensures ok { IfOk result (λ it. acted_step A.meaning self.new dialect.new it
-            ≡ by_command A.meaning connection moment self.old dialect.old under request.now command) }
+            ≡ by_command A.meaning connection moment self.old dialect.old under handed command (option_map request_value asked.now)) }
         ensures answered { IfOk result (λ it. IfSome it (CanBeAnswered self.new)) }
         ensures still { IfOk result (λ it. IfSome it (IsStill self.old self.new)) }
         ensures err { OnErr result (self.new ≡ self.old) }
@@ -232,7 +313,7 @@ impl<A: Authenticator + Drop, T: Tree + Drop, O: Opens + Drop> Shared<A, T, O> {
         };
         match row_of(command).handling {
             Handling::Handled => {
-                let acted = self.by_body(connection, moment, dialect, under, command, request)?;
+                let acted = self.by_body(connection, moment, dialect, under, handed, asked)?;
                 Ok(Some(acted))
             }
             Handling::Unsupported => {
@@ -240,16 +321,6 @@ impl<A: Authenticator + Drop, T: Tree + Drop, O: Opens + Drop> Shared<A, T, O> {
                 Ok(Some(Acted::Told(told)))
             }
             Handling::Passed => Ok(None),
-        }
-    }
-
-    /// The session and the tree that the response tells.
-    fn ids_of(&self, acted: &Acted<'_>) -> ResponseIds
-        ensures { result ≡ (acted_command A.meaning self.now acted.now).response.ids }
-    {
-        match acted {
-            Acted::Told(told) => told.ids,
-            Acted::Lists(query) => ResponseIds::of(query.under),
         }
     }
 
@@ -304,18 +375,22 @@ impl<A: Authenticator + Drop, T: Tree + Drop, O: Opens + Drop> Shared<A, T, O> {
         ensures known { self.new.sessions.table.connections ≡ self.old.sessions.table.connections }
     {
         let under = acts_under(*context, header);
+        let handed = handed_to(*context, header);
         let command = header.command.known();
-        let Ok(acted) = self.by_command(connection, moment, dialect, under, command, request) else {
+        let asked = body_of(command, request);
+        let id = file_id_of(&asked);
+        let next = self.store.next_number();
+        let Ok(acted) = self.by_command(connection, moment, dialect, under, handed, command, &asked)
+        else {
             return Err(Unanswered::NotPerformed);
         };
         let Some(acted) = acted else {
-            *context = Context::after(under, None);
+            *context = Context::after(under, None, handed_on(handed, next, command, id, None));
             return Ok(None);
         };
-        *context = Context::after(under, Some(self.ids_of(&acted)));
-        match self.answer(&acted, out) {
-            Ok(answered) => Ok(Some(answered)),
-            Err(unanswered) => Err(unanswered),
-        }
+        let answered = self.answer(&acted, out)?;
+        let last_open = handed_on(handed, next, command, id, Some(answered.status));
+        *context = Context::after(under, Some(answered.ids), last_open);
+        Ok(Some(answered))
     }
 }
