@@ -9,3 +9,12 @@ pub mod Run
 pub mod Laws
 pub mod Held
 pub mod InPlace
+pub mod Record
+pub mod Clock
+pub mod Peers
+pub mod MemoryPeers
+pub mod MemoryRecord
+pub mod Clients
+pub mod Serving
+pub mod Openings
+pub mod ServingLaws

@@ -1,6 +1,7 @@
 //! The laws of shares.
 
 ghost use Rattle.smb_engine.specs.Laws.{StatesAreInOrder, ACutDoesNotMatter, CutsDoNotMatter, RunsAreOne, UnreadIsEnough, OthersAreLeft, SessionsAreInOrder, SessionsOfOthersAreLeft, WhatIsOverStaysOver, AnEndIsTheLast};
+ghost use Rattle.smb_engine.specs.ServingLaws.{ServingIsARun};
 
 use smb_session::Authenticator;
 
@@ -20,4 +21,13 @@ pub fn laws_of_shares<A: Authenticator>()
     ensures sessions { SessionsOfOthersAreLeft A.meaning }
     ensures over { WhatIsOverStaysOver A.meaning }
     ensures last { AnEndIsTheLast A.meaning }
+{}
+
+/// What `serve` did in its turns is a run of events, if memory never ran out: each number of the peers has a connection in
+/// it, or was refused. At each point of the record all that came of a number, and nothing else, was brought to its connection,
+/// and what was taken for the number is the beginning of what the run put out to it. It is all of that but what is still owed,
+/// unless the peers ended the number, a send to it failed, or it was owed too much. This is so with any authenticator: the
+/// contract is the statement, and the body does nothing.
+pub fn laws_of_serving<A: Authenticator>()
+    ensures run { ServingIsARun A.meaning }
 {}

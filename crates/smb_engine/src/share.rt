@@ -137,6 +137,11 @@ impl<A: Authenticator + Drop, T: Tree + Drop, O: Opens + Drop> Share<A, T, O> {
         })
     }
 
+    /// The allocator of what the share makes.
+    pub(crate) fn allocator(&self) -> Global {
+        self.shared.allocator()
+    }
+
     /// Opens a connection, and gives its number: 1, 2, 3 and so on, none twice.
     ///
     /// [`ServeFault::TooManyConnections`] where 64 are open or the numbers are spent; after it, and after

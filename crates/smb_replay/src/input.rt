@@ -13,6 +13,7 @@ pub const INPUT_LIMIT: u64 = 67_108_864;
 pub enum CommandFault {
     ConfigUnread,
     ConfigRefused,
+    ListenFailed,
     InputFailed,
     InputTooLong,
     InputUnreadable,
@@ -28,6 +29,7 @@ impl fmt::Display for CommandFault {
         match self {
             CommandFault::ConfigUnread => write!(f, "config: cannot be read"),
             CommandFault::ConfigRefused => write!(f, "config: refused"),
+            CommandFault::ListenFailed => write!(f, "listen: failed"),
             CommandFault::InputFailed => write!(f, "input: failed"),
             CommandFault::InputTooLong => write!(f, "input too long"),
             CommandFault::InputUnreadable => write!(f, "input: unreadable"),

@@ -8,10 +8,10 @@ use smb_session::{Authenticator, Tokens};
 use smb_tree::PlainTree;
 use std::alloc::Global;
 
-type Plain = Share<Tokens, PlainTree, PlainOpens>;
+pub(crate) type Plain = Share<Tokens, PlainTree, PlainOpens>;
 
 /// A share of the built-in configuration.
-fn built_in(alloc: Global) -> Option<Plain> {
+pub(crate) fn built_in(alloc: Global) -> Option<Plain> {
     let configuration = Configuration::read(alloc, BUILT_IN).ok()?;
     new_share(alloc, configuration).ok()
 }

@@ -8,4 +8,8 @@ mod configs;
 #[cfg(test)]
 mod faults;
 #[cfg(test)]
+mod memory;
+#[cfg(test)]
 mod scripted;
+#[cfg(test)]
+mod served;

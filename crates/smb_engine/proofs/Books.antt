@@ -1,0 +1,222 @@
+-- The books of a share that is served: the run of events that serving comes to so far, and what it owes to each number.
+use Rattle.std.proofs.Common.{◌≡◌, ℕ, ◌<◌, ◌≤◌, eqb, Bool, true, false, ◌||◌, List, [], ◌∷◌, ◌++◌, length, Option, None, Some, refl, sym, ap, subst, ◌∙◌, append_assoc, arith}
+use Rattle.std.specs.List.{AllByRecursion, list_any}
+use Rattle.std.specs.Option.{option_map, option_map_or}
+use Rattle.std.specs.BTreeMap.{is_at}
+use Rattle.std.specs.Ordering.{nat_cmp}
+use Rattle.std.proofs.lemmas.List.{append-nil}
+use Rattle.std.proofs.lemmas.List.Concat.{flat_map-append}
+use Rattle.std.proofs.lemmas.List.Folds.{list_any-append}
+use Rattle.std.proofs.lemmas.Bool.{eqb-true}
+use Rattle.smb_session.specs.Authenticator.{Meaning}
+use Rattle.smb_engine.specs.State.{LinkState, ShareState}
+use Rattle.smb_engine.specs.Event.{EventText}
+use Rattle.smb_engine.specs.Share.{link_of, unread, unread_link}
+use Rattle.smb_engine.specs.Run.{run, run_behind}
+use Rattle.smb_engine.specs.Record.{PeerCall, next_opened, close, sent_by, taken_in, taken_by}
+use Rattle.smb_engine.specs.Clients.{ClientState}
+use Rattle.smb_engine.specs.Serving.{most_owed}
+use Rattle.smb_engine.specs.Laws.{LinksInOrder, moved, run_after}
+use Rattle.smb_engine.specs.ServingLaws.{sent_when_open, opens_in, is_opened, breaks_in, is_broken_off, brought_in, brought_to, ends_in, is_ended, bytes_for, put_out_to, moments_of, IsRefused}
+use Rattle.smb_engine.proofs.Links.{link_of-unread}
+use Rattle.smb_engine.proofs.Order.{others_left, run_in_order}
+use Rattle.smb_engine.proofs.Cuts.{run_goes_on, unread_is_enough}
+use Rattle.smb_engine.proofs.Runs.{unread-unread}
+use Rattle.smb_engine.proofs.Moments.{moments_more, moments_same, order_unread}
+use Rattle.smb_engine.proofs.Numbers.{found, Apart}
+use Rattle.smb_engine.proofs.Accounts.{heard_more, any_more, IsQuiet, AreElsewhere, brought_none, ended_none, put_none, Fate, fate_same}
+
+abbrev pub owed_of : Option ClientState → List ℕ
+owed_of o = option_map_or (λ client. client.owed) o []
+
+-- the clients have the connections of their numbers, and no two have the same number
+pub record AreListed (connections : ℕ → Option ℕ) (clients : List ClientState) : Type 0 where
+  pub known : AllByRecursion (λ client. connections client.number ≡ Some client.connection) clients
+  pub apart : Apart clients
+
+-- a connection that is closed, seen from what is unread
+closed_unread : (o : Option LinkState) → o ≡ None → option_map unread_link o ≡ None
+closed_unread o e = ap (option_map unread_link) e
+
+pub any_none : {X : Type 0} (test : X → Bool) (xs ys : List X) → list_any test ys ≡ false → list_any test (xs ++ ys) ≡ list_any test xs
+any_none test [] ys h = h
+any_none test (x ∷ xs) ys h = ap (λ b. test x || b) (any_none test xs ys h)
+
+pub more_none : (xs ys : List ℕ) → ys ≡ [] → xs ++ ys ≡ xs
+more_none xs ys h = ap (λ zs. xs ++ zs) h ∙ append-nil xs
+
+-- nothing is taken for a number without a connection, and if it was opened, it was refused
+abbrev pub IsOut : {S : Type 0} → Meaning S → ShareState S → ℕ → List PeerCall → List EventText → Type 0
+IsOut m s0 number calls events = (taken_by number calls ≡ []) × (is_opened number calls ≡ true → IsRefused m s0 number calls events)
+
+-- it stays so where nothing is taken for it and it is not opened
+pub refused_more : {S : Type 0} (m : Meaning S) (s0 : ShareState S) (number : ℕ) (calls cs : List PeerCall) (events evs : List EventText) → taken_by number cs ≡ [] → is_opened number cs ≡ false →
+    IsOut m s0 number calls events → IsOut m s0 number (calls ++ cs) (events ++ evs)
+refused_more m s0 number calls cs events evs taken opened r = (
+  flat_map-append (taken_in number) calls cs ∙ more_none _ _ taken ∙ r.0,
+  λ h.
+      let c = r.1 (sym (any_none (opens_in number) calls cs opened) ∙ h) in
+      record {
+        before = c.before;
+        after = c.after ++ cs;
+        closed = ap (λ t. t ++ cs) c.closed ∙ append_assoc c.before (next_opened number ∷ close number ∷ c.after) cs;
+        front = c.front;
+        back = c.back ++ evs;
+        point = ap (λ t. t ++ evs) c.point ∙ append_assoc c.front c.back evs;
+        refusal = c.refusal;
+      },
+)
+
+pub still_refused : {S : Type 0} (m : Meaning S) (s0 : ShareState S) (number : ℕ) (calls cs : List PeerCall) (events evs : List EventText) → IsQuiet number cs →
+    IsOut m s0 number calls events → IsOut m s0 number (calls ++ cs) (events ++ evs)
+still_refused m s0 number calls cs events evs q r = refused_more m s0 number calls cs events evs q.taken q.opened r
+
+module _ {S : Type 0} (m : Meaning S) (s0 : ShareState S) (moments0 : List ℕ) where
+  -- events behind others, from the share as it is held
+  pub record Extended (share : ShareState S) (events evs : List EventText) : Type 0 where
+    pub goes : (run m s0 (events ++ evs)).stop ≡ None
+    pub state : unread (run m share evs).state ≡ unread (run m s0 (events ++ evs)).state
+    pub outputs : (run m s0 (events ++ evs)).outputs ≡ (run m s0 events).outputs ++ (run m share evs).outputs
+    pub moments : moments_of m s0 (events ++ evs) ≡ moments_of m s0 events ++ moments_of m share evs
+
+  pub extend : (share : ShareState S) (events evs : List EventText) → (run m s0 events).stop ≡ None → share ≡ unread (run m s0 events).state → (run m share evs).stop ≡ None → Extended share events evs
+  extend share events evs g h r =
+      let before = run m s0 events in
+      let whole : run m s0 (events ++ evs) ≡ run_after (length events) before.outputs (run m before.state evs) = run_goes_on m s0 events evs g in
+      let same : run_behind [] (run m share evs) ≡ run_behind [] (run m before.state evs) =
+      ap (λ t. run_behind [] (run m t evs)) h ∙ unread_is_enough m before.state evs in
+      record {
+        goes = ap (λ d. d.stop) whole ∙ ap (option_map (moved (length events))) (sym (ap (λ d. d.stop) same) ∙ r);
+        state = ap (λ d. d.state) same ∙ ap (λ d. unread d.state) (sym whole);
+        outputs = ap (λ d. d.outputs) whole ∙ ap (λ t. before.outputs ++ t) (sym (ap (λ d. d.outputs) same));
+        moments = moments_more m s0 events evs g
+            ∙ ap (λ t. moments_of m s0 events ++ t) (moments_same m before.state share evs (sym (unread-unread before.state) ∙ ap unread (sym h)));
+      }
+
+  -- the account of a number that has a connection
+  pub record Account (share : ShareState S) (clients : List ClientState) (calls : List PeerCall) (events : List EventText) (number connection : ℕ) : Type 0 where
+    pub given : (0 < connection) × (connection < share.next)
+    pub opened : is_opened number calls ≡ true
+    pub brought : brought_to connection events ≡ sent_when_open number calls
+    pub fate : Fate most_owed (link_of connection share.links) (is_ended connection events) (is_broken_off number calls) (owed_of (found number clients)) (taken_by number calls)
+        (put_out_to connection (run m s0 events).outputs)
+    pub closed : found number clients ≡ None → link_of connection share.links ≡ None
+
+  -- a connection that was not given yet
+  pub record IsUnused (events : List EventText) (connection : ℕ) : Type 0 where
+    pub brought : brought_to connection events ≡ []
+    pub unended : is_ended connection events ≡ false
+    pub says : put_out_to connection (run m s0 events).outputs ≡ []
+
+  pub record Books (share : ShareState S) (clients : List ClientState) (calls : List PeerCall) (moments : List ℕ) (events : List EventText) (connections : ℕ → Option ℕ) : Type 0 where
+    pub goes : (run m s0 events).stop ≡ None
+    pub state : share ≡ unread (run m s0 events).state
+    pub told : moments ≡ moments0 ++ moments_of m s0 events
+    pub order : LinksInOrder share
+    pub from_one : 0 < share.next
+    pub listed : AreListed connections clients
+    pub distinct : (number other connection : ℕ) → connections number ≡ Some connection → connections other ≡ Some connection → number ≡ other
+    pub accounts : (number connection : ℕ) → connections number ≡ Some connection → Account share clients calls events number connection
+    pub others : (number : ℕ) → connections number ≡ None → IsOut m s0 number calls events
+    pub unused : (connection : ℕ) → share.next ≤ connection → IsUnused events connection
+
+  -- what calls and events change of the account of their own number
+  pub record Own (share share' : ShareState S) (clients clients' : List ClientState) (calls cs : List PeerCall) (events evs : List EventText) (number connection : ℕ) : Type 0 where
+    pub brought : brought_to connection evs ≡ sent_by number cs
+    pub fate : Fate most_owed (link_of connection share.links) (is_ended connection events) (is_broken_off number calls) (owed_of (found number clients)) (taken_by number calls)
+        (put_out_to connection (run m s0 events).outputs) →
+        Fate most_owed (link_of connection share'.links) (is_ended connection events || is_ended connection evs) (is_broken_off number calls || is_broken_off number cs) (owed_of (found number clients'))
+        (taken_by number calls ++ taken_by number cs) (put_out_to connection (run m s0 events).outputs ++ put_out_to connection (run m share evs).outputs)
+    pub closed : found number clients' ≡ None → link_of connection share'.links ≡ None
+
+  module _ (share share' : ShareState S) (clients clients' : List ClientState) (calls cs : List PeerCall) (events evs : List EventText) (x : Extended share events evs) (next : share.next ≤ share'.next)
+      (is : share' ≡ unread (run m share evs).state) where
+    -- the account of the number itself
+    own_account : (number connection : ℕ) → Own share share' clients clients' calls cs events evs number connection → Account share clients calls events number connection →
+        Account share' clients' (calls ++ cs) (events ++ evs) number connection
+    own_account number connection o a = record {
+      given = (a.given.0, omega (arith, a.given.1, next));
+      opened = any_more (opens_in number) calls cs a.opened;
+      brought = flat_map-append (brought_in connection) events evs ∙ ap (λ t. t ++ brought_to connection evs) a.brought ∙ ap (λ t. sent_when_open number calls ++ t) o.brought
+          ∙ sym (heard_more number calls cs a.opened);
+      fate = rw (
+        list_any-append (ends_in connection) events evs,
+        list_any-append (breaks_in number) calls cs,
+        flat_map-append (taken_in number) calls cs,
+        x.outputs,
+        flat_map-append (bytes_for connection) (run m s0 events).outputs (run m share evs).outputs,
+      ) (o.fate a.fate);
+      closed = o.closed;
+    }
+
+    -- that of another number
+    pub other_account : (number connection : ℕ) → AreElsewhere connection evs → IsQuiet number cs → found number clients' ≡ found number clients → Account share clients calls events number connection →
+        Account share' clients' (calls ++ cs) (events ++ evs) number connection
+    other_account number connection e q f a =
+        let left = others_left m share evs connection e in
+        let link : link_of connection share'.links ≡ option_map unread_link (link_of connection share.links) =
+        ap (λ t. link_of connection t.links) is ∙ link_of-unread (is_at (nat_cmp connection)) (run m share evs).state.links ∙ ap (option_map unread_link) left.0 in
+        let stays : link_of connection share.links ≡ None → link_of connection share'.links ≡ None = λ h. link ∙ closed_unread (link_of connection share.links) h in
+        record {
+          given = (a.given.0, omega (arith, a.given.1, next));
+          opened = any_more (opens_in number) calls cs a.opened;
+          brought = flat_map-append (brought_in connection) events evs ∙ more_none _ _ (brought_none connection evs e) ∙ a.brought
+              ∙ sym (heard_more number calls cs a.opened ∙ more_none _ _ q.sent);
+          fate = fate_same most_owed _ _ _ _ _ _ _ _ _ _ _ _ stays (any_none (ends_in connection) events evs (ended_none connection evs e)) (any_more (breaks_in number) calls cs) (ap owed_of f)
+              (flat_map-append (taken_in number) calls cs ∙ more_none _ _ q.taken)
+              (ap (put_out_to connection) x.outputs ∙ flat_map-append (bytes_for connection) (run m s0 events).outputs (run m share evs).outputs ∙ more_none _ _ (put_none connection (run m share evs).outputs left.1)) a.fate;
+          closed = λ h. stays (a.closed (sym f ∙ h));
+        }
+
+    pub still_unused : (connection : ℕ) → AreElsewhere connection evs → IsUnused events connection → IsUnused (events ++ evs) connection
+    still_unused connection e u =
+        let left = others_left m share evs connection e in
+        record {
+          brought = flat_map-append (brought_in connection) events evs ∙ more_none _ _ (brought_none connection evs e) ∙ u.brought;
+          unended = any_none (ends_in connection) events evs (ended_none connection evs e) ∙ u.unended;
+          says = ap (put_out_to connection) x.outputs ∙ flat_map-append (bytes_for connection) (run m s0 events).outputs (run m share evs).outputs
+              ∙ more_none _ _ (put_none connection (run m share evs).outputs left.1) ∙ u.says;
+        }
+
+  -- calls of one number, and events on its connection if it has one
+  module _ (share share' : ShareState S) (clients clients' : List ClientState) (calls cs : List PeerCall) (moments moments' : List ℕ) (events evs : List EventText) (connections : ℕ → Option ℕ)
+      (number : ℕ) (b : Books share clients calls moments events connections) (own : (c : ℕ) → connections number ≡ Some c → Own share share' clients clients' calls cs events evs number c)
+      (refused : connections number ≡ None → IsOut m s0 number calls events → IsOut m s0 number (calls ++ cs) (events ++ evs))
+      (elsewhere : (j c : ℕ) → connections j ≡ Some c → eqb number j ≡ false → AreElsewhere c evs) (quiet : (j : ℕ) → eqb number j ≡ false → IsQuiet j cs)
+      (same : (j : ℕ) → eqb number j ≡ false → found j clients' ≡ found j clients) where
+    account_at : Extended share events evs → share.next ≤ share'.next → share' ≡ unread (run m share evs).state → (j c : ℕ) (x : Bool) → eqb number j ≡ x → connections j ≡ Some c →
+        Account share' clients' (calls ++ cs) (events ++ evs) j c
+    account_at x next is j c true t e =
+        let j' : number ≡ j = eqb-true number j t in
+        let P : ℕ → Type 0 = λ k. Account share' clients' (calls ++ cs) (events ++ evs) k c in
+        let e' : connections number ≡ Some c = ap connections j' ∙ e in
+        subst P j' (own_account share share' clients clients' calls cs events evs x next is number c (own c e') (b.accounts number c e'))
+    account_at x next is j c false t e =
+        other_account share share' clients clients' calls cs events evs x next is j c (elsewhere j c e t) (quiet j t) (same j t) (b.accounts j c e)
+
+    refused_at : (j : ℕ) (x : Bool) → eqb number j ≡ x → connections j ≡ None → IsOut m s0 j (calls ++ cs) (events ++ evs)
+    refused_at j true t e =
+        let j' : number ≡ j = eqb-true number j t in
+        let P : ℕ → Type 0 = λ k. IsOut m s0 k (calls ++ cs) (events ++ evs) in
+        let e' : connections number ≡ None = ap connections j' ∙ e in
+        subst P j' (refused e' (b.others number e'))
+    refused_at j false t e = still_refused m s0 j calls cs events evs (quiet j t) (b.others j e)
+
+    pub move : (run m share evs).stop ≡ None → share' ≡ unread (run m share evs).state → share'.next ≡ share.next → moments' ≡ moments ++ moments_of m share evs →
+        ((c : ℕ) → share.next ≤ c → AreElsewhere c evs) → AreListed connections clients' → Books share' clients' (calls ++ cs) moments' (events ++ evs) connections
+    move goes is next told beyond listed =
+        let x = extend share events evs b.goes b.state goes in
+        let above : share.next ≤ share'.next = omega (arith, next) in
+        record {
+          goes = x.goes;
+          state = is ∙ x.state;
+          told = told ∙ ap (λ t. t ++ moments_of m share evs) b.told ∙ append_assoc moments0 (moments_of m s0 events) (moments_of m share evs)
+              ∙ ap (λ t. moments0 ++ t) (sym x.moments);
+          order = rw is (order_unread (run m share evs).state (run_in_order m share evs b.order));
+          from_one = rw next b.from_one;
+          listed = listed;
+          distinct = b.distinct;
+          accounts = λ j c e. account_at x above is j c (eqb number j) refl e;
+          others = λ j e. refused_at j (eqb number j) refl e;
+          unused = λ c h. let h' : share.next ≤ c = rw next at h in still_unused share share' clients clients' calls cs events evs x above is c (beyond c h') (b.unused c h');
+        }

@@ -1,0 +1,119 @@
+-- The books after one call, or one event.
+use Rattle.std.proofs.Common.{◌≡◌, ℕ, ◌<◌, ◌≤◌, eqb, Bool, true, false, ◌||◌, List, [], ◌∷◌, ◌++◌, Option, None, Some, refl, sym, ap, subst, ◌∙◌, arith}
+use Rattle.std.proofs.lemmas.List.{append-nil}
+use Rattle.std.proofs.lemmas.Bool.{lt-ltb, ne_eqb, eq-eqb, true≢false}
+use Rattle.smb_session.specs.Authenticator.{Meaning}
+use Rattle.smb_engine.specs.State.{ShareState}
+use Rattle.smb_engine.specs.Event.{EventText}
+use Rattle.smb_engine.specs.Share.{unread}
+use Rattle.smb_engine.specs.Run.{Ran, run, event_refusal, event_step, unknown_refusal}
+use Rattle.smb_engine.specs.Record.{PeerCall}
+use Rattle.smb_engine.specs.Clients.{ClientState}
+use Rattle.smb_engine.specs.Laws.{connection_of}
+use Rattle.smb_engine.specs.ServingLaws.{moments_of}
+use Rattle.smb_engine.proofs.Runs.{unread-unread}
+use Rattle.smb_engine.proofs.Numbers.{found, found_same, found_other, apart_more, apart_less, all_more, all_less}
+use Rattle.smb_engine.proofs.Accounts.{IsQuiet}
+use Rattle.smb_engine.proofs.Books.{IsOut, AreListed, Books, Own, move}
+
+pub or_none : (a b : Bool) → b ≡ false → (a || b) ≡ a
+or_none true b h = refl
+or_none false b h = h
+
+pub or_left : (a b : Bool) → a ≡ true → (a || b) ≡ true
+or_left true b h = refl
+or_left false b h = cc
+
+pub or_right : (a b : Bool) → b ≡ true → (a || b) ≡ true
+or_right true b h = refl
+or_right false b h = h
+
+pub some_same : (x y : ℕ) → Some x ≡ Some y → x ≡ y
+some_same x y h = cc
+
+pub some_none : {X : Type 0} (x : X) → Some x ≡ None → ⊥
+some_none x h = cc
+
+-- another client in the place of one
+module _ (connections : ℕ → Option ℕ) (front back : List ClientState) (client : ClientState) (l : AreListed connections (front ++ client ∷ back)) where
+  pub own_connection : connections client.number ≡ Some client.connection
+  own_connection = (all_less (λ x. connections x.number ≡ Some x.connection) client front back l.known).0
+
+  pub is_there : found client.number (front ++ client ∷ back) ≡ Some client
+  is_there = found_same client front back (apart_less client front back l.apart).1
+
+  pub is_out : found client.number (front ++ back) ≡ None
+  is_out = (apart_less client front back l.apart).1
+
+  pub listed_without : AreListed connections (front ++ back)
+  listed_without = record {
+    known = (all_less (λ x. connections x.number ≡ Some x.connection) client front back l.known).1;
+    apart = (apart_less client front back l.apart).0;
+  }
+
+  pub others_without : (j : ℕ) → eqb client.number j ≡ false → found j (front ++ back) ≡ found j (front ++ client ∷ back)
+  others_without j d = sym (found_other client j front back d)
+
+  module _ (client' : ClientState) (n : client'.number ≡ client.number) (c : client'.connection ≡ client.connection) where
+    pub listed_with : AreListed connections (front ++ client' ∷ back)
+    listed_with =
+        let known : connections client'.number ≡ Some client'.connection = ap connections n ∙ own_connection ∙ ap Some (sym c) in
+        record {
+          known = all_more (λ x. connections x.number ≡ Some x.connection) client' front back known listed_without.known;
+          apart = apart_more client' front back listed_without.apart (ap (λ k. found k (front ++ back)) n ∙ is_out);
+        }
+
+    pub others_with : (j : ℕ) → eqb client.number j ≡ false → found j (front ++ client' ∷ back) ≡ found j (front ++ client ∷ back)
+    others_with j d = found_other client' j front back (ap (λ k. eqb k j) n ∙ d) ∙ others_without j d
+
+    pub new_there : found client.number (front ++ client' ∷ back) ≡ Some client'
+    new_there = ap (λ k. found k (front ++ client' ∷ back)) (sym n) ∙ found_same client' front back (ap (λ k. found k (front ++ back)) n ∙ is_out)
+
+module _ {S : Type 0} (m : Meaning S) (s0 : ShareState S) (moments0 : List ℕ) where
+  -- a run of one event that is not refused
+  pub knows : (s : ShareState S) (c : ℕ) → (0 < c) × (c < s.next) → unknown_refusal s c ≡ None
+  knows s c p = rw (lt-ltb 0 c p.0, lt-ltb c s.next p.1) refl
+
+  abbrev pub one : ShareState S → EventText → Ran S
+  one s event = record { state = (event_step m s event).state; outputs = (event_step m s event).outputs ++ []; stop = None }
+
+  pub run_one : (s : ShareState S) (event : EventText) → event_refusal s event ≡ None → run m s (event ∷ []) ≡ one s event
+  run_one s event h = rw h refl
+
+  module _ (share : ShareState S) (clients : List ClientState) (calls : List PeerCall) (moments : List ℕ) (events : List EventText) (connections : ℕ → Option ℕ)
+      (b : Books m s0 moments0 share clients calls moments events connections) where
+    -- the share is held as what is unread
+    pub held : share ≡ unread share
+    held = b.state ∙ sym (unread-unread (run m s0 events).state) ∙ ap unread (sym b.state)
+
+    not_its : (k j c c' : ℕ) → connections k ≡ Some c → connections j ≡ Some c' → eqb k j ≡ false → eqb c c' ≡ false
+    not_its k j c c' e e' d = ne_eqb c c' (λ x. true≢false (sym (eq-eqb k j (b.distinct k j c' (e ∙ ap Some x) e')) ∙ d))
+
+    not_beyond : (c d : ℕ) → c < share.next → share.next ≤ d → eqb c d ≡ false
+    not_beyond c d p q = ne_eqb c d (λ x. omega (arith, p, q, x))
+
+    -- calls and no event
+    module _ (clients' : List ClientState) (cs : List PeerCall) (number : ℕ) (listed : AreListed connections clients') (same : (j : ℕ) → eqb number j ≡ false → found j clients' ≡ found j clients)
+        (quiet : (j : ℕ) → eqb number j ≡ false → IsQuiet j cs) where
+      pub calls_alone : ((c : ℕ) → connections number ≡ Some c → Own m s0 moments0 share share clients clients' calls cs events [] number c) →
+          (connections number ≡ None → IsOut m s0 number calls events → IsOut m s0 number (calls ++ cs) (events ++ [])) →
+          Books m s0 moments0 share clients' (calls ++ cs) moments (events ++ []) connections
+      calls_alone own refused =
+          move m s0 moments0 share share clients clients' calls cs moments moments events [] connections number b own refused (λ j c e d. tt) quiet same refl held refl (sym (append-nil moments)) (λ c p. tt) listed
+
+    -- calls and an event on the connection
+    module _ (share' : ShareState S) (clients' : List ClientState) (cs : List PeerCall) (moments' : List ℕ) (event : EventText) (number c : ℕ) (at : connections number ≡ Some c) (on : connection_of event ≡ c)
+        (listed : AreListed connections clients') (same : (j : ℕ) → eqb number j ≡ false → found j clients' ≡ found j clients) (quiet : (j : ℕ) → eqb number j ≡ false → IsQuiet j cs) where
+      pub one_event : event_refusal share event ≡ None → share' ≡ unread (event_step m share event).state → share'.next ≡ share.next → moments' ≡ moments ++ moments_of m share (event ∷ []) →
+          Own m s0 moments0 share share' clients clients' calls cs events (event ∷ []) number c → Books m s0 moments0 share' clients' (calls ++ cs) moments' (events ++ event ∷ []) connections
+      one_event unrefused is next told own =
+          let r = run_one share event unrefused in
+          let known = (b.accounts number c at).given in
+          move m s0 moments0 share share' clients clients' calls cs moments moments' events (event ∷ []) connections number b
+          (λ c' e. let c'' : c ≡ c' = some_same c c' (sym at ∙ e) in subst (λ (x : ℕ). Own m s0 moments0 share share' clients clients' calls cs events (event ∷ []) number x) c'' own)
+          (λ e. absurd (some_none c (sym at ∙ e)))
+          (λ j c' e d. (ap (λ x. eqb x c') on ∙ not_its number j c c' at e d, tt))
+          quiet same
+          (ap (λ t. t.stop) r) (is ∙ ap (λ t. unread t.state) (sym r)) next told
+          (λ c' p. (ap (λ x. eqb x c') on ∙ not_beyond c c' known.1 p, tt))
+          listed

@@ -1,0 +1,371 @@
+//! The peers of a TCP listener.
+
+ghost use Rattle.std.specs.Prelude.{◌≡◌, ◌<◌, ◌≤◌, ◌+◌, true, IfSome, IfNone, vec_len};
+ghost use Rattle.smb_engine.specs.Peers.{OpensOnce};
+ghost use Rattle.smb_tcp.specs.Numbers.{numbers_to};
+
+use super::connection::Connection;
+use super::piece::{PIECE_SIZE, Piece};
+use mio::net::{TcpListener, TcpStream};
+use mio::{Events, Interest, Poll, Token};
+use smb_engine::{PeerEvent, Peers, SendFault};
+use std::alloc::Global;
+use std::io::{ErrorKind, Write};
+use std::net::Net;
+use std::time::{Clock, Duration};
+use std::{io, net};
+
+/// How many streams are kept at most.
+pub const MOST_STREAMS: usize = 65;
+
+/// The listener's token. No connection gets this number.
+const LISTENER: Token = Token(usize::MAX);
+
+/// The streams of a listener: at most 65, numbered from 1 as they are accepted, and read in turn. All their room is made first.
+///
+/// No call waits for a peer. A stream of which a send took only a part is not read until one takes all. One that says nothing for as long as
+/// the idle limit has ended, as if by its peer.
+#[derive(Drop)]
+pub struct TcpPeers<'a, R: Net + Clock> {
+    system: &'a R,
+    poll: Poll,
+    events: Events,
+    listener: TcpListener,
+    // A connection may wait to be accepted.
+    acceptable: bool,
+    // An accept failed, as it does where no descriptor is left: the next one waits.
+    refused: bool,
+    // In the order of their numbers.
+    connections: Vec<Connection>,
+    opened: u64,
+    // The number of the stream that was looked at last.
+    turn: u64,
+    piece: Piece,
+    failures: u64,
+    wait: Duration,
+    // Since a start that is the system's own.
+    time: Duration,
+    idle_limit: Option<Duration>,
+    ghost few: { vec_len connections ≤ 65 },
+}
+
+impl<'a, R: Net + Clock> TcpPeers<'a, R> {
+    /// The peers of a listener. They never wait: where nothing is to do, `next` is `Idle` at once. There is no idle limit.
+    pub fn new(system: &'a R, alloc: Global, listener: net::TcpListener) -> io::Result<Self> {
+        TcpPeers::waiting(system, alloc, listener, Duration::ZERO)
+    }
+
+    /// The peers of a listener. Where nothing is to do, `next` waits for it, about so long at most.
+    pub fn waiting(
+        system: &'a R,
+        alloc: Global,
+        listener: net::TcpListener,
+        wait: Duration,
+    ) -> io::Result<Self> {
+        listener.set_nonblocking(true)?;
+        let mut listener = TcpListener::from_std(listener);
+        let poll = Poll::new(system)?;
+        poll.registry()
+            .register(&mut listener, LISTENER, Interest::READABLE)?;
+        let events = Events::with_capacity(alloc, MOST_STREAMS + 1)?;
+        let connections = Vec::with_capacity(alloc, MOST_STREAMS)?;
+        Ok(TcpPeers {
+            system,
+            poll,
+            events,
+            listener,
+            acceptable: true,
+            refused: false,
+            connections,
+            opened: 0,
+            turn: 0,
+            piece: Piece::new(alloc)?,
+            failures: 0,
+            wait,
+            time: system.monotonic()?,
+            idle_limit: None,
+        })
+    }
+
+    /// With a time after which a connection has ended that says nothing. It is looked at between two waits.
+    pub fn with_idle_limit(mut self, limit: Duration) -> Self {
+        self.idle_limit = Some(limit);
+        self
+    }
+
+    /// Whether a stream and a number are free.
+    fn has_room(&self) -> bool
+        ensures room { result ≡ true → self.now.opened < 0xffff_ffff_ffff_fffe }
+        ensures free { result ≡ true → vec_len self.now.connections < 65 }
+    {
+        self.connections.len() < MOST_STREAMS && self.opened < u64::MAX - 1
+    }
+
+    /// The place of the connection of a number.
+    fn place_of(&self, number: u64) -> Option<usize>
+        ensures { IfSome result (λ i. i < vec_len self.now.connections) }
+    {
+        self.connections
+            .iter()
+            .position(|connection| connection.number == number)
+    }
+
+    /// The first connection after the turn that may be read.
+    fn next_place(&self) -> Option<usize>
+        ensures { IfSome result (λ i. i < vec_len self.now.connections) }
+    {
+        self.connections.iter().position(|connection| connection.number > self.turn
+            && connection.may_be_read())
+    }
+
+    /// The place of the first connection that said nothing for as long as the limit.
+    fn silent_place(&self) -> Option<usize>
+        ensures { IfSome result (λ i. i < vec_len self.now.connections) }
+    {
+        let limit = self.idle_limit?;
+        self.connections
+            .iter()
+            .position(|connection| connection.is_silent(self.time, limit))
+    }
+
+    /// Ends a connection that said nothing for as long as the limit, as if its peer had.
+    fn end_silent(&mut self) -> Option<PeerEvent>
+        ensures opened { self.new.opened ≡ self.old.opened }
+        ensures once { IfSome result (λ event. OpensOnce event (numbers_to self.old.opened) (numbers_to self.old.opened)) }
+    {
+        let place = self.silent_place()?;
+        let connection = &mut self.connections[place];
+        connection.ended = true;
+        Some(PeerEvent::Ended(connection.number))
+    }
+
+    /// Whether something is left to do without a wait.
+    fn is_busy(&self) -> bool {
+        self.acceptable && self.has_room()
+            || self
+                .connections
+                .iter()
+                .any(|connection| connection.may_be_read())
+    }
+
+    /// Begins a round: asks the system what is ready, and waits where nothing was left to do.
+    fn look(&mut self)
+        ensures opened { self.new.opened ≡ self.old.opened }
+    {
+        let wait = if self.is_busy() {
+            Duration::ZERO
+        } else {
+            self.wait
+        };
+        self.turn = 0;
+        if self.poll.poll(&mut self.events, Some(wait)).is_err() {
+            self.failures = self.failures.saturating_add(1);
+        }
+        if let Ok(time) = self.system.monotonic() {
+            self.time = time;
+        }
+        if self.refused {
+            self.refused = false;
+            self.acceptable = true;
+        }
+        if mark_all(&mut self.connections, &self.events) {
+            self.acceptable = true;
+        }
+    }
+
+    /// Takes in one connection, where one waits and there is room.
+    fn accept(&mut self) -> Option<u64>
+        ensures none { IfNone result (self.new.opened ≡ self.old.opened) }
+        ensures some { IfSome result (λ number. (number ≡ self.old.opened + 1) × (self.new.opened ≡ self.old.opened + 1)) }
+    {
+        if !self.acceptable || !self.has_room() {
+            return None;
+        }
+        match self.listener.accept() {
+            Ok((stream, _)) => self.admit(stream),
+            Err(error) if error.kind() == ErrorKind::WouldBlock => {
+                self.acceptable = false;
+                None
+            }
+            Err(_) => {
+                self.failures = self.failures.saturating_add(1);
+                self.acceptable = false;
+                self.refused = true;
+                None
+            }
+        }
+    }
+
+    /// Gives a stream the next number.
+    fn admit(&mut self, mut stream: TcpStream) -> Option<u64>
+        requires number { self.old.opened < 0xffff_ffff_ffff_fffe }
+        requires free { vec_len self.old.connections < 65 }
+        ensures none { IfNone result (self.new.opened ≡ self.old.opened) }
+        ensures some { IfSome result (λ number. (number ≡ self.old.opened + 1) × (self.new.opened ≡ self.old.opened + 1)) }
+    {
+        let number = self.opened + 1;
+        if stream.set_nodelay(true).is_err() {
+            self.failures = self.failures.saturating_add(1);
+        }
+        let both = Interest::READABLE | Interest::WRITABLE;
+        let registry = self.poll.registry();
+        if registry
+            .register(&mut stream, Token(number as usize), both)
+            .is_err()
+        {
+            self.failures = self.failures.saturating_add(1);
+            return None;
+        }
+        if self
+            .connections
+            .push(Connection::new(number, stream, self.time))
+            .is_err()
+        {
+            self.failures = self.failures.saturating_add(1);
+            return None;
+        }
+        self.opened = number;
+        Some(number)
+    }
+
+    /// Reads from the connections in turn, up to the first that brings something.
+    fn read_on(&mut self) -> PeerEvent
+        ensures { OpensOnce result (numbers_to self.old.opened) (numbers_to self.new.opened) }
+    {
+        for _ in 0..MOST_STREAMS {
+            let Some(place) = self.next_place() else {
+                break;
+            };
+            if let Some(event) = self.read(place) {
+                return event;
+            }
+        }
+        PeerEvent::Idle
+    }
+
+    /// Reads from the connection at a place.
+    fn read(&mut self, place: usize) -> Option<PeerEvent>
+        requires { place < vec_len self.old.connections }
+        ensures opened { self.new.opened ≡ self.old.opened }
+        ensures once { IfSome result (λ event. OpensOnce event (numbers_to self.old.opened) (numbers_to self.old.opened)) }
+    {
+        let connection = &mut self.connections[place];
+        let number = connection.number;
+        self.turn = number;
+        match self.piece.read(&mut connection.stream) {
+            Ok(0) => {
+                connection.ended = true;
+                Some(PeerEvent::Ended(number))
+            }
+            Ok(count) => {
+                connection.heard = self.time;
+                if count < PIECE_SIZE && !connection.closing {
+                    connection.readable = false;
+                }
+                Some(PeerEvent::Bytes(number))
+            }
+            Err(error) if error.kind() == ErrorKind::WouldBlock => {
+                connection.readable = false;
+                None
+            }
+            Err(error) if error.kind() == ErrorKind::Interrupted => None,
+            Err(_) => {
+                connection.ended = true;
+                self.failures = self.failures.saturating_add(1);
+                Some(PeerEvent::Ended(number))
+            }
+        }
+    }
+}
+
+/// Notes what the system says of each connection, and tells whether one waits to be accepted.
+fn mark_all(connections: &mut [Connection], events: &Events) -> bool {
+    let mut waits = false;
+    for event in events {
+        if event.token() == LISTENER {
+            waits = true;
+        } else {
+            for connection in connections.iter_mut() {
+                if connection.number == event.token().0 as u64 {
+                    connection.mark(event);
+                }
+            }
+        }
+    }
+    waits
+}
+
+impl<R: Net + Clock> Peers for TcpPeers<'_, R> {
+    ghost use Rattle.std.specs.Prelude.{take, [], false};
+    ghost use Rattle.smb_tcp.specs.Numbers.{numbers_to};
+
+    ghost calls = { λ peers. [] };
+
+    ghost keeps = { λ peers. false };
+
+    ghost opened = { λ peers. numbers_to peers.opened };
+
+    ghost piece_of = { λ peers. take peers.piece.filled peers.piece.buffer.items };
+
+    ghost failed = { λ peers. peers.failures };
+
+    fn next(&mut self) -> PeerEvent {
+        self.piece.clear();
+        if self.failures == u64::MAX {
+            return PeerEvent::Idle;
+        }
+        if self.next_place().is_none() {
+            self.look();
+            if let Some(number) = self.accept() {
+                return PeerEvent::Opened(number);
+            }
+            if let Some(event) = self.end_silent() {
+                return event;
+            }
+        }
+        self.read_on()
+    }
+
+    fn piece(&self) -> &[u8] {
+        self.piece.bytes()
+    }
+
+    fn send(&mut self, number: u64, bytes: &[u8]) -> Result<usize, SendFault> {
+        let Some(place) = self.place_of(number) else {
+            return Ok(0);
+        };
+        if self.failures == u64::MAX {
+            return Ok(0);
+        }
+        let connection = &mut self.connections[place];
+        match connection.stream.write(bytes) {
+            Ok(count) => {
+                connection.blocked = count < bytes.len();
+                Ok(count)
+            }
+            Err(error) if error.kind() == ErrorKind::WouldBlock => {
+                connection.blocked = true;
+                Ok(0)
+            }
+            Err(error) if error.kind() == ErrorKind::Interrupted => Ok(0),
+            Err(_) => {
+                self.failures += 1;
+                Err(SendFault)
+            }
+        }
+    }
+
+    fn close(&mut self, number: u64) {
+        if let Some(place) = self.place_of(number) {
+            drop(self.connections.remove(place));
+        }
+        if self.refused {
+            self.refused = false;
+            self.acceptable = true;
+        }
+    }
+
+    fn failures(&self) -> u64 {
+        self.failures
+    }
+}

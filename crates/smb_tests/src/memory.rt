@@ -1,0 +1,149 @@
+//! A share that is served to peers over memory.
+
+ghost use Rattle.std.specs.Prelude.{IfSome, IsTrue};
+ghost use Rattle.smb_engine.specs.MemoryPeers.{are_distinct, opened_by};
+
+use super::calls::{Plain, built_in};
+use smb_engine::{ListClock, MemoryPeers, PeerStep, Peers, SendStep, serve};
+use smb_layer_tests::words::{MOMENT, NEGOTIATE, NEGOTIATED, frames};
+use std::alloc::Global;
+
+/// How many calls and bytes the peers have room for.
+const CALLS: usize = 1_000;
+
+const ROOM: usize = 10_000;
+
+/// Client 1 opens, sends its bytes, and says nothing more.
+fn one_client(alloc: Global) -> Option<Vec<PeerStep>>
+    ensures { IfSome result (λ script. IsTrue (are_distinct (opened_by script.items))) }
+{
+    let frame = frames(alloc, &[NEGOTIATE])?;
+    let mut script = Vec::new(alloc);
+    script.push(PeerStep::Opened(1)).ok()?;
+    script.push(PeerStep::Bytes(1, frame)).ok()?;
+    Some(script)
+}
+
+/// Client 1 does so, and then client 2.
+fn two_clients(alloc: Global) -> Option<Vec<PeerStep>>
+    ensures { IfSome result (λ script. IsTrue (are_distinct (opened_by script.items))) }
+{
+    let frame = frames(alloc, &[NEGOTIATE])?;
+    let other = frames(alloc, &[NEGOTIATE])?;
+    let mut script = Vec::new(alloc);
+    script.push(PeerStep::Opened(1)).ok()?;
+    script.push(PeerStep::Bytes(1, frame)).ok()?;
+    script.push(PeerStep::Opened(2)).ok()?;
+    script.push(PeerStep::Bytes(2, other)).ok()?;
+    Some(script)
+}
+
+/// Client 1 opens and sends a part of a frame, of which a read then fails; client 2 sends a whole one.
+fn one_fails(alloc: Global) -> Option<Vec<PeerStep>>
+    ensures { IfSome result (λ script. IsTrue (are_distinct (opened_by script.items))) }
+{
+    let part = Vec::from_slice(alloc, &[0, 0, 0]).ok()?;
+    let other = frames(alloc, &[NEGOTIATE])?;
+    let mut script = Vec::new(alloc);
+    script.push(PeerStep::Opened(1)).ok()?;
+    script.push(PeerStep::Bytes(1, part)).ok()?;
+    script.push(PeerStep::Fails(1)).ok()?;
+    script.push(PeerStep::Opened(2)).ok()?;
+    script.push(PeerStep::Bytes(2, other)).ok()?;
+    Some(script)
+}
+
+/// Peers of a script, with a step for each of so many sends.
+fn peers(alloc: Global, script: Vec<PeerStep>, step: SendStep, count: usize) -> Option<MemoryPeers>
+    requires { IsTrue (are_distinct (opened_by script.items)) }
+{
+    let sends = Vec::from_elem(alloc, step, count).ok()?;
+    MemoryPeers::new(alloc, script, sends, CALLS, ROOM).ok()
+}
+
+/// Serves a new share for so many turns at a moment, and gives how often memory ran out.
+fn served(alloc: Global, peers: &mut MemoryPeers, moment: u64, turns: u64) -> Option<u64> {
+    let mut clock = ListClock::new(alloc, &[moment]).ok()?;
+    match built_in(alloc) {
+        Some(mut share) => Some(serve(&mut share, peers, &mut clock, turns)),
+        None => None,
+    }
+}
+
+/// Whether just these bytes were taken for a number.
+fn took(peers: &MemoryPeers, number: u64, wanted: &[u8]) -> bool {
+    let mut all = peers.taken(number, wanted.len()).is_none();
+    for (i, byte) in wanted.iter().enumerate() {
+        all = all && peers.taken(number, i) == Some(*byte);
+    }
+    all
+}
+
+/// How many bytes of its answer client 1 has taken after so many turns, where it takes at first 100 of them; None where others
+/// came, or memory ran out.
+fn taken_after(alloc: Global, turns: u64, count: usize) -> Option<bool> {
+    let answer = frames(alloc, &[NEGOTIATED])?;
+    let mut peers = peers(alloc, one_client(alloc)?, SendStep::Takes(100), 1)?;
+    let ran_out = served(alloc, &mut peers, MOMENT, turns)?;
+    Some(ran_out == 0 && took(&peers, 1, answer.get(..count)?))
+}
+
+#[test]
+fn sends_what_was_not_taken(rt: HostRuntime) {
+    let first = taken_after(rt.alloc(), 2, 100);
+    let all = taken_after(rt.alloc(), 3, 132);
+    let later = taken_after(rt.alloc(), 30, 132);
+    assert!(rt; first == Some(true) && all == Some(true) && later == Some(true));
+}
+
+/// Whether an answer comes whole that is taken a byte at a time.
+fn comes_byte_by_byte(alloc: Global) -> Option<bool> {
+    let answer = frames(alloc, &[NEGOTIATED])?;
+    let mut peers = peers(alloc, one_client(alloc)?, SendStep::Takes(1), 200)?;
+    let ran_out = served(alloc, &mut peers, MOMENT, 140)?;
+    Some(ran_out == 0 && took(&peers, 1, &answer) && peers.closed(1) == 0)
+}
+
+#[test]
+fn sends_byte_by_byte(rt: HostRuntime) {
+    let is_so = comes_byte_by_byte(rt.alloc());
+    assert!(rt; is_so == Some(true));
+}
+
+/// Whether a client is closed once of which a send fails, with nothing taken, and the next one is served.
+fn ends_where_a_send_fails(alloc: Global) -> Option<bool> {
+    let answer = frames(alloc, &[NEGOTIATED])?;
+    let mut peers = peers(alloc, two_clients(alloc)?, SendStep::Fails, 1)?;
+    let ran_out = served(alloc, &mut peers, MOMENT, 10)?;
+    let ended = took(&peers, 1, &[]) && peers.closed(1) == 1 && peers.failures() == 1;
+    Some(ran_out == 0 && ended && took(&peers, 2, &answer) && peers.closed(2) == 0)
+}
+
+/// Whether a client is closed once of which a read fails, and the next one is served.
+fn ends_where_a_read_fails(alloc: Global) -> Option<bool> {
+    let answer = frames(alloc, &[NEGOTIATED])?;
+    let mut peers = peers(alloc, one_fails(alloc)?, SendStep::Takes(200), 1)?;
+    let ran_out = served(alloc, &mut peers, MOMENT, 10)?;
+    let ended = took(&peers, 1, &[]) && peers.closed(1) == 1 && peers.failures() == 1;
+    Some(ran_out == 0 && ended && took(&peers, 2, &answer) && peers.closed(2) == 0)
+}
+
+#[test]
+fn ends_a_client_that_fails_alone(rt: HostRuntime) {
+    let sends = ends_where_a_send_fails(rt.alloc());
+    let reads = ends_where_a_read_fails(rt.alloc());
+    assert!(rt; sends == Some(true) && reads == Some(true));
+}
+
+/// Whether an answer tells the clock's moment, also one before 1970.
+fn tells_an_early_moment(alloc: Global) -> Option<bool> {
+    let mut peers = peers(alloc, one_client(alloc)?, SendStep::Takes(200), 1)?;
+    let ran_out = served(alloc, &mut peers, 5, 10)?;
+    Some(ran_out == 0 && peers.taken(1, 108) == Some(5) && peers.taken(1, 109) == Some(0))
+}
+
+#[test]
+fn tells_what_the_clock_tells(rt: HostRuntime) {
+    let is_so = tells_an_early_moment(rt.alloc());
+    assert!(rt; is_so == Some(true));
+}

@@ -1,0 +1,285 @@
+#!/usr/bin/env python3
+"""Tests the proved program over TCP: what it prints, its statuses, and that it serves beside peers that misbehave.
+
+    python3 tools/serving.py [PROGRAM]
+
+The program is that which `rt ci` or `rt run` built, crates/smbshare/out/smbshare. Each test starts it anew on a free port of 127.0.0.1. The
+last line is 'serving: N passed, M failed'. No test waits for a time to pass but where the program itself is to wait; where
+an answer does not come at all, its test fails after 60 seconds.
+"""
+import os
+import resource
+import socket
+import struct
+import subprocess
+import sys
+
+TOP = os.path.dirname(os.path.dirname(os.path.abspath(__file__)))
+sys.path.insert(0, os.path.join(TOP, 'bench'))
+from frames import close, create, echoes, negotiate, read, session_setup, tree_connect, write
+
+ALL_ACCESS, OPEN_IF, LONGEST_PIECE = 0x1F01FF, 3, 65_536
+PATIENCE = 60
+STATUS_AT = 12
+
+
+class Served:
+    """The program, serving on a free port."""
+
+    def __init__(self, *words, descriptors=None):
+        def limited():
+            if descriptors:
+                resource.setrlimit(resource.RLIMIT_NOFILE, (descriptors, descriptors))
+
+        self.process = subprocess.Popen([PROGRAM, 'serve', '--listen', '127.0.0.1:0', *words], stdin=subprocess.DEVNULL,
+                                        stdout=subprocess.PIPE, stderr=subprocess.PIPE, preexec_fn=limited)
+        line = self.process.stderr.readline().decode()
+        if not line.startswith('listening on 127.0.0.1:'):
+            raise AssertionError(f'the first line is {line!r}')
+        self.port = int(line.rsplit(':', 1)[1])
+
+    def __enter__(self):
+        return self
+
+    def __exit__(self, *_):
+        self.process.kill()
+        self.process.communicate()
+
+    def client(self):
+        return Client(self.port)
+
+
+class Client:
+    """A client's stream."""
+
+    def __init__(self, port):
+        self.stream = socket.create_connection(('127.0.0.1', port), PATIENCE)
+
+    def send(self, data):
+        self.stream.sendall(data)
+        return self
+
+    def reply(self):
+        """The payload of the next frame; none where the stream has ended."""
+        head = self.bytes(4)
+        return self.bytes(struct.unpack('>I', head)[0]) if len(head) == 4 else b''
+
+    def bytes(self, count):
+        found = b''
+        while len(found) < count:
+            try:
+                part = self.stream.recv(count - len(found))
+            except ConnectionResetError:
+                part = b''
+            if not part:
+                break
+            found += part
+        return found
+
+    def asks(self, data):
+        """The status that answers a frame of one request."""
+        self.send(data)
+        reply = self.reply()
+        return struct.unpack_from('<I', reply, STATUS_AT - 4)[0] if len(reply) >= 64 else None
+
+    def negotiates(self):
+        return self.asks(negotiate()) == 0
+
+    def is_served(self):
+        """Whether it negotiates and gets an answer to an ECHO."""
+        return self.negotiates() and self.asks(echoes(1, 1)) == 0
+
+    def is_ended(self):
+        """Whether the share ends it, with nothing before."""
+        return self.bytes(1) == b''
+
+    def end(self):
+        self.stream.close()
+
+    def reset(self):
+        """Ends it so that the share's next read or send fails."""
+        self.stream.setsockopt(socket.SOL_SOCKET, socket.SO_LINGER, struct.pack('ii', 1, 0))
+        self.stream.close()
+
+
+def opens_a_file(client):
+    """Open 1 of a file, in session 1 and tree 1; the next MessageId is 4."""
+    return (client.negotiates() and client.asks(session_setup(1)) == 0 and client.asks(tree_connect(2, 1)) == 0
+            and client.asks(create(3, 'a', ALL_ACCESS, OPEN_IF, 0, 1, 1)) == 0)
+
+
+def a_client_is_served():
+    with Served() as share:
+        return share.client().is_served()
+
+
+def a_file_is_written_and_read():
+    with Served() as share:
+        client = share.client()
+        if not opens_a_file(client) or client.asks(write(4, 1, 0, b'text', 1, 1)) != 0:
+            return False
+        reply = client.send(read(5, 1, 0, 4, 1, 1)).reply()
+        return reply[-4:] == b'text' and client.asks(close(6, 1, 1, 1)) == 0
+
+
+def bytes_come_one_by_one():
+    with Served() as share:
+        client = share.client()
+        for byte in negotiate():
+            client.send(bytes([byte]))
+        return len(client.reply()) == 128
+
+
+def an_end_is_told():
+    """Bytes that are no frame end a connection; the answer before them comes whole."""
+    with Served() as share:
+        client = share.client().send(negotiate() + b'\x85')
+        return len(client.reply()) == 128 and client.is_ended() and share.client().is_served()
+
+
+def sixty_four_are_served():
+    """The next one is ended at once, until another has gone."""
+    with Served() as share:
+        clients = [share.client() for _ in range(64)]
+        if not all(client.negotiates() for client in clients) or not share.client().is_ended():
+            return False
+        clients[7].end()
+        while True:
+            client = share.client()
+            try:
+                if client.negotiates():
+                    break
+            except ConnectionError:
+                pass
+        return clients[63].asks(echoes(1, 1)) == 0
+
+
+def others_go_on_beside_ends():
+    """Peers that close or reset in each state: before a byte, in a header, after an answer, with an answer that they have not read."""
+    with Served() as share:
+        beside = share.client()
+        if not beside.negotiates():
+            return False
+        for begun in (b'', negotiate()[:3], negotiate()[:40], negotiate(), negotiate() + echoes(1, 1)[:10], b'\x85'):
+            share.client().send(begun).end()
+            share.client().send(begun).reset()
+            answered = share.client()
+            if not answered.negotiates():
+                return False
+            answered.reset()
+        silent = share.client()
+        return beside.asks(echoes(1, 1)) == 0 and share.client().is_served() and silent.negotiates()
+
+
+def one_that_never_reads_holds_up_nobody():
+    """It asks for 64 KiB over and over, until the share takes no more of it."""
+    with Served() as share:
+        greedy = share.client()
+        if not opens_a_file(greedy) or greedy.asks(write(4, 1, 0, bytes(LONGEST_PIECE), 1, 1)) != 0:
+            return False
+        greedy.stream.settimeout(2)
+        message_id = 5
+        try:
+            while message_id < 20_000:
+                greedy.send(read(message_id, 1, 0, LONGEST_PIECE, 1, 1))
+                message_id += 1
+        except (TimeoutError, ConnectionError):
+            pass
+        return share.client().is_served()
+
+
+def slow_reader_takes_every_byte(count=30):
+    """Replies that are far more than the system buffers are taken in small parts, and none is lost."""
+    with Served() as share:
+        client = share.client()
+        if not opens_a_file(client) or client.asks(write(4, 1, 0, b'x' * LONGEST_PIECE, 1, 1)) != 0:
+            return False
+        for i in range(count):
+            client.send(read(5 + i, 1, 0, LONGEST_PIECE, 1, 1))
+        return all(client.reply()[-LONGEST_PIECE:] == b'x' * LONGEST_PIECE for _ in range(count))
+
+
+def without_descriptors_it_goes_on():
+    """Where no descriptor is left, the connections that it has are served, and another one once one of these has gone."""
+    with Served(descriptors=12) as share:
+        clients = [share.client() for _ in range(20)]
+        served = [client for client in clients[:4] if client.is_served()]
+        if len(served) < 4:
+            return False
+        for client in clients[4:19]:
+            client.end()
+        served[0].end()
+        return served[3].asks(echoes(2, 1)) == 0 and clients[19].is_served()
+
+
+def silence_is_an_end():
+    """With a limit of three seconds: who is silent is ended; who is not, is not."""
+    with Served('--idle', '3') as share:
+        silent, speaking = share.client(), share.client()
+        if not speaking.negotiates():
+            return False
+        silent.stream.settimeout(0.2)
+        message_id = 1
+        while True:
+            try:
+                if silent.stream.recv(1) == b'':
+                    return speaking.asks(echoes(message_id, 1)) == 0
+            except TimeoutError:
+                if speaking.asks(echoes(message_id, 1)) != 0:
+                    return False
+                message_id += 1
+
+
+def ran(*words):
+    found = subprocess.run([PROGRAM, *words], stdin=subprocess.DEVNULL, capture_output=True, timeout=PATIENCE)
+    return found.returncode, found.stdout.decode(), found.stderr.decode()
+
+
+def so_many_turns_are_taken():
+    status, output, errors = ran('serve', '--listen', '127.0.0.1:0', '--turns', '2')
+    return (status, output) == (0, '') and errors.startswith('listening on 127.0.0.1:') and errors.count('\n') == 1
+
+
+def addresses_are_refused():
+    failed = (1, '', 'listen: failed\n')
+    with Served() as share:
+        addresses = (f'127.0.0.1:{share.port}', '192.0.2.1:0', 'localhost:4450', '127.0.0.1', '', '127.0.0.1:65536')
+        return all(ran('serve', '--turns', '1', '--listen', address) == failed for address in addresses)
+
+
+def configurations_are_looked_at_first():
+    taken = ran('serve', '--turns', '1', '--listen', '127.0.0.1:0', '--config', os.path.join(TOP, 'share.toml'))
+    return (taken[0] == 0 and ran('serve', '--listen', 'x', '--config', '/nowhere') == (1, '', 'config: cannot be read\n')
+            and ran('serve', '--listen', 'x', '--config', os.path.abspath(__file__)) == (1, '', 'config: refused\n'))
+
+
+def words_are_refused():
+    return all(ran('serve', *words)[0] == 2 for words in ((), ('--listen',), ('--listen', 'x', '--turns', '0'), ('--listen', 'x', '--idle', '-1')))
+
+
+TESTS = (a_client_is_served, a_file_is_written_and_read, bytes_come_one_by_one, an_end_is_told, sixty_four_are_served, others_go_on_beside_ends,
+         one_that_never_reads_holds_up_nobody, slow_reader_takes_every_byte, without_descriptors_it_goes_on, silence_is_an_end,
+         so_many_turns_are_taken, addresses_are_refused, configurations_are_looked_at_first, words_are_refused)
+
+
+def passes(test):
+    try:
+        if test():
+            print(f'serving {test.__name__} ... ok', flush=True)
+            return True
+        why = 'it is not so'
+    except Exception as error:
+        why = repr(error)
+    print(f'serving {test.__name__} ... FAILED: {why}', flush=True)
+    return False
+
+
+def main():
+    passed = sum(passes(test) for test in TESTS)
+    print(f'serving: {passed} passed, {len(TESTS) - passed} failed')
+    return 0 if passed == len(TESTS) else 1
+
+
+PROGRAM = os.path.abspath(sys.argv[1]) if len(sys.argv) > 1 else os.path.join(TOP, 'crates/smbshare/out/smbshare')
+if __name__ == '__main__':
+    sys.exit(main())
