@@ -11,6 +11,18 @@ def frame(payload):
     return struct.pack('>I', len(payload)) + payload
 
 
+def chain(frames):
+    """A frame of the requests of some frames, one behind the other, each at a multiple of 8 bytes."""
+    joined = b''
+    for i, one in enumerate(frames):
+        payload = one[4:]
+        if i + 1 < len(frames):
+            payload += bytes(-len(payload) % 8)
+            payload = payload[:20] + struct.pack('<I', len(payload)) + payload[24:]
+        joined += payload
+    return frame(joined)
+
+
 def negotiate(message_id=0):
     body = struct.pack('<HHHHI16sQH', 36, 1, 1, 0, 0, bytes(16), 0, 0x0210)
     return frame(header(0, message_id) + body)

@@ -13,6 +13,7 @@ import socket
 import struct
 import subprocess
 import sys
+import tempfile
 
 TOP = os.path.dirname(os.path.dirname(os.path.abspath(__file__)))
 sys.path.insert(0, os.path.join(TOP, 'bench'))
@@ -21,18 +22,20 @@ from frames import close, create, echoes, negotiate, read, session_setup, tree_c
 ALL_ACCESS, OPEN_IF, LONGEST_PIECE = 0x1F01FF, 3, 65_536
 PATIENCE = 60
 STATUS_AT = 12
+# Where a NEGOTIATE's reply has the moment, in units of 100 ns since 1601, and which one is that of 1970.
+MOMENT_AT, OF_1970 = 104, 116_444_736_000_000_000
 
 
 class Served:
     """The program, serving on a free port."""
 
-    def __init__(self, *words, descriptors=None):
+    def __init__(self, *words, descriptors=None, system=None):
         def limited():
             if descriptors:
                 resource.setrlimit(resource.RLIMIT_NOFILE, (descriptors, descriptors))
 
         self.process = subprocess.Popen([PROGRAM, 'serve', '--listen', '127.0.0.1:0', *words], stdin=subprocess.DEVNULL,
-                                        stdout=subprocess.PIPE, stderr=subprocess.PIPE, preexec_fn=limited)
+                                        stdout=subprocess.PIPE, stderr=subprocess.PIPE, preexec_fn=limited, env=system)
         line = self.process.stderr.readline().decode()
         if not line.startswith('listening on 127.0.0.1:'):
             raise AssertionError(f'the first line is {line!r}')
@@ -123,10 +126,15 @@ def a_file_is_written_and_read():
 
 
 def bytes_come_one_by_one():
+    """Another client is served behind each byte, so that the next comes in a turn of its own."""
     with Served() as share:
-        client = share.client()
-        for byte in negotiate():
+        client, beside = share.client(), share.client()
+        if not beside.negotiates():
+            return False
+        for i, byte in enumerate(negotiate()):
             client.send(bytes([byte]))
+            if beside.asks(echoes(1 + i, 1)) != 0:
+                return False
         return len(client.reply()) == 128
 
 
@@ -230,9 +238,27 @@ def silence_is_an_end():
                 message_id += 1
 
 
-def ran(*words):
-    found = subprocess.run([PROGRAM, *words], stdin=subprocess.DEVNULL, capture_output=True, timeout=PATIENCE)
+def ran(*words, system=None):
+    found = subprocess.run([PROGRAM, *words], stdin=subprocess.DEVNULL, capture_output=True, timeout=PATIENCE, env=system)
     return found.returncode, found.stdout.decode(), found.stderr.decode()
+
+
+def odd_system(folder, what):
+    """The environment in which the program meets a system that does this; the library goes into the folder."""
+    library = os.path.join(folder, 'odd.so')
+    subprocess.run(['cc', '-shared', '-fPIC', '-O2', '-o', library, os.path.join(TOP, 'tools/odd_system.c')], check=True)
+    return {**os.environ, 'LD_PRELOAD': library, 'ODD_SYSTEM': what}
+
+
+def a_clock_before_1970_is_1970():
+    with tempfile.TemporaryDirectory() as folder, Served(system=odd_system(folder, 'clock')) as share:
+        reply = share.client().send(negotiate()).reply()
+        return struct.unpack_from('<Q', reply, MOMENT_AT)[0] == OF_1970
+
+
+def a_port_that_is_not_allowed_is_refused():
+    with tempfile.TemporaryDirectory() as folder:
+        return ran('serve', '--turns', '1', '--listen', '127.0.0.1:0', system=odd_system(folder, 'port')) == (1, '', 'listen: failed\n')
 
 
 def so_many_turns_are_taken():
@@ -259,7 +285,8 @@ def words_are_refused():
 
 TESTS = (a_client_is_served, a_file_is_written_and_read, bytes_come_one_by_one, an_end_is_told, sixty_four_are_served, others_go_on_beside_ends,
          one_that_never_reads_holds_up_nobody, slow_reader_takes_every_byte, without_descriptors_it_goes_on, silence_is_an_end,
-         so_many_turns_are_taken, addresses_are_refused, configurations_are_looked_at_first, words_are_refused)
+         a_clock_before_1970_is_1970, a_port_that_is_not_allowed_is_refused, so_many_turns_are_taken, addresses_are_refused,
+         configurations_are_looked_at_first, words_are_refused)
 
 
 def passes(test):

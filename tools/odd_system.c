@@ -1,0 +1,34 @@
+/* A system that does what no test can ask of a real one, to a program that is linked dynamically.
+ *
+ *     cc -shared -fPIC -O2 -o odd.so tools/odd_system.c
+ *     ODD_SYSTEM=clock LD_PRELOAD=./odd.so PROGRAM
+ *
+ * With `clock` the system's clock is a second before 1970; with `port` no program may have a port. */
+#define _GNU_SOURCE
+#include <dlfcn.h>
+#include <errno.h>
+#include <stdlib.h>
+#include <string.h>
+#include <sys/socket.h>
+#include <time.h>
+
+static int is_odd(const char *what) {
+    const char *wanted = getenv("ODD_SYSTEM");
+    return wanted != NULL && strcmp(wanted, what) == 0;
+}
+
+int clock_gettime(clockid_t clock, struct timespec *moment) {
+    int (*next)(clockid_t, struct timespec *) = dlsym(RTLD_NEXT, "clock_gettime");
+    if (clock != CLOCK_REALTIME || !is_odd("clock"))
+        return next(clock, moment);
+    *moment = (struct timespec){.tv_sec = -1};
+    return 0;
+}
+
+int bind(int stream, const struct sockaddr *address, socklen_t length) {
+    int (*next)(int, const struct sockaddr *, socklen_t) = dlsym(RTLD_NEXT, "bind");
+    if (!is_odd("port"))
+        return next(stream, address, length);
+    errno = EACCES;
+    return -1;
+}
