@@ -1,0 +1,15 @@
+use Rattle.smb_handles.specs.Groups.{members}
+use Rattle.smb_handles.proofs.Noted.{undone_none, undone_entry, undone_session, on_err}
+use Rattle.smb_handles.proofs.groups.Groups.note_in_turn.Goals as goal
+
+pub returns-in_err-note-clause-err : goal.returns-in_err-note-clause-err
+returns-in_err-note-clause-err c =
+    on_err c.from_residual.result _ (undone_none (members c.args.self.now.sets) (members c.note.new.self.sets) c.args.row.now c.requires c.in_err-note.ensures.err)
+
+pub returns-in_err-note-2-clause-err : goal.returns-in_err-note-2-clause-err
+returns-in_err-note-2-clause-err c =
+    on_err c.from_residual-in_err-note-2.result _ (undone_entry (members c.args.self.now.sets) (members c.note.new.self.sets) (members c.note-2.new.self.sets) c.args.row.now c.requires (record { here = c.in_ok-note.ensures.here; others = c.in_ok-note.ensures.others }) c.in_err-note-2.ensures.err)
+
+pub returns-in_err-note-3-clause-err : goal.returns-in_err-note-3-clause-err
+returns-in_err-note-3-clause-err c =
+    on_err c.from_residual-in_err-note-3.result _ (undone_session (members c.args.self.now.sets) (members c.note.new.self.sets) (members c.note-2.new.self.sets) (members c.note-3.new.self.sets) c.args.row.now c.requires (record { here = c.in_ok-note.ensures.here; others = c.in_ok-note.ensures.others }) (record { here = c.in_ok-note-2.ensures.here; others = c.in_ok-note-2.ensures.others }) c.in_err-note-3.ensures.err)
