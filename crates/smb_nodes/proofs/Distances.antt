@@ -1,0 +1,104 @@
+-- How far a node lies beneath another one, by their paths.
+use Rattle.std.proofs.Common.{◌≡◌, ℕ, zero, suc, ◌+◌, ◌-◌, ◌==◌, nat_lt, Bool, true, false, ◌&&◌, if◌then◌else◌, List, [], ◌∷◌, ◌++◌, length, Option, None, Some, is_some, refl, sym, ap, ◌∙◌, arith, length-append, drop}
+use Rattle.std.proofs.lemmas.List.{length-drop}
+use Rattle.smb_tree.specs.Content.{Path, is_same_path}
+use Rattle.smb_tree.specs.Faults.{would_be_too_deep}
+use Rattle.smb_tree.specs.Moves.{is_within, replaced}
+use Rattle.smb_tree.proofs.Keys.{same_path-eq}
+use Rattle.smb_tree.proofs.Heads.{within_itself, length_within, replaced_drop}
+use Rattle.smb_nodes.specs.Nodes.{Heap, up_in, path_to, levels, row_in, rows_in, has_slot, Tied, Live, IsTree}
+use Rattle.smb_nodes.specs.Ways.{one_more, levels_below, is_deep_by, is_deep, SomeDeep}
+use Rattle.smb_nodes.proofs.Walks.{path_to-up}
+use Rattle.smb_nodes.proofs.Growing.{eqb-eq, eqb-neq}
+use Rattle.smb_nodes.proofs.Moving.{path_to-unique, is_within-push, same_slot}
+use Rattle.smb_nodes.proofs.Numbered.{path_of_live}
+
+not_in_root : (from : Path) → (from ≡ [] → ⊥) → is_within from [] ≡ false
+not_in_root [] h = absurd (h refl)
+not_in_root (c ∷ from) h = refl
+
+abbrev by_paths : Path → Path → Option ℕ
+by_paths from p = if is_within from p then Some (length p - length from) else None
+
+one_longer : (from front : Path) (c : List ℕ) (b : Bool) → is_within from front ≡ b → one_more (if b then Some (length front - length from) else None) ≡ (if b then Some (length (front ++ c ∷ []) - length from) else None)
+one_longer from front c false h = refl
+one_longer from front c true h =
+    let less = length_within from front h in
+    let long : length front - length from + 1 ≡ length (front ++ c ∷ []) - length from = omega (arith, less, length-append front (c ∷ [])) in
+    ap Some long
+
+module _ (g : Heap) (d m : ℕ) (from : Path) (t : Tied g d) (at : path_to g d m ≡ Some from) where
+  pub below_is : (k s : ℕ) (p : Path) → path_to g k s ≡ Some p → levels_below g k m s ≡ by_paths from p
+  below_is zero s p h = cc
+  below_is (suc k) s p h =
+      elim (s == m) as (λ b. s == m ≡ b → (if b then Some 0 else if s == 0 then None else one_more (levels_below g k m (up_in (g s)))) ≡ by_paths from p) [
+        | true ↦ λ z.
+            let here : path_to g (suc k) m ≡ Some p = ap (path_to g (suc k)) (sym (eqb-eq s m z)) ∙ h in
+            let same : p ≡ from = path_to-unique g (suc k) d m p from here at in
+            let inside : is_within from p ≡ true = ap (is_within from) same ∙ within_itself from in
+            let long = ap (λ (q : Path). length q) same in
+            let none : 0 ≡ length p - length from = omega (arith, long) in
+            rw inside (ap Some none)
+        | false ↦ λ z. elim (s == 0) as (λ b. s == 0 ≡ b → (if b then None else one_more (levels_below g k m (up_in (g s)))) ≡ by_paths from p) [
+          | true ↦ λ y.
+              let empty : p ≡ [] = grind (arith, y, h) in
+              let some : from ≡ [] → ⊥ = λ e. eqb-neq s m z (same_slot g d t (suc k) d s m p h (at ∙ ap Some (e ∙ sym empty))) in
+              let outside : is_within from p ≡ false = ap (is_within from) empty ∙ not_in_root from some in
+              rw outside refl
+          | false ↦ λ y.
+              let n = path_to-up g k s p y h in
+              let other : is_same_path from p ≡ false = elim (is_same_path from p) as (λ b. is_same_path from p ≡ b → b ≡ false) [
+                | true ↦ λ e. absurd (eqb-neq s m z (same_slot g d t (suc k) d s m p h (at ∙ ap Some (same_path-eq from p e))))
+                | false ↦ λ _. refl
+              ] refl in
+              let pushed : is_within from p ≡ is_within from n.front = ap (is_within from) n.path_is ∙ is_within-push from n.front n.name ∙ grind (arith, ap (is_same_path from) (sym n.path_is) ∙ other) in
+              ap one_more (below_is k (up_in (g s)) n.front n.front_is)
+              ∙ one_longer from n.front n.name (is_within from n.front) refl
+              ∙ (λ i. if sym pushed i then Some (length (sym n.path_is i) - length from) else None)
+        ] refl
+      ] refl
+
+-- whether a path would be too long
+deep_by : (from to p : Path) → is_deep_by (length to) (by_paths from p) ≡ (is_within from p && nat_lt 32 (length (replaced from to p)))
+deep_by from to p =
+    elim (is_within from p) as (λ b. is_within from p ≡ b → is_deep_by (length to) (if b then Some (length p - length from) else None) ≡ (b && nat_lt 32 (length (replaced from to p)))) [
+      | false ↦ λ h. refl
+      | true ↦ λ h.
+          let less = length_within from p h in
+          let rest = ap (λ (q : Path). length q) (replaced_drop from to p h) in
+          let long : length to + (length p - length from) ≡ length (replaced from to p) = omega (arith, rest, length-append to (drop (length from) p), length-drop (length from) p) in
+          ap (nat_lt 32) long
+    ] refl
+
+module _ (g : Heap) (es : List (ℕ × ℕ)) (next : ℕ) (t : IsTree g es next) (m : ℕ) (live : is_some (g m) ≡ true) where
+  pub row_deep : (to : Path) (s : ℕ) → is_some (g s) ≡ true → is_deep g m (length to) s ≡ (is_within (row_in g levels m).0 (row_in g levels s).0 && nat_lt 32 (length (replaced (row_in g levels m).0 to (row_in g levels s).0)))
+  row_deep to s there =
+      ap (is_deep_by (length to)) (below_is g levels m (row_in g levels m).0 t.tied (path_of_live g es next m t live) levels s (row_in g levels s).0 (path_of_live g es next s t there))
+      ∙ deep_by (row_in g levels m).0 to (row_in g levels s).0
+
+  some_row : (to : Path) (list : List (ℕ × ℕ)) (u : ℕ) → has_slot list u ≡ true → (is_within (row_in g levels m).0 (row_in g levels u).0 && nat_lt 32 (length (replaced (row_in g levels m).0 to (row_in g levels u).0))) ≡ true → would_be_too_deep (rows_in g levels list) (row_in g levels m).0 to ≡ true
+  some_row to [] u h k = cc
+  some_row to (e ∷ list) u h k =
+      elim (e.1 == u) as (λ b. e.1 == u ≡ b → would_be_too_deep (rows_in g levels (e ∷ list)) (row_in g levels m).0 to ≡ true) [
+        | true ↦ λ z. (let here : (is_within (row_in g levels m).0 (row_in g levels e.1).0 && nat_lt 32 (length (replaced (row_in g levels m).0 to (row_in g levels e.1).0))) ≡ true = ap (λ (r : ℕ). is_within (row_in g levels m).0 (row_in g levels r).0 && nat_lt 32 (length (replaced (row_in g levels m).0 to (row_in g levels r).0))) (eqb-eq e.1 u z) ∙ k in rw here refl)
+        | false ↦ λ z. (let rest = some_row to list u (grind (arith, h, z)) k in grind (arith, rest))
+      ] refl
+
+  no_row_deep : (to : Path) → ((s : ℕ) → is_some (g s) ≡ true → is_deep g m (length to) s ≡ false) → (list : List (ℕ × ℕ)) → Live g list → would_be_too_deep (rows_in g levels list) (row_in g levels m).0 to ≡ false
+  no_row_deep to none [] l = refl
+  no_row_deep to none (e ∷ list) l =
+      let here = sym (row_deep to e.1 l.0) ∙ none e.1 l.0 in
+      let rest = no_row_deep to none list l.1 in
+      rw here rest
+
+  pub too_deep : (to : Path) → SomeDeep g m (length to) → would_be_too_deep (rows_in g levels es) (row_in g levels m).0 to ≡ true
+  too_deep to w = some_row to es w.slot (t.complete w.slot w.live) (sym (row_deep to w.slot w.live) ∙ w.deep)
+
+  pub not_too_deep : (to : Path) → ((s : ℕ) → is_some (g s) ≡ true → is_deep g m (length to) s ≡ false) → would_be_too_deep (rows_in g levels es) (row_in g levels m).0 to ≡ false
+  not_too_deep to none = no_row_deep to none es t.live
+
+  -- whether another node lies within this one
+  pub within_is : (s : ℕ) → is_some (g s) ≡ true → is_some (levels_below g levels m s) ≡ is_within (row_in g levels m).0 (row_in g levels s).0
+  within_is s there =
+      ap is_some (below_is g levels m (row_in g levels m).0 t.tied (path_of_live g es next m t live) levels s (row_in g levels s).0 (path_of_live g es next s t there))
+      ∙ elim (is_within (row_in g levels m).0 (row_in g levels s).0) as (λ b. is_some (if b then Some (length (row_in g levels s).0 - length (row_in g levels m).0) else None) ≡ b) [ true ↦ refl | false ↦ refl ]

@@ -1,0 +1,111 @@
+//! Additions: one more node.
+
+ghost use Rattle.std.specs.Prelude.{◌≡◌, ◌-◌, ◌^◌, ◌||◌, ◌∷◌, ◌++◌, [], true, None, is_some, nat_le, OnOk, OnErr};
+ghost use Rattle.smb_wire.specs.Names.{folded};
+ghost use Rattle.smb_wire.specs.Paths.{folded_path};
+ghost use Rattle.smb_wire.specs.PathViews.{parts_of};
+ghost use Rattle.smb_tree.specs.Entries.{is_folder};
+ghost use Rattle.smb_tree.specs.Faults.{add_fault_by};
+ghost use Rattle.smb_nodes.specs.Changes.{Grown};
+ghost use Rattle.smb_nodes.specs.Nodes.{child_in, entry_down, Under};
+ghost use Rattle.smb_nodes.specs.Seen.{heap_of, entry_seen, SameHeap};
+
+use super::children::put_child;
+use super::look::{name_of, node_at};
+use super::node::Node;
+use super::paths::around;
+use slab::Slab;
+use smb_tree::{EntryNo, TreeFault};
+use smb_wire::PathView;
+use std::alloc::AllocError;
+use std::collections::BTreeMap;
+
+// The most entries besides the root.
+const MOST_ENTRIES: usize = 4096;
+
+// Whether a path leads to a folder.
+pub fn is_folder_at(nodes: &Slab<Node>, path: &PathView<'_>) -> bool
+    ensures { result ≡ is_folder (entry_down (heap_of nodes.now) (folded_path (parts_of path.now))) }
+{
+    match node_at(nodes, path) {
+        Some(node) => node.kind.is_folder(),
+        None => false,
+    }
+}
+
+// Whether a path leads to an entry.
+fn is_taken(nodes: &Slab<Node>, path: &PathView<'_>) -> bool
+    ensures { result ≡ is_some (entry_down (heap_of nodes.now) (folded_path (parts_of path.now))) }
+{
+    node_at(nodes, path).is_some()
+}
+
+// Whether no entry can be added to so many, the root among them, because of their number or the next one's.
+fn is_full(count: usize, next: EntryNo) -> bool
+    ensures { result ≡ (nat_le 4096 (count - 1) || nat_le (2 ^ 64 - 1) next) }
+{
+    count > MOST_ENTRIES || next == EntryNo::MAX
+}
+
+// The first fault of an entry that would be added.
+pub fn add_fault(
+    nodes: &Slab<Node>,
+    count: usize,
+    next: EntryNo,
+    path: &PathView<'_>,
+) -> Option<TreeFault>
+    ensures { result ≡ add_fault_by (entry_down (heap_of nodes.now)) count next (folded_path (parts_of path.now)) }
+{
+    if !is_folder_at(nodes, &around(path)) {
+        return Some(TreeFault::ParentAbsent);
+    }
+    if is_taken(nodes, path) {
+        return Some(TreeFault::Exists);
+    }
+    if is_full(count, next) {
+        return Some(TreeFault::Full);
+    }
+    None
+}
+
+// Puts a node beneath another, into the next slot. Without memory all stays.
+fn hang(nodes: &mut Slab<Node>, node: Node) -> Result<(), AllocError>
+    requires root { is_some (heap_of nodes.old 0) ≡ true }
+    requires leaf { node.children.entries ≡ [] }
+    requires above { is_some (heap_of nodes.old node.parent) ≡ true }
+    requires free { child_in (heap_of nodes.old node.parent) (folded (entry_seen node).spelling) ≡ None }
+    ensures ok { OnOk result (Grown (heap_of nodes.old) (heap_of nodes.new) node.parent nodes.old.vacant_key (folded (entry_seen node).spelling) (entry_seen node)) }
+    ensures err { OnErr result (SameHeap nodes.old nodes.new) }
+{
+    nodes.reserve(1)?;
+    let slot = nodes.vacant_key();
+    put_child(nodes, node.parent, name_of(&node), slot)?;
+    let _ = nodes.insert_reserved(node);
+    Ok(())
+}
+
+// Puts a node beneath another, and its slot into the index. Without memory all stays.
+pub fn place(
+    nodes: &mut Slab<Node>,
+    index: &mut BTreeMap<EntryNo, usize>,
+    node: Node,
+) -> Result<(), AllocError>
+    requires root { is_some (heap_of nodes.old 0) ≡ true }
+    requires leaf { node.children.entries ≡ [] }
+    requires above { is_some (heap_of nodes.old node.parent) ≡ true }
+    requires free { child_in (heap_of nodes.old node.parent) (folded (entry_seen node).spelling) ≡ None }
+    requires under { Under index.old.entries node.number }
+    ensures ok { OnOk result (Grown (heap_of nodes.old) (heap_of nodes.new) node.parent nodes.old.vacant_key (folded (entry_seen node).spelling) (entry_seen node)) }
+    ensures indexed { OnOk result (index.new.entries ≡ index.old.entries ++ (node.number, nodes.old.vacant_key) ∷ []) }
+    ensures err { OnErr result (SameHeap nodes.old nodes.new) }
+    ensures err_index { OnErr result (index.new.entries ≡ index.old.entries) }
+{
+    let number = node.number;
+    let slot = nodes.vacant_key();
+    index.insert(number, slot)?;
+    let hung = hang(nodes, node);
+    if hung.is_err() {
+        let _ = index.remove(&number);
+    }
+    hung
+}

@@ -1,0 +1,54 @@
+//! Changes of the entry of one node.
+
+ghost use Rattle.std.specs.Prelude.{◌≡◌, ◌+◌, ◌≤◌, true, is_some, OnOk, OnErr, length};
+ghost use Rattle.smb_tree.specs.Content.{resized, written};
+ghost use Rattle.smb_tree.specs.Entries.{kept_basic};
+ghost use Rattle.smb_nodes.specs.Changes.{Altered};
+ghost use Rattle.smb_nodes.specs.Seen.{heap_of, SameHeap};
+
+use super::bytes::{put_at, set_len};
+use super::node::Node;
+use slab::Slab;
+use smb_tree::Basic;
+use std::alloc::AllocError;
+
+// Gives an entry other times and attributes.
+pub fn rebase(nodes: &mut Slab<Node>, slot: usize, basic: Basic)
+    requires { is_some (heap_of nodes.old slot) ≡ true }
+    ensures { Altered (heap_of nodes.old) (heap_of nodes.new) slot (λ entry. record entry { basic = kept_basic basic }) }
+{
+    nodes[slot].basic = basic.kept();
+}
+
+// Marks an entry, or takes its mark away.
+pub fn put_mark(nodes: &mut Slab<Node>, slot: usize, mark: bool)
+    requires { is_some (heap_of nodes.old slot) ≡ true }
+    ensures { Altered (heap_of nodes.old) (heap_of nodes.new) slot (λ entry. record entry { mark = mark }) }
+{
+    nodes[slot].mark = mark;
+}
+
+// Gives a file another size.
+pub fn resize(nodes: &mut Slab<Node>, slot: usize, size: u64) -> Result<(), AllocError>
+    requires live { is_some (heap_of nodes.old slot) ≡ true }
+    requires small { size ≤ 16777216 }
+    ensures ok { OnOk result (Altered (heap_of nodes.old) (heap_of nodes.new) slot (λ entry. record entry { bytes = resized size entry.bytes })) }
+    ensures err { OnErr result (SameHeap nodes.old nodes.new) }
+{
+    set_len(&mut nodes[slot].bytes, size as usize)
+}
+
+// Puts bytes into a file.
+pub fn overwrite(
+    nodes: &mut Slab<Node>,
+    slot: usize,
+    offset: u64,
+    buffer: &[u8],
+) -> Result<(), AllocError>
+    requires live { is_some (heap_of nodes.old slot) ≡ true }
+    requires small { offset + length buffer.now ≤ 16777216 }
+    ensures ok { OnOk result (Altered (heap_of nodes.old) (heap_of nodes.new) slot (λ entry. record entry { bytes = written offset buffer.now entry.bytes })) }
+    ensures err { OnErr result (SameHeap nodes.old nodes.new) }
+{
+    put_at(&mut nodes[slot].bytes, offset as usize, buffer)
+}
