@@ -120,11 +120,16 @@ def opens_of_one_file(filler):
                + [lambda m, number=first + i + 1: close(m, number, 1, 1) for i in range(8)])
 
 
-def renames_of_a_folder(filler):
+def opened_folder(filler, files):
+    """Makes a folder of so many files, and gives the number of its open."""
     filler.made('d', DIRECTORY_FILE)
-    for i in range(MOST_ENTRIES - 10):
+    for i in range(files):
         filler.made(f'd\\{long_name(i)}')
-    number = filler.opened('d')
+    return filler.opened('d')
+
+
+def renames_of_a_folder(filler):
+    number = opened_folder(filler, MOST_ENTRIES - 10)
     while True:
         yield [lambda m, i=i: rename(m, number, long_name(i, 'd'), 1, 1) for i in range(16)]
 
@@ -132,20 +137,14 @@ def renames_of_a_folder(filler):
 def renames_deeper(filler):
     """A folder with many files comes to lie beneath others, and out again."""
     filled(filler, 20, 0)
-    filler.made('d', DIRECTORY_FILE)
-    for i in range(MOST_ENTRIES - 40):
-        filler.made(f'd\\{long_name(i)}')
-    number = filler.opened('d')
+    number = opened_folder(filler, MOST_ENTRIES - 40)
     places = [f'{nested(20)[i // 2]}\\d' if i % 2 == 0 else 'd' for i in range(16)]
     while True:
         yield [lambda m, place=place: rename(m, number, place, 1, 1) for place in places]
 
 
 def listings_by_stars(filler):
-    filler.made('d', DIRECTORY_FILE)
-    for i in range(MOST_ENTRIES - 10):
-        filler.made(f'd\\{long_name(i)}')
-    number = filler.opened('d')
+    number = opened_folder(filler, MOST_ENTRIES - 10)
     while True:
         yield [lambda m: query_directory(m, number, ID_BOTH_DIRECTORY, RESTART_SCANS, '*' * 254 + 'x', 65_536, 1, 1)] * 16
 
