@@ -7,6 +7,8 @@ import tempfile
 import time
 
 PROGRAM = os.path.join(os.path.dirname(__file__), '..', 'crates', 'smbshare', 'out', 'smbshare')
+# The words of the command line, where a replay is not what the program does without any.
+WORDS = []
 MOMENT = 116444736000000000
 
 
@@ -44,7 +46,7 @@ def replayed(write, arguments, counts, wanted):
     with tempfile.TemporaryDirectory() as folder:
         replay, answers = os.path.join(folder, 'replay'), os.path.join(folder, 'answers')
         written(write, replay, *arguments)
-        status, seconds, peak = timed([], replay, answers)
+        status, seconds, peak = timed(WORDS, replay, answers)
         with open(answers) as lines:
             found = sum(1 for line in lines if counts(line))
         if status != 0 or found != wanted:

@@ -6,6 +6,7 @@ pub mod Changes
 pub mod Removed
 pub mod Marks
 pub mod Seen
+pub mod Uses
 pub mod Mores
 pub mod Closing
 pub mod Overwrites

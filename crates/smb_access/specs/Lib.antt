@@ -8,6 +8,7 @@ pub mod Asked
 pub mod StatusRows
 pub mod Found
 pub mod Sharing
+pub mod Uses
 pub mod Looked
 pub mod Views
 pub mod Effect

@@ -5,6 +5,8 @@ use Rattle.smb_wire.specs.Access.{has_any, FILE_SHARE_READ, FILE_SHARE_WRITE, FI
 use Rattle.smb_wire.specs.declared.access.Access.{Access}
 use Rattle.smb_wire.specs.declared.access.ShareAccess.{ShareAccess}
 use Rattle.smb_access.specs.declared.open_row.OpenRow.{OpenRow}
+use Rattle.smb_access.specs.declared.use_kind.UseKind.{UseKind}
+use Rattle.smb_access.specs.declared.use_kind.UseKind.TheVariants.{Reads, Writes, Deletes, SharesNoRead, SharesNoWrite, SharesNoDelete}
 use Rattle.smb_access.specs.Access.{is_reading, is_writing, is_deleting}
 use Rattle.smb_access.specs.Opens.{open_of, is_on_entry}
 use Rattle.smb_wire.specs.Dispositions.{overwrites_by}
@@ -30,6 +32,23 @@ is_kept_out access share =
 abbrev pub is_conflict : Use → Use → Bool
 is_conflict one other =
     is_shared_access one.0 && is_shared_access other.0 && (is_kept_out one.0 other.1 || is_kept_out other.0 one.1)
+
+-- sharing speaks of the open's access, and the open does not share this
+abbrev pub shares_no : ℕ → OpenRow → Bool
+shares_no share row = is_shared_access row.access && not (has_any row.share.0 share)
+
+-- an open uses its entry so: it may, or it does not share
+abbrev pub uses : UseKind → OpenRow → Bool
+uses Reads row = is_reading row.access
+uses Writes row = is_writing row.access
+uses Deletes row = is_deleting row.access
+uses SharesNoRead row = shares_no FILE_SHARE_READ row
+uses SharesNoWrite row = shares_no FILE_SHARE_WRITE row
+uses SharesNoDelete row = shares_no FILE_SHARE_DELETE row
+
+-- some open of an entry uses it so
+abbrev pub has_use : List OpenRow → ℕ → UseKind → Bool
+has_use opens entry kind = list_any (λ row. is_on_entry entry row && uses kind row) opens
 
 -- an open's access and sharing
 abbrev pub use_of : OpenRow → Use

@@ -15,8 +15,8 @@
 //!   entry and makes the open (`specs/Effect.antt`).
 //! - CLOSE: [`close`] marks an entry, and removes one that is marked and has no open (`specs/Close.antt`).
 //!
-//! Calls take time as the tree and the opens say: [`sharing::conflicts`] goes through the opens of an entry once, and
-//! [`look::count_entries`] through all numbers of entries.
+//! Calls take time as the tree and the opens say: [`sharing::conflicts`] asks the opens at most six questions ([`Opens::has_use`]),
+//! and [`look::count_entries`] goes through all numbers of entries.
 #![tactic(auto)]
 
 pub mod access;
@@ -32,6 +32,7 @@ mod opens;
 mod plain;
 mod scan;
 pub mod sharing;
+mod use_kind;
 mod view;
 
 pub use ask::CreateAsk;
@@ -40,4 +41,5 @@ pub use open_row::{OpenNo, OpenRow, Owner};
 pub use opens::Opens;
 pub use plain::PlainOpens;
 pub use scan::{Scan, ScanLast};
+pub use use_kind::UseKind;
 pub use view::{Closed, Created, View};

@@ -2,9 +2,11 @@
 
 ghost use Rattle.std.specs.Prelude.{◌≡◌, ◌++◌, ◌∷◌, [], OnOk, OnErr, option_copied};
 ghost use Rattle.smb_access.specs.Opens.{open_of, without_open, with_scan, open_on_entry, open_on_entry_after, open_after, first_held_by, AreAllBelow};
+ghost use Rattle.smb_access.specs.Sharing.{has_use};
 
 use super::open_row::{OpenNo, OpenRow, Owner};
 use super::scan::Scan;
+use super::use_kind::UseKind;
 use smb_tree::EntryNo;
 use std::alloc::AllocError;
 
@@ -40,6 +42,10 @@ pub trait Opens {
     /// The least number of an entry's opens above a number, or None.
     fn on_entry_after(&self, entry: EntryNo, number: OpenNo) -> Option<OpenNo>
         ensures { result ≡ open_on_entry_after (content self.now) entry number };
+
+    /// Whether an open of an entry uses it so.
+    fn has_use(&self, entry: EntryNo, kind: UseKind) -> bool
+        ensures { result ≡ has_use (content self.now) entry kind };
 
     /// The least number of the opens, or of those above a number where one is given, or None.
     fn after(&self, number: Option<OpenNo>) -> Option<OpenNo>

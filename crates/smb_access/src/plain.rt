@@ -4,17 +4,19 @@ ghost use Rattle.std.specs.Prelude.{ℕ, ◌≡◌, ◌&&◌, nat_lt, [], Some, 
 ghost use Rattle.indexmap.specs.IndexMap.{values};
 ghost use Rattle.smb_access.specs.Opens.{is_on_entry, is_above, open_on_entry_after, open_after};
 ghost use Rattle.smb_access.specs.Plain.{AreKeyed};
+ghost use Rattle.smb_access.specs.Sharing.{uses};
 
 use super::open_row::{OpenNo, OpenRow, Owner};
 use super::opens::Opens;
 use super::scan::Scan;
+use super::use_kind::UseKind;
 use indexmap::IndexMap;
 use smb_tree::EntryNo;
 use smb_wire::FoldedName;
 use std::alloc::{AllocError, Global};
 use std::marker::Model;
 
-/// The opens under their numbers. A look-up by number takes constant time, one by entry or owner goes through
+/// The opens under their numbers. A look-up by number takes constant time, one by entry, owner or use goes through
 /// all of them; one for the next open of an entry goes on from the place of the last, so that to go through the k opens of an
 /// entry takes one pass over all opens and k look-ups.
 #[derive(Drop)]
@@ -61,6 +63,13 @@ fn row_on_entry(rows: &IndexMap<OpenNo, OpenRow>, entry: EntryNo, i: usize) -> O
         }
     }
     None
+}
+
+// Whether an open is one of an entry, and uses it so.
+fn is_use(row: &OpenRow, entry: EntryNo, kind: UseKind) -> bool
+    ensures { result ≡ (is_on_entry entry row.now && uses kind row.now) }
+{
+    row.entry == entry && kind.is_of(row)
 }
 
 // A place from which on all opens are that have a number above this one.
@@ -164,6 +173,10 @@ impl Opens for PlainOpens {
     fn on_entry_after(&self, entry: EntryNo, number: OpenNo) -> Option<OpenNo> {
         let begin = place_after(&self.rows, number);
         number_from(&self.rows, begin, entry, number)
+    }
+
+    fn has_use(&self, entry: EntryNo, kind: UseKind) -> bool {
+        self.rows.values().any(|row| is_use(row, entry, kind))
     }
 
     fn after(&self, number: Option<OpenNo>) -> Option<OpenNo> {

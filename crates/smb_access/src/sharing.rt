@@ -3,17 +3,16 @@
 ghost use Rattle.std.specs.Prelude.{◌≡◌};
 ghost use Rattle.smb_wire.specs.Dispositions.{disposition_code};
 ghost use Rattle.smb_access.specs.Asked.{asked, share_asked};
-ghost use Rattle.smb_access.specs.Sharing.{use_asked, is_shared_access, is_kept_out, is_conflict, use_of, has_conflict};
+ghost use Rattle.smb_access.specs.Sharing.{use_asked, is_shared_access, has_conflict};
+ghost use Rattle.smb_access.specs.Uses.{is_kept_out_by_some, keeps_out_some};
 ghost use Rattle.smb_access.specs.Looked.{target_conflicts};
-ghost use Rattle.smb_access.specs.Numbers.{AreRising};
-ghost use Rattle.smb_access.specs.Opens.{open_numbers};
 
 use super::access::{granted, is_deleting, is_reading, is_writing};
 use super::ask::CreateAsk;
 use super::checks::is_read_only_target;
 use super::found::Target;
-use super::open_row::OpenRow;
 use super::opens::Opens;
+use super::use_kind::UseKind;
 use bitflags::Flags;
 use smb_tree::EntryNo;
 use smb_wire::{Access, CreateDisposition, ShareAccess};
@@ -28,47 +27,40 @@ pub fn share_asked(ask: &CreateAsk<'_>) -> ShareAccess
     ShareAccess(ask.share.0 & SHARING)
 }
 
-// Whether an access is one that sharing speaks of.
-fn is_shared_access(access: Access) -> bool
+/// Whether an access is one that sharing speaks of: one that reads, writes or deletes.
+pub fn is_shared_access(access: Access) -> bool
     ensures { result ≡ is_shared_access access }
 {
     is_reading(access) || is_writing(access) || is_deleting(access)
 }
 
-// Whether an access has something that is not shared.
-fn is_kept_out(access: Access, share: ShareAccess) -> bool
-    ensures { result ≡ is_kept_out access share }
+// Whether an open of an entry does not share something that an access has.
+#[tactic(auto, using(crate::proofs::Uses::kept_out_is))]
+fn is_kept_out<O: Opens>(opens: &O, entry: EntryNo, access: Access) -> bool
+    ensures { result ≡ is_kept_out_by_some (O.content opens.now) entry access }
 {
-    (is_reading(access) && !share.intersects(ShareAccess::READ))
-        || (is_writing(access) && !share.intersects(ShareAccess::WRITE))
-        || (is_deleting(access) && !share.intersects(ShareAccess::DELETE))
+    (is_reading(access) && opens.has_use(entry, UseKind::SharesNoRead))
+        || (is_writing(access) && opens.has_use(entry, UseKind::SharesNoWrite))
+        || (is_deleting(access) && opens.has_use(entry, UseKind::SharesNoDelete))
 }
 
-// Whether an access and what it shares conflict with an open of the same entry.
-fn is_conflict(access: Access, share: ShareAccess, row: &OpenRow) -> bool
-    ensures { result ≡ is_conflict (access, share) (use_of row.now) }
+// Whether an open of an entry has an access that is not shared.
+#[tactic(auto, using(crate::proofs::Uses::keeps_out_is))]
+fn keeps_out<O: Opens>(opens: &O, entry: EntryNo, share: ShareAccess) -> bool
+    ensures { result ≡ keeps_out_some (O.content opens.now) entry share }
 {
-    is_shared_access(access)
-        && is_shared_access(row.access)
-        && (is_kept_out(access, row.share) || is_kept_out(row.access, share))
+    (!share.intersects(ShareAccess::READ) && opens.has_use(entry, UseKind::Reads))
+        || (!share.intersects(ShareAccess::WRITE) && opens.has_use(entry, UseKind::Writes))
+        || (!share.intersects(ShareAccess::DELETE) && opens.has_use(entry, UseKind::Deletes))
 }
 
 // Whether an access and what it shares conflict with an open of an entry.
+#[tactic(auto, using(crate::proofs::Uses::conflict_is))]
 fn has_conflict<O: Opens>(opens: &O, entry: EntryNo, access: Access, share: ShareAccess) -> bool
-    requires { AreRising (open_numbers (O.content opens.now)) }
     ensures { result ≡ has_conflict (O.content opens.now) entry (access, share) }
 {
-    let mut next = opens.on_entry(entry, 0);
-    while let Some(number) = next {
-        let Some(row) = opens.get(number) else {
-            unreachable!();
-        };
-        if is_conflict(access, share, row) {
-            return true;
-        }
-        next = opens.on_entry_after(entry, number);
-    }
-    false
+    is_shared_access(access)
+        && (is_kept_out(opens, entry, access) || keeps_out(opens, entry, share))
 }
 
 // What a request does to an entry that is granted this access: one that overwrites writes.
@@ -90,8 +82,7 @@ pub fn conflicts<O: Opens>(
     disposition: CreateDisposition,
     target: &Option<Target>,
 ) -> bool
-    requires rising { AreRising (open_numbers (O.content opens.now)) }
-    requires disposition { disposition_code disposition ≡ ask.now.disposition.0 }
+    requires { disposition_code disposition ≡ ask.now.disposition.0 }
     ensures { result ≡ target_conflicts (O.content opens.now) (asked ask.now) target.now }
 {
     let Some(found) = target else {

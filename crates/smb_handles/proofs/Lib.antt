@@ -5,3 +5,5 @@ pub mod Live
 pub mod Grouped
 pub mod Tables
 pub mod Slots
+pub mod Counts
+pub mod Used

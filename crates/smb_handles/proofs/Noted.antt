@@ -5,7 +5,7 @@ use Rattle.smb_access.specs.Numbers.{AreNumbersBelow}
 use Rattle.smb_access.specs.declared.open_row.OpenRow.{OpenRow}
 use Rattle.smb_handles.specs.declared.key.GroupKey.{GroupKey}
 use Rattle.smb_handles.specs.declared.key.GroupKey.TheVariants.{Entry, Session, Tree}
-use Rattle.smb_handles.specs.Groups.{is_in, without_number, forgotten}
+use Rattle.smb_handles.specs.Groups.{is_in, without_number, noted, forgotten}
 use Rattle.smb_handles.proofs.Sets.{not_among, taken_back}
 
 -- what is kept under one name is changed by h, and no other
@@ -73,6 +73,22 @@ undone_session f f1 f2 g row l a b e (Session s) =
 undone_session f f1 f2 g row l a b e (Tree s t) =
     let first : f1 (Tree s t) ≡ f (Tree s t) = a.others (Tree s t) (λ q. cc) in
     back_same (row.session == s && row.tree == t) (f (Tree s t)) (g (Tree s t)) row.number (l (Tree s t)) (e (Tree s t) ∙ b.others (Tree s t) (λ q. cc) ∙ first)
+
+-- what was noted in all three is noted
+pub noted_all : (f f1 f2 g : GroupKey → List ℕ) (row : OpenRow) → Changes f f1 (Entry row.entry) (added row.number) → Changes f1 f2 (Session row.session) (added row.number) → Changes f2 g (Tree row.session row.tree) (added row.number) → (key : GroupKey) → g key ≡ noted f row key
+noted_all f f1 f2 g row a b c (Entry k) =
+    c.others (Entry k) (λ q. cc) ∙ b.others (Entry k) (λ q. cc) ∙ at_entry f f1 row.entry (added row.number) a k
+noted_all f f1 f2 g row a b c (Session s) =
+    c.others (Session s) (λ q. cc)
+    ∙ at_session f1 f2 row.session (added row.number) b s
+    ∙ ap (λ (ks : List ℕ). cond (row.session == s) (added row.number ks) ks) (a.others (Session s) (λ q. cc))
+noted_all f f1 f2 g row a b c (Tree s t) =
+    at_tree f2 g row.session row.tree (added row.number) c s t
+    ∙ ap (λ (ks : List ℕ). cond (row.session == s && row.tree == t) (added row.number ks) ks) (b.others (Tree s t) (λ q. cc) ∙ a.others (Tree s t) (λ q. cc))
+
+pub on_err_from : {T E : Type 0} (r : Result T E) (P Q : Type 0) → (P → Q) → OnErr r P → OnErr r Q
+on_err_from (Ok x) P Q f p = tt
+on_err_from (Err e) P Q f p = f p
 
 pub on_err : {T E : Type 0} (r : Result T E) (P : Type 0) → P → OnErr r P
 on_err (Ok x) P p = tt

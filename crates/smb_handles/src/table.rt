@@ -1,18 +1,21 @@
 //! The table of opens.
 
-ghost use Rattle.std.specs.Prelude.{ℕ, ◌≡◌, ◌≢◌, ◌<◌, ◌++◌, ◌∷◌, [], OnOk, OnErr, find, nat_lt, slice_get};
+ghost use Rattle.std.specs.Prelude.{ℕ, ◌≡◌, ◌≢◌, ◌<◌, ◌≤◌, length, ◌++◌, ◌∷◌, [], OnOk, OnErr, find, nat_lt, slice_get};
 ghost use Rattle.std.specs.List.{AllByRecursion};
 ghost use Rattle.std.specs.Option.{option_map};
 ghost use Rattle.smb_access.specs.Numbers.{AreNumbersBelow};
 ghost use Rattle.slab.specs.Slab.{get};
 ghost use Rattle.smb_handles.specs.Groups.{members, noted};
+ghost use Rattle.smb_handles.specs.Uses.{counted, more};
 ghost use Rattle.smb_handles.specs.Table.{scanned};
 ghost use Rattle.smb_handles.specs.declared.key.GroupKey.{GroupKey};
+ghost use Rattle.smb_access.specs.declared.use_kind.UseKind.{UseKind};
 
 use super::groups::Groups;
 use super::key::GroupKey;
+use super::uses::Uses;
 use slab::Slab;
-use smb_access::{OpenNo, OpenRow, Opens, Owner, Scan};
+use smb_access::{OpenNo, OpenRow, Opens, Owner, Scan, UseKind};
 use smb_tree::EntryNo;
 use smb_wire::FoldedName;
 use std::alloc::{AllocError, Global};
@@ -20,11 +23,11 @@ use std::collections::BTreeMap;
 use std::marker::Model;
 use std::ops::Bound;
 
-/// The opens, each in a slot, with an index of their numbers, and their groups.
+/// The opens, each in a slot, with an index of their numbers, their groups, and how many use an entry in each way.
 ///
 /// Its value is the list of the opens in rising number, as [`Opens`] says of each call. Of time and memory:
 ///
-/// - `get`, `after`, `of_owner`, `on_entry_after`, `set_scan` and `remove` take time logarithmic in the number of opens, and no memory;
+/// - `get`, `after`, `of_owner`, `on_entry_after`, `has_use`, `set_scan` and `remove` take time logarithmic in the number of opens, and no memory;
 /// - `on_entry` looks up an entry's opens in logarithmic time, and then goes over the first `i` of them;
 /// - `add` takes logarithmic time too, and at times the slots have to move to a larger array. Only it takes memory, and all of it
 ///   before the open is in a slot: after a refusal nothing of the open is left.
@@ -35,6 +38,7 @@ pub struct HandleTable {
     rows: Slab<OpenRow>,
     index: BTreeMap<OpenNo, usize>,
     groups: Groups,
+    uses: Uses,
 }
 
 impl Model for HandleTable {
@@ -45,11 +49,12 @@ impl Model for HandleTable {
 
     ghost use Rattle.slab.specs.Slab.{get};
     ghost use Rattle.smb_handles.specs.Groups.{members};
+    ghost use Rattle.smb_handles.specs.Uses.{counted};
     ghost use Rattle.smb_handles.specs.Table.{rows_of, IsTable};
 
     ghost view = { λ table. rows_of (get table.rows) table.index.entries };
 
-    ghost invariant = { λ table. IsTable (get table.rows) table.index.entries (members table.groups.sets) };
+    ghost invariant = { λ table. IsTable (get table.rows) table.index.entries (members table.groups.sets) (counted table.uses.counts) };
 }
 
 impl HandleTable {
@@ -61,13 +66,14 @@ impl HandleTable {
             rows: Slab::new(alloc),
             index: BTreeMap::new(alloc),
             groups: Groups::new(alloc),
+            uses: Uses::new(alloc),
         }
     }
 }
 
-// Enters an open, whose number is above all others, in the index and in its groups. A refusal changes nothing.
+// Enters the number of an open, which is above all others, in the index and in its groups. A refusal changes nothing.
 #[tactic(auto, using(crate::proofs::Sets::insert_entry_last, crate::proofs::Sets::remove_entry_last))]
-fn enter(
+fn enter_number(
     index: &mut BTreeMap<OpenNo, usize>,
     groups: &mut Groups,
     row: &OpenRow,
@@ -86,6 +92,35 @@ fn enter(
         index.remove(&row.number);
     }
     noted
+}
+
+// Counts an open, and enters its number, which is above all others, in the index and in its groups. A refusal changes nothing.
+fn enter(
+    index: &mut BTreeMap<OpenNo, usize>,
+    groups: &mut Groups,
+    uses: &mut Uses,
+    row: &OpenRow,
+    slot: usize,
+) -> Result<(), AllocError>
+    requires above { AllByRecursion (λ (entry : ℕ × ℕ). entry.0 < row.now.number) index.old.entries }
+    requires below { (key : GroupKey) → AreNumbersBelow row.now.number (members groups.old.sets key) }
+    requires few { (kind : UseKind) → counted uses.old.counts row.now.entry kind ≤ length index.old.entries }
+    ensures index { OnOk result (index.new.entries ≡ index.old.entries ++ (row.now.number, slot) ∷ []) }
+    ensures groups { OnOk result ((key : GroupKey) → members groups.new.sets key ≡ noted (members groups.old.sets) row.now key) }
+    ensures uses { OnOk result ((entry : ℕ) (kind : UseKind) → counted uses.new.counts entry kind ≡ more (counted uses.old.counts) row.now entry kind) }
+    ensures err_index { OnErr result (index.new.entries ≡ index.old.entries) }
+    ensures err_groups { OnErr result ((key : GroupKey) → members groups.new.sets key ≡ members groups.old.sets key) }
+    ensures err_uses { OnErr result ((entry : ℕ) (kind : UseKind) → counted uses.new.counts entry kind ≡ counted uses.old.counts entry kind) }
+{
+    // So no count of opens overflows.
+    let can_count = index.len() < usize::MAX;
+    prove!(can_count);
+    uses.note(row)?;
+    let entered = enter_number(index, groups, row, slot);
+    if entered.is_err() {
+        uses.forget(row);
+    }
+    entered
 }
 
 // The least number of the index that is above another one.
@@ -130,7 +165,13 @@ impl Opens for HandleTable {
         let _: &Option<FoldedName> = &row.scan.pattern;
         self.rows.reserve(1)?;
         let slot = self.rows.vacant_key();
-        enter(&mut self.index, &mut self.groups, &row, slot)?;
+        enter(
+            &mut self.index,
+            &mut self.groups,
+            &mut self.uses,
+            &row,
+            slot,
+        )?;
         let _ = self.rows.insert_reserved(row);
         Ok(())
     }
@@ -141,6 +182,7 @@ impl Opens for HandleTable {
         };
         let row = self.rows.remove(slot);
         self.groups.forget_row(&row);
+        self.uses.forget(&row);
     }
 
     fn set_scan(&mut self, number: OpenNo, scan: Scan) {
@@ -156,6 +198,10 @@ impl Opens for HandleTable {
 
     fn on_entry_after(&self, entry: EntryNo, number: OpenNo) -> Option<OpenNo> {
         self.groups.after(GroupKey::Entry(entry), number)
+    }
+
+    fn has_use(&self, entry: EntryNo, kind: UseKind) -> bool {
+        self.uses.has(entry, kind)
     }
 
     fn after(&self, number: Option<OpenNo>) -> Option<OpenNo> {

@@ -10,6 +10,8 @@ mod head;
 #[cfg(test)]
 mod opens;
 #[cfg(test)]
+mod pages;
+#[cfg(test)]
 mod session;
 #[cfg(test)]
 mod tree;

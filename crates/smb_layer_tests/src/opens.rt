@@ -1,7 +1,9 @@
-//! A store over a plain tree and plain opens, call by call, with answers set by hand.
+//! A store over the tree of nodes and the table of opens, and over the plain pair, call by call, with answers set by hand.
 
 ghost use Rattle.std.specs.Prelude.{◌≡◌};
 
+use smb_handles::HandleTable;
+use smb_nodes::NodeTree;
 use smb_opens::{
     BasicAsk, CreateAsk, Created, OpenNo, OpenRow, Opens, Owner, PlainOpens, Scan, ScanLast, Store,
     StoreFault, View, laws_of_stores,
@@ -19,9 +21,15 @@ const CREATED: u64 = 116_444_736_000_000_000;
 const MOMENT: u64 = CREATED + 36_000_000_000;
 
 /// A store of the root alone.
-fn new_store(alloc: Global) -> Option<Store<PlainTree, PlainOpens>> {
-    let tree = PlainTree::new(alloc, CREATED, 67_108_864).ok()?;
+fn new_store(alloc: Global) -> Option<Store<NodeTree, HandleTable>> {
+    let tree = NodeTree::new(alloc, CREATED, 67_108_864).ok()?;
     laws_of_stores();
+    Some(Store::new(alloc, tree, HandleTable::new(alloc)))
+}
+
+/// The same over the plain pair.
+fn new_plain_store(alloc: Global) -> Option<Store<PlainTree, PlainOpens>> {
+    let tree = PlainTree::new(alloc, CREATED, 67_108_864).ok()?;
     Some(Store::new(alloc, tree, PlainOpens::new(alloc)))
 }
 
@@ -204,6 +212,50 @@ fn a_session_leaves_in_rising_number(rt: HostRuntime) {
     assert!(rt; is_so);
 }
 
+#[test]
+fn a_session_leaves_the_plain_pair_in_rising_number(rt: HostRuntime) {
+    let is_so = match new_plain_store(rt.alloc()) {
+        Some(mut store) => leaves_in_rising_number(&mut store),
+        None => false,
+    };
+    assert!(rt; is_so);
+}
+
+/// Whether a name is opened by this number, and closed.
+fn opens_and_closes<T: Tree + Drop, O: Opens + Drop>(
+    store: &mut Store<T, O>,
+    number: OpenNo,
+) -> bool {
+    let is_opened = match ask(store, 0x3, 3, 0) {
+        Some(Ok(created)) => created.number == number,
+        _ => false,
+    };
+    if !is_opened || store.view(number).is_none() {
+        return false;
+    }
+    store.close(number);
+    true
+}
+
+/// Whether a file that is opened and closed 5,000 times gets a new number each time, and the first is none any more.
+fn gives_each_number_once<T: Tree + Drop, O: Opens + Drop>(store: &mut Store<T, O>) -> bool {
+    for number in 1..5_001 {
+        if !opens_and_closes(store, number) {
+            return false;
+        }
+    }
+    store.view(1).is_none() && opens_and_closes(store, 5_001)
+}
+
+#[test]
+fn a_slot_is_used_again_and_a_number_is_not(rt: HostRuntime) {
+    let is_so = match new_store(rt.alloc()) {
+        Some(mut store) => gives_each_number_once(&mut store),
+        None => false,
+    };
+    assert!(rt; is_so);
+}
+
 /// An open of an entry, of a session's first tree connect.
 fn row(number: OpenNo, entry: u64, session: u64) -> OpenRow
     ensures { result.number ≡ number }
@@ -221,7 +273,16 @@ fn row(number: OpenNo, entry: u64, session: u64) -> OpenRow
 }
 
 /// Opens 1 and 3 of entry 5, and 2 of entry 6; the last two are session 2's.
-fn three_opens(alloc: Global) -> Option<PlainOpens> {
+fn three_opens(alloc: Global) -> Option<HandleTable> {
+    let mut opens = HandleTable::new(alloc);
+    opens.add(row(1, 5, 1)).ok()?;
+    opens.add(row(2, 6, 2)).ok()?;
+    opens.add(row(3, 5, 2)).ok()?;
+    Some(opens)
+}
+
+/// The same in the plain list.
+fn three_plain_opens(alloc: Global) -> Option<PlainOpens> {
     let mut opens = PlainOpens::new(alloc);
     opens.add(row(1, 5, 1)).ok()?;
     opens.add(row(2, 6, 2)).ok()?;
@@ -266,10 +327,24 @@ fn removes_one<O: Opens>(opens: &mut O) -> bool {
         && opens.of_owner(Owner::Tree(2, 2)).is_none()
 }
 
+/// Whether the three are found, one is scanned, and one taken away.
+fn are_opens<O: Opens>(opens: &mut O) -> bool {
+    finds_three(opens) && scans_one(opens) && removes_one(opens)
+}
+
 #[test]
 fn opens_by_number_entry_and_owner(rt: HostRuntime) {
     let is_so = match three_opens(rt.alloc()) {
-        Some(mut opens) => finds_three(&opens) && scans_one(&mut opens) && removes_one(&mut opens),
+        Some(mut opens) => are_opens(&mut opens),
+        None => false,
+    };
+    assert!(rt; is_so);
+}
+
+#[test]
+fn plain_opens_by_number_entry_and_owner(rt: HostRuntime) {
+    let is_so = match three_plain_opens(rt.alloc()) {
+        Some(mut opens) => are_opens(&mut opens),
         None => false,
     };
     assert!(rt; is_so);

@@ -1,5 +1,6 @@
-//! A plain tree, through the bound that every layer above has, with answers set by hand.
+//! The plain tree and the tree of nodes, through the bound that every layer above has, with answers set by hand.
 
+use smb_nodes::NodeTree;
 use smb_tree::{Basic, EntryNo, Kind, PlainTree, Tree, TreeFault, laws_of_contents, laws_of_moves};
 use smb_wire::{FileAttributes, PathView, Units, split_path};
 use std::alloc::Global;
@@ -112,20 +113,32 @@ fn renames<T: Tree>(tree: &mut T, alloc: Global) -> bool {
         && is_named(tree, alloc, b"E\0\\\0m\0e\0")
 }
 
+/// Whether a new tree with room for two clusters does what a tree does.
+fn is_a_tree<T: Tree>(tree: &mut T, alloc: Global) -> bool {
+    shows_the_root(tree)
+        && grows(tree)
+        && shows_the_file(tree)
+        && fills(tree)
+        && dates(tree)
+        && renames(tree, alloc)
+}
+
 #[test]
 fn a_plain_tree(rt: HostRuntime) {
     let is_so = match PlainTree::new(rt.alloc(), CREATED, 8_192) {
-        Ok(mut tree) => {
-            shows_the_root(&tree)
-                && grows(&mut tree)
-                && shows_the_file(&tree)
-                && fills(&mut tree)
-                && dates(&mut tree)
-                && renames(&mut tree, rt.alloc())
-        }
+        Ok(mut tree) => is_a_tree(&mut tree, rt.alloc()),
         Err(_) => false,
     };
     assert!(rt; is_so);
     laws_of_contents();
     laws_of_moves();
+}
+
+#[test]
+fn a_tree_of_nodes(rt: HostRuntime) {
+    let is_so = match NodeTree::new(rt.alloc(), CREATED, 8_192) {
+        Ok(mut tree) => is_a_tree(&mut tree, rt.alloc()),
+        Err(_) => false,
+    };
+    assert!(rt; is_so);
 }

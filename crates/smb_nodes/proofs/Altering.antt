@@ -77,14 +77,14 @@ module _ (g f : Heap) (slot : ℕ) (change : Entry → Entry) (w : Altered g f s
     }
 
     -- where the slot isn't in the rest of the index
-    row_other : (d s : ℕ) → s == slot ≡ false → row_in f d s ≡ row_in g d s
+    pub row_other : (d s : ℕ) → s == slot ≡ false → row_in f d s ≡ row_in g d s
     row_other d s z = rw (altered-path d s, w.entries s, z) refl
 
     entry_here : (o : Option Entry) → is_some o ≡ true → unwrap_or (option_map change o) blank ≡ change (unwrap_or o blank)
     entry_here None h = cc
     entry_here (Some e) h = refl
 
-    row_here : (d s : ℕ) → s == slot ≡ true → is_some (g s) ≡ true → row_in f d s ≡ ((row_in g d s).0, change (row_in g d s).1)
+    pub row_here : (d s : ℕ) → s == slot ≡ true → is_some (g s) ≡ true → row_in f d s ≡ ((row_in g d s).0, change (row_in g d s).1)
     row_here d s z h = rw (altered-path d s, w.entries s, z, entry_here (entry_in (g s)) (sym (live-entry (g s)) ∙ h)) refl
 
     rows_others : (d : ℕ) (es : List (ℕ × ℕ)) (n : ℕ) → Numbers g es → option_map (λ (e : Entry). e.number) (entry_in (g slot)) ≡ Some n → slot_of es n ≡ None → rows_in f d es ≡ rows_in g d es

@@ -28,7 +28,7 @@ module _ (x : Inside) (n s : ℕ) (k : KeepsTree x) (at : slot_of x.index.entrie
       let same = ap (λ (us : List (List ℕ)). length us) (spellings_are (heap_of x.nodes) x.index.entries x.next k.is_tree levels s (row_in (heap_of x.nodes) levels s).0 path) in
       omega (arith, short, long, same, levels-is)
 
-  pub copied_is : (node : Node) (size : ℕ) (name : List ℕ) → get x.nodes s ≡ Some node → size ≡ length node.bytes.items → name ≡ unit_bytes (joined_by_separators (spellings_up (heap_of x.nodes) levels s))
+  pub copied_is : (node : Node) (size : ℕ) (name : List ℕ) → get x.nodes s ≡ Some node → size ≡ length node.bytes → name ≡ unit_bytes (joined_by_separators (spellings_up (heap_of x.nodes) levels s))
       → (let copy : Copied = record { number = node.number; kind = node.kind; basic = node.basic; size = size; mark = node.mark; name = name } in Some copy) ≡ entry_copied (content_kept x).rows n
   copied_is node size name here long e =
       let entry = entry_is x n s k at node here in

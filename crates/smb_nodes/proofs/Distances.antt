@@ -1,17 +1,21 @@
 -- How far a node lies beneath another one, by their paths.
-use Rattle.std.proofs.Common.{◌≡◌, ℕ, zero, suc, ◌+◌, ◌-◌, ◌==◌, nat_lt, Bool, true, false, ◌&&◌, if◌then◌else◌, List, [], ◌∷◌, ◌++◌, length, Option, None, Some, is_some, refl, sym, ap, ◌∙◌, arith, length-append, drop}
+use Rattle.std.proofs.Common.{◌≡◌, ℕ, zero, suc, ◌+◌, ◌-◌, ◌≤◌, ◌==◌, nat_lt, Bool, true, false, ◌&&◌, if◌then◌else◌, List, [], ◌∷◌, ◌++◌, length, Option, None, Some, is_some, unwrap_or, refl, subst, sym, ap, ◌∙◌, arith, length-append, drop}
 use Rattle.std.proofs.lemmas.List.{length-drop}
 use Rattle.smb_tree.specs.Content.{Path, is_same_path}
 use Rattle.smb_tree.specs.Faults.{would_be_too_deep}
 use Rattle.smb_tree.specs.Moves.{is_within, replaced}
 use Rattle.smb_tree.proofs.Keys.{same_path-eq}
 use Rattle.smb_tree.proofs.Heads.{within_itself, length_within, replaced_drop}
-use Rattle.smb_nodes.specs.Nodes.{Heap, up_in, path_to, levels, row_in, rows_in, has_slot, Tied, Live, IsTree}
-use Rattle.smb_nodes.specs.Ways.{one_more, levels_below, is_deep_by, is_deep, SomeDeep}
-use Rattle.smb_nodes.proofs.Walks.{path_to-up}
-use Rattle.smb_nodes.proofs.Growing.{eqb-eq, eqb-neq}
+use Rattle.smb_nodes.specs.Nodes.{Heap, up_in, child_in, path_to, levels, row_in, rows_in, has_slot, Tied, Live, IsTree}
+use Rattle.smb_nodes.specs.Ways.{one_more, levels_below, is_deep_by, is_deep, SomeDeep, NoneDeep, NoneBelow}
+use Rattle.smb_nodes.specs.Tree.{IsBound}
+use Rattle.std.specs.List.{AllByRecursion}
+use Rattle.smb_nodes.proofs.Walks.{path_to-up, root_path}
+use Rattle.smb_nodes.proofs.Growing.{eqb-eq, eqb-neq, child-live, clash}
 use Rattle.smb_nodes.proofs.Moving.{path_to-unique, is_within-push, same_slot}
 use Rattle.smb_nodes.proofs.Numbered.{path_of_live}
+use Rattle.smb_nodes.proofs.Named.{parted}
+use Rattle.std.proofs.lemmas.Bool.Decides.{nat_tests}
 
 not_in_root : (from : Path) → (from ≡ [] → ⊥) → is_within from [] ≡ false
 not_in_root [] h = absurd (h refl)
@@ -70,6 +74,10 @@ deep_by from to p =
           ap (nat_lt 32) long
     ] refl
 
+one_less : (o : Option ℕ) (b : ℕ) → one_more o ≡ Some b → (a : ℕ) × (o ≡ Some a)
+one_less None b h = cc
+one_less (Some a) b h = (a, refl)
+
 module _ (g : Heap) (es : List (ℕ × ℕ)) (next : ℕ) (t : IsTree g es next) (m : ℕ) (live : is_some (g m) ≡ true) where
   pub row_deep : (to : Path) (s : ℕ) → is_some (g s) ≡ true → is_deep g m (length to) s ≡ (is_within (row_in g levels m).0 (row_in g levels s).0 && nat_lt 32 (length (replaced (row_in g levels m).0 to (row_in g levels s).0)))
   row_deep to s there =
@@ -102,3 +110,84 @@ module _ (g : Heap) (es : List (ℕ × ℕ)) (next : ℕ) (t : IsTree g es next)
   within_is s there =
       ap is_some (below_is g levels m (row_in g levels m).0 t.tied (path_of_live g es next m t live) levels s (row_in g levels s).0 (path_of_live g es next s t there))
       ∙ elim (is_within (row_in g levels m).0 (row_in g levels s).0) as (λ b. is_some (if b then Some (length (row_in g levels s).0 - length (row_in g levels m).0) else None) ≡ b) [ true ↦ refl | false ↦ refl ]
+
+  -- beneath a node with no child there is none but itself
+  only_itself : ((c : List ℕ) → child_in (g m) c ≡ None) → (k s b : ℕ) → is_some (g s) ≡ true → levels_below g k m s ≡ Some b → s ≡ m
+  only_itself bare zero s b there h = cc
+  only_itself bare (suc k) s b there h =
+      elim (s == m) as (λ e. s == m ≡ e → s ≡ m) [
+        | true ↦ λ z. eqb-eq s m z
+        | false ↦ λ z.
+            elim (s == 0) as (λ e. s == 0 ≡ e → s ≡ m) [
+              | true ↦ λ y. absurd (let none : levels_below g (suc k) m s ≡ None = rw (z, y) refl in cc)
+              | false ↦ λ y.
+                  let n = parted g es next t s there y in
+                  let here = t.tied.up s n.name n.name_is y in
+                  let more : one_more (levels_below g k m (up_in (g s))) ≡ Some b = sym (let step : levels_below g (suc k) m s ≡ one_more (levels_below g k m (up_in (g s))) = rw (z, y) refl in step) ∙ h in
+                  let one = one_less (levels_below g k m (up_in (g s))) b more in
+                  let up = only_itself bare k (up_in (g s)) one.0 (child-live (g (up_in (g s))) n.name s here) one.1 in
+                  absurd (clash (child_in (g m) n.name) s (ap (λ (r : ℕ). child_in (g r) n.name) (sym up) ∙ here) (bare n.name))
+            ] refl
+      ] refl
+
+  -- where a node has no child, none lies beneath it
+  pub below_none : ((c : List ℕ) → child_in (g m) c ≡ None) → NoneBelow g m 0
+  below_none bare s b there e =
+      let same = only_itself bare levels s b there e in
+      let self : by_paths (row_in g levels m).0 (row_in g levels s).0 ≡ Some b = sym (below_is g levels m (row_in g levels m).0 t.tied (path_of_live g es next m t live) levels s (row_in g levels s).0 (path_of_live g es next s t there)) ∙ e in
+      let inside : by_paths (row_in g levels m).0 (row_in g levels m).0 ≡ Some b = ap (λ (r : ℕ). by_paths (row_in g levels m).0 (row_in g levels r).0) (sym same) ∙ self in
+      let it = within_itself (row_in g levels m).0 in
+      let none : Some (length (row_in g levels m).0 - length (row_in g levels m).0) ≡ Some b = rw it at inside in
+      let zero_is : length (row_in g levels m).0 - length (row_in g levels m).0 ≡ b = cc in
+      omega (arith, zero_is)
+
+  -- a node is of as many components as it lies levels beneath the root
+  depth_is : unwrap_or (levels_below g levels 0 m) 0 ≡ length (row_in g levels m).0
+  depth_is =
+      let top = below_is g levels 0 [] t.tied (root_path g levels t.tied) levels m (row_in g levels m).0 (path_of_live g es next m t live) in
+      omega (arith, ap (λ (o : Option ℕ). unwrap_or o 0) top)
+
+  row_most : (most : ℕ) (list : List (ℕ × ℕ)) (s : ℕ) → has_slot list s ≡ true → AllByRecursion (λ row. length row.0 ≤ most) (rows_in g levels list) → length (row_in g levels s).0 ≤ most
+  row_most most [] s h k = cc
+  row_most most (e ∷ list) s h k =
+      elim (e.1 == s) as (λ b. e.1 == s ≡ b → length (row_in g levels s).0 ≤ most) [
+        | true ↦ λ z. subst (λ (r : ℕ). length (row_in g levels r).0 ≤ most) (eqb-eq e.1 s z) k.0
+        | false ↦ λ z. row_most most list s (grind (arith, h, z)) k.1
+      ] refl
+
+  -- a bound of all paths is one of how many levels nodes lie beneath another one
+  pub below_bound : (most : ℕ) → IsBound most (rows_in g levels es) → NoneBelow g m (most - unwrap_or (levels_below g levels 0 m) 0)
+  below_bound most w s b there e =
+      let self : by_paths (row_in g levels m).0 (row_in g levels s).0 ≡ Some b = sym (below_is g levels m (row_in g levels m).0 t.tied (path_of_live g es next m t live) levels s (row_in g levels s).0 (path_of_live g es next s t there)) ∙ e in
+      let few = row_most most es s (t.complete s there) w.short in
+      elim (is_within (row_in g levels m).0 (row_in g levels s).0) as (λ i. (if i then Some (length (row_in g levels s).0 - length (row_in g levels m).0) else None) ≡ Some b → b ≤ most - unwrap_or (levels_below g levels 0 m) 0) [
+        | false ↦ λ n. cc
+        | true ↦ λ n. (let is : length (row_in g levels s).0 - length (row_in g levels m).0 ≡ b = cc in omega (arith, is, few, depth_is))
+      ] self
+
+  -- so many levels beneath a node are the components behind its path
+  pub rows_below : (below : ℕ) → NoneBelow g m below → (list : List (ℕ × ℕ)) → Live g list → AllByRecursion (λ row. is_within (row_in g levels m).0 row.0 ≡ true → length row.0 - length (row_in g levels m).0 ≤ below) (rows_in g levels list)
+  rows_below below h [] l = tt
+  rows_below below h (e ∷ list) l = (
+    λ i. h e.1 (length (row_in g levels e.1).0 - length (row_in g levels m).0) l.0 (below_is g levels m (row_in g levels m).0 t.tied (path_of_live g es next m t live) levels e.1 (row_in g levels e.1).0 (path_of_live g es next e.1 t l.0) ∙ rw i refl),
+    rows_below below h list l.1,
+  )
+
+-- a number that no node's depth is above is a bound
+rows_counted : (g : Heap) (es : List (ℕ × ℕ)) (next : ℕ) (t : IsTree g es next) (most : ℕ) → ((s : ℕ) → is_some (g s) ≡ true → unwrap_or (levels_below g levels 0 s) 0 ≤ most) → (list : List (ℕ × ℕ)) → Live g list → AllByRecursion (λ row. length row.0 ≤ most) (rows_in g levels list)
+rows_counted g es next t most h [] l = tt
+rows_counted g es next t most h (e ∷ list) l = (
+  (let low = h e.1 l.0 in let depth = depth_is g es next t e.1 l.0 in omega (arith, low, depth)),
+  rows_counted g es next t most h list l.1,
+)
+
+pub bound_counted : (g : Heap) (es : List (ℕ × ℕ)) (next : ℕ) (t : IsTree g es next) (most : ℕ) → most ≤ 32 → ((s : ℕ) → is_some (g s) ≡ true → unwrap_or (levels_below g levels 0 s) 0 ≤ most) → IsBound most (rows_in g levels es)
+bound_counted g es next t most few h = record { few = few; short = rows_counted g es next t most h es t.live }
+
+-- where so many components and levels are few enough, no node is too deep
+pub none_deep : (g : Heap) (m count below : ℕ) → count + below ≤ 32 → NoneBelow g m below → NoneDeep g m count
+none_deep g m count below few h s there =
+    elim (levels_below g levels m s) as (λ o. levels_below g levels m s ≡ o → is_deep_by count o ≡ false) [
+      | None ↦ λ _. refl
+      | Some b ↦ λ e. (let less = h s b there e in let short : count + b ≤ 32 = omega (arith, few, less) in grind (arith, nat_tests, short))
+    ] refl

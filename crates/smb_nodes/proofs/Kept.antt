@@ -15,7 +15,8 @@ use Rattle.smb_nodes.specs.Nodes.{Heap, name_in, levels, row_in, rows_in, slot_o
 use Rattle.smb_nodes.specs.Changes.{Altered}
 use Rattle.smb_nodes.specs.Seen.{node_seen, entry_seen, seen, heap_of}
 use Rattle.smb_nodes.specs.Shows.{node_shown}
-use Rattle.smb_nodes.specs.Tree.{content_kept, KeepsTree}
+use Rattle.smb_nodes.specs.Tree.{content_kept, IsBound, KeepsTree}
+use Rattle.smb_nodes.proofs.Bounds.{bound_same, bound_changed}
 use Rattle.smb_nodes.proofs.Numbered.{found, missed, live}
 use Rattle.smb_nodes.proofs.Named.{shown_is, name_of_live}
 use Rattle.smb_nodes.proofs.Altering.{Keeps, altered-tree, altered-rows}
@@ -51,7 +52,7 @@ module _ (x : Inside) (n s : ℕ) (k : KeepsTree x) (at : slot_of x.index.entrie
     pub kind_is : is_folder_kind (row_in (heap_of x.nodes) levels s).1.kind ≡ is_folder_kind node.kind
     kind_is = ap (λ (e : Entry). is_folder_kind e.kind) entry_is
 
-    pub bytes_are : bytes_of (content_kept x).rows n ≡ node.bytes.items
+    pub bytes_are : bytes_of (content_kept x).rows n ≡ node.bytes
     bytes_are = bytes_found (content_kept x).rows n (row_in (heap_of x.nodes) levels s) row_is ∙ ap (λ (e : Entry). e.bytes) entry_is
 
     pub entry_shown_is : (v : Shown) → v ≡ node_shown (heap_of x.nodes) (node_seen node) → Some v ≡ entry_shown (content_kept x).rows n
@@ -71,6 +72,9 @@ module _ (x : Inside) (n s : ℕ) (k : KeepsTree x) (at : slot_of x.index.entrie
 
     pub kept_content : record (content_kept x) { rows = rows_in f levels x.index.entries } ≡ record (content_kept x) { rows = changed change (content_kept x).rows n }
     kept_content = ap (λ (rows : List Row). record (content_kept x) { rows = rows }) kept_rows
+
+    pub kept_bound : IsBound x.deepest (rows_in f levels x.index.entries)
+    kept_bound = bound_same x.deepest (changed change (content_kept x).rows n) (rows_in f levels x.index.entries) kept_rows (bound_changed change x.deepest (content_kept x).rows n k.bound)
 
     -- where the bytes stay as many
     pub kept_used : ((e : Entry) → (change e).bytes ≡ e.bytes) → x.used ≡ used_space (rows_in f levels x.index.entries)
@@ -114,3 +118,6 @@ pub same_rows : (g f : Heap) (es fs : List (ℕ × ℕ)) → ((s : ℕ) → f s 
 same_rows g f es fs h e =
     let heaps : f ≡ g = λ i s. h s i in
     ap (λ h. rows_in h levels fs) heaps ∙ ap (λ es. rows_in g levels es) e
+
+pub same_bound : (g f : Heap) (es fs : List (ℕ × ℕ)) (most : ℕ) → ((s : ℕ) → f s ≡ g s) → fs ≡ es → IsBound most (rows_in g levels es) → IsBound most (rows_in f levels fs)
+same_bound g f es fs most h e w = bound_same most (rows_in g levels es) (rows_in f levels fs) (same_rows g f es fs h e) w

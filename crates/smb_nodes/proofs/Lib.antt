@@ -20,3 +20,10 @@ pub mod MovingTree
 pub mod Copying
 pub mod Distances
 pub mod Refusing
+pub mod Replacing
+pub mod Movable
+pub mod Evicting
+pub mod Relocating
+pub mod Placing
+pub mod Bounds
+pub mod Targeting

@@ -12,7 +12,8 @@ use Rattle.smb_nodes.specs.declared.tree.NodeTree.TheInside.{Inside}
 use Rattle.smb_nodes.specs.Nodes.{Heap, entry_in, up_in, child_in, levels, row_in, rows_in, slot_of, index_without, entry_of_slot, IsTree}
 use Rattle.smb_nodes.specs.Changes.{Pruned, HasChild}
 use Rattle.smb_nodes.specs.Seen.{heap_of}
-use Rattle.smb_nodes.specs.Tree.{content_kept, KeepsTree}
+use Rattle.smb_nodes.specs.Tree.{content_kept, IsBound, KeepsTree}
+use Rattle.smb_nodes.proofs.Bounds.{bound_same, bound_without}
 use Rattle.smb_nodes.proofs.Childing.{full, bare}
 use Rattle.smb_nodes.proofs.Growing.{eqb-eq, child-live, clash}
 use Rattle.smb_nodes.proofs.Kept.{live_is, row_is}
@@ -68,3 +69,6 @@ module _ (x : Inside) (n s : ℕ) (k : KeepsTree x) (at : slot_of x.index.entrie
         let less = space_without (content_kept x).rows n (row_in (heap_of x.nodes) levels s) (row_is x n s k at) in
         let rest : x.used - space ≡ used_space (without (content_kept x).rows n) = omega (arith, k.used, less, e) in
         rest ∙ sym (ap used_space left_rows)
+
+    pub left_bound : IsBound x.deepest (rows_in f levels es)
+    left_bound = bound_same x.deepest (without (content_kept x).rows n) (rows_in f levels es) left_rows (bound_without x.deepest (content_kept x).rows n k.bound)

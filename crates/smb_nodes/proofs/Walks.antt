@@ -48,7 +48,7 @@ walk-None g (c ∷ q) = walk-None g q
 pub none_is_not_some : {A : Type 0} {o : Option A} {a : A} → o ≡ None → o ≡ Some a → ⊥
 none_is_not_some h k = cc
 
-walk-append : (g : Heap) (o : Option ℕ) (p q : Path) → walk g o (p ++ q) ≡ walk g (walk g o p) q
+pub walk-append : (g : Heap) (o : Option ℕ) (p q : Path) → walk g o (p ++ q) ≡ walk g (walk g o p) q
 walk-append g o [] q = refl
 walk-append g o (c ∷ p) q = walk-append g (step g o c) p q
 

@@ -70,3 +70,23 @@ pub record Moved (g f : Heap) (d m : ℕ) (from : Path) (up1 up2 : ℕ) (c1 c2 :
   pub ups : (s : ℕ) → up_in (f s) ≡ (if s == m then up2 else up_in (g s))
   pub entries : (s : ℕ) → entry_in (f s) ≡ (if s == m then option_map (λ (entry : Entry). record entry { spelling = spelling }) (entry_in (g s)) else entry_in (g s))
   pub children : (s : ℕ) (c : List ℕ) → child_in (f s) c ≡ (if s == up2 && is_same_component c2 c then Some m else (if s == up1 && is_same_component c1 c then None else child_in (g s) c))
+
+-- f is g with a node put into a folder, spelled so and under this name; the children of the folder stay
+pub record Settled (g f : Heap) (m up2 : ℕ) (c2 spelling : List ℕ) : Type 0 where
+  pub names : (s : ℕ) → name_in (f s) ≡ (if s == m then Some c2 else name_in (g s))
+  pub ups : (s : ℕ) → up_in (f s) ≡ (if s == m then up2 else up_in (g s))
+  pub entries : (s : ℕ) → entry_in (f s) ≡ (if s == m then option_map (λ (entry : Entry). record entry { spelling = spelling }) (entry_in (g s)) else entry_in (g s))
+  pub children : (s : ℕ) (c : List ℕ) → child_in (f s) c ≡ child_in (g s) c
+
+-- the same, and the node is the child of the folder under this name, in place of what stood there, and no child of its own
+-- folder any more
+pub record Rehung (g f : Heap) (m up2 : ℕ) (c2 spelling : List ℕ) : Type 0 where
+  pub names : (s : ℕ) → name_in (f s) ≡ (if s == m then Some c2 else name_in (g s))
+  pub ups : (s : ℕ) → up_in (f s) ≡ (if s == m then up2 else up_in (g s))
+  pub entries : (s : ℕ) → entry_in (f s) ≡ (if s == m then option_map (λ (entry : Entry). record entry { spelling = spelling }) (entry_in (g s)) else entry_in (g s))
+  pub children : (s : ℕ) (c : List ℕ) → child_in (f s) c ≡ (if s == up2 && is_same_component c2 c then Some m else (if s == up_in (g m) && is_same_component (name_of_slot g m) c then None else child_in (g s) c))
+
+-- f is g with nothing in a slot
+pub record Emptied (g f : Heap) (slot : ℕ) : Type 0 where
+  pub gone : f slot ≡ None
+  pub others : (s : ℕ) → s == slot ≡ false → f s ≡ g s

@@ -15,7 +15,7 @@ entry_seen node = record {
   number = node.number;
   kind = node.kind;
   spelling = units_in node.spelling.items;
-  bytes = node.bytes.items;
+  bytes = node.bytes;
   basic = node.basic;
   mark = node.mark;
 }

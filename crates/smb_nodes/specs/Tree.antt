@@ -1,6 +1,7 @@
 -- A tree of nodes as a content.
-use Rattle.std.specs.Prelude.{◌≡◌}
-use Rattle.smb_tree.specs.Content.{Content, used_space}
+use Rattle.std.specs.Prelude.{◌≡◌, ℕ, ◌≤◌, List, length}
+use Rattle.std.specs.List.{AllByRecursion}
+use Rattle.smb_tree.specs.Content.{Row, Content, used_space}
 use Rattle.smb_nodes.specs.Nodes.{rows_in, levels, IsTree}
 use Rattle.smb_nodes.specs.Seen.{heap_of}
 use Rattle.smb_nodes.specs.declared.tree.NodeTree.TheInside.{Inside}
@@ -13,7 +14,13 @@ content_kept tree = record {
   capacity = tree.capacity;
 }
 
--- the nodes are a tree, and the used space is kept beside the entries that use it
+-- no path of the rows has more components than so many, which are at most 32
+pub record IsBound (most : ℕ) (rows : List Row) : Type 0 where
+  pub few : most ≤ 32
+  pub short : AllByRecursion (λ row. length row.0 ≤ most) rows
+
+-- the nodes are a tree, the used space is kept beside the entries that use it, and no path is longer than the bound
 pub record KeepsTree (tree : Inside) : Type 0 where
   pub is_tree : IsTree (heap_of tree.nodes) tree.index.entries tree.next
   pub used : tree.used ≡ used_space (rows_in (heap_of tree.nodes) levels tree.index.entries)
+  pub bound : IsBound tree.deepest (rows_in (heap_of tree.nodes) levels tree.index.entries)

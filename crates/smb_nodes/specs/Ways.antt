@@ -1,6 +1,6 @@
 -- For the proofs; nothing here need be believed.
 -- How far a node lies beneath another one.
-use Rattle.std.specs.Prelude.{◌≡◌, ℕ, zero, suc, ◌+◌, ◌==◌, nat_lt, Bool, true, false, if◌then◌else◌, Option, None, Some, is_some}
+use Rattle.std.specs.Prelude.{◌≡◌, ℕ, zero, suc, ◌+◌, ◌≤◌, ◌==◌, nat_lt, Bool, true, false, if◌then◌else◌, Option, None, Some, is_some}
 use Rattle.smb_nodes.specs.Nodes.{Heap, up_in, levels}
 
 abbrev pub one_more : Option ℕ → Option ℕ
@@ -27,6 +27,14 @@ pub record SomeDeep (nodes : Heap) (top count : ℕ) : Type 0 where
   pub slot : ℕ
   pub live : is_some (nodes slot) ≡ true
   pub deep : is_deep nodes top count slot ≡ true
+
+-- no node would
+abbrev pub NoneDeep : Heap → ℕ → ℕ → Type 0
+NoneDeep nodes top count = (slot : ℕ) → is_some (nodes slot) ≡ true → is_deep nodes top count slot ≡ false
+
+-- no node lies more levels beneath a slot
+abbrev pub NoneBelow : Heap → ℕ → ℕ → Type 0
+NoneBelow nodes top below = (slot count : ℕ) → is_some (nodes slot) ≡ true → levels_below nodes levels top slot ≡ Some count → count ≤ below
 
 -- whether a slot, if there is one, is another one or lies beneath it
 abbrev pub is_within_slot : Heap → ℕ → Option ℕ → Bool

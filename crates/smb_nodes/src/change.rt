@@ -6,7 +6,6 @@ ghost use Rattle.smb_tree.specs.Entries.{kept_basic};
 ghost use Rattle.smb_nodes.specs.Changes.{Altered};
 ghost use Rattle.smb_nodes.specs.Seen.{heap_of, SameHeap};
 
-use super::bytes::{put_at, set_len};
 use super::node::Node;
 use slab::Slab;
 use smb_tree::Basic;
@@ -28,17 +27,16 @@ pub fn put_mark(nodes: &mut Slab<Node>, slot: usize, mark: bool)
     nodes[slot].mark = mark;
 }
 
-// Gives a file another size.
-pub fn resize(nodes: &mut Slab<Node>, slot: usize, size: u64) -> Result<(), AllocError>
+// Gives a file another size. This takes no memory and is never refused.
+pub fn resize(nodes: &mut Slab<Node>, slot: usize, size: u64)
     requires live { is_some (heap_of nodes.old slot) ≡ true }
     requires small { size ≤ 16777216 }
-    ensures ok { OnOk result (Altered (heap_of nodes.old) (heap_of nodes.new) slot (λ entry. record entry { bytes = resized size entry.bytes })) }
-    ensures err { OnErr result (SameHeap nodes.old nodes.new) }
+    ensures { Altered (heap_of nodes.old) (heap_of nodes.new) slot (λ entry. record entry { bytes = resized size entry.bytes }) }
 {
-    set_len(&mut nodes[slot].bytes, size as usize)
+    nodes[slot].bytes.resize(size);
 }
 
-// Puts bytes into a file.
+// Puts bytes into a file. It takes the memory for all their pages before it changes one.
 pub fn overwrite(
     nodes: &mut Slab<Node>,
     slot: usize,
@@ -50,5 +48,5 @@ pub fn overwrite(
     ensures ok { OnOk result (Altered (heap_of nodes.old) (heap_of nodes.new) slot (λ entry. record entry { bytes = written offset buffer.now entry.bytes })) }
     ensures err { OnErr result (SameHeap nodes.old nodes.new) }
 {
-    put_at(&mut nodes[slot].bytes, offset as usize, buffer)
+    nodes[slot].bytes.put_at(offset, buffer)
 }

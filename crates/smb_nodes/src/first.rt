@@ -8,6 +8,7 @@ ghost use Rattle.smb_nodes.specs.First.{IsRootAlone};
 
 use super::node::Node;
 use slab::Slab;
+use smb_pages::Pages;
 use smb_tree::{Basic, EntryNo, Kind};
 use smb_wire::FileAttributes;
 use std::alloc::{AllocError, Global};
@@ -26,7 +27,7 @@ pub fn rooted(alloc: Global, created: u64) -> Result<Slab<Node>, AllocError>
         spelling: Vec::new(alloc),
         parent: 0,
         children: BTreeMap::new(alloc),
-        bytes: Vec::new(alloc),
+        bytes: Pages::new(alloc),
     };
     let _ = nodes.insert_reserved(root);
     Ok(nodes)

@@ -87,7 +87,7 @@ pub fn view_of<'a>(nodes: &Slab<Node>, node: &'a Node) -> EntryView<'a>
         parent: number_or_none(nodes, node.parent),
         kind: node.kind,
         basic: node.basic,
-        size: node.bytes.len() as u64,
+        size: node.bytes.size(),
         mark: node.mark,
         spelling: spelling_of(node),
     }

@@ -3,6 +3,7 @@
 ghost use Rattle.std.specs.Prelude.{◌≡◌, ◌≤◌, ◌%◌, length};
 ghost use Rattle.smb_wire.specs.Pairs.{units_in};
 
+use smb_pages::Pages;
 use smb_tree::{Basic, EntryNo, Kind};
 use smb_wire::FoldedName;
 use std::collections::BTreeMap;
@@ -20,8 +21,8 @@ pub struct Node {
     pub parent: usize,
     // The slot of each child by its folded name.
     pub children: BTreeMap<FoldedName, usize>,
-    pub bytes: Vec<u8>,
+    pub bytes: Pages,
     pub ghost even: { length spelling.items % 2 ≡ 0 },
     pub ghost short: { length (units_in spelling.items) ≤ 255 },
-    pub ghost few: { length bytes.items ≤ 16777216 },
+    pub ghost few: { length bytes ≤ 16777216 },
 }

@@ -15,7 +15,7 @@ pub fn space_of(nodes: &Slab<Node>, slot: usize) -> u64
     requires { is_some (heap_of nodes.now slot) ≡ true }
     ensures { result ≡ allocation_size (length (entry_of_slot (heap_of nodes.now) slot).bytes) }
 {
-    allocation_size(nodes[slot].bytes.len() as u64)
+    allocation_size(nodes[slot].bytes.size())
 }
 
 // The first fault of a size that the file in a slot would get, where the other entries use so much space.
@@ -44,5 +44,5 @@ pub fn size_written(nodes: &Slab<Node>, slot: usize, offset: u64, buffer: &[u8])
     ensures { result ≡ max (length (entry_of_slot (heap_of nodes.now) slot).bytes) (min (offset + length buffer.now) (2 ^ 64 - 1)) }
 {
     let end = offset.saturating_add(buffer.len() as u64);
-    end.max(nodes[slot].bytes.len() as u64)
+    end.max(nodes[slot].bytes.size())
 }

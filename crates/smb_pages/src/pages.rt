@@ -11,8 +11,8 @@ use std::marker::Model;
 /// The bytes of one file, in pages of 4,096 bytes.
 ///
 /// It takes 4,096 bytes of memory for each page below the end in which something was written, and three words for each
-/// page up to the last of these, written or not (a cut file keeps the room for these words). A page is found by its
-/// number in one step.
+/// page up to the last of these, written or not. The table of these words grows by doubling, from four pages on, and a
+/// cut file keeps its room. A page is found by its number in one step.
 #[derive(Drop)]
 pub struct Pages {
     size: u64,

@@ -14,5 +14,5 @@ mod show;
 
 pub use config::{BUILT_IN, ConfigFault, Configuration};
 pub use input::{CommandFault, INPUT_LIMIT};
-pub use replay::{new_share, replay_text};
+pub use replay::{new_plain_share, new_share, replay_plain_text, replay_text};
 pub use show::show_text;

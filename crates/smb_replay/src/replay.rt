@@ -1,12 +1,17 @@
 //! A replay: the events of a text, and what the share answers.
 
+ghost use Rattle.std.specs.Prelude.{◌≡◌, [], IfOk};
+ghost use Rattle.smb_tree.specs.Content.{new_content};
+
 use crate::config::Configuration;
 use crate::input::{CommandFault, read_input};
 use crate::script::Script;
 use smb_engine::{Answer, RunFault, ServeFault, Share};
-use smb_opens::PlainOpens;
+use smb_handles::HandleTable;
+use smb_nodes::NodeTree;
+use smb_opens::{Opens, PlainOpens};
 use smb_session::Tokens;
-use smb_tree::PlainTree;
+use smb_tree::{PlainTree, Tree, TreeFault};
 use std::alloc::Global;
 use std::io;
 use std::io::{Read, Write};
@@ -57,35 +62,57 @@ fn fault_at(places: &[u64], fault: RunFault) -> CommandFault {
     }
 }
 
-/// A new share of a configuration: the root alone, and nothing is open.
-pub fn new_share(
+/// A new share of a configuration over a tree that was made for it, and a list of opens: the root alone, and nothing is open.
+fn share_over<T: Tree + Drop, O: Opens + Drop>(
     alloc: Global,
     configuration: Configuration,
-) -> Result<Share<Tokens, PlainTree, PlainOpens>, CommandFault> {
-    let config = configuration.config;
-    let tree = match PlainTree::new(alloc, config.created, config.capacity) {
-        Ok(tree) => tree,
-        Err(_) => return Err(CommandFault::NoMemory),
+    tree: Result<T, TreeFault>,
+    opens: O,
+) -> Result<Share<Tokens, T, O>, CommandFault>
+    requires tree { IfOk tree (λ made. T.content made ≡ new_content configuration.config.created configuration.config.capacity) }
+    requires opens { O.content opens ≡ [] }
+{
+    let Ok(tree) = tree else {
+        return Err(CommandFault::NoMemory);
     };
-    let opens = PlainOpens::new(alloc);
-    match Share::new(alloc, config, configuration.authenticator, tree, opens) {
+    let Configuration {
+        config,
+        authenticator,
+    } = configuration;
+    match Share::new(alloc, config, authenticator, tree, opens) {
         Ok(share) => Ok(share),
         Err(ServeFault::NoMemory { done: _ }) => Err(CommandFault::NoMemory),
         Err(_) => Err(CommandFault::ConfigRefused),
     }
 }
 
-/// Replays a text on a new share, and writes what the share answers.
-fn replay<R: Read + Drop, W: Write>(
+/// A new share of a configuration: the root alone, and nothing is open.
+pub fn new_share(
     alloc: Global,
-    config: &str,
-    input: R,
+    configuration: Configuration,
+) -> Result<Share<Tokens, NodeTree, HandleTable>, CommandFault> {
+    let config = &configuration.config;
+    let tree = NodeTree::new(alloc, config.created, config.capacity);
+    share_over(alloc, configuration, tree, HandleTable::new(alloc))
+}
+
+/// A new share over the plain tree and the plain list of opens, for tests: it answers the same, and takes longer.
+pub fn new_plain_share(
+    alloc: Global,
+    configuration: Configuration,
+) -> Result<Share<Tokens, PlainTree, PlainOpens>, CommandFault> {
+    let config = &configuration.config;
+    let tree = PlainTree::new(alloc, config.created, config.capacity);
+    share_over(alloc, configuration, tree, PlainOpens::new(alloc))
+}
+
+/// Runs the events of a script on a share, and writes what it answers.
+fn run_script<T: Tree + Drop, O: Opens + Drop, W: Write>(
+    alloc: Global,
+    share: &mut Share<Tokens, T, O>,
+    script: &Script,
     output: &mut W,
 ) -> Result<(), CommandFault> {
-    let configuration = Configuration::read(alloc, config)?;
-    let text = read_input(alloc, input)?;
-    let script = Script::read(alloc, &text)?;
-    let mut share = new_share(alloc, configuration)?;
     let mut answers = Vec::new(alloc);
     let ran = share.run(&script.events, &mut answers);
     write_answers(&answers, output)?;
@@ -95,6 +122,53 @@ fn replay<R: Read + Drop, W: Write>(
     match script.unreadable_at {
         Some(line) => Err(CommandFault::Unreadable(line)),
         None => Ok(()),
+    }
+}
+
+/// What a replay takes: a configuration and a script.
+fn read_replay<R: Read + Drop>(
+    alloc: Global,
+    config: &str,
+    input: R,
+) -> Result<(Configuration, Script), CommandFault> {
+    let configuration = Configuration::read(alloc, config)?;
+    let text = read_input(alloc, input)?;
+    Ok((configuration, Script::read(alloc, &text)?))
+}
+
+/// Replays a text on a new share, and writes what the share answers.
+fn replay<R: Read + Drop, W: Write>(
+    alloc: Global,
+    config: &str,
+    input: R,
+    output: &mut W,
+) -> Result<(), CommandFault> {
+    let (configuration, script) = read_replay(alloc, config, input)?;
+    let mut share = new_share(alloc, configuration)?;
+    run_script(alloc, &mut share, &script, output)
+}
+
+/// Replays a text on a new plain share, and writes what the share answers.
+fn replay_plain<R: Read + Drop, W: Write>(
+    alloc: Global,
+    config: &str,
+    input: R,
+    output: &mut W,
+) -> Result<(), CommandFault> {
+    let (configuration, script) = read_replay(alloc, config, input)?;
+    let mut share = new_plain_share(alloc, configuration)?;
+    run_script(alloc, &mut share, &script, output)
+}
+
+/// Writes the fault of a replay, if there is one, and gives the exit status.
+fn status_of<E: Write>(replayed: Result<(), CommandFault>, errors: &mut E) -> u8 {
+    match replayed {
+        Ok(()) => 0,
+        Err(fault) => {
+            let _ = writeln!(errors, "{fault}");
+            let _ = errors.flush();
+            fault.status()
+        }
     }
 }
 
@@ -112,12 +186,16 @@ pub fn replay_text<R: Read + Drop, W: Write, E: Write>(
     output: &mut W,
     errors: &mut E,
 ) -> u8 {
-    match replay(alloc, config, input, output) {
-        Ok(()) => 0,
-        Err(fault) => {
-            let _ = writeln!(errors, "{fault}");
-            let _ = errors.flush();
-            fault.status()
-        }
-    }
+    status_of(replay(alloc, config, input, output), errors)
+}
+
+/// The same on a share over the plain tree and the plain list of opens, for tests.
+pub fn replay_plain_text<R: Read + Drop, W: Write, E: Write>(
+    alloc: Global,
+    config: &str,
+    input: R,
+    output: &mut W,
+    errors: &mut E,
+) -> u8 {
+    status_of(replay_plain(alloc, config, input, output), errors)
 }

@@ -1,8 +1,9 @@
 //! Plays the rows of standard input: each is a text of events, in bytes, and the answers to it, set by hand from the
-//! standard's tables. Prints `ok NAME` for each row whose answers are those that the share gives, and else what is
-//! wrong with it; then the status is 1.
+//! standard's tables. Prints `ok NAME` for each row whose answers are those that a share gives, over the tree and the opens
+//! that the program serves and over the plain ones, and else what is wrong with it; then the status is 1.
 //!
-//! docs/TESTING.md says how a row is written.
+//! docs/TESTING.md says how a row is written. With the word `plain` it replays a text of events over the plain pair, as smbshare
+//! does over its own.
 #![tactic(auto)]
 
 mod book;
@@ -13,9 +14,9 @@ mod words;
 use book::Book;
 use differ::tell;
 use row::{Kind, Row};
-use smb_replay::{replay_text, show_text};
+use smb_replay::{BUILT_IN, replay_plain_text, replay_text, show_text};
 use std::alloc::{AllocError, Global};
-use std::io::Read;
+use std::io::{BufWriter, Read};
 use std::process::ExitCode;
 
 /// What a row's input gave: its exit status, standard output and standard error.
@@ -26,13 +27,26 @@ struct Played {
     errors: Vec<u8>,
 }
 
+/// Over which tree and opens a row is played.
+#[derive(Clone, Copy)]
+enum Pair {
+    /// Those that the program serves.
+    Slots,
+    Plain,
+}
+
 /// Plays a row on a new share.
-fn play(alloc: Global, row: &Row) -> Played {
+fn play(alloc: Global, row: &Row, pair: Pair) -> Played {
     let mut output = Vec::new(alloc);
     let mut errors = Vec::new(alloc);
     let input = row.input.as_bytes();
     let status = match row.kind {
-        Kind::Replay => replay_text(alloc, row.config.as_str(), input, &mut output, &mut errors),
+        Kind::Replay => match pair {
+            Pair::Slots => replay_text(alloc, row.config.as_str(), input, &mut output, &mut errors),
+            Pair::Plain => {
+                replay_plain_text(alloc, row.config.as_str(), input, &mut output, &mut errors)
+            }
+        },
         Kind::Show => show_text(alloc, input, &mut output, &mut errors),
     };
     Played {
@@ -42,24 +56,16 @@ fn play(alloc: Global, row: &Row) -> Played {
     }
 }
 
-/// Prints whether a row is as it says, and tells it.
-fn is_well(rt: &HostRuntime, row: &Row) -> bool {
-    let name = row.name.as_str();
-    if let Some(fault) = row.standing_fault() {
-        let _ = println!(rt; "{name}: {fault}");
-        return false;
-    }
-    let played = play(rt.alloc(), row);
+/// Whether a row gave what it says; where it did not, prints what differs.
+fn is_as_said(rt: &HostRuntime, row: &Row, played: &Played) -> bool {
     let output = std::str::from_utf8(&played.output).unwrap_or("?");
     let errors = std::str::from_utf8(&played.errors).unwrap_or("?");
     if output == row.output.as_str()
         && errors == row.errors.as_str()
         && played.status == row.status
     {
-        let _ = println!(rt; "ok {name}");
         return true;
     }
-    let _ = println!(rt; "{name} differs");
     tell(rt, "answer", row.output.as_str(), output);
     tell(rt, "error", row.errors.as_str(), errors);
     let (wanted, found) = (row.status, played.status);
@@ -67,6 +73,24 @@ fn is_well(rt: &HostRuntime, row: &Row) -> bool {
         let _ = println!(rt; "  status wanted {wanted}, found {found}");
     }
     false
+}
+
+/// Prints whether a row is as it says over both pairs, and tells it.
+fn is_well(rt: &HostRuntime, row: &Row) -> bool {
+    let name = row.name.as_str();
+    if let Some(fault) = row.standing_fault() {
+        let _ = println!(rt; "{name}: {fault}");
+        return false;
+    }
+    for pair in [Pair::Slots, Pair::Plain] {
+        let played = play(rt.alloc(), row, pair);
+        if !is_as_said(rt, row, &played) {
+            let _ = println!(rt; "{name} differs");
+            return false;
+        }
+    }
+    let _ = println!(rt; "ok {name}");
+    true
 }
 
 /// Plays the rows of a text, and tells whether all are well.
@@ -88,24 +112,46 @@ fn play_rows(rt: &HostRuntime, text: &str) -> Result<bool, AllocError> {
     Ok(all)
 }
 
-/// Plays standard input.
-fn run(rt: &HostRuntime) -> Result<bool, AllocError> {
+/// Plays the rows of standard input, and gives the exit status.
+fn play_input(rt: &HostRuntime) -> Result<ExitCode, AllocError> {
     let mut input = Vec::new(rt.alloc());
     if rt.stdin().read_to_end(&mut input).is_err() {
         return Err(AllocError);
     }
     match std::str::from_utf8(&input) {
-        Ok(text) => play_rows(rt, text),
+        Ok(text) => Ok(ExitCode::from(u8::from(!play_rows(rt, text)?))),
         Err(_) => {
             let _ = println!(rt; "not text");
-            Ok(false)
+            Ok(ExitCode::FAILURE)
         }
+    }
+}
+
+/// Replays the events of standard input on a share over the plain pair, as the program does over its own.
+fn replay_input(rt: &HostRuntime) -> Result<ExitCode, AllocError> {
+    let Ok(mut output) = BufWriter::new(rt.alloc(), rt.stdout()) else {
+        return Err(AllocError);
+    };
+    let mut errors = rt.stderr();
+    let status = replay_plain_text(rt.alloc(), BUILT_IN, rt.stdin(), &mut output, &mut errors);
+    Ok(ExitCode::from(status))
+}
+
+/// Does what the words of the command line say: with a word it replays, with none it plays rows.
+fn run(rt: &HostRuntime) -> Result<ExitCode, AllocError> {
+    let words: Vec<String> = match std::env::args(rt) {
+        Ok(words) => words.collect(rt.alloc())?,
+        Err(_) => return Err(AllocError),
+    };
+    match words.as_slice() {
+        [_, word] if word.as_str() == "plain" => replay_input(rt),
+        _ => play_input(rt),
     }
 }
 
 fn main(rt: HostRuntime) -> ExitCode {
     match run(&rt) {
-        Ok(all) => ExitCode::from(u8::from(!all)),
+        Ok(status) => status,
         Err(_) => ExitCode::from(3),
     }
 }

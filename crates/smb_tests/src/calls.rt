@@ -1,24 +1,25 @@
 //! The calls of a share, each in a small function of its own.
 
 use smb_engine::{Answer, Event, Fate, RunFault, ServeFault, Share, laws_of_shares};
+use smb_handles::HandleTable;
 use smb_layer_tests::words::{ECHO, ECHOED, LONG_ECHO, MOMENT, NEGOTIATE, NEGOTIATED, frames};
-use smb_opens::PlainOpens;
+use smb_nodes::NodeTree;
 use smb_replay::{BUILT_IN, Configuration, new_share};
 use smb_session::{Authenticator, Tokens};
-use smb_tree::PlainTree;
 use std::alloc::Global;
 
-pub(crate) type Plain = Share<Tokens, PlainTree, PlainOpens>;
+/// A share as the program serves it.
+pub(crate) type Served = Share<Tokens, NodeTree, HandleTable>;
 
 /// A share of the built-in configuration.
-pub(crate) fn built_in(alloc: Global) -> Option<Plain> {
+pub(crate) fn built_in(alloc: Global) -> Option<Served> {
     let configuration = Configuration::read(alloc, BUILT_IN).ok()?;
     new_share(alloc, configuration).ok()
 }
 
 /// Whether a connection that is open takes a piece and is then as said.
 pub(crate) fn takes<A: Authenticator + Drop>(
-    share: &mut Share<A, PlainTree, PlainOpens>,
+    share: &mut Share<A, NodeTree, HandleTable>,
     connection: u64,
     piece: &[u8],
     out: &mut Vec<u8>,
@@ -35,7 +36,7 @@ pub(crate) fn takes<A: Authenticator + Drop>(
 
 /// Whether connections get these numbers in turn.
 pub(crate) fn opens<A: Authenticator + Drop>(
-    share: &mut Share<A, PlainTree, PlainOpens>,
+    share: &mut Share<A, NodeTree, HandleTable>,
     first: u64,
     last: u64,
 ) -> bool {
@@ -48,7 +49,7 @@ pub(crate) fn opens<A: Authenticator + Drop>(
 }
 
 /// Whether connection 1 takes bytes one by one, and stays open.
-fn takes_each(share: &mut Plain, bytes: &[u8], out: &mut Vec<u8>) -> bool {
+fn takes_each(share: &mut Served, bytes: &[u8], out: &mut Vec<u8>) -> bool {
     for byte in bytes {
         if !takes(share, 1, &[*byte], out, Fate::Open) {
             return false;
@@ -58,7 +59,7 @@ fn takes_each(share: &mut Plain, bytes: &[u8], out: &mut Vec<u8>) -> bool {
 }
 
 /// What connection 1 is answered that takes two frames byte by byte, and then ends by the first byte of a third.
-fn fed(share: &mut Plain, alloc: Global) -> Option<Vec<u8>> {
+fn fed(share: &mut Served, alloc: Global) -> Option<Vec<u8>> {
     let both = frames(alloc, &[NEGOTIATE, ECHO])?;
     let mut out = Vec::new(alloc);
     let is_so = opens(share, 1, 2)
@@ -68,7 +69,7 @@ fn fed(share: &mut Plain, alloc: Global) -> Option<Vec<u8>> {
 }
 
 /// Whether connection 2 ends by a length over the limit, in two pieces, alone.
-fn ends_alone(share: &mut Plain, alloc: Global) -> bool {
+fn ends_alone(share: &mut Served, alloc: Global) -> bool {
     let mut out = Vec::new(alloc);
     let is_so = takes(share, 2, &[0, 2, 0], &mut out, Fate::Open)
         && takes(share, 2, &[1], &mut out, Fate::Ended);
@@ -95,7 +96,7 @@ fn feeds_byte_by_byte(rt: HostRuntime) {
 }
 
 /// What connection 1 is answered that takes a frame, and then one with the longest payload.
-fn fed_long(share: &mut Plain, alloc: Global) -> Option<Vec<u8>> {
+fn fed_long(share: &mut Served, alloc: Global) -> Option<Vec<u8>> {
     let first = frames(alloc, &[NEGOTIATE])?;
     let second = frames(alloc, &[LONG_ECHO])?;
     let mut out = Vec::new(alloc);
@@ -136,7 +137,7 @@ fn events(alloc: Global) -> Option<Vec<Event>> {
 }
 
 /// What events are answered.
-fn ran(share: &mut Plain, alloc: Global) -> Option<Vec<Answer>> {
+fn ran(share: &mut Served, alloc: Global) -> Option<Vec<Answer>> {
     let events = events(alloc)?;
     let mut answers = Vec::new(alloc);
     match share.run(&events, &mut answers) {
@@ -157,7 +158,7 @@ fn are_right(alloc: Global, answers: &[Answer]) -> bool {
 }
 
 /// Whether the second event of a run is refused.
-fn refuses(share: &mut Plain, alloc: Global, event: Event) -> bool {
+fn refuses(share: &mut Served, alloc: Global, event: Event) -> bool {
     let mut answers = Vec::new(alloc);
     let refused = RunFault {
         place: 1,
@@ -183,7 +184,7 @@ fn runs_events(rt: HostRuntime) {
 }
 
 /// Whether 64 connections are open at most, and a number is given once.
-fn opens_sixty_four(share: &mut Plain) -> bool {
+fn opens_sixty_four(share: &mut Served) -> bool {
     if !opens(share, 1, 64) || share.opened() != Err(ServeFault::TooManyConnections) {
         return false;
     }

@@ -3,7 +3,7 @@
 ghost use Rattle.std.specs.Prelude.{IfSome, IsTrue};
 ghost use Rattle.smb_engine.specs.MemoryPeers.{are_distinct, opened_by};
 
-use super::calls::{Plain, built_in};
+use super::calls::{Served, built_in};
 use smb_engine::{ListClock, MemoryPeers, PeerStep, Peers, SendStep, serve};
 use smb_layer_tests::words::{MOMENT, NEGOTIATE, NEGOTIATED, frames};
 use std::alloc::Global;

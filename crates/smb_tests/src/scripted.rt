@@ -7,14 +7,14 @@ ghost use Rattle.smb_session.specs.Answers.{answered_by};
 
 use super::calls::{opens, takes};
 use smb_engine::{Fate, Share};
+use smb_handles::HandleTable;
 use smb_layer_tests::words::{NEGOTIATE, NEGOTIATED, frames};
-use smb_opens::PlainOpens;
+use smb_nodes::NodeTree;
 use smb_replay::{BUILT_IN, Configuration};
 use smb_session::{Answer, Scripted};
-use smb_tree::PlainTree;
 use std::alloc::Global;
 
-type Told = Share<Scripted, PlainTree, PlainOpens>;
+type Told = Share<Scripted, NodeTree, HandleTable>;
 
 /// A SESSION_SETUP with MessageId 1, SessionId 0 and the token `61`.
 const SETUP: &str =
@@ -46,8 +46,8 @@ fn script(alloc: Global) -> Option<Vec<Answer>>
 /// A share of a configuration, but for its authenticator.
 fn share_of(alloc: Global, configuration: Configuration, authenticator: Scripted) -> Option<Told> {
     let config = configuration.config;
-    let tree = PlainTree::new(alloc, config.created, config.capacity).ok()?;
-    Share::new(alloc, config, authenticator, tree, PlainOpens::new(alloc)).ok()
+    let tree = NodeTree::new(alloc, config.created, config.capacity).ok()?;
+    Share::new(alloc, config, authenticator, tree, HandleTable::new(alloc)).ok()
 }
 
 /// A share with the script: more is wanted, and then a denial.

@@ -1,6 +1,6 @@
 //! A share that is served over TCP, with its client in the same thread.
 
-use super::calls::{Plain, built_in};
+use super::calls::{Served, built_in};
 use smb_engine::serve;
 use smb_layer_tests::words::{NEGOTIATE, NEGOTIATED, frames};
 use smb_tcp::{SystemClock, TcpPeers};
@@ -13,7 +13,12 @@ use std::net::{TcpListener, TcpStream};
 const MOMENT_AT: usize = 108;
 
 /// Serves a share to one client, which has sent a frame before, and gives the first bytes of what it is answered.
-fn served(rt: &HostRuntime, share: &mut Plain, frame: &[u8], answer: &mut [u8]) -> io::Result<u64> {
+fn served(
+    rt: &HostRuntime,
+    share: &mut Served,
+    frame: &[u8],
+    answer: &mut [u8],
+) -> io::Result<u64> {
     let listener = TcpListener::bind(rt, "127.0.0.1:0")?;
     let mut client = TcpStream::connect(rt, listener.local_addr()?)?;
     client.write_all(frame)?;

@@ -2,9 +2,10 @@ use Rattle.std.proofs.Common.{sym, ap, ◌∙◌}
 use Rattle.slab.specs.Slab.{get}
 use Rattle.smb_access.specs.Opens.{without_open}
 use Rattle.smb_handles.specs.Groups.{members}
+use Rattle.smb_handles.specs.Uses.{counted}
 use Rattle.smb_handles.specs.Table.{rows_of}
 use Rattle.smb_handles.proofs.Live.{absent_without, found_none, holds_some, live_at}
-use Rattle.smb_handles.proofs.Tables.{rows_less, table_less}
+use Rattle.smb_handles.proofs.Tables.{part_counted, rows_less, table_less}
 use Rattle.smb_handles.proofs.table.HandleTableOpens.remove.Goals as goal
 
 pub returns-in_default : goal.returns-in_default
@@ -17,11 +18,15 @@ pub remove-row-requires : goal.remove-row-requires
 remove-row-requires c =
     holds_some (get c.self.inside.rows c.in-Some.slot) c.args.number (live_at (get c.self.inside.rows) c.self.inside.index.entries c.args.number c.in-Some.slot c.self.invariant.live (sym c.in-Some.ensures.value))
 
+pub forget-requires : goal.forget-requires
+forget-requires c =
+    part_counted (get c.self.inside.rows) (get c.remove-row.new.self) c.self.inside.index.entries c.remove.new.self.entries c.args.number c.in-Some.slot c.remove-row.result (sym c.in-Some.ensures.value) c.remove-row.ensures.value c.remove-row.ensures.updates.others c.remove.ensures.entries (members c.self.inside.groups.sets) (counted c.self.inside.uses.counts) c.self.invariant
+
 pub invariant_of-self-2 : goal.invariant_of-self-2
 invariant_of-self-2 c =
-    table_less (get c.self.inside.rows) (get c.remove-row.new.self) c.self.inside.index.entries c.remove.new.self.entries c.args.number c.in-Some.slot c.remove-row.result (sym c.in-Some.ensures.value) c.remove-row.ensures.value c.remove-row.ensures.updates.others c.remove.ensures.entries (members c.self.inside.groups.sets) (members c.forget_row.new.self.sets) c.self.invariant c.forget_row.ensures
+    table_less (get c.self.inside.rows) (get c.remove-row.new.self) c.self.inside.index.entries c.remove.new.self.entries c.args.number c.in-Some.slot c.remove-row.result (sym c.in-Some.ensures.value) c.remove-row.ensures.value c.remove-row.ensures.updates.others c.remove.ensures.entries (members c.self.inside.groups.sets) (members c.forget_row.new.self.sets) (counted c.self.inside.uses.counts) (counted c.forget.new.self.counts) c.self.invariant c.forget_row.ensures c.forget.ensures
 
 pub returns : goal.returns
 returns c =
-    rows_less (get c.self.inside.rows) (get c.remove-row.new.self) c.self.inside.index.entries c.remove.new.self.entries c.args.number c.in-Some.slot c.remove-row.result (sym c.in-Some.ensures.value) c.remove-row.ensures.value c.remove-row.ensures.updates.others c.remove.ensures.entries (members c.self.inside.groups.sets) c.self.invariant
+    rows_less (get c.self.inside.rows) (get c.remove-row.new.self) c.self.inside.index.entries c.remove.new.self.entries c.args.number c.in-Some.slot c.remove-row.result (sym c.in-Some.ensures.value) c.remove-row.ensures.value c.remove-row.ensures.updates.others c.remove.ensures.entries (members c.self.inside.groups.sets) (counted c.self.inside.uses.counts) c.self.invariant
     ∙ ap (without_open c.args.number) c.self.view_is

@@ -2,6 +2,7 @@ use Rattle.std.proofs.Common.{sym, ap, ◌∙◌}
 use Rattle.slab.specs.Slab.{get}
 use Rattle.smb_access.specs.Opens.{with_scan}
 use Rattle.smb_handles.specs.Groups.{members}
+use Rattle.smb_handles.specs.Uses.{counted}
 use Rattle.smb_handles.specs.Table.{rows_of}
 use Rattle.smb_handles.proofs.Live.{absent_scan, found_none}
 use Rattle.smb_handles.proofs.Tables.{rows_set, table_set}
@@ -13,9 +14,9 @@ returns-in_default c =
 
 pub invariant_of-self : goal.invariant_of-self
 invariant_of-self c =
-    table_set (get c.self.inside.rows) (get c.scan_slot.new.rows) c.self.inside.index.entries c.args.number c.in-Some.slot.now c.args.scan (sym c.in-Some.ensures.value) c.scan_slot.ensures.scan c.scan_slot.ensures.others (members c.self.inside.groups.sets) c.self.invariant
+    table_set (get c.self.inside.rows) (get c.scan_slot.new.rows) c.self.inside.index.entries c.args.number c.in-Some.slot.now c.args.scan (sym c.in-Some.ensures.value) c.scan_slot.ensures.scan c.scan_slot.ensures.others (members c.self.inside.groups.sets) (counted c.self.inside.uses.counts) c.self.invariant
 
 pub returns : goal.returns
 returns c =
-    rows_set (get c.self.inside.rows) (get c.scan_slot.new.rows) c.self.inside.index.entries c.args.number c.in-Some.slot.now c.args.scan (sym c.in-Some.ensures.value) c.scan_slot.ensures.scan c.scan_slot.ensures.others (members c.self.inside.groups.sets) c.self.invariant
+    rows_set (get c.self.inside.rows) (get c.scan_slot.new.rows) c.self.inside.index.entries c.args.number c.in-Some.slot.now c.args.scan (sym c.in-Some.ensures.value) c.scan_slot.ensures.scan c.scan_slot.ensures.others (members c.self.inside.groups.sets) (counted c.self.inside.uses.counts) c.self.invariant
     ∙ ap (with_scan c.args.number c.args.scan) c.self.view_is
