@@ -4,8 +4,7 @@
     (cd crates/smbshare && rt run < stdin > /dev/null)     builds crates/smbshare/out/smbshare
     python3 bench/files.py
 
-The files are made first, and then opened and closed in turn. The plain tree goes through its entries for each
-look-up, so a pair may cost more where there are more files.
+The files are made first, and then opened and closed in turn.
 """
 from frames import close, create, negotiate, session_setup, tree_connect
 from runs import piece, replayed, succeeds

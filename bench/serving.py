@@ -13,37 +13,12 @@ import sys
 import time
 
 sys.path.insert(0, str(pathlib.Path(__file__).resolve().parent.parent / 'tools'))
+from exchanging import processor_seconds, seconds_for
 from frames import close, create, echoes, read, session_setup, tree_connect, write
 from serving import ALL_ACCESS, LONGEST_PIECE, OPEN_IF, Served, opens_a_file
 
 IDLE_SECONDS = 10
 PIECE = bytes(LONGEST_PIECE)
-
-
-def processor_seconds(process):
-    """The program's processor seconds so far."""
-    with open(f'/proc/{process.pid}/schedstat', encoding='ascii') as it:
-        return int(it.read().split()[0]) / 1e9
-
-
-def take_reply(client):
-    if not client.reply():
-        raise AssertionError('an answer is missing')
-
-
-def seconds_for(client, frames, in_flight):
-    """How long it takes until each of some frames is answered, with so many in flight."""
-    waiting = 0
-    start = time.perf_counter()
-    for frame in frames:
-        if waiting == in_flight:
-            take_reply(client)
-            waiting -= 1
-        client.send(frame)
-        waiting += 1
-    for _ in range(waiting):
-        take_reply(client)
-    return time.perf_counter() - start
 
 
 def place(i):

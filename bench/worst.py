@@ -143,6 +143,26 @@ def renames_deeper(filler):
         yield [lambda m, place=place: rename(m, number, place, 1, 1) for place in places]
 
 
+def renames_beside_opens(filler):
+    """A folder is renamed while as many opens as may be are deep in others."""
+    around = filled(filler, 30, 0)
+    for i in range(MOST_OPENS - 2):
+        filler.opened(f'{around}\\{long_name(i)}')
+    number = opened_folder(filler, 1)
+    while True:
+        yield [lambda m, i=i: rename(m, number, long_name(i, 'd'), 1, 1) for i in range(16)]
+
+
+def listings_by_letters(filler):
+    """Listings by a pattern of letters and `*`, of which a longer part fits with each unit of a name, and which no name fits."""
+    filler.made('d', DIRECTORY_FILE)
+    for i in range(MOST_ENTRIES - 10):
+        filler.made(f'd\\{i:04}{"a" * (LONGEST_NAME - 4)}')
+    number = filler.opened('d')
+    while True:
+        yield [lambda m: query_directory(m, number, ID_BOTH_DIRECTORY, RESTART_SCANS, '*b' + '*a' * 126, 65_536, 1, 1)] * 16
+
+
 def listings_by_stars(filler):
     number = opened_folder(filler, MOST_ENTRIES - 10)
     while True:
@@ -190,7 +210,9 @@ CASES = (
     ('8 CREATEs and 8 CLOSEs of a file with 1,016 opens', opens_of_one_file),
     ('16 renames of a folder with 4,086 files', renames_of_a_folder),
     ('16 renames of a folder with 4,056 files, into folders and out', renames_deeper),
-    ('16 listings by 254 `*` of 4,086 files that do not match', listings_by_stars),
+    ('16 renames of a folder, beside 1,022 opens in 30 folders', renames_beside_opens),
+    ('16 listings by 254 `*` and an x, which none of 4,086 files matches', listings_by_stars),
+    ('16 listings by `*b` and 126 `*a`, which none of 4,086 files matches', listings_by_letters),
     ('16 sizes of a file, 0 and 16 MiB in turn', sizes_of_a_file),
     ('8 WRITEs at the end of 16 MiB that are not there', writes_past_holes),
     ('7 LOCKs and 7 unlocks of 256 ranges', locks_of_a_file),

@@ -7,7 +7,8 @@ A row of it whose first cell is "the whole file" or "the whole files", without t
 
 Public is what lib.rt exports; of an inner crate, whose lib.rt says `An inner crate of NAME:`, what the lib.rt of NAME exports on. Of it count
 the clauses of functions, of types' `pub` methods and of traits' methods, and the ghost members of traits, types and impls; of an `impl Model` the
-Value and the view. (Its invariant is proved of each value that is made, and no caller is told of it.) The files are read by the layout that
+Value, and the view where a caller can look at a field. (Else the view is how the proofs come from fields to values, and a caller meets values alone: they are
+what the clauses of the calls say, whatever the view. The invariant is proved of each value that is made, and no caller is told of it.) The files are read by the layout that
 `rt fmt` gives them, without the parts for tests alone. A variable that has the name of a definition counts as the definition.
 """
 import pathlib
@@ -145,6 +146,8 @@ class Crate:
         declared = re.compile(r"^(pub )?(?:pub\([a-z ]+\) )?(?:struct|enum|trait) (\w+)", re.M)
         types = [(name, shown != "" and self.is_public(module, name)) for module, text in self.files.items() for shown, name in declared.findall(text)]
         self.types = dict(sorted(types))
+        struct = re.compile(r"^pub struct (\w+)[^;{]*(?:\{.*?^\}|\{\}|;)", re.M | re.S)
+        self.closed = {found.group(1) for text in self.files.values() for found in struct.finditer(text) if not re.search(r"\bpub (?!struct|ghost)", found.group())}
 
     def is_public(self, module, name):
         if self.shown is not None:
@@ -160,7 +163,8 @@ class Crate:
             return [item] if item.startswith("pub ") and self.is_public(module, name) else []
         if kind != "impl":
             return members_of(item) if self.types.get(name) else []
-        shown = r"ghost (Value|view)\b" if "Model" in head else "" if "for" in head else r"pub (const )?fn\b"
+        model = r"ghost Value\b" if head[-1] in self.closed else r"ghost (Value|view)\b"
+        shown = model if "Model" in head else "" if "for" in head else r"pub (const )?fn\b"
         return [it for it in members_of(item) if re.match(shown, it) and all(self.types.get(word, True) for word in head[1:])]
 
     def roots(self, specs):

@@ -1,5 +1,5 @@
 #!/usr/bin/env python3
-"""Tests the proved program over TCP: what it prints, its statuses, and that it serves beside peers that misbehave.
+"""Tests the proved program over TCP: what it prints, its statuses, and that it serves beside peers that misbehave; and the stored run of examples/.
 
     python3 tools/serving.py [PROGRAM]
 
@@ -279,6 +279,14 @@ def configurations_are_looked_at_first():
             and ran('serve', '--listen', 'x', '--config', os.path.abspath(__file__)) == (1, '', 'config: refused\n'))
 
 
+def two_clients_are_replayed():
+    """Whether the stored run of two clients and one file gets its stored answers."""
+    run = os.path.join(TOP, 'examples', 'two_clients')
+    with open(run, 'rb') as events, open(f'{run}.answers', 'rb') as answers:
+        found = subprocess.run([PROGRAM, 'replay'], stdin=events, capture_output=True, timeout=PATIENCE)
+        return (found.returncode, found.stdout, found.stderr) == (0, answers.read(), b'')
+
+
 def words_are_refused():
     return all(ran('serve', *words)[0] == 2 for words in ((), ('--listen',), ('--listen', 'x', '--turns', '0'), ('--listen', 'x', '--idle', '-1')))
 
@@ -286,7 +294,7 @@ def words_are_refused():
 TESTS = (a_client_is_served, a_file_is_written_and_read, bytes_come_one_by_one, an_end_is_told, sixty_four_are_served, others_go_on_beside_ends,
          one_that_never_reads_holds_up_nobody, slow_reader_takes_every_byte, without_descriptors_it_goes_on, silence_is_an_end,
          a_clock_before_1970_is_1970, a_port_that_is_not_allowed_is_refused, so_many_turns_are_taken, addresses_are_refused,
-         configurations_are_looked_at_first, words_are_refused)
+         configurations_are_looked_at_first, two_clients_are_replayed, words_are_refused)
 
 
 def passes(test):

@@ -18,6 +18,7 @@ for folder in crates/*/; do
 done
 python3 tools/edits.py --check || fail 'The list of edits in docs/TESTING.md is not that of the edits.'
 python3 tools/believed.py --check || fail "docs/DEFINITIONS.md does not name what a reader must believe."
+python3 tools/bodies.py --check || fail 'docs/BODIES.md is not what tools/bodies.py writes.'
 python3 tools/frame.py check crates/smb_rows/stdin || fail 'tools/frame.py does not agree with the rows.'
 
 log=$(mktemp)

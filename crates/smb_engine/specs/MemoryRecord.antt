@@ -1,3 +1,4 @@
+-- For the proofs; nothing here need be believed.
 -- How peers over memory hold their record: a list of calls, and all bytes that they took in one list.
 use Rattle.std.specs.Prelude.{ℕ, ◌+◌, ◌==◌, Bool, false, List, [], ◌∷◌, ◌++◌, take, drop, Option, None, Some, if◌then◌else◌}
 use Rattle.smb_engine.specs.declared.memory_peers.PeerStep.{PeerStep}

@@ -1,3 +1,4 @@
+-- For the proofs; nothing here need be believed.
 -- Opens in slots, and the index that leads from their numbers to the slots.
 use Rattle.std.specs.Prelude.{ℕ, ◌≡◌, ◌<◌, List, [], ◌∷◌, Option, IsSomeAnd, filter_map}
 use Rattle.std.specs.List.{AllByRecursion}

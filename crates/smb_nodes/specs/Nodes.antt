@@ -1,3 +1,4 @@
+-- For the proofs; nothing here need be believed.
 -- Nodes: each knows its parent and its children; and the rows that they are.
 use Rattle.std.specs.Prelude.{◌≡◌, ℕ, zero, suc, ◌<◌, ◌==◌, nat_eq, Bool, true, false, if◌then◌else◌, List, [], ◌∷◌, ◌++◌, map, Option, None, Some, is_some, unwrap_or, refl}
 use Rattle.std.specs.List.{list_any}

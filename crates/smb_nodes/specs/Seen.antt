@@ -1,3 +1,4 @@
+-- For the proofs; nothing here need be believed.
 -- The nodes of a tree as the code keeps them.
 use Rattle.std.specs.Prelude.{◌≡◌, ℕ, Option, None, Some}
 use Rattle.std.specs.Ordering.{nat_cmp}

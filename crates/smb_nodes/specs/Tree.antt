@@ -1,3 +1,4 @@
+-- For the proofs; nothing here need be believed.
 -- A tree of nodes as a content.
 use Rattle.std.specs.Prelude.{◌≡◌, ℕ, ◌≤◌, List, length}
 use Rattle.std.specs.List.{AllByRecursion}

@@ -22,8 +22,8 @@
 //!
 //! [`Store::set_scan`] keeps how far a scan of a directory has come through an open.
 //!
-//! A CREATE looks its path and its folder up, goes through the opens of its entry, and through what is stored for an
-//! overwritten file; all else takes time as the tree and the opens say.
+//! A CREATE looks its path and its folder up, asks at most six questions of the opens of its entry, and takes what is stored for an
+//! overwritten file away; all else takes time as the tree and the opens say.
 #![tactic(auto)]
 
 mod bytes;

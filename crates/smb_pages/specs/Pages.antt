@@ -1,3 +1,4 @@
+-- For the proofs; nothing here need be believed.
 -- The bytes of a file that is kept in pages of 4,096 bytes.
 use Rattle.std.specs.Prelude.{◌≡◌, ◌+◌, ◌*◌, ◌/◌, ◌%◌, ◌<◌, ◌≤◌, ℕ, List, [], length, map, slice_index, slice_index_or, Vec}
 use Rattle.std.specs.List.{range_with_len}

@@ -1,3 +1,4 @@
+-- For the proofs; nothing here need be believed.
 -- The entries that a plain tree stores, as rows.
 use Rattle.std.specs.Prelude.{◌≡◌, ℕ, ◌<◌, if◌then◌else◌, List, length, map, take, slice_index_or, Option, None, Some}
 use Rattle.smb_wire.specs.Pairs.{units_in}

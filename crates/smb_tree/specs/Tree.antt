@@ -1,3 +1,4 @@
+-- For the proofs; nothing here need be believed.
 -- A plain tree as a content.
 use Rattle.std.specs.Prelude.{◌≡◌}
 use Rattle.smb_tree.specs.Content.{Content, used_space}

@@ -1,3 +1,4 @@
+-- For the proofs; nothing here need be believed.
 -- How a folded name is kept: its units, and zeros behind them.
 use Rattle.std.specs.Prelude.{◌≡◌, ℕ, ◌-◌, ◌<◌, List, ◌++◌, length, take, drop, replicate}
 use Rattle.std.proofs.Common.{arith, take-append-drop}

@@ -1,0 +1,28 @@
+"""Exchanges with the proved program over TCP, timed."""
+import time
+
+
+def processor_seconds(process):
+    """The program's processor seconds so far."""
+    with open(f'/proc/{process.pid}/schedstat', encoding='ascii') as it:
+        return int(it.read().split()[0]) / 1e9
+
+
+def take_reply(client):
+    if not client.reply():
+        raise AssertionError('an answer is missing')
+
+
+def seconds_for(client, frames, in_flight):
+    """How long it takes until each of some frames is answered, with so many in flight."""
+    waiting = 0
+    start = time.perf_counter()
+    for frame in frames:
+        if waiting == in_flight:
+            take_reply(client)
+            waiting -= 1
+        client.send(frame)
+        waiting += 1
+    for _ in range(waiting):
+        take_reply(client)
+    return time.perf_counter() - start
