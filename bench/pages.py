@@ -45,12 +45,11 @@ class Writer:
 
 
 def fill(writer):
-    for offset in range(0, FILE_SIZE, LONGEST_PIECE):
-        writer.asks(write, 1, offset, bytes(LONGEST_PIECE))
+    write_whole(writer, 1)
 
 
 def fill_with_holes(writer):
-    writer.asks(set_info, 1, FILE_END_OF_FILE, FILE_SIZE.to_bytes(8, 'little'))
+    give_a_size(writer, 1)
     for offset in range(0, FILE_SIZE, 2 * PAGE):
         writer.asks(write, 1, offset, b'x' * PAGE)
 
@@ -85,28 +84,28 @@ def resident(process):
         return next(int(line.split()[1]) for line in it if line.startswith('VmRSS')) * 1024
 
 
+def write_whole(writer, number):
+    for offset in range(0, FILE_SIZE, LONGEST_PIECE):
+        writer.asks(write, number, offset, bytes(LONGEST_PIECE))
+
+
+def give_a_size(writer, number):
+    writer.asks(set_info, number, FILE_END_OF_FILE, FILE_SIZE.to_bytes(8, 'little'))
+
+
 def memory():
     print('| files | what they hold | MiB in files | MiB of memory | times |')
     print('|---|---|---|---|---|')
-    with Served() as share:
-        writer = Writer(share)
-        before = resident(share.process)
-        for number in range(1, 5):
-            if number > 1:
+    for hold, name in ((write_whole, '16 MiB each'), (give_a_size, 'a size of 16 MiB each, and no byte')):
+        with Served() as share:
+            writer = Writer(share)
+            before = resident(share.process)
+            hold(writer, 1)
+            for number in range(2, 5):
                 writer.asks(create, f'file{number}', ALL_ACCESS, OPEN_IF, 0)
-            for offset in range(0, FILE_SIZE, LONGEST_PIECE):
-                writer.asks(write, number, offset, bytes(LONGEST_PIECE))
-        held = resident(share.process) - before
-        print(f'| 4 | 16 MiB each | 64 | {held / 2**20:.1f} | {held / (4 * FILE_SIZE):.3f} |')
-    with Served() as share:
-        writer = Writer(share)
-        before = resident(share.process)
-        for number in range(1, 5):
-            if number > 1:
-                writer.asks(create, f'file{number}', ALL_ACCESS, OPEN_IF, 0)
-            writer.asks(set_info, number, FILE_END_OF_FILE, FILE_SIZE.to_bytes(8, 'little'))
-        held = resident(share.process) - before
-        print(f'| 4 | a size of 16 MiB each, and no byte | 64 | {held / 2**20:.1f} | {held / (4 * FILE_SIZE):.3f} |')
+                hold(writer, number)
+            held = resident(share.process) - before
+            print(f'| 4 | {name} | 64 | {held / 2**20:.1f} | {held / (4 * FILE_SIZE):.3f} |')
 
 
 if __name__ == '__main__':
