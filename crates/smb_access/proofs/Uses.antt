@@ -1,5 +1,5 @@
 -- What is asked of some open, asked in parts.
-use Rattle.std.proofs.Common.{◌≡◌, ℕ, List, [], ◌∷◌, Bool, not, ◌&&◌, ◌||◌, refl, ap, arith, ◌∙◌}
+use Rattle.std.proofs.Common.{true, false, ◌≡◌, ℕ, List, [], ◌∷◌, Bool, not, ◌&&◌, ◌||◌, refl, ap, arith, ◌∙◌}
 use Rattle.std.specs.List.{list_any}
 use Rattle.smb_wire.specs.declared.access.Access.{Access}
 use Rattle.smb_wire.specs.declared.access.ShareAccess.{ShareAccess}
@@ -57,3 +57,19 @@ conflict_is rows entry access share =
     any_same _ _ (λ (row : OpenRow). conflict_parts (is_on_entry entry row) (is_shared_access access) (is_reading row.access) (is_writing row.access) (is_deleting row.access) (not (has_any share.0 FILE_SHARE_READ)) (not (has_any share.0 FILE_SHARE_WRITE)) (not (has_any share.0 FILE_SHARE_DELETE)) (is_kept_out access row.share)) rows
     ∙ any_under (is_shared_access access) _ rows
     ∙ ap (λ b. is_shared_access access && b) (any_or _ _ rows)
+
+last_of_three : (a b c x y z w : Bool) → w ≡ (a && x || b && y || c && z) → (a && x || b && y) ≡ false → c ≡ true → w ≡ z
+last_of_three a b c x y z w e n h = grind (arith, e, n, h)
+
+-- an access that deletes, and isn't kept out otherwise, is where an open doesn't share deleting
+pub kept_out_last : (rows : List OpenRow) (entry : ℕ) (access : Access) → (is_reading access && has_use rows entry SharesNoRead || is_writing access && has_use rows entry SharesNoWrite) ≡ false → is_deleting access ≡ true → is_kept_out_by_some rows entry access ≡ has_use rows entry SharesNoDelete
+kept_out_last rows entry access n h =
+    last_of_three (is_reading access) (is_writing access) (is_deleting access) (has_use rows entry SharesNoRead) (has_use rows entry SharesNoWrite) (has_use rows entry SharesNoDelete) (is_kept_out_by_some rows entry access) (kept_out_is rows entry access) n h
+
+last_of_two : (s k l w : Bool) → w ≡ (s && (k || l)) → s ≡ true → k ≡ false → w ≡ l
+last_of_two s k l w e h n = grind (arith, e, h, n)
+
+-- an access that isn't kept out conflicts where what it shares keeps others out
+pub conflict_last : (rows : List OpenRow) (entry : ℕ) (access : Access) (share : ShareAccess) → is_shared_access access ≡ true → is_kept_out_by_some rows entry access ≡ false → has_conflict rows entry (access, share) ≡ keeps_out_some rows entry share
+conflict_last rows entry access share h n =
+    last_of_two (is_shared_access access) (is_kept_out_by_some rows entry access) (keeps_out_some rows entry share) (has_conflict rows entry (access, share)) (conflict_is rows entry access share) h n

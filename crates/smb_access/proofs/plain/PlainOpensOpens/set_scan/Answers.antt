@@ -1,4 +1,4 @@
-use Rattle.std.proofs.Common.{refl, sym}
+use Rattle.std.proofs.Common.{sym}
 use Rattle.smb_access.proofs.Keyed.{values_scanned, keyed_scanned, values_unscanned}
 use Rattle.smb_access.proofs.plain.PlainOpensOpens.set_scan.Goals as goal
 
