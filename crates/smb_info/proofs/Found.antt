@@ -3,11 +3,11 @@ use Rattle.std.proofs.Common.{◌≡◌, ℕ, Bool, true, false, cond, List, [],
 use Rattle.std.specs.Bool.{Decides}
 use Rattle.std.proofs.lemmas.Bool.Decides.{same_from_decides}
 use Rattle.smb_tree.specs.Content.{Row}
-use Rattle.smb_info.specs.Patterns.{Matches, is_match}
+use Rattle.smb_patterns.specs.Patterns.{Matches, is_match}
 use Rattle.smb_info.specs.Candidates.{Candidate, candidates_behind}
 use Rattle.smb_info.specs.Listing.{matching}
 use Rattle.smb_access.specs.declared.scan.ScanLast.{ScanLast}
-use Rattle.smb_info.proofs.PatternTests.{match_decides}
+use Rattle.smb_patterns.proofs.PatternTests.{match_decides}
 
 pub match_end : (rows : List Row) (folder : ℕ) (pattern : List ℕ) (at : ScanLast) → candidates_behind rows folder at ≡ [] → matching rows folder pattern at ≡ []
 unfolding matching

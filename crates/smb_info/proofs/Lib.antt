@@ -1,6 +1,3 @@
-pub mod PatternSteps
-pub mod PatternCarries
-pub mod PatternRuns
 pub mod InformationLemmas
 pub mod Turns
 pub mod Fronts
@@ -12,4 +9,3 @@ pub mod Places
 pub mod GoingOn
 pub mod ListingRuns
 pub mod Listed
-pub mod PatternTests

@@ -12,13 +12,13 @@ use Rattle.smb_tree.specs.Views.{row_shown, entry_shown}
 use Rattle.smb_tree.proofs.Siblings.{by_number}
 use Rattle.smb_access.specs.declared.scan.ScanLast.{ScanLast}
 use Rattle.smb_access.specs.declared.scan.ScanLast.TheVariants.{Start, Dot, DotDot, Name}
-use Rattle.smb_info.specs.Patterns.{Matches, is_match}
+use Rattle.smb_patterns.specs.Patterns.{Matches, is_match}
 use Rattle.smb_info.specs.Candidates.{Candidate, dot, dot_dot, child, children, candidates_behind}
 use Rattle.smb_info.specs.DirectoryInformation.{directory_class}
 use Rattle.smb_info.specs.Listing.{matching}
 use Rattle.smb_info.specs.Queries.{pattern_by, scan_by, entries_listed}
 use Rattle.smb_info.specs.ListingLaws.{IsOfFolder, OnlyWhatIsMatchedIsListed}
-use Rattle.smb_info.proofs.PatternTests.{match_decides}
+use Rattle.smb_patterns.proofs.PatternTests.{match_decides}
 use Rattle.smb_info.proofs.Places.{dot_is, dot_dot_is, found_by_number}
 use Rattle.smb_info.proofs.ListingRuns.{listed_front}
 

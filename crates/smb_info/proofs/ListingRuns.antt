@@ -10,15 +10,15 @@ use Rattle.smb_tree.proofs.Siblings.{come_in_turn}
 use Rattle.smb_access.specs.declared.scan.Scan.{Scan}
 use Rattle.smb_access.specs.declared.scan.ScanLast.{ScanLast}
 use Rattle.smb_access.specs.declared.scan.ScanLast.TheVariants.{Start}
-use Rattle.smb_info.specs.Patterns.{is_match}
+use Rattle.smb_patterns.specs.Patterns.{is_match}
 use Rattle.smb_info.specs.Candidates.{Candidate, dot_dot, child, children, candidates_behind}
 use Rattle.smb_info.specs.DirectoryInformation.{directory_class, laid}
 use Rattle.smb_info.specs.Listing.{Sought, matching, at_most_one, wanted, fitting, longest_front, given, reached}
 use Rattle.smb_info.specs.Queries.{ListAsked, restarts, pattern_by, scan_by, sought_by, listed_by, entries_listed, scan_after}
 use Rattle.smb_info.specs.ListingLaws.{AFolderIsListedInFull, NothingIsLeftOut, TheNextQueryGoesOn}
 use Rattle.smb_info.specs.declared.directory_class.DirectoryInformationClass.{DirectoryInformationClass}
-use Rattle.smb_info.proofs.PatternRuns.{asterisk_matches}
-use Rattle.smb_info.proofs.PatternTests.{match_decides}
+use Rattle.smb_patterns.proofs.PatternRuns.{asterisk_matches}
+use Rattle.smb_patterns.proofs.PatternTests.{match_decides}
 use Rattle.smb_info.proofs.Steps.{shown_there}
 use Rattle.smb_info.proofs.Places.{dot_is, dot_dot_is, step_at, turns_stand}
 use Rattle.smb_info.proofs.GoingOn.{left_by, front_of, one_front, two_fronts}

@@ -1,6 +1,3 @@
-pub mod Patterns
-pub mod PatternRows
-pub mod PatternLaws
 pub mod Written
 pub mod Information
 pub mod FileSystemInformation

@@ -1,7 +1,7 @@
 -- What is listed of a directory behind a place ([MS-FSA] 2.1.5.6.3).
 use Rattle.std.specs.Prelude.{ℕ, zero, suc, List, [], ◌∷◌, length, take, filter, Bool, true, false, nat_lt, nat_le, if◌then◌else◌}
 use Rattle.smb_tree.specs.Content.{Row}
-use Rattle.smb_info.specs.Patterns.{is_match}
+use Rattle.smb_patterns.specs.Patterns.{is_match}
 use Rattle.smb_info.specs.Candidates.{Candidate, candidates_behind}
 use Rattle.smb_info.specs.DirectoryInformation.{laid}
 use Rattle.smb_access.specs.declared.scan.ScanLast.{ScanLast}

@@ -7,7 +7,7 @@ use Rattle.smb_tree.specs.ChildLaws.{AreInOrder, is_among}
 use Rattle.smb_tree.specs.Views.{row_shown, entry_shown}
 use Rattle.smb_access.specs.declared.scan.Scan.{Scan}
 use Rattle.smb_access.specs.declared.scan.ScanLast.TheVariants.{Start}
-use Rattle.smb_info.specs.Patterns.{Matches}
+use Rattle.smb_patterns.specs.Patterns.{Matches}
 use Rattle.smb_info.specs.Candidates.{Candidate, child}
 use Rattle.smb_info.specs.DirectoryInformation.{directory_class, laid}
 use Rattle.smb_info.specs.Listing.{matching}

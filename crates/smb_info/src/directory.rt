@@ -19,11 +19,11 @@ use super::directory_entry::length_within;
 use super::fault::InfoFault;
 use super::listing::put_listing;
 use super::matching_candidates::next_match;
-use super::pattern::Pattern;
 use super::query::{pattern_by, scan_by, unmatched, wants_one};
 use super::scan::{ListAsk, Search};
 use smb_access::{OpenNo, Opens, Scan, ScanLast};
 use smb_opens::Store;
+use smb_patterns::{Matcher, Pattern};
 use smb_tree::{EntryNo, Tree};
 use smb_wire::FoldedName;
 
@@ -111,7 +111,7 @@ fn list_of<T: Tree>(
     }
     let name = pattern_by(scan, ask, &own);
     let next = scan_by(scan, ask, &name);
-    let pattern = Pattern::of_name(name);
+    let pattern = Matcher::of(&Pattern::of_name(name));
     let search = Search {
         folder,
         pattern: &pattern,
@@ -129,8 +129,8 @@ fn list_of<T: Tree>(
 
 /// Adds the entries of a directory that are asked for through the open of a number, one behind the other, as many as there
 /// is room for, and tells the scan as it is then, which the caller keeps ([`Store::set_scan`]). Each entry is looked up by
-/// the name of the one before it. Its cost grows with the number of entries that are passed, each times the length of the
-/// pattern and of its name; it takes no memory beside `out`.
+/// the name of the one before it. Its cost grows with the number of entries that are passed, each times the length of its
+/// name, with at most four steps for each unit; the pattern is made ready once. It takes no memory beside `out`.
 ///
 /// [`BadClass`](InfoFault::BadClass) where no class that is told has the number, [`BadPattern`](InfoFault::BadPattern)
 /// where the pattern has over 255 units, [`TooSmall`](InfoFault::TooSmall) where there is no room for the fixed part, or for

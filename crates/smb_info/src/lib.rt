@@ -1,9 +1,8 @@
 //! What a client is shown, and what it asks to be set: which names a pattern matches, and the information
 //! classes.
 //!
-//! A [`Pattern`] says which names of a directory are wanted ([MS-FSA] 2.1.4.4). What each of its units may take
-//! of a name is a table, `specs/Patterns.antt`; [`matches`] decides it. What that means for `*`, for `?`, for
-//! names without wildcards and for the three wildcards of DOS is the contract of [`laws_of_patterns`].
+//! A [`Pattern`] says which names of a directory are wanted ([MS-FSA] 2.1.4.4). It is of smb_patterns, as are [`matches`] and
+//! [`laws_of_patterns`].
 //!
 //! An information class is a table of fields beside its number ([MS-FSCC] 2.4, 2.5), some with a name behind it.
 //! [`file_info`] tells those of a file or a folder, `specs/FileInformation.antt`, and [`fs_info`] those of a share
@@ -30,13 +29,10 @@ mod file_system_fields;
 mod following;
 mod laws;
 mod listing;
-mod matching;
 mod matching_candidates;
-mod pattern;
 mod query;
 mod scan;
 mod set_info;
-mod symbol;
 mod volume;
 mod written;
 
@@ -44,10 +40,9 @@ pub use directory::list;
 pub use fault::InfoFault;
 pub use file::file_info;
 pub use file_system::fs_info;
-pub use laws::{laws_of_listings, laws_of_patterns};
-pub use matching::matches;
-pub use pattern::Pattern;
+pub use laws::laws_of_listings;
 pub use scan::ListAsk;
 pub use set_info::{SetAsk, read_set_info};
+pub use smb_patterns::{Pattern, laws_of_patterns, matches};
 pub use volume::Volume;
 pub use written::Written;

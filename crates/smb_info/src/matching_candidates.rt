@@ -8,9 +8,8 @@ ghost use Rattle.smb_info.specs.Listing.{matching};
 
 use super::candidate::CandidateView;
 use super::candidates::next_candidate;
-use super::matching::matches;
-use super::pattern::Pattern;
 use smb_access::ScanLast;
+use smb_patterns::Matcher;
 use smb_tree::{EntryNo, Tree};
 
 /// The candidate of a folder that comes next behind another one, or first, of those whose names a pattern matches.
@@ -18,7 +17,7 @@ use smb_tree::{EntryNo, Tree};
 pub fn next_match<'a, T: Tree>(
     tree: &'a T,
     folder: EntryNo,
-    pattern: &Pattern,
+    pattern: &Matcher,
     last: &ScanLast,
 ) -> Option<CandidateView<'a>>
     requires good { GoodContent (T.content tree.now) }
@@ -29,7 +28,7 @@ pub fn next_match<'a, T: Tree>(
 {
     let mut at = *last;
     while let Some(view) = next_candidate(tree, folder, &at) {
-        if matches(pattern, view.name) {
+        if pattern.matches(view.name) {
             return Some(view);
         }
         at = view.behind;

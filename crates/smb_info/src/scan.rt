@@ -1,7 +1,7 @@
 //! What a QUERY_DIRECTORY asks, and what it seeks.
 
-use super::pattern::Pattern;
 use smb_access::ScanLast;
+use smb_patterns::Matcher;
 use smb_tree::EntryNo;
 use smb_wire::{QueryDirectoryFlags, Units};
 
@@ -23,7 +23,7 @@ pub(crate) struct Search<'a> {
     /// The number of the directory's entry.
     pub(crate) folder: EntryNo,
     /// Which names are wanted.
-    pub(crate) pattern: &'a Pattern,
+    pub(crate) pattern: &'a Matcher,
     /// Behind which entry the scan goes on.
     pub(crate) last: ScanLast,
     /// At most one entry is wanted.

@@ -58,8 +58,8 @@ pub returns-in_default-next_match-clause-why : goal.returns-in_default-next_matc
 returns-in_default-next_match-clause-why g c =
     let rows : List Row = (g.T.Tree.content c.args.tree.now).rows in
     let ask : ListAsked = list_asked c.args.ask.now in
-    let want : Sought = record { folder = c.args.folder; pattern = c.of_name-pattern.result; last = c.scan_by-next.result.last; single = c.wants_one.result; room = c.args.ask.now.room } in
-    let same : want ≡ sought_by c.args.folder c.args.scan.now ask = same_sought c.args.folder c.args.ask.now.room c.args.scan.now ask c.of_name-pattern.result c.scan_by-next.result c.wants_one.result (c.of_name-pattern.ensures ∙ c.pattern_by-name.ensures) c.scan_by-next.ensures c.wants_one.ensures refl in
+    let want : Sought = record { folder = c.args.folder; pattern = c.of-pattern.result; last = c.scan_by-next.result.last; single = c.wants_one.result; room = c.args.ask.now.room } in
+    let same : want ≡ sought_by c.args.folder c.args.scan.now ask = same_sought c.args.folder c.args.ask.now.room c.args.scan.now ask c.of-pattern.result c.scan_by-next.result c.wants_one.result (c.of-pattern.ensures ∙ c.of_name.ensures ∙ c.pattern_by-name.ensures) c.scan_by-next.ensures c.wants_one.ensures refl in
     let room : directory_length c.in-Some.class ≤ c.args.ask.now.room = rw (← c.fixed_length.ensures) c.if-ask-fixed_length.false in
     unmatched_refusal rows c.args.folder c.args.scan.now ask c.in-Some.class want c.unmatched.result (c.in-Some.ensures {u = tt}) (c.in-Some-of.ensures {u = tt}).some room same c.in_default-next_match.ensures.none c.unmatched.ensures
 
@@ -88,8 +88,8 @@ pub returns-in_err-last-clause-why : goal.returns-in_err-last-clause-why
 returns-in_err-last-clause-why g c =
     let rows : List Row = (g.T.Tree.content c.args.tree.now).rows in
     let ask : ListAsked = list_asked c.args.ask.now in
-    let want : Sought = record { folder = c.args.folder; pattern = c.of_name-pattern.result; last = c.scan_by-next.result.last; single = c.wants_one.result; room = c.args.ask.now.room } in
-    let same : want ≡ sought_by c.args.folder c.args.scan.now ask = same_sought c.args.folder c.args.ask.now.room c.args.scan.now ask c.of_name-pattern.result c.scan_by-next.result c.wants_one.result (c.of_name-pattern.ensures ∙ c.pattern_by-name.ensures) c.scan_by-next.ensures c.wants_one.ensures refl in
+    let want : Sought = record { folder = c.args.folder; pattern = c.of-pattern.result; last = c.scan_by-next.result.last; single = c.wants_one.result; room = c.args.ask.now.room } in
+    let same : want ≡ sought_by c.args.folder c.args.scan.now ask = same_sought c.args.folder c.args.ask.now.room c.args.scan.now ask c.of-pattern.result c.scan_by-next.result c.wants_one.result (c.of-pattern.ensures ∙ c.of_name.ensures ∙ c.pattern_by-name.ensures) c.scan_by-next.ensures c.wants_one.ensures refl in
     let room : directory_length c.in-Some.class ≤ c.args.ask.now.room = rw (← c.fixed_length.ensures) c.if-ask-fixed_length.false in
     let why : IsListRefusal (list_fault rows c.args.folder c.args.scan.now ask) c.in_err-last.field-0.0 = refused_first rows c.args.folder c.args.scan.now ask c.in-Some.class want (candidate c.in-Some-next_match.first) c.in_err-last.field-0.0 (c.in-Some.ensures {u = tt}) (c.in-Some-of.ensures {u = tt}).some room same c.in-Some-next_match.ensures.some c.in_err-last.ensures.why in
     same_err c.from_residual.result c.in_err-last.field-0.0 (IsListRefusal (list_fault rows c.args.folder c.args.scan.now ask)) c.from_residual.ensures.1 why
@@ -98,23 +98,23 @@ pub returns-clause-ok : goal.returns-clause-ok
 returns-clause-ok g c =
     let rows : List Row = (g.T.Tree.content c.args.tree.now).rows in
     let ask : ListAsked = list_asked c.args.ask.now in
-    let want : Sought = record { folder = c.args.folder; pattern = c.of_name-pattern.result; last = c.scan_by-next.result.last; single = c.wants_one.result; room = c.args.ask.now.room } in
-    let same : want ≡ sought_by c.args.folder c.args.scan.now ask = same_sought c.args.folder c.args.ask.now.room c.args.scan.now ask c.of_name-pattern.result c.scan_by-next.result c.wants_one.result (c.of_name-pattern.ensures ∙ c.pattern_by-name.ensures) c.scan_by-next.ensures c.wants_one.ensures refl in
+    let want : Sought = record { folder = c.args.folder; pattern = c.of-pattern.result; last = c.scan_by-next.result.last; single = c.wants_one.result; room = c.args.ask.now.room } in
+    let same : want ≡ sought_by c.args.folder c.args.scan.now ask = same_sought c.args.folder c.args.ask.now.room c.args.scan.now ask c.of-pattern.result c.scan_by-next.result c.wants_one.result (c.of-pattern.ensures ∙ c.of_name.ensures ∙ c.pattern_by-name.ensures) c.scan_by-next.ensures c.wants_one.ensures refl in
     bytes_are rows c.args.folder c.args.scan.now ask c.in-Some.class want c.args.out.now.items c.list_from.new.out.items (c.in-Some.ensures {u = tt}) same c.in_ok-last.ensures.ok
 
 pub returns-clause-scan : goal.returns-clause-scan
 returns-clause-scan g c =
     let rows : List Row = (g.T.Tree.content c.args.tree.now).rows in
     let ask : ListAsked = list_asked c.args.ask.now in
-    let want : Sought = record { folder = c.args.folder; pattern = c.of_name-pattern.result; last = c.scan_by-next.result.last; single = c.wants_one.result; room = c.args.ask.now.room } in
-    let same : want ≡ sought_by c.args.folder c.args.scan.now ask = same_sought c.args.folder c.args.ask.now.room c.args.scan.now ask c.of_name-pattern.result c.scan_by-next.result c.wants_one.result (c.of_name-pattern.ensures ∙ c.pattern_by-name.ensures) c.scan_by-next.ensures c.wants_one.ensures refl in
+    let want : Sought = record { folder = c.args.folder; pattern = c.of-pattern.result; last = c.scan_by-next.result.last; single = c.wants_one.result; room = c.args.ask.now.room } in
+    let same : want ≡ sought_by c.args.folder c.args.scan.now ask = same_sought c.args.folder c.args.ask.now.room c.args.scan.now ask c.of-pattern.result c.scan_by-next.result c.wants_one.result (c.of-pattern.ensures ∙ c.of_name.ensures ∙ c.pattern_by-name.ensures) c.scan_by-next.ensures c.wants_one.ensures refl in
     scan_is rows c.args.folder c.args.scan.now ask c.in-Some.class want c.scan_by-next.result c.in_ok-last.last (c.in-Some.ensures {u = tt}) same c.scan_by-next.ensures c.in_ok-last.ensures.last
 
 pub returns-clause-lawful : goal.returns-clause-lawful
 returns-clause-lawful g c =
     let rows : List Row = (g.T.Tree.content c.args.tree.now).rows in
     let ask : ListAsked = list_asked c.args.ask.now in
-    let want : Sought = record { folder = c.args.folder; pattern = c.of_name-pattern.result; last = c.scan_by-next.result.last; single = c.wants_one.result; room = c.args.ask.now.room } in
-    let same : want ≡ sought_by c.args.folder c.args.scan.now ask = same_sought c.args.folder c.args.ask.now.room c.args.scan.now ask c.of_name-pattern.result c.scan_by-next.result c.wants_one.result (c.of_name-pattern.ensures ∙ c.pattern_by-name.ensures) c.scan_by-next.ensures c.wants_one.ensures refl in
+    let want : Sought = record { folder = c.args.folder; pattern = c.of-pattern.result; last = c.scan_by-next.result.last; single = c.wants_one.result; room = c.args.ask.now.room } in
+    let same : want ≡ sought_by c.args.folder c.args.scan.now ask = same_sought c.args.folder c.args.ask.now.room c.args.scan.now ask c.of-pattern.result c.scan_by-next.result c.wants_one.result (c.of-pattern.ensures ∙ c.of_name.ensures ∙ c.pattern_by-name.ensures) c.scan_by-next.ensures c.wants_one.ensures refl in
     let room : directory_length c.in-Some.class ≤ c.args.ask.now.room = rw (← c.fixed_length.ensures) c.if-ask-fixed_length.false in
     not_refused rows c.args.folder c.args.scan.now ask c.in-Some.class want (candidate c.in-Some-next_match.first) (c.in-Some.ensures {u = tt}) (c.in-Some-of.ensures {u = tt}).some room same c.in-Some-next_match.ensures.some c.in_ok-last.ensures.lawful

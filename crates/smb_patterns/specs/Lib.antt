@@ -1,0 +1,4 @@
+pub mod Patterns
+pub mod PatternRows
+pub mod PatternLaws
+pub mod Bits
