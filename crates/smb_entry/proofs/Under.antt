@@ -1,22 +1,20 @@
--- Which paths lie beneath others, by their fronts and by the folders around them.
-use Rattle.std.proofs.Common.{◌≡◌, ◌≢◌, ◌==◌, ℕ, ◌+◌, ◌-◌, ◌<◌, ◌≤◌, inl, inr, Bool, true, false, not, ◌&&◌, List, [], ◌∷◌, ◌++◌, length, take, drop, Option, None, Some, is_some, unwrap_or, refl, sym, ap, subst, ◌∙◌, arith, append-nil, length-append, take-append-drop}
+-- Which paths lie beneath others, by their fronts, and which entries beneath others.
+use Rattle.std.proofs.Common.{◌≡◌, ◌≢◌, ◌==◌, ℕ, ◌+◌, ◌-◌, ◌<◌, ◌≤◌, inl, inr, Bool, true, false, not, ◌&&◌, List, [], ◌∷◌, ◌++◌, length, take, drop, Option, None, Some, is_some, refl, sym, ap, ◌∙◌, arith, nat_le, append-nil, append_assoc, length-append, take-append-drop}
+use Rattle.std.proofs.Math.Seq.{take-append-add}
 use Rattle.std.proofs.lemmas.Bool.{eqb-true}
 use Rattle.std.proofs.lemmas.Bool.Decides.{nat_tests}
 use Rattle.std.proofs.lemmas.List.{length-take-le, take-map}
 use Rattle.std.specs.Option.{option_map, option_map_or}
 use Rattle.smb_wire.specs.Names.{folded}
 use Rattle.smb_wire.specs.Paths.{folded_path}
-use Rattle.smb_tree.specs.Entries.{Entry, is_folder}
-use Rattle.smb_tree.specs.Content.{Path, Row, Content, is_same_path, entry_at, number_at, numbered, parent}
-use Rattle.smb_tree.specs.Good.{GoodContent}
+use Rattle.smb_tree.specs.Entries.{Entry}
+use Rattle.smb_tree.specs.Content.{Path, Row, is_same_path, entry_at, number_at, numbered, parent}
 use Rattle.smb_tree.specs.Laws.{AreApart}
-use Rattle.smb_tree.specs.Moves.{is_within}
+use Rattle.smb_tree.specs.Moves.{is_within, is_row_within}
 use Rattle.smb_tree.proofs.Apart.{numbered-from_at, at-from_numbered, number-from_numbered}
-use Rattle.smb_tree.proofs.Heads.{within_or_not, within-append, within_rest, within_itself, within_parent, not_around, parent_beneath}
+use Rattle.smb_tree.proofs.Heads.{within_or_not, within-append, within_rest, length_within, within_itself, within_parent, not_around, parent_beneath}
 use Rattle.smb_tree.proofs.Keys.{same_path-eq, same_path-of_eq, same_path-itself}
 use Rattle.smb_entry.specs.Rename.{is_beneath, path_numbered}
-use Rattle.smb_entry.specs.Ways.{is_front_numbered}
-use Rattle.smb_access.proofs.Trees.{of_number}
 
 -- paths of different lengths differ
 apart_by_length : (p q : Path) → length p < length q → is_same_path p q ≡ false
@@ -80,11 +78,6 @@ beneath_parent f q h =
       ] refl
     ]
 
--- nothing but what lies beneath the root is beneath anything
-pub root_beneath_none : (f : Path) → is_beneath f [] ≡ false
-root_beneath_none [] = refl
-root_beneath_none (c ∷ f) = refl
-
 -- the path of an entry that exists
 pub path_found : (rows : List Row) (n : ℕ) (row : Row) → numbered rows n ≡ Some row → path_numbered rows n ≡ row.0
 path_found rows n row h = ap (λ (o : Option Row). option_map_or (λ (r : Row). r.0) o []) h
@@ -112,153 +105,136 @@ path_by rows p n row (Some x) a h e f =
 pub path_at : (rows : List Row) (p : Path) (n : ℕ) (row : Row) → AreApart rows → numbered rows n ≡ Some row → number_at rows p ≡ Some n → p ≡ row.0
 path_at rows p n row a h f = path_by rows p n row (entry_at rows p) a h refl f
 
--- the fronts of a path, up to some length, are not at the entry of a number
-abbrev pub AreNoFronts : List Row → Path → ℕ → ℕ → Type 0
-AreNoFronts rows path entry depth = (k : ℕ) → k < depth → is_front_numbered rows path k entry ≡ false
+-- a path of which a front is within another one lies beneath that
+front_within : (f q : Path) (n : ℕ) → n < length q → is_within f (take n q) ≡ true → is_beneath f q ≡ true
+front_within f q n short h =
+    let rest = within_rest f (take n q) h in
+    let whole : q ≡ f ++ (rest.0 ++ drop n q) = sym (take-append-drop n q) ∙ ap (λ (front : Path). front ++ drop n q) rest.1 ∙ append_assoc f rest.0 (drop n q) in
+    let long : length (take n q) ≡ n = length-take-le n q (omega arith) in
+    let few = length_within f (take n q) h in
+    front_beneath f q (length f) (ap (take (length f)) whole ∙ take_head f (rest.0 ++ drop n q)) (omega (arith, long, few, short))
 
-number_by : (o : Option ℕ) (n : ℕ) → option_map_or (λ k. k == n) o false ≡ true → o ≡ Some n
-number_by None n h = absurd (let e : false ≡ true = h in cc)
-number_by (Some k) n h = ap (λ (m : ℕ). Some m) (eqb-true k n h)
+-- a front that is no shorter than what the path lies beneath is within that
+within_front_of : (f q : Path) (n : ℕ) → length f ≤ n → is_beneath f q ≡ true → is_within f (take n q) ≡ true
+within_front_of f q n few h =
+    let front = beneath_front f q h in
+    let whole : q ≡ f ++ drop (length f) q = sym (take-append-drop (length f) q) ∙ ap (λ (p : Path). p ++ drop (length f) q) front.0 in
+    let count : n ≡ length f + (n - length f) = omega (arith, few) in
+    let cut : take n q ≡ f ++ take (n - length f) (drop (length f) q) = ap (take n) whole ∙ ap (λ (k : ℕ). take k (f ++ drop (length f) q)) count ∙ take-append-add f (drop (length f) q) (n - length f) in
+    ap (is_within f) cut ∙ within-append f (take (n - length f) (drop (length f) q))
 
--- a front is at the entry
-pub front_hit : (rows : List Row) (path : Path) (entry depth : ℕ) → AreApart rows → is_some (numbered rows entry) ≡ true → depth < length path → is_front_numbered rows path depth entry ≡ true → true ≡ is_beneath (path_numbered rows entry) path
-front_hit rows path entry depth a there short h =
-    let r = row_there rows entry there in
-    let at : take depth path ≡ r.0.0 = path_at rows (take depth path) entry r.0 a r.1 (number_by (number_at rows (take depth path)) entry h) in
-    sym (ap (λ (p : Path). is_beneath p path) (path_found rows entry r.0 r.1) ∙ front_beneath r.0.0 path depth at short)
+-- no entry exists at a front of a path of some length or more, other than the whole path
+abbrev pub AreNoFronts : List Row → Path → ℕ → Type 0
+AreNoFronts rows path depth = (k : ℕ) → depth ≤ k → k < length path → number_at rows (take k path) ≡ None
 
--- one front more is not
-pub front_passed : (rows : List Row) (path : Path) (entry depth : ℕ) → AreNoFronts rows path entry depth → is_front_numbered rows path depth entry ≡ false → AreNoFronts rows path entry (depth + 1)
-front_passed rows path entry depth h e k l =
-    elim (k == depth) as (λ b. k == depth ≡ b → is_front_numbered rows path k entry ≡ false) [
-      | true ↦ λ t. ap (λ (m : ℕ). is_front_numbered rows path m entry) (eqb-true k depth t) ∙ e
-      | false ↦ λ t. h k (let other : k ≢ depth = (λ q. let yes : k == depth ≡ true = rw q (grind (arith, nat_tests)) in cc) in omega (arith, l, other))
+-- at the whole path and past it nothing is asked
+pub no_front : (rows : List Row) (path : Path) (depth : ℕ) → length path ≤ depth → AreNoFronts rows path depth
+no_front rows path depth long k from short = absurd (omega (arith, long, from, short))
+
+-- nor at the next shorter one
+pub front_passed : (rows : List Row) (path : Path) (depth : ℕ) → AreNoFronts rows path depth → number_at rows (take (depth - 1) path) ≡ None → AreNoFronts rows path (depth - 1)
+front_passed rows path depth h e k from short =
+    elim (k == depth - 1) as (λ b. k == depth - 1 ≡ b → number_at rows (take k path) ≡ None) [
+      | true ↦ λ t. ap (λ (m : ℕ). number_at rows (take m path)) (eqb-true k (depth - 1) t) ∙ e
+      | false ↦ λ t. h k (let other : k ≢ depth - 1 = (λ q. let yes : k == depth - 1 ≡ true = rw q (grind (arith, nat_tests)) in cc) in omega (arith, from, other)) short
     ] refl
 
-itself : (n : ℕ) → n == n ≡ true
-itself n = grind (arith, nat_tests)
+-- what the path lies beneath is at a shorter front
+few_of : (rows : List Row) (path f : Path) (depth entry : ℕ) → AreNoFronts rows path depth → number_at rows f ≡ Some entry → is_beneath f path ≡ true → length f ≤ depth - 1
+few_of rows path f depth entry none at h =
+    let front = beneath_front f path h in
+    let on : number_at rows (take (length f) path) ≡ Some entry = ap (number_at rows) front.0 ∙ at in
+    elim (nat_le depth (length f)) as (λ b. nat_le depth (length f) ≡ b → length f ≤ depth - 1) [
+      | true ↦ λ t. absurd (let off = none (length f) (grind (arith, nat_tests, t)) front.1 in cc)
+      | false ↦ λ t. (let less : length f < depth = grind (arith, nat_tests, t) in omega (arith, less))
+    ] refl
 
--- no front is
-pub fronts_passed : (rows : List Row) (path : Path) (entry depth : ℕ) → AreApart rows → is_some (numbered rows entry) ≡ true → length path ≤ depth → AreNoFronts rows path entry depth → false ≡ is_beneath (path_numbered rows entry) path
-fronts_passed rows path entry depth a there long h =
+-- where no front has an entry, the path lies beneath none
+pub fronts_passed : (rows : List Row) (path : Path) (entry depth : ℕ) → AreApart rows → is_some (numbered rows entry) ≡ true → depth ≡ 0 → AreNoFronts rows path depth → false ≡ is_beneath (path_numbered rows entry) path
+fronts_passed rows path entry depth a there zero none =
     let r = row_there rows entry there in
     let from : path_numbered rows entry ≡ r.0.0 = path_found rows entry r.0 r.1 in
     elim (is_beneath r.0.0 path) as (λ b. is_beneath r.0.0 path ≡ b → false ≡ b) [
       | true ↦ λ t. absurd (
           let front = beneath_front r.0.0 path t in
-          let number : number_at rows (take (length r.0.0) path) ≡ Some entry = ap (number_at rows) front.0 ∙ number_found rows entry r.0 a r.1 in
-          let on : is_front_numbered rows path (length r.0.0) entry ≡ true = ap (λ (o : Option ℕ). option_map_or (λ k. k == entry) o false) number ∙ itself entry in
-          let off : is_front_numbered rows path (length r.0.0) entry ≡ false = h (length r.0.0) (let short = front.1 in omega (arith, short, long)) in
+          let on : number_at rows (take (length r.0.0) path) ≡ Some entry = ap (number_at rows) front.0 ∙ number_found rows entry r.0 a r.1 in
+          let off : number_at rows (take (length r.0.0) path) ≡ None = none (length r.0.0) (omega (arith, zero)) front.1 in
           cc
           )
       | false ↦ λ _. refl
     ] refl ∙ ap (λ (p : Path). is_beneath p path) (sym from)
 
--- the folder around an entry that is not the root
-pub record GoesUp (rows : List Row) (row : Row) (number : ℕ) : Type 0 where
-  pub folder : Row
-  pub found : numbered rows number ≡ Some folder
-  pub path : folder.0 ≡ parent row.0
-  pub long : 0 < length row.0
+-- the entry of the number at a path
+row_at : (rows : List Row) (p : Path) (n : ℕ) → AreApart rows → number_at rows p ≡ Some n → (e : Entry) × (numbered rows n ≡ Some (p, e))
+row_at rows p n a h =
+    elim (entry_at rows p) as (λ o. entry_at rows p ≡ o → option_map (λ (e : Entry). e.number) o ≡ Some n → (e : Entry) × (numbered rows n ≡ Some (p, e))) [
+      | None ↦ λ _ f. absurd (cc)
+      | Some e ↦ λ k f. (e, (let number : n ≡ e.number = cc in ap (numbered rows) number ∙ numbered-from_at rows p e a k))
+    ] refl h
 
-not_empty : (content : Content) (n : ℕ) (row : Row) (p : Path) → GoodContent content → numbered content.rows n ≡ Some row → (n ≡ 1 → ⊥) → p ≡ row.0 → 0 < length p
-not_empty content n row [] good h other e = absurd (
-    let here : number_at content.rows row.0 ≡ Some n = number_found content.rows n row good.apart h in
-    let root : number_at content.rows row.0 ≡ Some 1 = ap (number_at content.rows) (sym e) ∙ good.first in
-    let same : n ≡ 1 = cc in
-    other same
-    )
-not_empty content n row (c ∷ p) good h other e = omega arith
+-- the longest front at which an entry exists tells whether the path lies beneath
+longest_tells : (rows : List Row) (path f : Path) (depth entry : ℕ) → AreNoFronts rows path depth → number_at rows f ≡ Some entry → depth - 1 < length path → is_within f (take (depth - 1) path) ≡ is_beneath f path
+longest_tells rows path f depth entry none at short =
+    elim (is_within f (take (depth - 1) path)) as (λ b. is_within f (take (depth - 1) path) ≡ b → b ≡ is_beneath f path) [
+      | true ↦ λ t. sym (front_within f path (depth - 1) short t)
+      | false ↦ λ t. elim (is_beneath f path) as (λ b. is_beneath f path ≡ b → false ≡ b) [
+        | true ↦ λ h. absurd (let inside = within_front_of f path (depth - 1) (few_of rows path f depth entry none at h) h in cc)
+        | false ↦ λ _. refl
+      ] refl
+    ] refl
 
-pub goes_up : (content : Content) (n : ℕ) (row : Row) → GoodContent content → numbered content.rows n ≡ Some row → (n ≡ 1 → ⊥) → GoesUp content.rows row (unwrap_or (number_at content.rows (parent row.0)) 0)
-goes_up content n row good h other =
-    let above : is_folder (entry_at content.rows (parent row.0)) ≡ true = of_number (λ (r : Row). is_folder (entry_at content.rows (parent r.0)) ≡ true) content.rows n row good.parents h in
-    elim (entry_at content.rows (parent row.0)) as (λ o. entry_at content.rows (parent row.0) ≡ o → is_folder o ≡ true → GoesUp content.rows row (unwrap_or (option_map (λ (e : Entry). e.number) o) 0)) [
-      | None ↦ λ _ f. absurd (let e : false ≡ true = f in cc)
-      | Some e ↦ λ at _. record {
-        folder = (parent row.0, e);
-        found = numbered-from_at content.rows (parent row.0) e good.apart at;
-        path = refl;
-        long = not_empty content n row row.0 good h other refl;
-      }
-    ] refl above
+-- and so the tree tells it, by the number there
+pub front_hit : (rows : List Row) (path : Path) (entry nearest depth : ℕ) (inside : Bool) → AreApart rows → is_some (numbered rows entry) ≡ true → AreNoFronts rows path depth → depth - 1 < length path → number_at rows (take (depth - 1) path) ≡ Some nearest →
+    inside ≡ is_row_within (numbered rows entry) (numbered rows nearest) → inside ≡ is_beneath (path_numbered rows entry) path
+front_hit rows path entry nearest depth inside a there none short at i =
+    let head = row_there rows entry there in
+    let row = row_at rows (take (depth - 1) path) nearest a at in
+    let top : path_numbered rows entry ≡ head.0.0 = path_found rows entry head.0 head.1 in
+    let found : inside ≡ is_within head.0.0 (take (depth - 1) path) = i ∙ ap (λ (r : Option Row). is_row_within r (numbered rows nearest)) head.1 ∙ ap (is_row_within (Some head.0)) row.1 in
+    found ∙ longest_tells rows path head.0.0 depth entry none (number_found rows entry head.0 a head.1) short ∙ ap (λ (p : Path). is_beneath p path) (sym top)
 
--- how far the folders around an entry were looked at
-pub record IsClimbed (rows : List Row) (above entry number : ℕ) : Type 0 where
-  pub there : is_some (numbered rows number) ≡ true
-  pub same : is_beneath (path_numbered rows above) (path_numbered rows number) ≡ is_beneath (path_numbered rows above) (path_numbered rows entry)
+-- the entries of two numbers have two paths
+apart_by_number : (rows : List Row) (above entry : ℕ) (head row : Row) → AreApart rows → numbered rows above ≡ Some head → numbered rows entry ≡ Some row → (entry ≡ above → ⊥) → is_same_path head.0 row.0 ≡ false
+apart_by_number rows above entry head row a h e other =
+    elim (is_same_path head.0 row.0) as (λ b. is_same_path head.0 row.0 ≡ b → b ≡ false) [
+      | true ↦ λ t. absurd (
+          let one : number_at rows head.0 ≡ Some above = number_found rows above head a h in
+          let two : number_at rows head.0 ≡ Some entry = ap (number_at rows) (same_path-eq head.0 row.0 t) ∙ number_found rows entry row a e in
+          let same : entry ≡ above = cc in
+          other same
+          )
+      | false ↦ λ _. refl
+    ] refl
 
-pub climb_begun : (rows : List Row) (above entry : ℕ) → is_some (numbered rows entry) ≡ true → IsClimbed rows above entry entry
-climb_begun rows above entry h = record { there = h; same = refl }
+not_same : (a b : Bool) → b ≡ false → (a && not b) ≡ a
+not_same a true e = absurd (let f : true ≡ false = e in cc)
+not_same true false e = refl
+not_same false false e = refl
 
--- the next folder, by its number
-pub record IsNext (rows : List Row) (above number next : ℕ) : Type 0 where
-  pub there : is_some (numbered rows next) ≡ true
-  pub shorter : length (path_numbered rows next) < length (path_numbered rows number)
-  pub on : next ≡ above → is_beneath (path_numbered rows above) (path_numbered rows number) ≡ true
-  pub off : (next ≡ above → ⊥) → is_beneath (path_numbered rows above) (path_numbered rows next) ≡ is_beneath (path_numbered rows above) (path_numbered rows number)
+-- an entry within another one lies beneath it
+pub beneath_other : (rows : List Row) (above entry : ℕ) (inside : Bool) → AreApart rows → is_some (numbered rows above) ≡ true → is_some (numbered rows entry) ≡ true → (entry ≡ above → ⊥) →
+    inside ≡ is_row_within (numbered rows above) (numbered rows entry) → inside ≡ is_beneath (path_numbered rows above) (path_numbered rows entry)
+beneath_other rows above entry inside a h e other i =
+    let head = row_there rows above h in
+    let row = row_there rows entry e in
+    let top : path_numbered rows above ≡ head.0.0 = path_found rows above head.0 head.1 in
+    let path : path_numbered rows entry ≡ row.0.0 = path_found rows entry row.0 row.1 in
+    let found : inside ≡ is_within head.0.0 row.0.0 = i ∙ ap (λ (r : Option Row). is_row_within r (numbered rows entry)) head.1 ∙ ap (is_row_within (Some head.0)) row.1 in
+    let apart : is_same_path head.0.0 row.0.0 ≡ false = apart_by_number rows above entry head.0 row.0 a head.1 row.1 other in
+    found ∙ sym (not_same (is_within head.0.0 row.0.0) (is_same_path head.0.0 row.0.0) apart)
+    ∙ sym (ap (λ (p : Path). is_beneath p (path_numbered rows entry)) top ∙ ap (is_beneath head.0.0) path)
 
-pub next_folder : (content : Content) (above number : ℕ) (row : Row) (next : ℕ) → GoodContent content → is_some (numbered content.rows above) ≡ true → numbered content.rows number ≡ Some row → (number ≡ 1 → ⊥) →
-    next ≡ unwrap_or (number_at content.rows (parent row.0)) 0 → IsNext content.rows above number next
-next_folder content above number row next good there h other e =
-    let rows : List Row = content.rows in
-    let up : GoesUp rows row next = subst (GoesUp rows row) (sym e) (goes_up content number row good h other) in
-    let f = row_there rows above there in
-    let here : path_numbered rows number ≡ row.0 = path_found rows number row h in
-    let around : path_numbered rows next ≡ parent row.0 = path_found rows next up.folder up.found ∙ up.path in
-    let top : path_numbered rows above ≡ f.0.0 = path_found rows above f.0 f.1 in
-    let whole : is_beneath f.0.0 row.0 ≡ is_within f.0.0 (parent row.0) = beneath_parent f.0.0 row.0 up.long in
-    record {
-      there = ap is_some up.found;
-      shorter = (
-          let short : length (parent row.0) ≡ length row.0 - 1 = length-take-le (length row.0 - 1) row.0 (omega arith) in
-          let long = up.long in
-          let one = ap (λ (xs : Path). length xs) around in
-          let two = ap (λ (xs : Path). length xs) here in
-          omega (arith, short, long, one, two)
-          );
-      on = λ q. (
-          let same : parent row.0 ≡ f.0.0 = sym around ∙ ap (path_numbered rows) q ∙ top in
-          ap (λ (p : Path). is_beneath p (path_numbered rows number)) top ∙ ap (is_beneath f.0.0) here ∙ whole ∙ ap (is_within f.0.0) same ∙ within_itself f.0.0
-          );
-      off = λ q. (
-          let apart : is_same_path f.0.0 (parent row.0) ≡ false = elim (is_same_path f.0.0 (parent row.0)) as (λ b. is_same_path f.0.0 (parent row.0) ≡ b → b ≡ false) [
-            | true ↦ λ t. absurd (
-                let p : f.0.0 ≡ up.folder.0 = same_path-eq f.0.0 (parent row.0) t ∙ sym up.path in
-                let one : number_at rows f.0.0 ≡ Some above = number_found rows above f.0 good.apart f.1 in
-                let two : number_at rows f.0.0 ≡ Some next = ap (number_at rows) p ∙ number_found rows next up.folder good.apart up.found in
-                let same : next ≡ above = cc in
-                q same
-                )
-            | false ↦ λ _. refl
-          ] refl in
-          let within : is_beneath f.0.0 (parent row.0) ≡ is_within f.0.0 (parent row.0) = only (is_within f.0.0 (parent row.0)) (is_same_path f.0.0 (parent row.0)) apart in
-          ap (λ (p : Path). is_beneath p (path_numbered rows next)) top ∙ ap (is_beneath f.0.0) around ∙ within ∙ sym whole
-          ∙ sym (ap (λ (p : Path). is_beneath p (path_numbered rows number)) top ∙ ap (is_beneath f.0.0) here)
-          );
-    }
-  where
-    only : (a b : Bool) → b ≡ false → (a && not b) ≡ a
-    only a true e = absurd (let f : true ≡ false = e in cc)
-    only true false e = refl
-    only false false e = refl
+not_beneath : (p : Path) → is_beneath p p ≡ false
+not_beneath p =
+    let within : is_within p p ≡ true = within_itself p in
+    let same : is_same_path p p ≡ true = same_path-itself p in
+    rw (within, same) refl
 
--- at the root nothing is left
-pub climb_ended : (content : Content) (above entry number : ℕ) → GoodContent content → number ≡ 1 → IsClimbed content.rows above entry number → false ≡ is_beneath (path_numbered content.rows above) (path_numbered content.rows entry)
-climb_ended content above entry number good e climbed =
-    let r = row_there content.rows number climbed.there in
-    let root : number_at content.rows [] ≡ Some number = good.first ∙ ap (λ (n : ℕ). Some n) (sym e) in
-    let empty : [] ≡ r.0.0 = path_at content.rows [] number r.0 good.apart r.1 root in
-    let path : path_numbered content.rows number ≡ [] = path_found content.rows number r.0 r.1 ∙ sym empty in
-    sym (sym climbed.same ∙ ap (is_beneath (path_numbered content.rows above)) path ∙ root_beneath_none (path_numbered content.rows above))
-
-pub climb_more : (rows : List Row) (above entry number next : ℕ) → IsClimbed rows above entry number → IsNext rows above number next → (next ≡ above → ⊥) → IsClimbed rows above entry next
-climb_more rows above entry number next climbed up other = record { there = up.there; same = up.off other ∙ climbed.same }
-
-pub climb_hit : (rows : List Row) (above entry number next : ℕ) → IsClimbed rows above entry number → IsNext rows above number next → next ≡ above → true ≡ is_beneath (path_numbered rows above) (path_numbered rows entry)
-climb_hit rows above entry number next climbed up same = sym (up.on same) ∙ climbed.same
+-- none lies beneath itself
+pub beneath_itself : (rows : List Row) (above entry : ℕ) → entry ≡ above → false ≡ is_beneath (path_numbered rows above) (path_numbered rows entry)
+beneath_itself rows above entry e = sym (ap (λ (n : ℕ). is_beneath (path_numbered rows above) (path_numbered rows n)) e ∙ not_beneath (path_numbered rows above))
 
 -- the entry at the front of a path, by the front's components
-pub front_told : (rows : List Row) (parts front : List (List ℕ)) (depth entry : ℕ) (o : Option ℕ) → o ≡ number_at rows (folded_path front) → front ≡ take depth parts → option_map_or (λ k. k == entry) o false ≡ is_front_numbered rows (folded_path parts) depth entry
-front_told rows parts front depth entry o e f =
-    ap (λ (q : Option ℕ). option_map_or (λ k. k == entry) q false) (e ∙ ap (λ (ps : List (List ℕ)). number_at rows (folded_path ps)) f ∙ ap (number_at rows) (sym (take-map folded depth parts)))
+pub front_told : (rows : List Row) (parts front : List (List ℕ)) (depth : ℕ) (o : Option ℕ) → o ≡ number_at rows (folded_path front) → front ≡ take depth parts → number_at rows (take depth (folded_path parts)) ≡ o
+front_told rows parts front depth o e f =
+    sym (e ∙ ap (λ (ps : List (List ℕ)). number_at rows (folded_path ps)) f ∙ ap (number_at rows) (sym (take-map folded depth parts)))

@@ -1,12 +1,12 @@
 -- For the proofs; nothing here need be believed.
 -- What the code finds where a rename leads, and the rows over that.
-use Rattle.std.specs.Prelude.{◌≡◌, ◌≢◌, ℕ, ◌==◌, ◌||◌, ◌&&◌, Bool, false, not, List, [], ◌∷◌, length, take, slice_index, Option, None, Some, is_some, if◌then◌else◌}
+use Rattle.std.specs.Prelude.{◌≡◌, ◌≢◌, ℕ, ◌==◌, ◌||◌, ◌&&◌, Bool, false, not, List, [], ◌∷◌, length, slice_index, Option, None, Some, is_some, if◌then◌else◌}
 use Rattle.std.specs.Option.{option_map, option_map_or}
 use Rattle.smb_wire.specs.NtStatus.{STATUS_SUCCESS, STATUS_INVALID_PARAMETER, STATUS_OBJECT_NAME_INVALID, STATUS_ACCESS_DENIED, STATUS_DELETE_PENDING, STATUS_OBJECT_PATH_NOT_FOUND, STATUS_OBJECT_NAME_COLLISION}
 use Rattle.smb_wire.specs.Paths.{is_separator, path_fault}
 use Rattle.smb_tree.specs.Entries.{is_folder_kind}
 use Rattle.smb_tree.specs.declared.fault.TreeFault.{TreeFault}
-use Rattle.smb_tree.specs.Content.{Path, Row, entry_at, number_at}
+use Rattle.smb_tree.specs.Content.{Path, Row, entry_at}
 use Rattle.smb_access.specs.declared.fault.StoreFault.{StoreFault}
 use Rattle.smb_access.specs.declared.fault.StoreFault.TheVariants.{Status, NoMemory as NoRoom}
 use Rattle.smb_access.specs.declared.open_row.OpenRow.{OpenRow}
@@ -67,10 +67,6 @@ way_rows rows opens view way replace =
     ∷ (is_own_target view.entry way.target, STATUS_SUCCESS)
     ∷ (is_folder_kind view.kind && has_open_beneath rows opens (path_numbered rows view.entry), STATUS_ACCESS_DENIED)
     ∷ target_rows opens way replace
-
--- the front of a path of so many components is that of the entry of a number
-abbrev pub is_front_numbered : List Row → Path → ℕ → ℕ → Bool
-is_front_numbered rows path depth entry = option_map_or (λ number. number == entry) (number_at rows (take depth path)) false
 
 -- a refusal of a move, by what the tree refuses: of what it refuses only the length of a path is left
 abbrev pub IsMoveRefusal : Option TreeFault → StoreFault → Type 0

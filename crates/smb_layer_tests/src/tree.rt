@@ -59,6 +59,19 @@ fn shows_the_file<T: Tree>(tree: &T) -> bool {
         && file.spelling.bytes() == b"m\0e\0".as_slice()
 }
 
+/// Whether the file lies within its folder, and that within the root, but neither the other way round; and nothing does
+/// within what is not there.
+fn nests<T: Tree>(tree: &T) -> bool {
+    tree.is_within(1, 2)
+        && tree.is_within(1, 3)
+        && tree.is_within(2, 3)
+        && tree.is_within(3, 3)
+        && !tree.is_within(3, 2)
+        && !tree.is_within(2, 1)
+        && !tree.is_within(2, 4)
+        && !tree.is_within(4, 2)
+}
+
 /// Gives the file as much room as there is, and no more.
 fn fills<T: Tree>(tree: &mut T) -> bool {
     tree.set_size(3, 4_097) == Ok(())
@@ -118,6 +131,7 @@ fn is_a_tree<T: Tree>(tree: &mut T, alloc: Global) -> bool {
     shows_the_root(tree)
         && grows(tree)
         && shows_the_file(tree)
+        && nests(tree)
         && fills(tree)
         && dates(tree)
         && renames(tree, alloc)

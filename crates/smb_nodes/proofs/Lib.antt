@@ -27,3 +27,4 @@ pub mod Relocating
 pub mod Placing
 pub mod Bounds
 pub mod Targeting
+pub mod Within

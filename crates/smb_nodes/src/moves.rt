@@ -50,8 +50,8 @@ fn is_other_folder(nodes: &Slab<Node>, number: EntryNo, slot: Option<usize>) -> 
     }
 }
 
-// Whether a slot is another one or lies beneath it.
-fn is_within(nodes: &Slab<Node>, top: usize, slot: usize) -> bool
+// Whether a slot is another one or lies beneath it: at most one step up for each component of its path.
+pub fn is_within(nodes: &Slab<Node>, top: usize, slot: usize) -> bool
     ensures { result ≡ is_within_slot (heap_of nodes.now) top (Some slot) }
 {
     levels_below(nodes, most_levels(), top, slot).is_some()

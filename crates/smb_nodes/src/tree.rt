@@ -8,7 +8,7 @@ use super::additions::{add_fault, place};
 use super::change::{overwrite, put_mark, rebase, resize};
 use super::first::{indexed, rooted};
 use super::look::{name_of, node_at, number_or_none, slot_of, view_of, walk_down};
-use super::moves::{move_fault, target_in};
+use super::moves::{is_within, move_fault, target_in};
 use super::next::next_child;
 use super::node::Node;
 use super::paths::{around, last_spelling};
@@ -33,6 +33,8 @@ use std::marker::Model;
 /// - [`entry`](Tree::entry), [`name`](Tree::name), [`set_basic`](Tree::set_basic), [`set_mark`](Tree::set_mark):
 ///   nothing more. [`used`](Tree::used) is kept, and not counted.
 /// - [`child_after`](Tree::child_after): one look-up in the folder's children.
+/// - [`is_within`](Tree::is_within): a second look-up in the index, and at most one step up by slots for each component of
+///   the path.
 /// - [`copy_entry`](Tree::copy_entry): one step up for each component, and memory for the name.
 /// - [`add`](Tree::add): three walks along the path, and one insertion into the folder's children and the index. It
 ///   takes memory for the spelling and, where there is no room, for a slot, a child and a number.
@@ -139,6 +141,16 @@ impl Tree for NodeTree {
         let slot = slot_of(&self.index, number)?;
         let node = &self.nodes[slot];
         Some(name_of(node))
+    }
+
+    fn is_within(&self, above: EntryNo, number: EntryNo) -> bool {
+        let Some(top) = slot_of(&self.index, above) else {
+            return false;
+        };
+        let Some(slot) = slot_of(&self.index, number) else {
+            return false;
+        };
+        is_within(&self.nodes, top, slot)
     }
 
     fn next_no(&self) -> Option<EntryNo> {

@@ -1,5 +1,5 @@
 -- A move: an entry, with all that lies beneath it, gets another path ([MS-FSA] 2.1.5.15.11, FileRenameInformation).
-use Rattle.std.specs.Prelude.{ℕ, Bool, ◌==◌, nat_eq, is_some, if◌then◌else◌, List, [], ◌∷◌, ◌++◌, map, Option, None, Some}
+use Rattle.std.specs.Prelude.{ℕ, Bool, false, ◌==◌, nat_eq, is_some, if◌then◌else◌, List, [], ◌∷◌, ◌++◌, map, Option, None, Some}
 use Rattle.std.specs.Option.{option_map_or}
 use Rattle.std.specs.Cmp.Lexicographic.{pointwise}
 use Rattle.smb_wire.specs.Paths.{folded_path}
@@ -15,6 +15,12 @@ rest_behind (name ∷ head) (other ∷ path) = if pointwise nat_eq name other th
 -- whether a path is another one, or lies beneath it
 abbrev pub is_within : Path → Path → Bool
 is_within head path = is_some (rest_behind head path)
+
+-- whether the entry of one number is that of another, or lies beneath it; neither where one of them is not there
+abbrev pub is_row_within : Option Row → Option Row → Bool
+is_row_within None row = false
+is_row_within (Some head) None = false
+is_row_within (Some head) (Some row) = is_within head.0 row.0
 
 -- a path with `from` at its head replaced by `to`; one that isn't within `from` as it is
 abbrev pub replaced : Path → Path → Path → Path

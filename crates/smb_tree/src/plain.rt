@@ -14,7 +14,7 @@ use super::entry_copy::EntryCopy;
 use super::fault::TreeFault;
 use super::look::{add_fault, place_of, stored_at, view_of};
 use super::moves::{move_fault, place_of_other, put_texts, texts_moved};
-use super::paths::path_of;
+use super::paths::{is_within, path_of};
 use super::stored::Stored;
 use super::texts::text_of;
 use super::tree::Tree;
@@ -24,8 +24,8 @@ use std::alloc::{AllocError, Global};
 use std::marker::Model;
 
 /// A tree that is a list of entries, each with its whole path and its bytes. A look-up by path or number goes
-/// through the list, [`child_after`](Tree::child_after) and [`remove`](Tree::remove) twice; none of these takes
-/// memory. [`copy_entry`](Tree::copy_entry) goes through the list once for each component of the path, and takes
+/// through the list, [`child_after`](Tree::child_after), [`is_within`](Tree::is_within) and [`remove`](Tree::remove)
+/// twice; none of these takes memory. [`copy_entry`](Tree::copy_entry) goes through the list once for each component of the path, and takes
 /// memory for the name. [`move_entry`](Tree::move_entry) goes through the list eight times; before it changes
 /// anything, it takes memory for the new path of each entry that is moved, and a few words for each other one. A
 /// read copies the bytes that it gives once, in one block. A write copies its bytes once, in one block, over zeros
@@ -188,6 +188,18 @@ impl Tree for PlainTree {
     fn name(&self, number: EntryNo) -> Option<FoldedName> {
         let i = place_of(&self.entries, number)?;
         Some(name_of(&self.entries[i]))
+    }
+
+    fn is_within(&self, above: EntryNo, number: EntryNo) -> bool {
+        let Some(top) = place_of(&self.entries, above) else {
+            return false;
+        };
+        let Some(i) = place_of(&self.entries, number) else {
+            return false;
+        };
+        let head = path_of(&self.entries[top]);
+        let path = path_of(&self.entries[i]);
+        is_within(&head, &path)
     }
 
     fn next_no(&self) -> Option<EntryNo> {

@@ -5,7 +5,7 @@ ghost use Rattle.std.specs.Option.{option_map, option_copied};
 ghost use Rattle.smb_wire.specs.Paths.{folded_path};
 ghost use Rattle.smb_wire.specs.PathViews.{parts_of};
 ghost use Rattle.smb_tree.specs.Content.{numbered, number_at, next_number, used_space, added, with_size, with_basic, with_mark, removed, bytes_read, with_bytes};
-ghost use Rattle.smb_tree.specs.Moves.{moved};
+ghost use Rattle.smb_tree.specs.Moves.{moved, is_row_within};
 ghost use Rattle.smb_tree.specs.WholeNames.{copied, entry_copied};
 ghost use Rattle.smb_tree.specs.Children.{name_of, child_after};
 ghost use Rattle.smb_tree.specs.Faults.{add_fault, size_fault, basic_fault, mark_fault, remove_fault, move_fault, copy_fault, read_fault, write_fault};
@@ -52,6 +52,11 @@ pub trait Tree {
     /// entry has the number.
     fn name(&self, number: EntryNo) -> Option<FoldedName>
         ensures { result ≡ option_map name_of (numbered (content self.now).rows number) };
+
+    /// Whether the entry of a number is that of another one, `above`, or lies beneath it; false where one of them is
+    /// not there. It takes no memory.
+    fn is_within(&self, above: EntryNo, number: EntryNo) -> bool
+        ensures { result ≡ is_row_within (numbered (content self.now).rows above) (numbered (content self.now).rows number) };
 
     /// The number that the next entry gets, or None once the numbers are spent: the last is the greatest but
     /// one of 64 bits.

@@ -1,26 +1,12 @@
-use Rattle.std.proofs.Common.{ap}
-use Rattle.smb_tree.specs.Views.{Shown, shown}
-use Rattle.smb_access.proofs.Trees.{row_of_shown}
-use Rattle.smb_entry.proofs.Under.{next_folder, climb_hit, climb_more, climb_ended}
+use Rattle.std.proofs.Common.{◌≡◌, ◌==◌, false, not, arith, ◌∙◌}
+use Rattle.std.proofs.lemmas.Bool.Decides.{nat_tests}
+use Rattle.smb_entry.proofs.Under.{beneath_other, beneath_itself}
 use Rattle.smb_entry.proofs.beneath.is_entry_beneath.Goals as goal
 
-pub returns-then-number-above : goal.returns-then-number-above
-returns-then-number-above g c =
-    let r = row_of_shown (g.T.Tree.content c.args.tree.now).rows c.loop-number.number (shown c.in-Some.seen) c.in-Some.ensures in
-    let up = next_folder (g.T.Tree.content c.args.tree.now) c.args.above c.loop-number.number r.0 c.in-Some.seen.parent c.requires.good c.requires.above r.1 c.loop-number-test.true (ap (λ (s : Shown). s.parent) r.2) in
-    climb_hit (g.T.Tree.content c.args.tree.now).rows c.args.above c.args.entry c.loop-number.number c.in-Some.seen.parent c.loop-number.invariant up c.if-number-above.true
+pub returns-then-entry-above : goal.returns-then-entry-above
+returns-then-entry-above g c = beneath_other (g.T.Tree.content c.args.tree.now).rows c.args.above c.args.entry c.is_within.result c.requires.good.apart c.requires.above c.requires.there c.if-entry-above.true c.is_within.ensures
 
-pub loop-number-smaller : goal.loop-number-smaller
-loop-number-smaller g c =
-    let r = row_of_shown (g.T.Tree.content c.args.tree.now).rows c.loop-number.number (shown c.in-Some.seen) c.in-Some.ensures in
-    let up = next_folder (g.T.Tree.content c.args.tree.now) c.args.above c.loop-number.number r.0 c.in-Some.seen.parent c.requires.good c.requires.above r.1 c.loop-number-test.true (ap (λ (s : Shown). s.parent) r.2) in
-    up.shorter
-
-pub loop-number-preserved : goal.loop-number-preserved
-loop-number-preserved g c =
-    let r = row_of_shown (g.T.Tree.content c.args.tree.now).rows c.loop-number.number (shown c.in-Some.seen) c.in-Some.ensures in
-    let up = next_folder (g.T.Tree.content c.args.tree.now) c.args.above c.loop-number.number r.0 c.in-Some.seen.parent c.requires.good c.requires.above r.1 c.loop-number-test.true (ap (λ (s : Shown). s.parent) r.2) in
-    climb_more (g.T.Tree.content c.args.tree.now).rows c.args.above c.args.entry c.loop-number.number c.in-Some.seen.parent c.loop-number.invariant up c.if-number-above.false
-
-pub returns : goal.returns
-returns g c = climb_ended (g.T.Tree.content c.args.tree.now) c.args.above c.args.entry c.loop-number.number c.requires.good c.loop-number-test.false c.loop-number.invariant
+pub returns-else-entry-above : goal.returns-else-entry-above
+returns-else-entry-above g c =
+    let none : not (c.args.entry == c.args.above) ≡ false = grind (arith, nat_tests, c.if-entry-above.false) in
+    none ∙ beneath_itself (g.T.Tree.content c.args.tree.now).rows c.args.above c.args.entry c.if-entry-above.false
