@@ -13,3 +13,5 @@ mod memory;
 mod scripted;
 #[cfg(test)]
 mod served;
+#[cfg(test)]
+mod talk;

@@ -1,0 +1,141 @@
+//! A client that talks to a share in names, through calls and over peers in memory.
+
+ghost use Rattle.std.specs.Prelude.{IfSome, IsTrue};
+ghost use Rattle.smb_engine.specs.MemoryPeers.{are_distinct, opened_by};
+
+use super::calls::{Served, built_in};
+use smb_client::{Client, ClientFault, Pair, Replies, taken_from};
+use smb_engine::{ListClock, MemoryPeers, PeerStep, serve};
+use smb_handles::HandleTable;
+use smb_layer_tests::words::MOMENT;
+use smb_nodes::NodeTree;
+use smb_session::Tokens;
+use smb_wire::nt_status::STATUS_SUCCESS;
+use smb_wire::{CreateDisposition, FileId};
+use std::alloc::Global;
+
+type Talk = Pair<Tokens, NodeTree, HandleTable>;
+
+/// Whether there are so many replies, each with success.
+fn are_good(replies: &mut Replies<'_>, count: usize) -> bool {
+    let mut good = 0;
+    while let Some(reply) = replies.next_reply() {
+        if reply.header.status != STATUS_SUCCESS {
+            return false;
+        }
+        good += 1;
+    }
+    good == count
+}
+
+/// Whether what a client says is answered with success.
+fn is_told(pair: &mut Talk, client: &mut Client, asked: Result<(), ClientFault>) -> bool {
+    if asked.is_err() {
+        return false;
+    }
+    match pair.exchange(client) {
+        Ok(mut replies) => are_good(&mut replies, 1),
+        Err(_) => false,
+    }
+}
+
+/// Whether a client comes in.
+fn comes_in(pair: &mut Talk, client: &mut Client) -> bool {
+    let asked = client.negotiate();
+    if !is_told(pair, client, asked) {
+        return false;
+    }
+    let asked = client.session_setup(b"a");
+    if !is_told(pair, client, asked) {
+        return false;
+    }
+    let asked = client.tree_connect(r"\\server\data");
+    is_told(pair, client, asked)
+}
+
+/// The FileId of a new file.
+fn made(pair: &mut Talk, client: &mut Client, name: &str) -> Option<FileId> {
+    client.create(name, CreateDisposition::Create).ok()?;
+    let mut replies = pair.exchange(client).ok()?;
+    replies.next_reply()?.file_id()
+}
+
+/// Whether a client reads from the front of a file what it wrote there.
+fn reads_what_it_wrote(pair: &mut Talk, client: &mut Client, file_id: FileId) -> bool {
+    let asked = client.write(file_id, 0, b"first draft");
+    if !is_told(pair, client, asked) || client.read(file_id, 0, 64).is_err() {
+        return false;
+    }
+    match pair.exchange(client) {
+        Ok(mut replies) => match replies.next_reply() {
+            Some(reply) => reply.data() == Some(b"first draft"),
+            None => false,
+        },
+        Err(_) => false,
+    }
+}
+
+/// Whether a client makes a file, writes it, reads it and closes it.
+fn keeps_a_file(pair: &mut Talk, client: &mut Client) -> bool {
+    let Some(file_id) = made(pair, client, "plan.txt") else {
+        return false;
+    };
+    if !reads_what_it_wrote(pair, client, file_id) {
+        return false;
+    }
+    let asked = client.close(file_id);
+    is_told(pair, client, asked)
+}
+
+/// Whether a new client of a share comes in, and keeps a file there.
+fn talks(pair: &mut Talk) -> bool {
+    match pair.connect() {
+        Ok(mut client) => comes_in(pair, &mut client) && keeps_a_file(pair, &mut client),
+        Err(_) => false,
+    }
+}
+
+#[test]
+fn talks_to_a_share(rt: HostRuntime) {
+    let alloc = rt.alloc();
+    let is_so = match built_in(alloc) {
+        Some(share) => {
+            let mut pair = Pair::new(alloc, share, MOMENT);
+            talks(&mut pair)
+        }
+        None => false,
+    };
+    assert!(rt; is_so);
+}
+
+/// The script of a client that negotiates and asks for an echo.
+fn script(alloc: Global) -> Option<Vec<PeerStep>>
+    ensures { IfSome result (λ script. IsTrue (are_distinct (opened_by script.items))) }
+{
+    let mut client = Client::new(alloc, 1);
+    client.negotiate().ok()?;
+    client.echo().ok()?;
+    let mut script = Vec::new(alloc);
+    script.push(PeerStep::Opened(1)).ok()?;
+    script.push(PeerStep::Bytes(1, client.take_frames())).ok()?;
+    Some(script)
+}
+
+/// Whether a share answers both requests of that client over peers in memory.
+fn answers_both(alloc: Global, share: &mut Served) -> Option<bool> {
+    let sends = Vec::new(alloc);
+    let mut peers = MemoryPeers::new(alloc, script(alloc)?, sends, 100, 1_000).ok()?;
+    let mut clock = ListClock::new(alloc, &[MOMENT]).ok()?;
+    let ran_out = serve(share, &mut peers, &mut clock, 8);
+    let heard = taken_from(alloc, &peers, 1).ok()?;
+    Some(ran_out == 0 && are_good(&mut Replies::of(&heard), 2))
+}
+
+#[test]
+fn talks_over_memory(rt: HostRuntime) {
+    let is_so = match built_in(rt.alloc()) {
+        Some(mut share) => answers_both(rt.alloc(), &mut share),
+        None => None,
+    };
+    assert!(rt; is_so == Some(true));
+}
