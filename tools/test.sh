@@ -1,6 +1,6 @@
 #!/usr/bin/env bash
 # Every test of the repository: what must hold of its files, then `rt ci`, which proves every crate from nothing, tries
-# the must-fail edits, and runs the tests, the programs and their rows; and last the program over TCP, and its allocations.
+# the must-fail edits, and runs the tests, the programs and their rows; and last the program over TCP, its allocations and its words.
 set -u
 cd "$(dirname "$0")/.." || exit 1
 
@@ -24,15 +24,15 @@ python3 tools/frame.py check crates/smb_rows/stdin || fail 'tools/frame.py does 
 log=$(mktemp)
 rt ci 2>&1 | tee "$log"
 status=${PIPESTATUS[0]}
-for script in serving allocations; do
+for script in serving allocations program; do
     python3 "tools/$script.py" 2>&1 | tee -a "$log"
     [ "${PIPESTATUS[0]}" -eq 0 ] || status=1
 done
 
-# The counts of all three, as one; a script that printed none failed.
+# The counts of all four, as one; a script that printed none failed.
 awk '/^[0-9]+ passed, [0-9]+ failed$/ { passed = $1; failed = $3; proved = 1 }
-     /^(serving|allocations): [0-9]+ passed, [0-9]+ failed$/ { more += $2; less += $4; tried++ }
-     END { print passed + more " passed, " failed + less + 3 - proved - tried " failed"; exit proved + tried != 3 }' "$log"
+     /^(serving|allocations|program): [0-9]+ passed, [0-9]+ failed$/ { more += $2; less += $4; tried++ }
+     END { print passed + more " passed, " failed + less + 4 - proved - tried " failed"; exit proved + tried != 4 }' "$log"
 counted=$?
 rm -f "$log"
 [ "$status" -eq 0 ] && [ "$counted" -eq 0 ]

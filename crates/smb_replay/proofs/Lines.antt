@@ -10,7 +10,7 @@ use Rattle.std.proofs.lemmas.List.{append-nil}
 use Rattle.smb_replay.specs.declared.script.Script.{Script}
 use Rattle.smb_replay.specs.Reading.{script_text, behind}
 use Rattle.smb_engine.specs.Event.{text_of}
-use Rattle.smb_replay.specs.Script.{lines_of, LineText, line_then, read_line, script_from, script_of}
+use Rattle.smb_replay.specs.Script.{lines_of, LineText, ScriptText, line_then, read_line, script_from}
 
 abbrev to_end : List ℕ → ℕ
 to_end text = prefix_len (λ c. not (eqb c 10)) text
@@ -60,11 +60,11 @@ lines-none text h = elim (cases_lt (to_end text) (length text)) [
 pub script_end : (script : Script) → script.unreadable_at ≡ None → script_text script ≡ behind script (record { events = []; places = []; unreadable_at = None })
 script_end script h = rw (h, append-nil (map text_of script.events.items), append-nil script.places.items) refl
 
--- the last line of a text
-pub read_last : (before now : Script) (text : List ℕ) (line : LineText) (rest content : List ℕ) (number : ℕ) →
-    behind before (script_from number (lines_of rest)) ≡ script_of text → lines_of rest ≡ content ∷ [] → line ≡ read_line content → now.unreadable_at ≡ None →
+-- the last line of a text, whose whole script is this
+pub read_last : (before now : Script) (whole : ScriptText) (line : LineText) (rest content : List ℕ) (number : ℕ) →
+    behind before (script_from number (lines_of rest)) ≡ whole → lines_of rest ≡ content ∷ [] → line ≡ read_line content → now.unreadable_at ≡ None →
     behind now (record { events = []; places = []; unreadable_at = None }) ≡ behind before (line_then number line (record { events = []; places = []; unreadable_at = None })) →
-    script_text now ≡ script_of text
-read_last before now text line rest content number left lines e none add =
+    script_text now ≡ whole
+read_last before now whole line rest content number left lines e none add =
     script_end now none ∙ add ∙ ap (λ l. behind before (line_then number l (record { events = []; places = []; unreadable_at = None }))) e
     ∙ sym (ap (λ ls. behind before (script_from number ls)) lines) ∙ left

@@ -39,7 +39,7 @@ pub data LineText : Type 0 where
 
 abbrev pub line_text : Line → LineText
 line_text Skipped = skipped
-line_text Unreadable = unreadable
+line_text (Unreadable expected) = unreadable
 line_text (Happens event) = says (text_of event)
 
 -- a part of a line that can be read, and what is said with it

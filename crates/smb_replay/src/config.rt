@@ -7,6 +7,7 @@ ghost use Rattle.smb_session.specs.Tokens.{HaveOwnTokens};
 ghost use Rattle.smb_session.specs.Answers.{known_user};
 ghost use Rattle.smb_request.specs.Settings.{settings_of, is_lawful};
 
+use crate::rule::ConfigRule;
 use hex::{FromHex, FromHexError};
 use smb_request::Config;
 use smb_session::{Tokens, User};
@@ -41,26 +42,20 @@ const TOKEN_LIMIT: usize = 4_096;
 /// How many bytes a user's name has at most.
 const NAME_LIMIT: usize = 256;
 
+/// The least capacity that there is.
+const LEAST_CAPACITY: u64 = 4_096;
+
 /// Why a configuration is not taken.
 #[derive(Clone, Copy, Debug, PartialEq, Eq)]
 pub enum ConfigFault {
-    /// It breaks a rule.
-    Refused,
+    /// It breaks this rule, the first that it breaks.
+    Refused(ConfigRule),
     NoMemory,
 }
 
 impl From<AllocError> for ConfigFault {
     fn from(_error: AllocError) -> ConfigFault {
         ConfigFault::NoMemory
-    }
-}
-
-impl From<FromHexError> for ConfigFault {
-    fn from(error: FromHexError) -> ConfigFault {
-        match error {
-            FromHexError::OutOfMemory => ConfigFault::NoMemory,
-            _ => ConfigFault::Refused,
-        }
     }
 }
 
@@ -76,54 +71,81 @@ fn is_known(key: &str, keys: &[&str]) -> bool {
     keys.iter().any(|known| *known == key)
 }
 
-/// Refuses a table with another key than these.
-fn only_keys(table: &Table, keys: &[&str]) -> Result<(), ConfigFault> {
+/// Refuses a table with another key than these, by a rule.
+fn only_keys(table: &Table, keys: &[&str], rule: ConfigRule) -> Result<(), ConfigFault> {
     if table.keys().all(|key| is_known(key.as_str(), keys)) {
         Ok(())
     } else {
-        Err(ConfigFault::Refused)
+        Err(ConfigFault::Refused(rule))
     }
 }
 
 /// The text under a key.
-fn text<'a>(table: &'a Table, key: &str) -> Result<&'a str, ConfigFault> {
+fn text<'a>(table: &'a Table, key: &str, rule: ConfigRule) -> Result<&'a str, ConfigFault> {
     table
         .get(key)
         .and_then(Value::as_str)
-        .ok_or(ConfigFault::Refused)
+        .ok_or(ConfigFault::Refused(rule))
 }
 
 /// The number under a key, 0 or more.
-fn number(table: &Table, key: &str) -> Result<u64, ConfigFault> {
+fn number(table: &Table, key: &str, rule: ConfigRule) -> Result<u64, ConfigFault> {
     let number = table
         .get(key)
         .and_then(Value::as_integer)
-        .ok_or(ConfigFault::Refused)?;
-    u64::try_from(number).map_err(|_| ConfigFault::Refused)
+        .ok_or(ConfigFault::Refused(rule))?;
+    u64::try_from(number).map_err(|_| ConfigFault::Refused(rule))
+}
+
+/// Why hex under a key of this rule was not read.
+fn hex_fault(error: FromHexError, rule: ConfigRule) -> ConfigFault {
+    match error {
+        FromHexError::OutOfMemory => ConfigFault::NoMemory,
+        _ => ConfigFault::Refused(rule),
+    }
 }
 
 /// The bytes that the hex under a key spells, at most 4,096.
-fn read_token(alloc: Global, table: &Table, key: &str) -> Result<Vec<u8>, ConfigFault>
+fn read_token(
+    alloc: Global,
+    table: &Table,
+    key: &str,
+    rule: ConfigRule,
+) -> Result<Vec<u8>, ConfigFault>
     ensures { IfOk result (λ token. length token.items ≤ 4096) }
 {
-    let token = hex::decode(alloc, text(table, key)?)?;
+    let digits = text(table, key, rule)?;
+    let token = match hex::decode(alloc, digits) {
+        Ok(token) => token,
+        Err(error) => return Err(hex_fault(error, rule)),
+    };
     if token.len() > TOKEN_LIMIT {
-        return Err(ConfigFault::Refused);
+        return Err(ConfigFault::Refused(rule));
     }
     Ok(token)
+}
+
+/// The GUID.
+fn read_guid(table: &Table) -> Result<[u8; 16], ConfigFault> {
+    match <[u8; 16] as FromHex>::from_hex(text(table, "guid", ConfigRule::Guid)?) {
+        Ok(guid) => Ok(guid),
+        Err(error) => Err(hex_fault(error, ConfigRule::Guid)),
+    }
 }
 
 /// One user.
 fn read_user(alloc: Global, value: &Value) -> Result<User, ConfigFault>
     ensures { IfOk result (λ user. length user.name.items ≤ 256) }
 {
-    let table = value.as_table().ok_or(ConfigFault::Refused)?;
-    only_keys(table, &USER_KEYS)?;
-    let name = text(table, "name")?.as_bytes();
+    let table = value
+        .as_table()
+        .ok_or(ConfigFault::Refused(ConfigRule::Users))?;
+    only_keys(table, &USER_KEYS, ConfigRule::UserKeys)?;
+    let name = text(table, "name", ConfigRule::UserName)?.as_bytes();
     if name.is_empty() || name.len() > NAME_LIMIT {
-        return Err(ConfigFault::Refused);
+        return Err(ConfigFault::Refused(ConfigRule::UserName));
     }
-    let token = read_token(alloc, table, "token")?;
+    let token = read_token(alloc, table, "token", ConfigRule::UserToken)?;
     let name = Vec::from_slice(alloc, name)?;
     Ok(User { name, token })
 }
@@ -153,15 +175,62 @@ fn read_users(alloc: Global, table: &Table) -> Result<Vec<User>, ConfigFault>
     let Some(value) = table.get("user") else {
         return Ok(users);
     };
-    let values = value.as_array().ok_or(ConfigFault::Refused)?;
+    let values = value
+        .as_array()
+        .ok_or(ConfigFault::Refused(ConfigRule::Users))?;
     for value in values {
         let user = read_user(alloc, value)?;
         if is_taken(&users, &user.token) {
-            return Err(ConfigFault::Refused);
+            return Err(ConfigFault::Refused(ConfigRule::OwnTokens));
         }
         add_user(&mut users, user)?;
     }
     Ok(users)
+}
+
+/// A configuration that keeps the rules of a share; where it does not, it was broken by what this rule is about.
+fn kept(config: Config, rule: ConfigRule) -> Result<Config, ConfigFault>
+    ensures kept { IfOk result (λ same. same ≡ config) }
+    ensures lawful { IfOk result (λ same. is_lawful (settings_of same) ≡ true) }
+{
+    if config.is_lawful() {
+        Ok(config)
+    } else {
+        Err(ConfigFault::Refused(rule))
+    }
+}
+
+/// What is said of the share. It is looked at after each key that has a rule, so that the first broken rule is found.
+fn read_share(alloc: Global, table: &Table) -> Result<Config, ConfigFault>
+    ensures { IfOk result (λ config. is_lawful (settings_of config) ≡ true) }
+{
+    let share = String::from_str(alloc, text(table, "share", ConfigRule::Share)?)?;
+    let config = Config {
+        share,
+        label: String::new(alloc),
+        guid: [0; 16],
+        capacity: LEAST_CAPACITY,
+        created: 0,
+    };
+    let mut config = kept(config, ConfigRule::Share)?;
+    config.label = String::from_str(alloc, text(table, "label", ConfigRule::Label)?)?;
+    let mut config = kept(config, ConfigRule::Label)?;
+    config.guid = read_guid(table)?;
+    config.capacity = number(table, "capacity", ConfigRule::Capacity)?;
+    let mut config = kept(config, ConfigRule::Capacity)?;
+    config.created = number(table, "created", ConfigRule::Created)?;
+    Ok(config)
+}
+
+/// The table of a text, with no key that is not known.
+fn read_table(alloc: Global, document: &str) -> Result<Table, ConfigFault> {
+    let table = match toml::table_from_str(alloc, document) {
+        Ok(table) => table,
+        Err(error) if error.is_memory() => return Err(ConfigFault::NoMemory),
+        Err(_) => return Err(ConfigFault::Refused(ConfigRule::Toml)),
+    };
+    only_keys(&table, &KEYS, ConfigRule::Keys)?;
+    Ok(table)
 }
 
 impl Configuration {
@@ -169,27 +238,13 @@ impl Configuration {
     pub fn read(alloc: Global, document: &str) -> Result<Self, ConfigFault>
         ensures lawful { IfOk result (λ read. is_lawful (settings_of read.config) ≡ true) }
     {
-        let table = match toml::table_from_str(alloc, document) {
-            Ok(table) => table,
-            Err(error) if error.is_memory() => return Err(ConfigFault::NoMemory),
-            Err(_) => return Err(ConfigFault::Refused),
-        };
-        only_keys(&table, &KEYS)?;
-        let config = Config {
-            share: String::from_str(alloc, text(&table, "share")?)?,
-            label: String::from_str(alloc, text(&table, "label")?)?,
-            guid: <[u8; 16] as FromHex>::from_hex(text(&table, "guid")?)?,
-            capacity: number(&table, "capacity")?,
-            created: number(&table, "created")?,
-        };
-        if !config.is_lawful() {
-            return Err(ConfigFault::Refused);
-        }
-        let hello = read_token(alloc, &table, "hello")?;
+        let table = read_table(alloc, document)?;
+        let config = read_share(alloc, &table)?;
+        let hello = read_token(alloc, &table, "hello", ConfigRule::Hello)?;
         let guest = table
             .get("guest")
             .and_then(Value::as_bool)
-            .ok_or(ConfigFault::Refused)?;
+            .ok_or(ConfigFault::Refused(ConfigRule::Guest))?;
         let users = read_users(alloc, &table)?;
         let authenticator = Tokens::new(alloc, &hello, guest, users)?;
         Ok(Configuration {

@@ -1,85 +1,52 @@
-//! The input of a command, and what ends a command.
+//! The input of a command, and the file of its configuration.
 
-use crate::config::ConfigFault;
-use std::alloc::{AllocError, Global};
-use std::fmt;
+use crate::fault::CommandFault;
+use crate::rule::ConfigRule;
+use std::alloc::Global;
 use std::io::{ErrorKind, Read};
 
 /// How many bytes of input are read at most.
 pub const INPUT_LIMIT: u64 = 67_108_864;
 
-/// What ends a command. Its text is what is printed.
-#[derive(Clone, Copy, Debug, PartialEq, Eq)]
-pub enum CommandFault {
-    ConfigUnread,
-    ConfigRefused,
-    ListenFailed,
-    InputFailed,
-    InputTooLong,
-    InputUnreadable,
-    OutputFailed,
-    Unreadable(u64),
-    BadEvent(u64),
-    TooManyConnections(u64),
-    NoMemory,
-}
+/// How many bytes a configuration has at most.
+pub const CONFIG_LIMIT: u64 = 1_048_576;
 
-impl fmt::Display for CommandFault {
-    fn fmt<W: fmt::Write>(&self, f: &mut fmt::Formatter<W>) -> fmt::Result {
-        match self {
-            CommandFault::ConfigUnread => write!(f, "config: cannot be read"),
-            CommandFault::ConfigRefused => write!(f, "config: refused"),
-            CommandFault::ListenFailed => write!(f, "listen: failed"),
-            CommandFault::InputFailed => write!(f, "input: failed"),
-            CommandFault::InputTooLong => write!(f, "input too long"),
-            CommandFault::InputUnreadable => write!(f, "input: unreadable"),
-            CommandFault::OutputFailed => write!(f, "output: failed"),
-            CommandFault::Unreadable(line) => write!(f, "line {line}: unreadable"),
-            CommandFault::BadEvent(line) => write!(f, "line {line}: bad event"),
-            CommandFault::TooManyConnections(line) => write!(
-                f,
-                "line {line}: too many connections"
-            ),
-            CommandFault::NoMemory => write!(f, "no memory"),
-        }
-    }
-}
-
-impl CommandFault {
-    /// The exit status: 3 for want of memory, else 1.
-    pub fn status(self) -> u8 {
-        match self {
-            CommandFault::NoMemory => 3,
-            _ => 1,
-        }
-    }
-}
-
-impl From<AllocError> for CommandFault {
-    fn from(_error: AllocError) -> CommandFault {
-        CommandFault::NoMemory
-    }
-}
-
-impl From<ConfigFault> for CommandFault {
-    fn from(fault: ConfigFault) -> CommandFault {
-        match fault {
-            ConfigFault::Refused => CommandFault::ConfigRefused,
-            ConfigFault::NoMemory => CommandFault::NoMemory,
-        }
+/// The first bytes of a file, at most one more than the limit.
+fn read_past<R: Read + Drop>(
+    alloc: Global,
+    file: R,
+    limit: u64,
+    failed: CommandFault,
+) -> Result<Vec<u8>, CommandFault> {
+    let mut bytes = Vec::new(alloc);
+    match file.take(limit.saturating_add(1)).read_to_end(&mut bytes) {
+        Ok(_) => Ok(bytes),
+        Err(error) if error.kind() == ErrorKind::OutOfMemory => Err(CommandFault::NoMemory),
+        Err(_) => Err(failed),
     }
 }
 
 /// The whole input, of at most [`INPUT_LIMIT`] bytes.
 pub(crate) fn read_input<R: Read + Drop>(alloc: Global, input: R) -> Result<Vec<u8>, CommandFault> {
-    let mut text = Vec::new(alloc);
-    match input.take(INPUT_LIMIT + 1).read_to_end(&mut text) {
-        Ok(_) => {}
-        Err(error) if error.kind() == ErrorKind::OutOfMemory => return Err(CommandFault::NoMemory),
-        Err(_) => return Err(CommandFault::InputFailed),
-    }
+    let text = read_past(alloc, input, INPUT_LIMIT, CommandFault::InputFailed)?;
     if text.len() as u64 > INPUT_LIMIT {
         return Err(CommandFault::InputTooLong);
     }
     Ok(text)
+}
+
+/// The text of a configuration: UTF-8, at most [`CONFIG_LIMIT`] bytes, and no more than one byte behind them is read.
+///
+/// # Errors
+/// [`CommandFault::ConfigUnread`] where a read fails, [`CommandFault::ConfigRefused`] where the file is longer or no text, and
+/// [`CommandFault::NoMemory`].
+pub fn read_config<R: Read + Drop>(alloc: Global, file: R) -> Result<String, CommandFault> {
+    let bytes = read_past(alloc, file, CONFIG_LIMIT, CommandFault::ConfigUnread)?;
+    if bytes.len() as u64 > CONFIG_LIMIT {
+        return Err(CommandFault::ConfigRefused(Some(ConfigRule::Size)));
+    }
+    match std::str::from_utf8(&bytes) {
+        Ok(text) => Ok(String::from_str(alloc, text)?),
+        Err(_) => Err(CommandFault::ConfigRefused(Some(ConfigRule::Text))),
+    }
 }

@@ -7,12 +7,17 @@
 #![tactic(auto)]
 
 mod config;
+mod fault;
 mod input;
 mod replay;
+mod rule;
 mod script;
 mod show;
 
 pub use config::{BUILT_IN, ConfigFault, Configuration};
-pub use input::{CommandFault, INPUT_LIMIT};
-pub use replay::{new_plain_share, new_share, replay_plain_text, replay_text};
+pub use fault::{CommandFault, Detail};
+pub use input::{CONFIG_LIMIT, INPUT_LIMIT, read_config};
+pub use replay::{new_plain_share, new_share, replay_in_detail, replay_plain_text, replay_text};
+pub use rule::ConfigRule;
+pub use script::Expected;
 pub use show::show_text;

@@ -4,8 +4,9 @@ ghost use Rattle.std.specs.Prelude.{◌≡◌, [], IfOk};
 ghost use Rattle.smb_tree.specs.Content.{new_content};
 
 use crate::config::Configuration;
-use crate::input::{CommandFault, read_input};
-use crate::script::Script;
+use crate::fault::{CommandFault, Detail};
+use crate::input::read_input;
+use crate::script::{Part, Script, Unread};
 use smb_engine::{Answer, RunFault, ServeFault, Share};
 use smb_handles::HandleTable;
 use smb_nodes::NodeTree;
@@ -58,7 +59,7 @@ fn fault_at(places: &[u64], fault: RunFault) -> CommandFault {
         ServeFault::TooManyConnections => CommandFault::TooManyConnections(line),
         ServeFault::BadEvent => CommandFault::BadEvent(line),
         ServeFault::NoMemory { done: _ } => CommandFault::NoMemory,
-        ServeFault::BadConfig => CommandFault::ConfigRefused,
+        ServeFault::BadConfig => CommandFault::ConfigRefused(None),
     }
 }
 
@@ -82,7 +83,7 @@ fn share_over<T: Tree + Drop, O: Opens + Drop>(
     match Share::new(alloc, config, authenticator, tree, opens) {
         Ok(share) => Ok(share),
         Err(ServeFault::NoMemory { done: _ }) => Err(CommandFault::NoMemory),
-        Err(_) => Err(CommandFault::ConfigRefused),
+        Err(_) => Err(CommandFault::ConfigRefused(None)),
     }
 }
 
@@ -120,20 +121,36 @@ fn run_script<T: Tree + Drop, O: Opens + Drop, W: Write>(
         return Err(fault_at(&script.places, fault));
     }
     match script.unreadable_at {
-        Some(line) => Err(CommandFault::Unreadable(line)),
+        Some((line, expected)) => Err(CommandFault::Unreadable(line, expected)),
         None => Ok(()),
     }
 }
 
-/// What a replay takes: a configuration and a script.
+/// Runs the events of a text on a share, part by part, and writes what it answers.
+fn run_text<T: Tree + Drop, O: Opens + Drop, W: Write>(
+    alloc: Global,
+    share: &mut Share<Tokens, T, O>,
+    text: &[u8],
+    output: &mut W,
+) -> Result<(), CommandFault> {
+    let mut left = Some(Unread::of(text));
+    while let Some(unread) = left {
+        let part = Part::read(alloc, unread)?;
+        run_script(alloc, share, &part.script, output)?;
+        left = part.left;
+    }
+    Ok(())
+}
+
+/// What a replay takes: a configuration, and a text of events.
 fn read_replay<R: Read + Drop>(
     alloc: Global,
     config: &str,
     input: R,
-) -> Result<(Configuration, Script), CommandFault> {
+) -> Result<(Configuration, Vec<u8>), CommandFault> {
     let configuration = Configuration::read(alloc, config)?;
     let text = read_input(alloc, input)?;
-    Ok((configuration, Script::read(alloc, &text)?))
+    Ok((configuration, text))
 }
 
 /// Replays a text on a new share, and writes what the share answers.
@@ -143,9 +160,9 @@ fn replay<R: Read + Drop, W: Write>(
     input: R,
     output: &mut W,
 ) -> Result<(), CommandFault> {
-    let (configuration, script) = read_replay(alloc, config, input)?;
+    let (configuration, text) = read_replay(alloc, config, input)?;
     let mut share = new_share(alloc, configuration)?;
-    run_script(alloc, &mut share, &script, output)
+    run_text(alloc, &mut share, &text, output)
 }
 
 /// Replays a text on a new plain share, and writes what the share answers.
@@ -155,20 +172,16 @@ fn replay_plain<R: Read + Drop, W: Write>(
     input: R,
     output: &mut W,
 ) -> Result<(), CommandFault> {
-    let (configuration, script) = read_replay(alloc, config, input)?;
+    let (configuration, text) = read_replay(alloc, config, input)?;
     let mut share = new_plain_share(alloc, configuration)?;
-    run_script(alloc, &mut share, &script, output)
+    run_text(alloc, &mut share, &text, output)
 }
 
 /// Writes the fault of a replay, if there is one, and gives the exit status.
-fn status_of<E: Write>(replayed: Result<(), CommandFault>, errors: &mut E) -> u8 {
+fn status_of<E: Write>(replayed: Result<(), CommandFault>, detail: Detail, errors: &mut E) -> u8 {
     match replayed {
         Ok(()) => 0,
-        Err(fault) => {
-            let _ = writeln!(errors, "{fault}");
-            let _ = errors.flush();
-            fault.status()
-        }
+        Err(fault) => fault.report(detail, errors),
     }
 }
 
@@ -176,9 +189,9 @@ fn status_of<E: Write>(replayed: Result<(), CommandFault>, errors: &mut E) -> u8
 ///
 /// The input is one event a line: `+ N` opens a connection, `> N MOMENT HEX` brings a piece of its stream,
 /// `- N` ends it; a line that is empty or that `#` begins is skipped. It is read whole before anything is
-/// written. `output` gets a line `< N HEX` for each reply frame and `x N` where the share ends a connection;
-/// `errors` gets the first fault, after the answers to the lines before it. The status is 0, 1 for a fault,
-/// and 3 for want of memory.
+/// written, and then its events are performed in parts, each answered before the next is read. `output` gets a
+/// line `< N HEX` for each reply frame and `x N` where the share ends a connection; `errors` gets the first fault,
+/// after the answers to the lines before it. The status is 0, 1 for a fault, and 3 for want of memory.
 pub fn replay_text<R: Read + Drop, W: Write, E: Write>(
     alloc: Global,
     config: &str,
@@ -186,7 +199,20 @@ pub fn replay_text<R: Read + Drop, W: Write, E: Write>(
     output: &mut W,
     errors: &mut E,
 ) -> u8 {
-    status_of(replay(alloc, config, input, output), errors)
+    replay_in_detail(alloc, config, Detail::Brief, input, output, errors)
+}
+
+/// The same; with [`Detail::Explained`] `errors` gets a second line, behind a configuration that is refused and a line that
+/// cannot be read: what was expected there.
+pub fn replay_in_detail<R: Read + Drop, W: Write, E: Write>(
+    alloc: Global,
+    config: &str,
+    detail: Detail,
+    input: R,
+    output: &mut W,
+    errors: &mut E,
+) -> u8 {
+    status_of(replay(alloc, config, input, output), detail, errors)
 }
 
 /// The same on a share over the plain tree and the plain list of opens, for tests.
@@ -197,5 +223,6 @@ pub fn replay_plain_text<R: Read + Drop, W: Write, E: Write>(
     output: &mut W,
     errors: &mut E,
 ) -> u8 {
-    status_of(replay_plain(alloc, config, input, output), errors)
+    let replayed = replay_plain(alloc, config, input, output);
+    status_of(replayed, Detail::Brief, errors)
 }

@@ -6,11 +6,42 @@ ghost use Rattle.std.specs.Option.{option_map, option_map_or};
 ghost use Rattle.smb_engine.specs.Event.{text_of, opens, ends};
 ghost use Rattle.smb_replay.specs.Script.{is_digit, decimal_from, decimal_number, piece_of, at_blank, line_text, piece_parts, bytes_line, with_part, says, read_line, lines_of, line_then, script_of, script_from};
 ghost use Rattle.smb_replay.specs.Script.{ScriptText};
-ghost use Rattle.smb_replay.specs.Reading.{script_text, behind, script_so_far};
+ghost use Rattle.smb_replay.specs.Reading.{behind, script_so_far, left_script, part_script};
 
 use hex::FromHexError;
 use smb_engine::Event;
 use std::alloc::{AllocError, Global};
+
+/// How many events are read at a time.
+const PART: usize = 64;
+
+/// What was expected of a line, by how it begins.
+#[derive(Clone, Copy, Debug, PartialEq, Eq)]
+pub enum Expected {
+    Opening,
+    Piece,
+    Ending,
+    /// It has no mark that is known.
+    Mark,
+}
+
+impl Expected {
+    /// What such a line has to be, in one line.
+    pub fn text(self) -> &'static str {
+        match self {
+            Expected::Opening => {
+                "+ N: a blank and the number of the connection that opens, decimal and below 2^64"
+            }
+            Expected::Piece => {
+                "> N MOMENT HEX: a connection's number and a moment in units of 100 ns since 1601, decimal and below 2^64, and one byte or more in hex, each behind one blank"
+            }
+            Expected::Ending => {
+                "- N: a blank and the number of the connection that ends, decimal and below 2^64"
+            }
+            Expected::Mark => "a line that is empty, or that #, +, - or > begins",
+        }
+    }
+}
 
 /// What a line says.
 #[derive(Drop)]
@@ -18,7 +49,7 @@ pub(crate) enum Line {
     /// Nothing: it is empty, or `#` begins it.
     Skipped,
     /// Nothing that can be read.
-    Unreadable,
+    Unreadable(Expected),
     Happens(Event),
 }
 
@@ -113,7 +144,7 @@ fn bytes_line(alloc: Global, text: &[u8]) -> Result<Line, AllocError>
     ensures { IfOk result (λ line. line_text line ≡ bytes_line text.now) }
 {
     let Some((connection, moment, digits)) = piece_parts(text) else {
-        return Ok(Line::Unreadable);
+        return Ok(Line::Unreadable(Expected::Piece));
     };
     match piece_of(alloc, digits)? {
         Some(piece) => Ok(Line::Happens(Event::Bytes {
@@ -121,7 +152,7 @@ fn bytes_line(alloc: Global, text: &[u8]) -> Result<Line, AllocError>
             moment,
             piece,
         })),
-        None => Ok(Line::Unreadable),
+        None => Ok(Line::Unreadable(Expected::Piece)),
     }
 }
 
@@ -131,7 +162,7 @@ fn opened_line(text: &[u8]) -> Line
 {
     match number_of(text) {
         Some(number) => Line::Happens(Event::Opened(number)),
-        None => Line::Unreadable,
+        None => Line::Unreadable(Expected::Opening),
     }
 }
 
@@ -141,7 +172,17 @@ fn ended_line(text: &[u8]) -> Line
 {
     match number_of(text) {
         Some(number) => Line::Happens(Event::Ended(number)),
-        None => Line::Unreadable,
+        None => Line::Unreadable(Expected::Ending),
+    }
+}
+
+/// What was expected of a line that is neither empty nor skipped.
+fn expected_of(line: &[u8]) -> Expected {
+    match line {
+        [b'+', ..] => Expected::Opening,
+        [b'-', ..] => Expected::Ending,
+        [b'>', ..] => Expected::Piece,
+        _ => Expected::Mark,
     }
 }
 
@@ -155,7 +196,7 @@ fn read_line(alloc: Global, line: &[u8]) -> Result<Line, AllocError>
         [b'+', b' ', text @ ..] => Ok(opened_line(text)),
         [b'-', b' ', text @ ..] => Ok(ended_line(text)),
         [b'>', b' ', text @ ..] => bytes_line(alloc, text),
-        _ => Ok(Line::Unreadable),
+        _ => Ok(Line::Unreadable(expected_of(line))),
     }
 }
 
@@ -170,25 +211,39 @@ fn next_line(text: &[u8]) -> (&[u8], Option<&[u8]>)
     }
 }
 
-/// The events of a text in order, each with the number of its line, up to the first line that cannot be
-/// read, if there is one.
+/// Events of a text in order, each with the number of its line, up to the first line that cannot be read, if there is one:
+/// then with its number, and what was expected there.
 #[derive(Drop)]
 pub(crate) struct Script {
     pub(crate) events: Vec<Event>,
     pub(crate) places: Vec<u64>,
-    pub(crate) unreadable_at: Option<u64>,
+    pub(crate) unreadable_at: Option<(u64, Expected)>,
 }
 
 impl Script {
+    /// A script without events.
+    fn new(alloc: Global) -> Self
+        ensures added { (later : ScriptText) → behind result later ≡ later }
+        ensures empty { result.events.items ≡ [] }
+        ensures readable { result.unreadable_at ≡ None }
+    {
+        Script {
+            events: Vec::new(alloc),
+            places: Vec::new(alloc),
+            unreadable_at: None,
+        }
+    }
+
     /// Adds what a line says, and tells whether the next line is to be read.
     fn add(&mut self, number: u64, line: Line) -> Result<bool, AllocError>
         ensures added { (later : ScriptText) → IfOk result (λ goes_on. script_so_far goes_on self.new later ≡ behind self.old (line_then number (line_text line) later)) }
         ensures readable { IfOk result (λ goes_on. IsTrue goes_on → self.new.unreadable_at ≡ self.old.unreadable_at) }
+        ensures one { IfOk result (λ goes_on. length self.new.events.items ≤ length self.old.events.items + 1) }
     {
         match line {
             Line::Skipped => Ok(true),
-            Line::Unreadable => {
-                self.unreadable_at = Some(number);
+            Line::Unreadable(expected) => {
+                self.unreadable_at = Some((number, expected));
                 Ok(false)
             }
             Line::Happens(event) => {
@@ -198,29 +253,58 @@ impl Script {
             }
         }
     }
+}
 
-    /// Reads a text.
-    pub(crate) fn read(alloc: Global, text: &[u8]) -> Result<Self, AllocError>
-        ensures { IfOk result (λ script. script_text script ≡ script_of text.now) }
+/// What is left of a text: it goes on with the line of this number.
+#[derive(Drop)]
+pub(crate) struct Unread<'a> {
+    text: &'a [u8],
+    number: u64,
+}
+
+impl<'a> Unread<'a> {
+    /// A text of which nothing was read.
+    pub(crate) fn of(text: &'a [u8]) -> Self
+        ensures script { left_script result ≡ script_of text.now }
+        ensures counted { result.number + length result.text.now < 18446744073709551616 }
     {
-        let mut script = Script {
-            events: Vec::new(alloc),
-            places: Vec::new(alloc),
-            unreadable_at: None,
-        };
-        let mut number = 1u64;
-        let mut rest = text;
-        loop {
+        Unread { text, number: 1 }
+    }
+}
+
+/// A part of a text, as a script, and what is left of the text: None where nothing is, or where the part ends at a line that
+/// cannot be read.
+#[derive(Drop)]
+pub(crate) struct Part<'a> {
+    pub(crate) script: Script,
+    pub(crate) left: Option<Unread<'a>>,
+}
+
+impl<'a> Part<'a> {
+    /// Reads at most 64 events.
+    pub(crate) fn read(alloc: Global, unread: Unread<'a>) -> Result<Self, AllocError>
+        requires counted { unread.number + length unread.text.now < 18446744073709551616 }
+        ensures script { IfOk result (λ part. part_script part ≡ left_script unread.entry) }
+        ensures few { IfOk result (λ part. length part.script.events.items ≤ 64) }
+        ensures shorter { IfOk result (λ part. IfSome part.left (λ left. length left.text.now < length unread.entry.text.now)) }
+        ensures counted { IfOk result (λ part. IfSome part.left (λ left. left.number + length left.text.now < 18446744073709551616)) }
+    {
+        let mut script = Script::new(alloc);
+        let mut number = unread.number;
+        let mut rest = unread.text;
+        while script.events.len() < PART {
             let (line, others) = next_line(rest);
             let read = read_line(alloc, line)?;
             if !script.add(number, read)? {
-                return Ok(script);
+                return Ok(Part { script, left: None });
             }
             match others {
                 Some(others) => rest = others,
-                None => return Ok(script),
+                None => return Ok(Part { script, left: None }),
             }
             number += 1;
         }
+        let left = Some(Unread { text: rest, number });
+        Ok(Part { script, left })
     }
 }

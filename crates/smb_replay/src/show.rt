@@ -8,7 +8,8 @@ ghost use Rattle.smb_body.specs.Requests.{request_of};
 ghost use Rattle.smb_engine.specs.Stream.{longest_payload};
 ghost use Rattle.smb_replay.specs.Show.{is_white, stream_of, command_name, called, line_end, request_line, request_lines, payload_lines, frame_fault_number, rest_lines, show_of, listing_text};
 
-use crate::input::{CommandFault, read_input};
+use crate::fault::{CommandFault, Detail};
+use crate::input::read_input;
 use hex::FromHexError;
 use smb_body::{read_body, read_smb1_negotiate};
 use smb_frame::{FrameBuffer, FrameFault};
@@ -258,10 +259,6 @@ pub fn show_text<R: Read + Drop, W: Write, E: Write>(
 ) -> u8 {
     match show(alloc, input, output) {
         Ok(is_good) => u8::from(!is_good),
-        Err(fault) => {
-            let _ = writeln!(errors, "{fault}");
-            let _ = errors.flush();
-            fault.status()
-        }
+        Err(fault) => fault.report(Detail::Brief, errors),
     }
 }

@@ -1,6 +1,6 @@
 //! What a configuration says, and how long a hello may be.
 
-use smb_replay::{BUILT_IN, ConfigFault, Configuration};
+use smb_replay::{BUILT_IN, ConfigFault, ConfigRule, Configuration};
 use smb_session::{Answer, Authenticator, Tokens};
 use std::alloc::{AllocError, Global};
 
@@ -65,5 +65,6 @@ fn fault_of(alloc: Global, length: u32) -> Option<ConfigFault> {
 #[test]
 fn bounds_a_hello(rt: HostRuntime) {
     assert_eq!(rt; fault_of(rt.alloc(), 4_096), None);
-    assert_eq!(rt; fault_of(rt.alloc(), 4_097), Some(ConfigFault::Refused));
+    let refused = Some(ConfigFault::Refused(ConfigRule::Hello));
+    assert_eq!(rt; fault_of(rt.alloc(), 4_097), refused);
 }

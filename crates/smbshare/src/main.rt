@@ -1,24 +1,65 @@
 //! The command `smbshare`: a proved SMB2 file share.
 #![tactic(auto)]
 
+mod command_line;
+mod named_file;
 mod serve;
 
 use clap::builder::ValueParser;
-use clap::{Arg, ArgMatches, Command};
+use clap::error::ErrorKind as WordFault;
+use clap::{Arg, ArgAction, ArgMatches, Command};
+use command_line::CommandLine;
+use named_file::NamedFile;
 use serve::{ServeWords, serve_share};
-use smb_replay::{BUILT_IN, CommandFault, replay_text, show_text};
+use smb_replay::{BUILT_IN, CommandFault, Detail, read_config, replay_in_detail, show_text};
 use std::alloc::{AllocError, Global};
-use std::fs;
 use std::io::{BufWriter, ErrorKind};
 use std::process::ExitCode;
-use std::rt::Files;
+
+/// The end of the program's help.
+const HELP: &str =
+    "Built in, where no configuration is given: the share `data` with room for 64 MiB, and one user, `ann`,
+whose token is 61 in hex, the letter `a`; guests are not let in.
+
+Examples:
+  smbshare replay --explain < examples/two_clients
+  smbshare serve --listen 127.0.0.1:4450 --config guest.toml
+  echo 00000044fe534d42 | smbshare show
+
+With --explain `replay` and `serve` say more of a configuration that is refused and a line that is unreadable.";
+
+/// The end of the help of `replay`.
+const REPLAY_HELP: &str = "Example:
+  smbshare replay --config share.toml --explain < examples/two_clients";
+
+/// The end of the help of `serve`.
+const SERVE_HELP: &str = "Example, of a share that lets guests in:
+  smbshare serve --listen 127.0.0.1:4450 --config guest.toml";
+
+/// The end of the help of `show`.
+const SHOW_HELP: &str = "No share is made, so nothing is built in.
+
+Example, of a frame that ends too early:
+  echo 00000044fe534d42 | smbshare show";
 
 /// The option for a configuration.
 fn config_option<'a>(alloc: Global) -> Arg<'a> {
     Arg::new(alloc, "config")
         .long("config")
         .value_name("FILE")
-        .help("The configuration, a TOML file [default: a share `data` of 64 MiB]")
+        .help(
+            "The configuration, a TOML file of at most 1 MiB [default: a share `data` of 64 MiB, the user `ann` with the token 61, no guests]",
+        )
+}
+
+/// The option for more words on a fault.
+fn explain_option<'a>(alloc: Global) -> Arg<'a> {
+    Arg::new(alloc, "explain")
+        .long("explain")
+        .action(ArgAction::SetTrue)
+        .help(
+            "Says in a second line what was expected of a configuration that is refused, or of a line that is unreadable",
+        )
 }
 
 /// The command that serves.
@@ -42,7 +83,9 @@ fn serve_command<'a>(alloc: Global) -> Result<Command<'a>, AllocError> {
         .help("After how long a client is gone that says nothing, 0 for never [default: 3600]");
     Command::new(alloc, "serve")
         .about("Serves a new share over TCP")
+        .after_help(SERVE_HELP)
         .arg(config_option(alloc))?
+        .arg(explain_option(alloc))?
         .arg(listen)?
         .arg(turns)?
         .arg(idle)
@@ -52,50 +95,65 @@ fn serve_command<'a>(alloc: Global) -> Result<Command<'a>, AllocError> {
 fn command<'a>(alloc: Global) -> Result<Command<'a>, AllocError> {
     let replay = Command::new(alloc, "replay")
         .about("Replays the events of standard input on a new share, and prints what it answers")
-        .arg(config_option(alloc))?;
-    let show = Command::new(alloc, "show").about(
-        "Lists the requests of a client's stream, hex on standard input",
-    );
+        .after_help(REPLAY_HELP)
+        .arg(config_option(alloc))?
+        .arg(explain_option(alloc))?;
+    let show = Command::new(alloc, "show")
+        .about("Lists the requests of a client's stream, hex on standard input")
+        .after_help(SHOW_HELP);
     Command::new(alloc, "smbshare")
         .version("0.1.0")
         .about("A proved SMB2 file share. Without a command it replays standard input.")
+        .after_help(HELP)
         .subcommand(replay)?
         .subcommand(serve_command(alloc)?)?
         .subcommand(show)
 }
 
 /// Prints a fault on standard error, and gives its exit status.
-fn report(rt: &impl Eprint, fault: CommandFault) -> ExitCode {
-    let _ = eprintln!(rt; "{fault}");
-    ExitCode::from(fault.status())
+fn report(rt: &HostRuntime, fault: CommandFault, detail: Detail) -> ExitCode {
+    let mut errors = rt.stderr();
+    ExitCode::from(fault.report(detail, &mut errors))
 }
 
-/// The text of a configuration file.
-fn read_config<R: Files + AllocGlobal>(rt: &R, path: &str) -> Result<String, CommandFault> {
-    let bytes = match fs::read(rt, path) {
-        Ok(bytes) => bytes,
-        Err(error) if error.kind() == ErrorKind::OutOfMemory => return Err(CommandFault::NoMemory),
-        Err(_) => return Err(CommandFault::ConfigUnread),
-    };
-    match std::str::from_utf8(&bytes) {
-        Ok(text) => Ok(String::from_str(rt.alloc(), text)?),
-        Err(_) => Err(CommandFault::ConfigRefused),
+/// The text of the configuration that the command line names, or of the one that is built in.
+fn config_text(
+    rt: &HostRuntime,
+    line: &CommandLine,
+    words: &ArgMatches<'_>,
+) -> Result<String, CommandFault> {
+    if let Some(name) = &line.file_name {
+        return read_config(rt.alloc(), NamedFile::open(name)?);
+    }
+    match words.get_str("config") {
+        Some(name) => read_config(rt.alloc(), NamedFile::open(name.as_bytes())?),
+        None => Ok(String::from_str(rt.alloc(), BUILT_IN)?),
+    }
+}
+
+/// How much the words of a command ask to be said of a fault.
+fn detail_of(words: &ArgMatches<'_>) -> Detail {
+    if words.get_flag("explain") {
+        Detail::Explained
+    } else {
+        Detail::Brief
     }
 }
 
 /// Replays standard input, and gives the exit status.
-fn replay_input(rt: &HostRuntime, config: &str) -> ExitCode {
+fn replay_input(rt: &HostRuntime, config: &str, detail: Detail) -> ExitCode {
     let Ok(mut output) = BufWriter::new(rt.alloc(), rt.stdout()) else {
-        return report(rt, CommandFault::NoMemory);
+        return report(rt, CommandFault::NoMemory, detail);
     };
-    let mut errors = rt.stderr();
-    ExitCode::from(replay_text(rt.alloc(), config, rt.stdin(), &mut output, &mut errors))
+    let (alloc, mut errors) = (rt.alloc(), rt.stderr());
+    let status = replay_in_detail(alloc, config, detail, rt.stdin(), &mut output, &mut errors);
+    ExitCode::from(status)
 }
 
 /// Shows the stream of standard input, and gives the exit status.
 fn show_input(rt: &HostRuntime) -> ExitCode {
     let Ok(mut output) = BufWriter::new(rt.alloc(), rt.stdout()) else {
-        return report(rt, CommandFault::NoMemory);
+        return report(rt, CommandFault::NoMemory, Detail::Brief);
     };
     let mut errors = rt.stderr();
     ExitCode::from(show_text(rt.alloc(), rt.stdin(), &mut output, &mut errors))
@@ -103,59 +161,78 @@ fn show_input(rt: &HostRuntime) -> ExitCode {
 
 /// Serves a share by the words of the command, and gives the exit status.
 fn serve_clients(rt: &HostRuntime, config: &str, words: &ArgMatches<'_>) -> ExitCode {
-    let words = ServeWords {
+    let serve_words = ServeWords {
         config,
         listen: words.get_str("listen").unwrap_or(""),
         turns: words.get_one("turns").unwrap_or(u64::MAX),
         idle_seconds: words.get_one("idle").unwrap_or(3600),
     };
-    match serve_share(rt, &words) {
+    match serve_share(rt, &serve_words) {
         Ok(()) => ExitCode::SUCCESS,
-        Err(fault) => report(rt, fault),
+        Err(fault) => report(rt, fault, detail_of(words)),
     }
 }
 
 /// Runs a command that has a configuration.
-fn run_with(rt: &HostRuntime, config: &str, command: Option<(&str, &ArgMatches<'_>)>) -> ExitCode {
-    match command {
-        Some(("serve", words)) => serve_clients(rt, config, words),
-        _ => replay_input(rt, config),
+fn run_with_config(
+    rt: &HostRuntime,
+    name: &str,
+    line: &CommandLine,
+    words: &ArgMatches<'_>,
+) -> ExitCode {
+    let config = match config_text(rt, line, words) {
+        Ok(config) => config,
+        Err(fault) => return report(rt, fault, detail_of(words)),
+    };
+    match name {
+        "serve" => serve_clients(rt, config.as_str(), words),
+        _ => replay_input(rt, config.as_str(), detail_of(words)),
     }
 }
 
-/// Runs the command of these words.
+/// Runs the command that was asked for.
+fn run_command(
+    rt: &HostRuntime,
+    line: &CommandLine,
+    command: Option<(&str, &ArgMatches<'_>)>,
+) -> ExitCode {
+    match command {
+        Some(("show", _)) => show_input(rt),
+        Some((name, words)) => run_with_config(rt, name, line, words),
+        None => replay_input(rt, BUILT_IN, Detail::Brief),
+    }
+}
+
+/// Prints the help, the version or what is wrong with the words, and gives the exit status.
+fn print_instead(rt: &HostRuntime, instead: &clap::Error) -> Result<ExitCode, CommandFault> {
+    if instead.kind() == WordFault::OutOfMemory {
+        return Err(CommandFault::NoMemory);
+    }
+    match instead.print(rt) {
+        Err(error) if error.kind() == ErrorKind::OutOfMemory => Err(CommandFault::NoMemory),
+        Err(_) if !instead.use_stderr() => Err(CommandFault::OutputFailed),
+        _ => Ok(ExitCode::from(instead.exit_code() as u8)),
+    }
+}
+
+/// Runs the command of the command line.
 fn run(rt: &HostRuntime) -> Result<ExitCode, CommandFault> {
-    let alloc = rt.alloc();
-    let words: Vec<String> = match std::env::args(rt) {
-        Ok(words) => words.collect(alloc)?,
-        Err(_) => return Err(CommandFault::NoMemory),
+    let mut command = command(rt.alloc())?;
+    let Some(line) = CommandLine::read(rt)? else {
+        let message = "a word of the command line is not UTF-8";
+        let error = command.error(WordFault::ValueValidation, message)?;
+        return print_instead(rt, &error);
     };
-    let matches = match command(alloc)?.try_get_matches_from(words.as_slice()) {
-        Ok(matches) => matches,
-        Err(error) => {
-            let _ = error.print(rt);
-            return Ok(ExitCode::from(error.exit_code() as u8));
-        }
-    };
-    let command = matches.subcommand();
-    let file = match command {
-        Some(("show", _)) => return Ok(show_input(rt)),
-        Some((_, words)) => words.get_str("config"),
-        None => None,
-    };
-    match file {
-        Some(path) => {
-            let config = read_config(rt, path)?;
-            Ok(run_with(rt, config.as_str(), command))
-        }
-        None => Ok(run_with(rt, BUILT_IN, command)),
+    match command.try_get_matches_from(line.words.as_slice()) {
+        Ok(matches) => Ok(run_command(rt, &line, matches.subcommand())),
+        Err(error) => print_instead(rt, &error),
     }
 }
 
 fn main(rt: HostRuntime) -> ExitCode {
     match run(&rt) {
         Ok(status) => status,
-        Err(fault) => report(&rt, fault),
+        Err(fault) => report(&rt, fault, Detail::Brief),
     }
 }
 

@@ -13,7 +13,7 @@ fn status_of(alloc: Global, words: &[&str]) -> Option<i32> {
 
 /// Whether the words of a replay with a configuration are taken, and name that file.
 fn names_the_file(alloc: Global) -> bool {
-    let words = ["smbshare", "replay", "--config", "f"];
+    let words = ["smbshare", "replay", "--config", "f", "--explain"];
     let Ok(command) = command(alloc) else {
         return false;
     };
@@ -21,18 +21,19 @@ fn names_the_file(alloc: Global) -> bool {
         return false;
     };
     match matches.subcommand() {
-        Some((_, replay)) => replay.get_str("config") == Some("f"),
+        Some((_, replay)) => replay.get_str("config") == Some("f") && replay.get_flag("explain"),
         None => false,
     }
 }
 
 /// Whether each of some words has its status.
 fn have_their_status(alloc: Global) -> bool {
-    let cases: [(&[&str], i32); 8] = [
+    let cases: [(&[&str], i32); 9] = [
         (&["smbshare", "replay", "--config"], 2),
         (&["smbshare", "replay", "--other"], 2),
         (&["smbshare", "replay", "more"], 2),
         (&["smbshare", "show", "more"], 2),
+        (&["smbshare", "--explain"], 2),
         (&["smbshare", "other"], 2),
         (&["smbshare", "--other"], 2),
         (&["smbshare", "--help"], 0),

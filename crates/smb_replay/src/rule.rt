@@ -1,0 +1,55 @@
+//! The rules of a configuration's text, and their words.
+
+/// A rule of a configuration, by the key that it is about.
+#[derive(Clone, Copy, Debug, PartialEq, Eq)]
+pub enum ConfigRule {
+    /// How long the file may be.
+    Size,
+    /// The file is a text.
+    Text,
+    Toml,
+    /// Which keys there are.
+    Keys,
+    Share,
+    Label,
+    Guid,
+    Capacity,
+    Created,
+    Hello,
+    Guest,
+    Users,
+    /// Which keys a user has.
+    UserKeys,
+    UserName,
+    UserToken,
+    /// No two users have one token.
+    OwnTokens,
+}
+
+impl ConfigRule {
+    /// The key, and what it is to be.
+    pub fn text(self) -> &'static str {
+        match self {
+            ConfigRule::Size => "file: at most 1048576 bytes",
+            ConfigRule::Text => "file: a text in UTF-8",
+            ConfigRule::Toml => "file: a text in TOML, no key given twice",
+            ConfigRule::Keys => {
+                "keys: none but share, label, guid, capacity, created, hello, guest and user"
+            }
+            ConfigRule::Share => {
+                "share: a text of 1 to 80 characters from ! to ~, none of them one of \" * / : < > ? \\ |"
+            }
+            ConfigRule::Label => "label: a text of at most 32 characters from blank to ~",
+            ConfigRule::Guid => "guid: a text of 32 hex digits",
+            ConfigRule::Capacity => "capacity: a multiple of 4096 from 4096 to 67108864",
+            ConfigRule::Created => "created: a number of 0 or more, in units of 100 ns since 1601",
+            ConfigRule::Hello => "hello: at most 4096 bytes in hex, as a text",
+            ConfigRule::Guest => "guest: true or false",
+            ConfigRule::Users => "user: a table [[user]] for each user",
+            ConfigRule::UserKeys => "user: no keys but name and token",
+            ConfigRule::UserName => "user.name: a text of 1 to 256 bytes",
+            ConfigRule::UserToken => "user.token: at most 4096 bytes in hex, as a text",
+            ConfigRule::OwnTokens => "user.token: no two users have the same token",
+        }
+    }
+}

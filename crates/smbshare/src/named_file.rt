@@ -1,0 +1,45 @@
+//! A file under a name that need not be text.
+
+use smb_replay::CommandFault;
+use std::io;
+use std::io::{ErrorKind, Read};
+
+/// A file that is open for reading.
+pub struct NamedFile {
+    descriptor: i32,
+}
+
+/// Why the last call of the system failed.
+fn last_error() -> io::Error {
+    io::Error::from_raw_os_error(os::errno())
+}
+
+impl NamedFile {
+    /// Opens the file of a configuration.
+    pub fn open(name: &[u8]) -> Result<Self, CommandFault> {
+        let descriptor = os::open_read(name);
+        if descriptor >= 0 {
+            return Ok(NamedFile { descriptor });
+        }
+        match last_error().kind() {
+            ErrorKind::OutOfMemory => Err(CommandFault::NoMemory),
+            _ => Err(CommandFault::ConfigUnread),
+        }
+    }
+}
+
+impl Read for NamedFile {
+    fn read(&mut self, buf: &mut [u8]) -> io::Result<usize> {
+        match usize::try_from(libc::read(self.descriptor, buf)) {
+            Ok(count) => Ok(count),
+            Err(_) => Err(last_error()),
+        }
+    }
+}
+
+impl Drop for NamedFile {
+    fn drop(self) {
+        let NamedFile { descriptor } = self;
+        libc::close(descriptor);
+    }
+}
