@@ -5,11 +5,11 @@ use Rattle.std.proofs.lemmas.List.{append-nil, take-append-drop}
 use Rattle.std.proofs.lemmas.List.Concat.{flat_map-append}
 use Rattle.std.proofs.lemmas.List.Folds.{list_any-append}
 use Rattle.std.proofs.lemmas.Bool.{eq-eqb, eqb-true, true≢false}
-use Rattle.smb_engine.specs.Event.{EventText, opens, brings, ends}
+use Rattle.smb_engine.specs.Event.{EventText, opens, brings, ends, connection_of}
 use Rattle.smb_engine.specs.Output.{Output, output_bytes}
 use Rattle.smb_engine.specs.State.{LinkState}
 use Rattle.smb_engine.specs.Record.{PeerCall, next_opened, next_bytes, next_ended, next_idle, send, close, sent_in, sent_by, taken_by}
-use Rattle.smb_engine.specs.Laws.{connection_of, receiver}
+use Rattle.smb_engine.specs.Laws.{receiver}
 use Rattle.smb_engine.specs.ServingLaws.{sent_when_open, opens_in, is_opened, OpensEachOnce, brought_in, brought_to, ends_in, is_ended, bytes_for, put_out_to}
 
 heard_at : (n : ℕ) (call : PeerCall) (xs ys : List PeerCall) (b : Bool) → opens_in n call ≡ b → (is_opened n xs ≡ true → sent_when_open n (xs ++ ys) ≡ sent_when_open n xs ++ sent_by n ys) →

@@ -11,7 +11,6 @@ use Rattle.smb_frame.proofs.Streams.{payloads-more, payloads-none, rest-more, re
 use Rattle.smb_frame.proofs.Rests.{fault_more}
 use Rattle.smb_session.specs.Authenticator.{Meaning}
 use Rattle.smb_engine.specs.declared.connection.Connection.{Connection}
-use Rattle.smb_engine.specs.declared.fault.RunFault.{RunFault}
 use Rattle.smb_engine.specs.declared.fault.ServeFault.{ServeFault}
 use Rattle.smb_engine.specs.Event.{EventText, brings}
 use Rattle.smb_request.specs.State.{SharedState}
@@ -20,7 +19,7 @@ use Rattle.smb_engine.specs.Chain.{PayloadStep, payload_step}
 use Rattle.smb_engine.specs.Output.{end_of, reply_frame}
 use Rattle.smb_engine.specs.Stream.{longest_payload, PayloadSteps, after_outputs, and_then, payload_steps, added_payloads}
 use Rattle.smb_engine.specs.Share.{EventStep, settled, bytes_step, ended, unread, link_of, with_link}
-use Rattle.smb_engine.specs.Run.{Ran, run, run_behind, then_ran, later, refused_at_once, event_refusal, event_step}
+use Rattle.smb_engine.specs.Run.{Stop, Ran, run, run_behind, then_ran, later, refused_at_once, event_refusal, event_step}
 use Rattle.smb_engine.specs.Laws.{LinksInOrder, AreAlike, later_behind, with_one_more_at, moved, run_after, pieces_on, bytes_of_pieces}
 use Rattle.smb_engine.proofs.Links.{bytes_step-none, bytes_step-some, remove-set}
 use Rattle.smb_engine.proofs.Pieces.{added_is, steps_by, step-open, step-over}
@@ -218,11 +217,11 @@ module _ {S : Type 0} (m : Meaning S) (n moment : ℕ) where
   bytes_step-cut s a b r = cut_at s a b _ r refl
 
 -- the place of a stop, one event later
-later_head : (o : Option RunFault) → option_map later (option_map later o) ≡ option_map (later_behind 0) (option_map later o)
+later_head : (o : Option Stop) → option_map later (option_map later o) ≡ option_map (later_behind 0) (option_map later o)
 later_head None = refl
 later_head (Some f) = let t : ltb 0 (suc f.place) ≡ true = lt-ltb 0 (suc f.place) (omega arith) in rw t refl
 
-later_more_at : (k : ℕ) (f : RunFault) (b : Bool) → ltb k f.place ≡ b → later (later_behind k f) ≡ later_behind (suc k) (later f)
+later_more_at : (k : ℕ) (f : Stop) (b : Bool) → ltb k f.place ≡ b → later (later_behind k f) ≡ later_behind (suc k) (later f)
 later_more_at k f true e =
     let t : ltb (suc k) (suc f.place) ≡ true = lt-ltb (suc k) (suc f.place) (omega (arith, ltb-true k f.place e)) in
     rw (t, e) refl
@@ -230,23 +229,23 @@ later_more_at k f false e =
     let t : ltb (suc k) (suc f.place) ≡ false = le-ltb _ _ (omega (arith, ltb-false k f.place e)) in
     rw (t, e) refl
 
-later_more : (k : ℕ) (o : Option RunFault) → option_map later (option_map (later_behind k) o) ≡ option_map (later_behind (suc k)) (option_map later o)
+later_more : (k : ℕ) (o : Option Stop) → option_map later (option_map (later_behind k) o) ≡ option_map (later_behind (suc k)) (option_map later o)
 later_more k None = refl
 later_more k (Some f) = ap Some (later_more_at k f _ refl)
 
-moved_none : (o : Option RunFault) → o ≡ option_map (moved 0) o
+moved_none : (o : Option Stop) → o ≡ option_map (moved 0) o
 moved_none None = refl
 moved_none (Some f) = let e : 0 + f.place ≡ f.place = omega arith in rw e refl
 
-moved_more : (k : ℕ) (o : Option RunFault) → option_map later (option_map (moved k) o) ≡ option_map (moved (suc k)) o
+moved_more : (k : ℕ) (o : Option Stop) → option_map later (option_map (moved k) o) ≡ option_map (moved (suc k)) o
 moved_more k None = refl
 moved_more k (Some f) = let e : suc (k + f.place) ≡ suc k + f.place = omega arith in rw e refl
 
-stop_none : (o : Option RunFault) → option_map later o ≡ None → o ≡ None
+stop_none : (o : Option Stop) → option_map later o ≡ None → o ≡ None
 stop_none None h = refl
 stop_none (Some f) h = cc
 
-is_none-later : (o : Option RunFault) → is_none (option_map later o) ≡ false → is_none o ≡ false
+is_none-later : (o : Option Stop) → is_none (option_map later o) ≡ false → is_none o ≡ false
 is_none-later None h = h
 is_none-later (Some f) h = refl
 
@@ -308,7 +307,7 @@ module _ {S : Type 0} (m : Meaning S) where
       let d = event_step m s x in
       stays_at s d (run m d.state events) (run m d.state (events ++ others)) (event_refusal s x) (stays_by d.state events others) h
 
-  pub run_stays : (s : ShareState S) (events others : List EventText) (fault : RunFault) → (run m s events).stop ≡ Some fault → run m s (events ++ others) ≡ run m s events
+  pub run_stays : (s : ShareState S) (events others : List EventText) (fault : Stop) → (run m s events).stop ≡ Some fault → run m s (events ++ others) ≡ run m s events
   run_stays s events others fault h = stays_by s events others (rw h refl)
 
   -- a run from what is unread
@@ -344,11 +343,11 @@ alike_sym r r' h = record { state = sym h.state; outputs = sym h.outputs; reason
 alike_trans : {S : Type 0} (r r' r'' : Ran S) → AreAlike r r' → AreAlike r' r'' → AreAlike r r''
 alike_trans r r' r'' h k = record { state = h.state ∙ k.state; outputs = h.outputs ∙ k.outputs; reason = h.reason ∙ k.reason }
 
-reason_at : (k : ℕ) (f : RunFault) (b : Bool) → ltb k f.place ≡ b → (later_behind k f).fault ≡ f.fault
+reason_at : (k : ℕ) (f : Stop) (b : Bool) → ltb k f.place ≡ b → (later_behind k f).fault ≡ f.fault
 reason_at k f true e = rw e refl
 reason_at k f false e = rw e refl
 
-reason_behind : (k : ℕ) (o : Option RunFault) → option_map (λ f. f.fault) (option_map (later_behind k) o) ≡ option_map (λ f. f.fault) o
+reason_behind : (k : ℕ) (o : Option Stop) → option_map (λ f. f.fault) (option_map (later_behind k) o) ≡ option_map (λ f. f.fault) o
 reason_behind k None = refl
 reason_behind k (Some f) = ap Some (reason_at k f _ refl)
 

@@ -14,13 +14,13 @@ use Rattle.smb_engine.specs.declared.fault.ServeFault.{ServeFault}
 use Rattle.smb_engine.specs.declared.fault.ServeFault.TheVariants.{BadEvent}
 use Rattle.smb_request.specs.State.{SharedState}
 use Rattle.smb_engine.specs.State.{LinkState, ShareState}
-use Rattle.smb_engine.specs.Event.{EventText, opens, brings, ends}
+use Rattle.smb_engine.specs.Event.{EventText, opens, brings, ends, connection_of}
 use Rattle.smb_engine.specs.Chain.{PayloadStep, payload_step}
 use Rattle.smb_engine.specs.Output.{Output, frame_to, end_of, reply_frame}
 use Rattle.smb_engine.specs.Stream.{longest_payload, PayloadSteps, and_then, payload_steps, added_payloads, closed_by, piece_step}
 use Rattle.smb_engine.specs.Share.{EventStep, settled, bytes_step, link_of}
 use Rattle.smb_engine.specs.Run.{Ran, run, then_ran, refused_at_once, event_refusal, event_step}
-use Rattle.smb_engine.specs.Laws.{LinksInOrder, connection_of, receiver, IsLastEnd}
+use Rattle.smb_engine.specs.Laws.{LinksInOrder, receiver, IsLastEnd}
 use Rattle.smb_engine.proofs.Links.{bytes_step-none, bytes_step-some}
 use Rattle.smb_engine.proofs.Order.{link_of-without, bytes_step-next, order_step, other_left, not_for}
 

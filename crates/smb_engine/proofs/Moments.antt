@@ -5,19 +5,18 @@ use Rattle.std.specs.List.{AllByRecursion}
 use Rattle.std.specs.BTreeMap.{is_at}
 use Rattle.std.specs.Ordering.{nat_cmp}
 use Rattle.smb_session.specs.Authenticator.{Meaning}
-use Rattle.smb_engine.specs.declared.fault.RunFault.{RunFault}
 use Rattle.smb_engine.specs.declared.fault.ServeFault.{ServeFault}
 use Rattle.smb_engine.specs.State.{LinkState, ShareState}
 use Rattle.smb_engine.specs.Event.{EventText, opens, brings, ends}
 use Rattle.smb_engine.specs.Share.{EventStep, link_of, unread, unread_link, unread_entry}
-use Rattle.smb_engine.specs.Run.{Ran, run, then_ran, later, refused_at_once, event_refusal, event_step}
+use Rattle.smb_engine.specs.Run.{Stop, Ran, run, then_ran, later, refused_at_once, event_refusal, event_step}
 use Rattle.smb_engine.specs.Laws.{LinksInOrder}
 use Rattle.smb_engine.specs.ServingLaws.{moment_of, moments_of}
 use Rattle.smb_engine.proofs.Links.{link_of-unread}
 use Rattle.smb_engine.proofs.Kept.{numbers_of}
 use Rattle.smb_engine.proofs.Runs.{unread_step, event_step-unread}
 
-no_stop : (o : Option RunFault) → option_map later o ≡ None → o ≡ None
+no_stop : (o : Option Stop) → option_map later o ≡ None → o ≡ None
 no_stop None h = refl
 no_stop (Some f) h = cc
 

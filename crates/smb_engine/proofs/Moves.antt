@@ -4,12 +4,11 @@ use Rattle.std.proofs.lemmas.List.{append-nil}
 use Rattle.std.proofs.lemmas.Bool.{lt-ltb, ne_eqb, eq-eqb, true≢false}
 use Rattle.smb_session.specs.Authenticator.{Meaning}
 use Rattle.smb_engine.specs.State.{ShareState}
-use Rattle.smb_engine.specs.Event.{EventText}
+use Rattle.smb_engine.specs.Event.{EventText, connection_of}
 use Rattle.smb_engine.specs.Share.{unread}
 use Rattle.smb_engine.specs.Run.{Ran, run, event_refusal, event_step, unknown_refusal}
 use Rattle.smb_engine.specs.Record.{PeerCall}
 use Rattle.smb_engine.specs.Clients.{ClientState}
-use Rattle.smb_engine.specs.Laws.{connection_of}
 use Rattle.smb_engine.specs.ServingLaws.{moments_of}
 use Rattle.smb_engine.proofs.Runs.{unread-unread}
 use Rattle.smb_engine.proofs.Numbers.{found, found_same, found_other, apart_more, apart_less, all_more, all_less}

@@ -17,13 +17,13 @@ use Rattle.smb_frame.specs.Reading.{rest, fault_of}
 use Rattle.smb_engine.specs.declared.connection.Connection.{Connection}
 use Rattle.smb_request.specs.State.{SharedState}
 use Rattle.smb_engine.specs.State.{LinkState, ShareState}
-use Rattle.smb_engine.specs.Event.{EventText, opens, brings, ends}
+use Rattle.smb_engine.specs.Event.{EventText, opens, brings, ends, connection_of}
 use Rattle.smb_engine.specs.Chain.{PayloadStep, payload_step}
 use Rattle.smb_engine.specs.Output.{Output, end_of, reply_frame}
 use Rattle.smb_engine.specs.Stream.{longest_payload, PayloadSteps, and_then, payload_steps, added_payloads, PieceStep, closed_by, piece_step}
 use Rattle.smb_engine.specs.Share.{GoodState, EventStep, settled, bytes_step, ended, opened, new_link, link_of}
 use Rattle.smb_engine.specs.Run.{Ran, run, then_ran, refused_at_once, event_refusal, event_step}
-use Rattle.smb_engine.specs.Laws.{LinksInOrder, connection_of, receiver}
+use Rattle.smb_engine.specs.Laws.{LinksInOrder, receiver}
 use Rattle.smb_request.proofs.Numbered.{at_is, at_same}
 use Rattle.smb_engine.proofs.Links.{all_set, all_remove, all_insert, bytes_step-none, bytes_step-some}
 use Rattle.smb_engine.proofs.Kept.{numbers_of, numbers-set, numbers-remove, numbers-insert, not_among, given_more, given_below}

@@ -1,5 +1,5 @@
 -- Payloads that were performed, with the frames of their replies where they are sent from.
-use Rattle.std.proofs.Common.{◌≡◌, ℕ, Bool, true, false, List, [], ◌++◌, Option, None, Some, refl, sym, ap, ◌∙◌, length, take}
+use Rattle.std.proofs.Common.{◌≡◌, ℕ, true, false, List, ◌++◌, Option, None, Some, sym, ap, ◌∙◌, length, take}
 use Rattle.std.specs.List.{flat_map}
 use Rattle.std.proofs.lemmas.List.{append-nil}
 use Rattle.std.proofs.Math.Seq.{take-append_seam}
@@ -8,7 +8,7 @@ use Rattle.smb_request.specs.State.{SharedState}
 use Rattle.smb_engine.specs.Chain.{PayloadStep}
 use Rattle.smb_engine.specs.Output.{Output, reply_frame, output_bytes}
 use Rattle.smb_engine.specs.Sink.{Heard}
-use Rattle.smb_engine.specs.InPlace.{payload_behind, payload_heard, heard_of}
+use Rattle.smb_engine.specs.InPlace.{payload_behind, payload_heard}
 
 module _ {S : Type 0} (shared' : SharedState S) (connection' : Connection) where
   framed_at : (shared : SharedState S) (connection : Connection) (replies : Option (List ℕ)) (front out : List ℕ) →

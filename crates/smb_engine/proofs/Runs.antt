@@ -3,22 +3,22 @@ use Rattle.std.proofs.Common.{◌≡◌, ℕ, zero, suc, ◌+◌, ◌<◌, ◌�
 use Rattle.std.specs.Option.{option_map, option_map_or}
 use Rattle.std.proofs.lemmas.List.{append-nil, drop-map, drop_more, take_all, length-map}
 use Rattle.std.proofs.lemmas.Bool.{eq-eqb}
+use Rattle.std.proofs.lemmas.Option.{slice_get-map, slice_get_read}
 use Rattle.std.specs.BTreeMap.{is_at, insert_entry}
 use Rattle.std.specs.Ordering.{nat_cmp}
 use Rattle.smb_frame.specs.Reading.{rest, fault_of, payloads}
 use Rattle.smb_frame.proofs.Streams.{rest-more}
 use Rattle.smb_engine.specs.declared.event.Event.{Event}
-use Rattle.smb_engine.specs.declared.fault.RunFault.{RunFault}
 use Rattle.smb_engine.specs.declared.fault.ServeFault.{ServeFault}
 use Rattle.smb_engine.specs.declared.fault.ServeFault.TheVariants.{TooManyConnections, NoMemory, BadEvent, BadConfig}
 use Rattle.smb_session.specs.Authenticator.{Meaning}
 use Rattle.smb_request.specs.State.{SharedState, shared_opened}
 use Rattle.smb_engine.specs.State.{LinkState, ShareState}
-use Rattle.smb_engine.specs.Event.{EventText, opens, brings, ends, text_of, events_of}
+use Rattle.smb_engine.specs.Event.{EventText, opens, brings, ends, text_of, events_of, connection_of, connection_at}
 use Rattle.smb_engine.specs.Output.{Output}
 use Rattle.smb_engine.specs.Stream.{longest_payload, PayloadSteps, payload_steps, added_payloads, PieceStep, closed_by, piece_step, shared_after_piece, count_in_piece}
 use Rattle.smb_engine.specs.Share.{EventStep, settled, bytes_step, stopped, count_on, ended, opened, new_link, opening_refusal, OpeningRefused, unread, unread_link, unread_entry, link_of}
-use Rattle.smb_engine.specs.Run.{Ran, run, run_behind, then_ran, later, refused_at_once, event_refusal, event_step, count_of, stopped_event, can_want_memory, EventStopped, RunStopped}
+use Rattle.smb_engine.specs.Run.{Stop, Ran, run, run_behind, then_ran, later, refused_at_once, event_refusal, event_step, count_of, stopped_event, can_want_memory, EventStopped, RunStopped}
 use Rattle.smb_engine.proofs.Pieces.{added_is}
 use Rattle.smb_engine.proofs.Links.{unread-with, unread-without, unread-insert, link_of-unread}
 
@@ -85,7 +85,7 @@ module _ {S : Type 0} (m : Meaning S) where
   refusal-unread s (brings n moment piece) = refl
   refusal-unread s (ends n) = refl
 
-  later-none : (o : Option RunFault) → option_map later o ≡ None → o ≡ None
+  later-none : (o : Option Stop) → option_map later o ≡ None → o ≡ None
   later-none None h = refl
   later-none (Some f) h = cc
 
@@ -190,6 +190,10 @@ module _ {S : Type 0} (m : Meaning S) where
 
   at_place : (events : List Event) (event : Event) (i : ℕ) → i < length events → event ≡ get_or events i event → drop i (events_of events) ≡ text_of event ∷ events_of (drop (i + 1) events)
   at_place events event i p e = drop-map text_of i events ∙ ap events_of (drop_more events i event p) ∙ ap (λ x. text_of x ∷ events_of (drop (i + 1) events)) (sym e)
+
+  -- the connection of the event at a place
+  pub connection_read : (events : List Event) (event : Event) (i : ℕ) → i < length events → event ≡ get_or events i event → connection_at (events_of events) i ≡ Some (connection_of (text_of event))
+  connection_read events event i p e = rw slice_get-map (ap (λ o. option_map connection_of (option_map text_of o)) (slice_get_read events (length events) i event refl p e))
 
   not_refused : (start now : ShareState S) (events : List EventText) (event : EventText) (i : ℕ) (o : Option ServeFault) → now ≡ unread (run m start (take i events)).state → event_refusal now event ≡ o →
       event_refusal (run m start (take i events)).state event ≡ o

@@ -17,12 +17,11 @@ use Rattle.smb_request.proofs.Numbers.{order_good}
 use Rattle.smb_engine.specs.declared.connection.Connection.{Connection}
 use Rattle.smb_engine.specs.declared.fault.ServeFault.{ServeFault}
 use Rattle.smb_engine.specs.State.{LinkState, ShareState}
-use Rattle.smb_engine.specs.Event.{EventText, opens, brings, ends}
+use Rattle.smb_engine.specs.Event.{EventText, opens, brings, ends, connection_of}
 use Rattle.smb_engine.specs.Chain.{Turn, turn_after, turn_after_all, turn_before, PayloadStep, step_of, refused_step, admitted, first_negotiate, first_step, chain_step, payload_step}
 use Rattle.smb_engine.specs.Stream.{longest_payload, PayloadSteps, and_then, payload_steps, added_payloads, PieceStep, closed_by, piece_step}
 use Rattle.smb_engine.specs.Share.{GoodState, EventStep, settled, bytes_step, link_of}
 use Rattle.smb_engine.specs.Run.{Ran, run, then_ran, refused_at_once, event_refusal, event_step}
-use Rattle.smb_engine.specs.Laws.{connection_of}
 use Rattle.smb_engine.proofs.Links.{bytes_step-none, bytes_step-some}
 use Rattle.smb_engine.proofs.Turns.{shared-turn_after, first-shared}
 

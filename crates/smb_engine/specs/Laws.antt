@@ -7,12 +7,11 @@ use Rattle.smb_session.specs.Authenticator.{Meaning}
 use Rattle.smb_session.specs.Session.{SessionState}
 use Rattle.smb_session.specs.Table.{session_at}
 use Rattle.smb_request.specs.Laws.{IsInOrder, IsAsItWas, IsOver}
-use Rattle.smb_engine.specs.declared.fault.RunFault.{RunFault}
-use Rattle.smb_engine.specs.Event.{EventText, opens, brings, ends}
+use Rattle.smb_engine.specs.Event.{EventText, brings, connection_of}
 use Rattle.smb_engine.specs.State.{ShareState}
 use Rattle.smb_engine.specs.Output.{Output, frame_to, end_of}
 use Rattle.smb_engine.specs.Share.{GoodState, link_of, unread}
-use Rattle.smb_engine.specs.Run.{Ran, later, run, run_behind}
+use Rattle.smb_engine.specs.Run.{Stop, Ran, later, run, run_behind}
 
 -- the open connections stand in rising number, and each number was given
 pub record LinksInOrder {S : Type 0} (s : ShareState S) : Type 0 where
@@ -20,25 +19,20 @@ pub record LinksInOrder {S : Type 0} (s : ShareState S) : Type 0 where
   pub given : AllByRecursion (λ entry. entry.0 < s.next) s.links
 
 -- a fault behind a place is seen one event later
-abbrev pub later_behind : ℕ → RunFault → RunFault
+abbrev pub later_behind : ℕ → Stop → Stop
 later_behind place fault = if nat_lt place fault.place then later fault else fault
 
 abbrev pub with_one_more_at : {S : Type 0} → ℕ → Ran S → Ran S
 with_one_more_at place ran = record ran { stop = option_map (later_behind place) ran.stop }
 
 -- what a second run leaves and puts out, behind the outputs of a first one of so many events
-abbrev pub moved : ℕ → RunFault → RunFault
+abbrev pub moved : ℕ → Stop → Stop
 moved count fault = record fault { place = count + fault.place }
 
 abbrev pub run_after : {S : Type 0} → ℕ → List Output → Ran S → Ran S
 run_after count before ran = record { state = ran.state; outputs = before ++ ran.outputs; stop = option_map (moved count) ran.stop }
 
--- the connection of an event, and that to which an output goes
-abbrev pub connection_of : EventText → ℕ
-connection_of (opens connection) = connection
-connection_of (brings connection moment piece) = connection
-connection_of (ends connection) = connection
-
+-- the connection to which an output goes
 abbrev pub receiver : Output → ℕ
 receiver (frame_to connection bytes) = connection
 receiver (end_of connection) = connection
@@ -87,7 +81,7 @@ module _ {S : Type 0} (authenticator : Meaning S) where
   RunsAreOne =
       (s : ShareState S) (events others : List EventText) →
       ((run authenticator s events).stop ≡ None → run authenticator s (events ++ others) ≡ run_after (length events) (run authenticator s events).outputs (run authenticator (run authenticator s events).state others))
-      × ((fault : RunFault) → (run authenticator s events).stop ≡ Some fault → run authenticator s (events ++ others) ≡ run authenticator s events)
+      × ((fault : Stop) → (run authenticator s events).stop ≡ Some fault → run authenticator s (events ++ others) ≡ run authenticator s events)
 
   -- and the second may begin with what is unread alone
   abbrev pub UnreadIsEnough : Type 0

@@ -18,3 +18,4 @@ pub mod Clients
 pub mod Serving
 pub mod Openings
 pub mod ServingLaws
+pub mod Filetime

@@ -3,7 +3,6 @@ use Rattle.std.specs.Prelude.{◌≡◌, ℕ, suc, ◌≤◌, Bool, true, false,
 use Rattle.std.specs.Option.{option_map, option_map_or}
 use Rattle.smb_engine.specs.declared.fault.ServeFault.{ServeFault}
 use Rattle.smb_engine.specs.declared.fault.ServeFault.TheVariants.{TooManyConnections, NoMemory, BadEvent, BadConfig}
-use Rattle.smb_engine.specs.declared.fault.RunFault.{RunFault}
 use Rattle.smb_session.specs.Authenticator.{Meaning}
 use Rattle.smb_engine.specs.State.{ShareState}
 use Rattle.smb_engine.specs.Event.{EventText, opens, brings, ends}
@@ -44,15 +43,20 @@ stopped_event authenticator s (opens connection) k = s
 stopped_event authenticator s (brings connection moment piece) k = stopped authenticator s connection moment piece k
 stopped_event authenticator s (ends connection) k = s
 
+-- where a run stops at a refused event: the event's place, from 0, and why
+pub record Stop : Type 0 where
+  pub place : ℕ
+  pub fault : ServeFault
+
 -- what a run leaves and puts out, and the refused event that it stopped at
 pub record Ran (S : Type 0) : Type 0 where
   pub state : ShareState S
   pub outputs : List Output
-  pub stop : Option RunFault
+  pub stop : Option Stop
 
--- a fault as seen one event earlier
-abbrev pub later : RunFault → RunFault
-later fault = record fault { place = suc fault.place }
+-- a stop as seen one event earlier
+abbrev pub later : Stop → Stop
+later stop = record stop { place = suc stop.place }
 
 abbrev pub then_ran : {S : Type 0} → EventStep S → Ran S → Ran S
 then_ran step ran = record { state = ran.state; outputs = step.outputs ++ ran.outputs; stop = option_map later ran.stop }

@@ -1,8 +1,8 @@
 //! A client of a share that is served, and the bytes that it is owed.
 
-ghost use Rattle.std.specs.Prelude.{◌≡◌, ◌≤◌, [], drop, length, nat_lt, IsSome, OnOk, IfErr};
+ghost use Rattle.std.specs.Prelude.{◌≡◌, ◌≤◌, [], drop, length, nat_lt, OnOk, IfErr};
 ghost use Rattle.smb_engine.specs.Clients.{dropped};
-ghost use Rattle.smb_engine.specs.Share.{link_of, bytes_step, unread};
+ghost use Rattle.smb_engine.specs.Share.{bytes_step, unread};
 ghost use Rattle.smb_engine.specs.Serving.{piece_taken, answered, PieceEnds};
 
 use super::fault::{RanOut, ServeFault};
@@ -95,7 +95,6 @@ impl Client {
         moment: u64,
         piece: &[u8],
     ) -> Result<(), RanOut>
-        requires { IsSome (link_of self.old.connection share.old.links) }
         ensures share { OnOk result (share.new ≡ unread (bytes_step A.meaning share.old self.old.connection moment piece.now).state) }
         ensures client { OnOk result (self.new ≡ answered A.meaning share.old self.old moment piece.now) }
         ensures err { IfErr result (λ ran_out. PieceEnds A.meaning share.old self.old moment piece.now ran_out.done share.new self.new) }
@@ -118,7 +117,6 @@ impl Client {
         moment: u64,
         piece: &[u8],
     ) -> Result<(), RanOut>
-        requires { IsSome (link_of self.old.connection share.old.links) }
         ensures ok { OnOk result (record { share = share.new; client = self.new } ≡ piece_taken A.meaning share.old self.old moment piece.now) }
         ensures err { IfErr result (λ ran_out. PieceEnds A.meaning share.old self.old moment piece.now ran_out.done share.new self.new) }
     {

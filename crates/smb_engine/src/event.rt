@@ -1,5 +1,8 @@
 //! What happens to a share.
 
+ghost use Rattle.std.specs.Prelude.{◌≡◌};
+ghost use Rattle.smb_engine.specs.Event.{text_of, connection_of};
+
 /// An event on a connection, by its number. A share numbers its connections 1, 2, 3 and so on.
 #[derive(Debug, Drop)]
 pub enum Event {
@@ -13,6 +16,19 @@ pub enum Event {
     },
     /// A connection's client ended it.
     Ended(u64),
+}
+
+impl Event {
+    /// The number of its connection.
+    pub fn connection(&self) -> u64
+        ensures { result ≡ connection_of (text_of self.now) }
+    {
+        match self {
+            Event::Opened(connection) => *connection,
+            Event::Bytes { connection, .. } => *connection,
+            Event::Ended(connection) => *connection,
+        }
+    }
 }
 
 /// What became of a connection whose piece was taken.

@@ -27,9 +27,12 @@ pub(crate) struct RanOut {
 }
 
 /// Where a run stopped, and why.
-#[derive(Clone, Copy, Debug, PartialEq, Eq)]
+#[derive(Clone, Copy, Debug, PartialEq, Eq, Error)]
+#[error("event {place}, connection {connection}: {fault}")]
 pub struct RunFault {
     /// The event's place in the list, from 0. The events before it stand.
     pub place: usize,
+    /// The number of the event's connection.
+    pub connection: u64,
     pub fault: ServeFault,
 }

@@ -1,6 +1,40 @@
 //! The share: connections, their streams of requests, and what answers them ([MS-SMB2] 3.3).
 //!
-//! A [`Share`] is made of a [`Config`](smb_request::Config). Connections are [`opened`](Share::opened), bring pieces of their
+//! ```text
+//!    what comes                                      what goes out
+//!
+//!    opened: a connection, 1, 2, 3 ..     +-------+
+//!    feed: its bytes, at a moment     ->  | Share |  ->  frames: bytes for the client of a connection
+//!    ended: its client ended it           +-------+      ends: the share ended a connection
+//! ```
+//!
+//! # Quick start
+//!
+//! The whole of it is the crate smb_example, which needs no other crate of the share.
+//!
+//! ```text
+//! let config = Config { share: String::from_str(alloc, "data")?, .. };
+//! let users = Tokens::new(alloc, b"", false, vec![in alloc; ann]?)?;
+//! let mut share = Share::in_memory(alloc, config, users)?;
+//! serve(&mut share, &mut peers, &mut clock, turns);
+//! ```
+//!
+//! Here the peers are [`Peers`], as those of the crate smb_tcp or [`MemoryPeers`], and [`serve`] brings to the share what comes of them.
+//! Who has a loop of its own makes the calls itself:
+//!
+//! ```text
+//! let connection = share.opened()?;
+//! let fate = share.feed(connection, moment, piece, &mut out)?;
+//! share.ended(connection);
+//! ```
+//!
+//! `out` then has more bytes for the client; where the [`Fate`] is `Ended`, it is to be closed once it has them. A moment is in units of
+//! 100 ns since 1601: [`filetime_of`] makes it of the time since 1970.
+//!
+//! # What is proved
+//!
+//! A [`Share`] is made of a [`Config`]: [`in_memory`](Share::in_memory), or [`new`](Share::new) over a tree and opens of one's own.
+//! Connections are [`opened`](Share::opened), bring pieces of their
 //! streams, which are [`feed`](Share::feed), and [end](Share::ended); [`run`](Share::run) takes a list of such
 //! [`Event`]s and gives the [`Answer`]s. What it gives is a definition, to be read in this order:
 //! `specs/Event.antt` and `Run.antt` (a list of events), `Share.antt` (one event), `Stream.antt` (a piece, payload
@@ -19,6 +53,7 @@ mod clock;
 mod connection;
 mod event;
 mod fault;
+mod filetime;
 mod laws;
 mod memory_peers;
 mod memory_record;
@@ -31,9 +66,16 @@ mod stream;
 pub use clock::{Clock, ListClock};
 pub use event::{Event, Fate};
 pub use fault::{RunFault, ServeFault};
+pub use filetime::{FILETIME_OF_1970, filetime_of, since_1970};
 pub use laws::{laws_of_serving, laws_of_shares};
 pub use memory_peers::{MemoryPeers, PeerStep, SendStep};
 pub use output::Answer;
 pub use peers::{PeerEvent, Peers, SendFault};
 pub use serving::serve;
 pub use share::Share;
+pub use smb_handles::HandleTable;
+pub use smb_nodes::NodeTree;
+pub use smb_opens::{Opens, PlainOpens};
+pub use smb_request::Config;
+pub use smb_session::{Authenticator, Tokens, User};
+pub use smb_tree::{PlainTree, Tree, TreeFault};

@@ -1,6 +1,6 @@
 //! The share over its connections.
 
-ghost use Rattle.std.specs.Prelude.{◌≡◌, ◌<◌, ◌≤◌, ◌+◌, ◌++◌, [], true, false, Some, None, OnOk, OnErr, IfOk, IfErr, IsSome, is_some, length, if◌then◌else◌};
+ghost use Rattle.std.specs.Prelude.{◌≡◌, ◌<◌, ◌≤◌, ◌+◌, ◌++◌, [], true, false, Some, None, OnOk, OnErr, IfOk, IfErr, is_some, length, if◌then◌else◌};
 ghost use Rattle.std.specs.List.{AllByRecursion, flat_map};
 ghost use Rattle.std.specs.Map.{remove_entry};
 ghost use Rattle.std.specs.BTreeMap.{is_at, insert_entry};
@@ -8,7 +8,7 @@ ghost use Rattle.std.specs.Ordering.{nat_cmp};
 ghost use Rattle.smb_tree.specs.Content.{new_content};
 ghost use Rattle.smb_request.specs.Settings.{settings_of, is_lawful};
 ghost use Rattle.smb_request.specs.State.{shared_opened};
-ghost use Rattle.smb_engine.specs.Event.{text_of, events_of};
+ghost use Rattle.smb_engine.specs.Event.{text_of, events_of, connection_at};
 ghost use Rattle.smb_engine.specs.Output.{output_bytes, outputs_of};
 ghost use Rattle.smb_engine.specs.Share.{MakingRefused, new_share, link_of, new_link, opened, ended, opening_refusal, bytes_step, is_open_after, stopped, count_on, unread, OpeningRefused, PieceStopped, GoodState};
 ghost use Rattle.smb_engine.specs.Run.{unknown_refusal, event_refusal, event_step, run, run_behind, EventStopped, RunStopped};
@@ -19,12 +19,15 @@ use super::fault::{RanOut, RunFault, ServeFault};
 use super::output::{Answer, Sink};
 use super::stream::take_piece;
 use smb_frame::FrameBuffer;
+use smb_handles::HandleTable;
+use smb_nodes::NodeTree;
 use smb_opens::Opens;
 use smb_request::{Config, Shared};
 use smb_session::{Authenticator, Window};
 use smb_tree::Tree;
 use std::alloc::{AllocError, Global};
 use std::collections::BTreeMap;
+use std::fmt;
 use std::marker::Model;
 
 /// How many connections may be open.
@@ -37,6 +40,12 @@ pub struct Share<A: Authenticator + Drop, T: Tree + Drop, O: Opens + Drop> {
     shared: Shared<A, T, O>,
     links: BTreeMap<u64, Link>,
     next: u64,
+}
+
+impl<A: Authenticator + Drop, T: Tree + Drop, O: Opens + Drop> fmt::Debug for Share<A, T, O> {
+    fn fmt<W: fmt::Write>(&self, f: &mut fmt::Formatter<W>) -> fmt::Result {
+        write!(f, "Share {{ connections: {}, .. }}", self.links.len())
+    }
 }
 
 impl<A: Authenticator + Drop, T: Tree + Drop, O: Opens + Drop> Model for Share<A, T, O> {
@@ -103,6 +112,27 @@ fn add_connection<A: Authenticator + Drop, T: Tree + Drop, O: Opens + Drop>(
     }
 }
 
+impl<A: Authenticator + Drop> Share<A, NodeTree, HandleTable> {
+    /// A share of this configuration over a new tree and a new list of opens, those that look-ups are fast in: what
+    /// [`Share::new`] makes of them. No condition is asked of the caller.
+    ///
+    /// A configuration that breaks its rules is [`ServeFault::BadConfig`], before any memory is asked for; else
+    /// memory may be wanting, [`ServeFault::NoMemory`]. Both drop what was handed in.
+    pub fn in_memory(alloc: Global, config: Config, authenticator: A) -> Result<Self, ServeFault>
+        ensures lawful { OnOk result (is_lawful (settings_of config) ≡ true) }
+        ensures state { IfOk result (λ share. share ≡ new_share (settings_of config) authenticator) }
+        ensures err { IfErr result (MakingRefused (settings_of config)) }
+    {
+        if !config.is_lawful() {
+            return Err(ServeFault::BadConfig);
+        }
+        match NodeTree::new(alloc, config.created, config.capacity) {
+            Ok(tree) => Share::made(alloc, config, authenticator, tree, HandleTable::new(alloc)),
+            Err(_) => Err(ServeFault::NoMemory { done: 0 }),
+        }
+    }
+}
+
 impl<A: Authenticator + Drop, T: Tree + Drop, O: Opens + Drop> Share<A, T, O> {
     /// A share of this configuration, without a connection and without a session. Its authenticator decides
     /// who may come in. The tree holds the root alone, as newly made with the moment and the room of the
@@ -126,15 +156,31 @@ impl<A: Authenticator + Drop, T: Tree + Drop, O: Opens + Drop> Share<A, T, O> {
         if !config.is_lawful() {
             return Err(ServeFault::BadConfig);
         }
-        let shared = match Shared::new(alloc, config, authenticator, tree, opens) {
-            Ok(shared) => shared,
-            Err(_) => return Err(ServeFault::NoMemory { done: 0 }),
-        };
-        Ok(Share {
-            shared,
-            links: BTreeMap::new(alloc),
-            next: 1,
-        })
+        Share::made(alloc, config, authenticator, tree, opens)
+    }
+
+    /// A share of a configuration that keeps its rules.
+    fn made(
+        alloc: Global,
+        config: Config,
+        authenticator: A,
+        tree: T,
+        opens: O,
+    ) -> Result<Self, ServeFault>
+        requires lawful { is_lawful (settings_of config) ≡ true }
+        requires tree { T.content tree ≡ new_content config.created config.capacity }
+        requires opens { O.content opens ≡ [] }
+        ensures state { IfOk result (λ share. share ≡ new_share (settings_of config) authenticator) }
+        ensures err { IfErr result (λ fault. fault ≡ ServeFault.NoMemory 0) }
+    {
+        match Shared::new(alloc, config, authenticator, tree, opens) {
+            Ok(shared) => Ok(Share {
+                shared,
+                links: BTreeMap::new(alloc),
+                next: 1,
+            }),
+            Err(_) => Err(ServeFault::NoMemory { done: 0 }),
+        }
     }
 
     /// The allocator of what the share makes.
@@ -222,10 +268,12 @@ impl<A: Authenticator + Drop, T: Tree + Drop, O: Opens + Drop> Share<A, T, O> {
         self.good();
     }
 
-    /// Takes a piece of an open connection's stream, and adds the bytes of the frames that answer it.
+    /// Takes a piece of a connection's stream, and adds the bytes of the frames that answer it.
     ///
-    /// `moment` is in units of 100 ns since 1601. After [`ServeFault::NoMemory`], the only refusal, `out` is
-    /// as it was; the first `done` requests of the piece were performed, and then the connection has ended.
+    /// `moment` is in units of 100 ns since 1601. On a connection that is not open the piece is passed over:
+    /// nothing changes, and the connection is [`Fate::Ended`]. After [`ServeFault::NoMemory`], the only refusal,
+    /// the connection was open and `out` is as it was; the first `done` requests of the piece were performed,
+    /// and then the connection has ended.
     pub fn feed(
         &mut self,
         connection: u64,
@@ -233,14 +281,15 @@ impl<A: Authenticator + Drop, T: Tree + Drop, O: Opens + Drop> Share<A, T, O> {
         piece: &[u8],
         out: &mut Vec<u8>,
     ) -> Result<Fate, ServeFault>
-        requires { IsSome (link_of connection self.old.links) }
         ensures state { OnOk result (self.new ≡ unread (bytes_step A.meaning self.old connection moment piece.now).state) }
         ensures outputs { OnOk result (out.new.items ≡ out.old.items ++ flat_map output_bytes (bytes_step A.meaning self.old connection moment piece.now).outputs) }
         ensures fate { IfOk result (λ fate. fate ≡ (if is_open_after A.meaning self.old connection moment piece.now then Fate.Open else Fate.Ended)) }
         ensures err { IfErr result (λ fault. PieceStopped A.meaning self.old connection moment piece.now fault self.new) }
         ensures kept { OnErr result (out.new.items ≡ out.old.items) }
+        ensures passed { OnOk result (link_of connection self.old.links ≡ None → self.new ≡ self.old) }
         ensures good { GoodState self.new }
     {
+        let _ = &self.links;
         let taken = self.take(connection, moment, piece, out);
         self.good();
         match taken {
@@ -324,13 +373,21 @@ impl<A: Authenticator + Drop, T: Tree + Drop, O: Opens + Drop> Share<A, T, O> {
         ensures ok { OnOk result (record { state = self.new; outputs = outputs_of answers.new.items; stop = None }
             ≡ run_behind (outputs_of answers.old.items) (run A.meaning self.old (events_of events.now))) }
         ensures err { IfErr result (λ e. RunStopped A.meaning self.old (events_of events.now) e.place e.fault self.new (outputs_of answers.old.items) (outputs_of answers.new.items)) }
+        ensures connection { IfErr result (λ e. connection_at (events_of events.now) e.place ≡ Some e.connection) }
     {
         let _ = &self.shared;
         let mut place = 0;
         for event in events {
             match self.event(event, answers) {
                 Ok(()) => {}
-                Err(fault) => return Err(RunFault { place, fault }),
+                Err(fault) => {
+                    let connection = event.connection();
+                    return Err(RunFault {
+                        place,
+                        connection,
+                        fault,
+                    });
+                }
             }
             place += 1;
         }
@@ -339,7 +396,7 @@ impl<A: Authenticator + Drop, T: Tree + Drop, O: Opens + Drop> Share<A, T, O> {
 
     /// Takes events in order, up to one that is refused, and adds the answers.
     ///
-    /// A fault tells the place of the event that it stopped at; the events before it stand, with their
+    /// A fault tells the place of the event that it stopped at, and its connection; the events before it stand, with their
     /// answers. A refused event ([`ServeFault::BadEvent`], [`ServeFault::TooManyConnections`]) changes
     /// nothing. After [`ServeFault::NoMemory`] the first `done` requests of the event were performed,
     /// unanswered, and then its connection has ended; an opening changed nothing. The end of a connection
@@ -348,6 +405,7 @@ impl<A: Authenticator + Drop, T: Tree + Drop, O: Opens + Drop> Share<A, T, O> {
         ensures ok { OnOk result (record { state = self.new; outputs = outputs_of answers.new.items; stop = None }
             ≡ run_behind (outputs_of answers.old.items) (run A.meaning self.old (events_of events.now))) }
         ensures err { IfErr result (λ e. RunStopped A.meaning self.old (events_of events.now) e.place e.fault self.new (outputs_of answers.old.items) (outputs_of answers.new.items)) }
+        ensures connection { IfErr result (λ e. connection_at (events_of events.now) e.place ≡ Some e.connection) }
         ensures good { GoodState self.new }
     {
         let result = self.run_events(events, answers);

@@ -162,6 +162,7 @@ fn refuses(share: &mut Served, alloc: Global, event: Event) -> bool {
     let mut answers = Vec::new(alloc);
     let refused = RunFault {
         place: 1,
+        connection: 2,
         fault: ServeFault::BadEvent,
     };
     let ran = share.run(&[Event::Ended(1), event], &mut answers);

@@ -1,4 +1,4 @@
-use Rattle.std.proofs.Common.{refl, ap, ◌∙◌, arith}
+use Rattle.std.proofs.Common.{refl, ◌∙◌, arith}
 use Rattle.std.proofs.lemmas.List.{take_all}
 use Rattle.smb_engine.proofs.Turns.{chain_begins, writer_at, out_at, chain_more, chain_stopped, done_least, kept_on}
 use Rattle.smb_engine.proofs.chain.perform_chain.Goals as goal

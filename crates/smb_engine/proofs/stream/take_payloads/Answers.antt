@@ -1,4 +1,4 @@
-use Rattle.std.proofs.Common.{refl, sym, ap, ◌∙◌, arith, rules}
+use Rattle.std.proofs.Common.{sym, ap, ◌∙◌, arith}
 use Rattle.smb_engine.proofs.Turns.{refused-shared}
 use Rattle.smb_engine.proofs.Placing.{went_on, ended_here, front_kept}
 use Rattle.smb_engine.proofs.Steps.{steps_more, steps_over, steps_all, held_all, steps_stopped, steps_stopped_in, steps_within, kept_more, at_limit}

@@ -1,6 +1,6 @@
 use Rattle.std.proofs.Common.{refl, arith}
 use Rattle.smb_engine.proofs.Links.{same_unread}
-use Rattle.smb_engine.proofs.Runs.{run_none, run_more, run_stops}
+use Rattle.smb_engine.proofs.Runs.{run_none, run_more, run_stops, connection_read}
 use Rattle.smb_engine.proofs.share.Share.run_events.Goals as goal
 
 pub loop-event-init : goal.loop-event-init
@@ -9,6 +9,10 @@ loop-event-init g c = record { so_far = run_none g.A.Authenticator.meaning _ _ _
 pub returns-in-Err-clause-err : goal.returns-in-Err-clause-err
 returns-in-Err-clause-err g c =
     run_stops g.A.Authenticator.meaning _ _ _ _ _ _ _ _ _ _ _ c.loop-event.invariant.so_far c.loop-event.invariant.place c.loop-event-test.true c.event-item.is c.in-Err.ensures.err c.in-Err.ensures.kept
+
+pub returns-in-Err-clause-connection : goal.returns-in-Err-clause-connection
+returns-in-Err-clause-connection g c =
+    rw (c.loop-event.invariant.place, c.connection-connection.ensures) (connection_read g.A.Authenticator.meaning _ _ _ c.loop-event-test.true c.event-item.is)
 
 pub loop-event-preserved : goal.loop-event-preserved
 loop-event-preserved g c = record {
