@@ -69,13 +69,16 @@ def ran_without(number, words, given):
 
 
 def ends_without_memory(*words, given=b''):
-    """Whether a run ends for want of memory wherever memory is refused, and in at least one place."""
+    """Whether a run in which memory is refused ends for want of it, in at least one place, or as if there had been enough."""
+    enough, ended = ran(words, given), 0
     for number in range(1, MOST_ALLOCATIONS):
-        (status, _, errors), was_refused = ran_without(number, words, given)
+        found, was_refused = ran_without(number, words, given)
         if not was_refused:
-            return number > 1
-        if (status, errors) != NO_MEMORY:
-            print(f'  refusal {number}: {status}, {errors!r}')
+            return ended > 0
+        is_end = found[::2] == NO_MEMORY
+        ended += is_end
+        if not is_end and found != enough:
+            print(f'  refusal {number}: {found}')
             return False
     return False
 
@@ -213,9 +216,9 @@ def each_event_of_a_part_and_the_next_is_performed():
 
 
 def replay_takes_a_small_multiple_of_its_text():
-    """A text of 8 MiB is replayed where the program may have 40 MiB of memory in all; when all events were read first, it took 120."""
+    """A text of 8 MiB is replayed where the program may have 64 MiB of memory in all; with all events read first it took 120."""
     def limit():
-        resource.setrlimit(resource.RLIMIT_AS, (40 << 20, 40 << 20))
+        resource.setrlimit(resource.RLIMIT_AS, (64 << 20, 64 << 20))
     return ran(('replay',), b'+ 1\n' + b'- 1\n' * (2 << 20), preexec_fn=limit) == (0, b'', b'')
 
 

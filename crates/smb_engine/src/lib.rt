@@ -10,7 +10,7 @@
 //!
 //! # Quick start
 //!
-//! The whole of it is the crate smb_example, which needs no other crate of the share.
+//! The whole of it is the crate smb_example.
 //!
 //! ```text
 //! let config = Config { share: String::from_str(alloc, "data")?, .. };

@@ -18,14 +18,13 @@ type Talk = Pair<Tokens, NodeTree, HandleTable>;
 
 /// Whether there are so many replies, each with success.
 fn are_good(replies: &mut Replies<'_>, count: usize) -> bool {
-    let mut good = 0;
-    while let Some(reply) = replies.next_reply() {
-        if reply.header.status != STATUS_SUCCESS {
-            return false;
+    for _ in 0..count {
+        match replies.next_reply() {
+            Some(reply) if reply.header.status == STATUS_SUCCESS => {}
+            _ => return false,
         }
-        good += 1;
     }
-    good == count
+    replies.next_reply().is_none()
 }
 
 /// Whether what a client says is answered with success.
