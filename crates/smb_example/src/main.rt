@@ -36,13 +36,17 @@ fn one_client(alloc: Global) -> anyhow::Result<MemoryPeers> {
     Ok(MemoryPeers::new(alloc, script, Vec::new(alloc), 16, 4_096)?)
 }
 
-fn main(rt: HostRuntime) -> anyhow::Result<()> {
-    let mut share = new_share(rt.alloc())?;
-    let mut peers = one_client(rt.alloc())?;
-    let mut clock = ListClock::new(rt.alloc(), &[FILETIME_OF_1970])?;
+/// Serves a new share to that client for some turns, and gives what it was sent.
+fn answers(alloc: Global) -> anyhow::Result<Vec<u8>> {
+    let mut peers = one_client(alloc)?;
+    let mut clock = ListClock::new(alloc, &[FILETIME_OF_1970])?;
+    let mut share = new_share(alloc)?;
     serve(&mut share, &mut peers, &mut clock, 4);
+    Ok(taken_from(alloc, &peers, 1)?)
+}
 
-    let bytes = taken_from(rt.alloc(), &peers, 1)?;
+fn main(rt: HostRuntime) -> anyhow::Result<()> {
+    let bytes = answers(rt.alloc())?;
     let mut replies = Replies::of(&bytes);
     for _ in 0..bytes.len() {
         let Some(reply) = replies.next_reply() else {
