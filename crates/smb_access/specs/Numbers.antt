@@ -1,5 +1,5 @@
 -- Numbers that are given one after the other, each once.
-use Rattle.std.specs.Prelude.{ℕ, ◌<◌, ◌-◌, ◌^◌, Bool, nat_le, List, [], ◌∷◌}
+use Rattle.std.specs.Prelude.{ℕ, ◌<◌, List, [], ◌∷◌}
 use Rattle.std.specs.List.{AllByRecursion}
 
 -- each is below all that follow it
@@ -10,7 +10,3 @@ AreRising (number ∷ numbers) = AllByRecursion (λ later. number < later) numbe
 -- each is below this one
 abbrev pub AreNumbersBelow : ℕ → List ℕ → Type 0
 AreNumbersBelow limit = AllByRecursion (λ number. number < limit)
-
--- a counter gives no more once it gave the greatest number but one of 64 bits
-abbrev pub is_spent : ℕ → Bool
-is_spent next = nat_le (2 ^ 64 - 1) next

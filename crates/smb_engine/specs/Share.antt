@@ -5,6 +5,7 @@ use Rattle.std.specs.List.{AllByRecursion}
 use Rattle.std.specs.Map.{lookup, set_value, remove_entry}
 use Rattle.std.specs.BTreeMap.{is_at, insert_entry}
 use Rattle.std.specs.Ordering.{nat_cmp}
+use Rattle.smb_wire.specs.Counters.{is_spent}
 use Rattle.smb_frame.specs.Reading.{rest}
 use Rattle.smb_engine.specs.declared.fault.ServeFault.{ServeFault}
 use Rattle.smb_engine.specs.declared.fault.ServeFault.TheVariants.{TooManyConnections, NoMemory, BadEvent, BadConfig}
@@ -47,7 +48,7 @@ ended s connection = record s { shared = shared_ended s.shared connection; links
 
 -- why no connection opens: 64 are open, or the numbers are spent
 abbrev pub opening_refusal : {S : Type 0} → ShareState S → Option ServeFault
-opening_refusal s = if nat_le 64 (length s.links) || (s.next == 18446744073709551615) then Some TooManyConnections else None
+opening_refusal s = if nat_le 64 (length s.links) || is_spent 64 s.next then Some TooManyConnections else None
 
 -- what an event leaves and puts out
 pub record EventStep (S : Type 0) : Type 0 where

@@ -1,5 +1,6 @@
 -- A session ([MS-SMB2] 3.3.1.8).
 use Rattle.std.specs.Prelude.{ℕ, ◌+◌, Bool, ◌||◌, ◌==◌, nat_le, length, List, [], ◌∷◌, ◌++◌, Option, None, Some}
+use Rattle.smb_wire.specs.Counters.{is_spent}
 use Rattle.smb_session.specs.Numbers.{without_number}
 
 -- its connection, its user once it is finished, the numbers of its trees in rising order, and the next tree's number
@@ -27,4 +28,4 @@ without_tree tree session = record session { trees = without_number session.tree
 
 -- a session that can be given no tree more: it has 16, or the numbers are spent
 abbrev pub has_all_trees : SessionState → Bool
-has_all_trees session = nat_le 16 (length session.trees) || (session.next_tree == 4294967295)
+has_all_trees session = nat_le 16 (length session.trees) || is_spent 32 session.next_tree

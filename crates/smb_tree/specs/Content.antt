@@ -2,6 +2,7 @@
 use Rattle.std.specs.Prelude.{ℕ, ◌+◌, ◌-◌, ◌^◌, Bool, ◌==◌, nat_eq, nat_le, if◌then◌else◌, List, [], ◌∷◌, ◌++◌, length, take, drop, sum_by, replicate, Option, None, Some}
 use Rattle.std.specs.Option.{option_map, option_map_or}
 use Rattle.std.specs.Cmp.Lexicographic.{pointwise}
+use Rattle.smb_wire.specs.Counters.{is_spent}
 use Rattle.smb_wire.specs.Paths.{folded_path}
 use Rattle.smb_tree.specs.declared.entry.Basic.{Basic}
 use Rattle.smb_tree.specs.declared.entry.Kind.{Kind}
@@ -45,7 +46,7 @@ parent path = take (length path - 1) path
 
 -- the next number; none is left once the greatest but one of 64 bits was given
 abbrev pub next_number : Content → Option ℕ
-next_number content = if nat_le (2 ^ 64 - 1) content.next then None else Some content.next
+next_number content = if is_spent 64 content.next then None else Some content.next
 
 -- the space that entries take
 abbrev pub used_space : List Row → ℕ

@@ -1,6 +1,7 @@
 -- Why a change of a tree is refused: the first reason that holds. Want of memory stands apart.
 use Rattle.std.specs.Prelude.{ℕ, ◌+◌, ◌-◌, ◌^◌, max, not, ◌&&◌, ◌||◌, ◌==◌, false, Bool, nat_le, nat_lt, is_some, if◌then◌else◌, List, length, Option, None, Some}
 use Rattle.std.specs.List.{list_any}
+use Rattle.smb_wire.specs.Counters.{is_spent}
 use Rattle.smb_tree.specs.declared.fault.TreeFault.{TreeFault}
 use Rattle.smb_tree.specs.declared.fault.TreeFault.TheVariants.{Absent, ParentAbsent, Exists, NotEmpty, TooDeep, Full}
 use Rattle.smb_tree.specs.Entries.{Entry, is_folder, is_folder_kind}
@@ -9,13 +10,12 @@ use Rattle.smb_tree.specs.Children.{has_children}
 use Rattle.smb_tree.specs.Moves.{is_within, replaced}
 
 -- of an entry that would be added at a path, by what stands where, how many entries there are, and the next
--- number: 4,096 entries besides the root are the most, and the greatest number but one of 64 bits is the last
+-- number: 4,096 entries besides the root are the most. (The path of a name has at most 32 components.)
 abbrev pub add_fault_by : (Path → Option Entry) → ℕ → ℕ → Path → Option TreeFault
 add_fault_by entry_at_path count next path =
     if not (is_folder (entry_at_path (parent path))) then Some ParentAbsent else
     if is_some (entry_at_path path) then Some Exists else
-    if nat_lt 32 (length path) then Some TooDeep else
-    if nat_le 4096 (count - 1) || nat_le (2 ^ 64 - 1) next then Some Full else None
+    if nat_le 4096 (count - 1) || is_spent 64 next then Some Full else None
 
 abbrev pub add_fault : Content → Path → Option TreeFault
 add_fault content path = add_fault_by (entry_at content.rows) (length content.rows) content.next path

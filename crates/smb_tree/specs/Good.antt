@@ -1,8 +1,10 @@
 -- Good contents: what a store keeps of its tree, and what a move keeps.
-use Rattle.std.specs.Prelude.{◌≡◌, ℕ, ◌<◌, ◌≤◌, ◌^◌, true, [], length, Some}
-use Rattle.std.specs.List.{AllByRecursion}
-use Rattle.smb_tree.specs.Entries.{is_folder, is_folder_kind}
-use Rattle.smb_tree.specs.Content.{Content, entry_at, number_at, parent, used_space}
+use Rattle.std.specs.Prelude.{◌≡◌, ℕ, ◌<◌, ◌≤◌, ◌^◌, true, List, [], length, Some}
+use Rattle.std.specs.List.{AllByRecursion, list_all}
+use Rattle.smb_wire.specs.Names.{folded}
+use Rattle.smb_wire.specs.Paths.{folded_path, is_lawful_component}
+use Rattle.smb_tree.specs.Entries.{is_folder, is_folder_kind, kept_attributes, last_part}
+use Rattle.smb_tree.specs.Content.{Row, Content, entry_at, number_at, parent, used_space}
 use Rattle.smb_tree.specs.Laws.{AreApart, AreBelow}
 
 -- a good content: the root is a folder of number 1, and around each entry there is a folder; no path and no number is
@@ -20,3 +22,17 @@ pub record GoodContent (content : Content) : Type 0 where
   pub small : AllByRecursion (λ row. length row.1.bytes ≤ 16777216) content.rows
   pub bare : AllByRecursion (λ row. is_folder_kind row.1.kind ≡ true → length row.1.bytes ≡ 0) content.rows
   pub fits : used_space content.rows ≤ content.capacity
+
+-- an entry as it may be kept: its number is 1 or greater; the names of its path are lawful and folded, and the last is
+-- its spelling, folded (the root has none); and of its attributes no others are set than the four that are kept
+-- ([MS-FSCC] 2.1.5, 2.6)
+pub record IsLawfulRow (row : Row) : Type 0 where
+  pub number : 0 < row.1.number
+  pub names : list_all is_lawful_component row.0 ≡ true
+  pub same : folded_path row.0 ≡ row.0
+  pub spelling : folded row.1.spelling ≡ last_part row.0
+  pub attributes : kept_attributes row.1.basic.attributes.0 ≡ row.1.basic.attributes.0
+
+-- all entries are so
+abbrev pub AreLawful : List Row → Type 0
+AreLawful = AllByRecursion IsLawfulRow

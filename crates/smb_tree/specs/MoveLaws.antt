@@ -1,12 +1,12 @@
 -- A move that is not refused, in a user's words.
 use Rattle.std.specs.Prelude.{◌≡◌, ◌≢◌, ℕ, ◌<◌, ◌≤◌, ◌^◌, true, false, List, [], ◌∷◌, ◌++◌, length, None, Some}
-use Rattle.std.specs.List.{AllByRecursion}
+use Rattle.std.specs.List.{list_all}
 use Rattle.std.specs.Option.{option_map}
-use Rattle.smb_wire.specs.Paths.{folded_path}
+use Rattle.smb_wire.specs.Paths.{folded_path, is_lawful_component}
 use Rattle.smb_tree.specs.declared.fault.TreeFault.TheVariants.{Exists}
 use Rattle.smb_tree.specs.Entries.{Entry, is_folder, is_folder_kind, last_part}
 use Rattle.smb_tree.specs.Content.{Path, Row, Content, is_same_path, entry_at, number_at, numbered, parent, used_space}
-use Rattle.smb_tree.specs.Good.{GoodContent}
+use Rattle.smb_tree.specs.Good.{GoodContent, AreLawful}
 use Rattle.smb_tree.specs.Moves.{is_within, moved_row, moved}
 use Rattle.smb_tree.specs.Faults.{move_fault}
 
@@ -77,3 +77,9 @@ abbrev pub AMoveKeepsGood : Type 0
 AMoveKeepsGood =
     (content : Content) (number : ℕ) (parts : List (List ℕ)) → GoodContent content →
     move_fault content number (folded_path parts) ≡ None → GoodContent (moved content number parts)
+
+-- a move to a lawful path leaves all entries lawful
+abbrev pub AMoveLeavesLawful : Type 0
+AMoveLeavesLawful =
+    (content : Content) (number : ℕ) (parts : List (List ℕ)) → AreLawful content.rows → list_all is_lawful_component parts ≡ true →
+    AreLawful (moved content number parts).rows
