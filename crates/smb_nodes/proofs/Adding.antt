@@ -30,14 +30,17 @@ split_path parts h =
     ap (λ (n : ℕ). get_or (folded_path parts) (n - 1) []) long ∙ folded_part parts (length parts - 1) (omega (arith, h)) in
     ap (λ (name : List ℕ). parent (folded_path parts) ++ name ∷ []) (sym last) ∙ last_split (folded_path parts) some
 
--- where an addition is lawful, its parent is a folder, and nothing stands at its path
+-- where an addition is lawful, its parent is a folder, nothing is at its path, and that is short enough
 pub record IsLawful (look : Path → Option Entry) (q : Path) : Type 0 where
   pub above : is_folder (look (parent q)) ≡ true
   pub vacant : is_some (look q) ≡ false
   pub short : length q ≤ 32
 
-pub lawful : (look : Path → Option Entry) (count next : ℕ) (q : Path) → add_fault_by look count next q ≡ None → IsLawful look q
-lawful look count next q h = record { above = grind (arith, h); vacant = grind (arith, h); short = grind (arith, nat_tests, h) }
+pub lawful : (look : Path → Option Entry) (count next : ℕ) (q : Path) → add_fault_by look count next q ≡ None → length q ≤ 32 → IsLawful look q
+lawful look count next q h k = record { above = grind (arith, h); vacant = grind (arith, h); short = k }
+
+pub short_path : (parts : List (List ℕ)) (n : ℕ) → length parts ≡ n → n ≤ 32 → length (folded_path parts) ≤ 32
+short_path parts n e h = let long = length-map parts folded in omega (arith, long, e, h)
 
 is_none : {A : Type 0} (o : Option A) → is_some o ≡ false → o ≡ None
 is_none None h = refl

@@ -1,6 +1,7 @@
 //! Additions: one more node.
 
 ghost use Rattle.std.specs.Prelude.{◌≡◌, ◌-◌, ◌^◌, ◌||◌, ◌∷◌, ◌++◌, [], true, None, is_some, nat_le, OnOk, OnErr};
+ghost use Rattle.smb_wire.specs.Counters.{is_spent};
 ghost use Rattle.smb_wire.specs.Names.{folded};
 ghost use Rattle.smb_wire.specs.Paths.{folded_path};
 ghost use Rattle.smb_wire.specs.PathViews.{parts_of};
@@ -42,7 +43,7 @@ fn is_taken(nodes: &Slab<Node>, path: &PathView<'_>) -> bool
 
 // Whether no entry can be added to so many, the root among them, because of their number or the next one's.
 fn is_full(count: usize, next: EntryNo) -> bool
-    ensures { result ≡ (nat_le 4096 (count - 1) || nat_le (2 ^ 64 - 1) next) }
+    ensures { result ≡ (nat_le 4096 (count - 1) || is_spent 64 next) }
 {
     count > MOST_ENTRIES || next == EntryNo::MAX
 }

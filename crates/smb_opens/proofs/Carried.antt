@@ -3,12 +3,14 @@ use Rattle.std.proofs.Common.{◌≡◌, ◌==◌, ◌⊎◌, inl, inr, ℕ, ◌
 use Rattle.std.proofs.lemmas.Bool.{eqb-true}
 use Rattle.std.proofs.lemmas.Bool.Decides.{nat_tests}
 use Rattle.std.proofs.lemmas.List.{length-map}
+use Rattle.std.specs.List.{list_all}
 use Rattle.std.specs.Option.{option_map, option_map_or}
-use Rattle.smb_wire.specs.Paths.{folded_path}
+use Rattle.smb_wire.specs.Paths.{folded_path, is_lawful_component}
 use Rattle.smb_tree.specs.Children.{is_child, has_children}
 use Rattle.smb_tree.specs.Entries.{Entry, is_folder, is_folder_kind, last_part}
 use Rattle.smb_tree.specs.Content.{Path, Row, Content, is_same_path, entry_at, number_at, numbered, parent, without}
 use Rattle.smb_tree.specs.Faults.{move_fault}
+use Rattle.smb_tree.proofs.Lawful.{lawful_moved}
 use Rattle.smb_tree.specs.Good.{GoodContent}
 use Rattle.smb_tree.specs.Laws.{AreApart}
 use Rattle.smb_tree.specs.MoveLaws.{CanMove}
@@ -331,16 +333,18 @@ counted_moved content n parts row c good h e =
     sym (there ∙ length-without_other content.rows n (entry_at content.rows (folded_path parts)) (λ x at. ap is_some (numbered-from_at content.rows (folded_path parts) x good.apart at)) c e)
 
 -- a good store stays good
-pub kept_moved : (state : StoreState) (n : ℕ) (parts : List (List ℕ)) (row : Row) (opens_count entries_count after_count : ℕ) → IsMoving state.tree state.opens n parts row → IsEither state.tree state.opens parts row →
+pub kept_moved : (state : StoreState) (n : ℕ) (parts : List (List ℕ)) (row : Row) (opens_count entries_count after_count : ℕ) → IsMoving state.tree state.opens n parts row → IsEither state.tree state.opens parts row → list_all is_lawful_component parts ≡ true →
     after_count ≡ (if option_map_or (λ (e : Entry). not (e.number == n)) (entry_at state.tree.rows (folded_path parts)) false then entries_count - 1 else entries_count) →
     IsKept state.tree state.opens state.locks state.next opens_count entries_count → IsKept (moved state.tree n parts) state.opens state.locks state.next opens_count after_count
-kept_moved state n parts row opens_count entries_count after_count moving either count kept = record {
+kept_moved state n parts row opens_count entries_count after_count moving either names count kept = record {
   good = record {
     tree = good_kept state.tree n parts moving.good moving.free;
+    lawful = lawful_moved state.tree n parts kept.good.lawful names;
     present = present_moved state.tree state.opens n parts row moving either kept.good.present;
     rising = kept.good.rising;
     below = kept.good.below;
     few = kept.good.few;
+    masked = kept.good.masked;
     compatible = kept.good.compatible;
     marked = marks_moved state.tree state.opens n parts row moving either kept.good.marked;
     locked = kept.good.locked;

@@ -1,14 +1,18 @@
 -- A store in which an entry was added or opened, and one in which that was undone.
-use Rattle.std.proofs.Common.{◌≡◌, ◌<◌, ℕ, ◌+◌, List, [], ◌∷◌, ◌++◌, length, true, false, cond, if◌then◌else◌, bit_or, Option, None, Some, is_some, refl, sym, ap, arith, ◌∙◌, length-append}
+use Rattle.std.proofs.Common.{◌≡◌, ◌<◌, ◌≤◌, ℕ, ◌+◌, List, [], ◌∷◌, ◌++◌, length, true, false, cond, if◌then◌else◌, Bool, bit_and, bit_or, Option, None, Some, is_some, refl, sym, ap, arith, ◌∙◌, length-append}
 use Rattle.std.proofs.lemmas.Grind.{common_steps}
 use Rattle.std.proofs.lemmas.Bool.Decides.{nat_tests}
+use Rattle.std.proofs.lemmas.List.{length-map}
+use Rattle.std.specs.List.{list_all}
 use Rattle.std.specs.Option.{option_map}
-use Rattle.smb_wire.specs.Paths.{path_spelled, folded_path}
+use Rattle.smb_wire.specs.Names.{folded}
+use Rattle.smb_wire.specs.Paths.{path_spelled, folded_path, is_lawful_component}
 use Rattle.smb_tree.specs.declared.entry.Kind.{Kind}
+use Rattle.smb_tree.specs.declared.entry.Kind.TheVariants.{File}
 use Rattle.smb_tree.specs.Entries.{Entry, new_entry}
-use Rattle.smb_tree.specs.Content.{Path, Row, Content, entry_at, numbered, parent, changed, added, next_number}
+use Rattle.smb_tree.specs.Content.{Path, Row, Content, entry_at, number_at, numbered, parent, changed, added, next_number}
 use Rattle.smb_tree.specs.Faults.{add_fault}
-use Rattle.smb_tree.specs.Laws.{AreApart}
+use Rattle.smb_tree.specs.Laws.{AreApart, AreBelow}
 use Rattle.smb_locks.specs.Table.{Table}
 use Rattle.smb_tree.proofs.Apart.{numbered-from_at, numbered-changed, numbered-fresh}
 use Rattle.smb_access.specs.declared.open_row.OpenRow.{OpenRow}
@@ -25,14 +29,16 @@ use Rattle.smb_opens.specs.Effect.{create_result_by, created_by}
 use Rattle.smb_opens.specs.Found.{has_all_opens}
 use Rattle.smb_access.specs.Found.{is_marked}
 use Rattle.smb_access.specs.Looked.{target_of, is_read_only_target, target_conflicts}
-use Rattle.smb_tree.specs.Good.{GoodContent}
-use Rattle.smb_opens.specs.Good.{GoodStore, IsKept, AreMarksDue}
+use Rattle.smb_tree.specs.Good.{GoodContent, AreLawful}
+use Rattle.smb_tree.proofs.Lawful.{lawful_changed, lawful_push, lawful_new, keeps_kept, kept_twice}
+use Rattle.smb_opens.specs.Good.{GoodStore, IsKept, IsMasked, AreMarksDue}
 use Rattle.smb_access.specs.Present.{ArePresent}
 use Rattle.smb_access.specs.Opens.{without_open, AreAllBelow}
 use Rattle.smb_access.specs.Access.{granted}
 use Rattle.smb_access.specs.Close.{has_mark}
 use Rattle.smb_access.specs.Sharing.{use_asked, use_of, has_conflict}
-use Rattle.smb_wire.specs.Access.{FILE_WRITE_DATA}
+use Rattle.smb_wire.specs.Access.{FILE_WRITE_DATA, FILE_ALL_ACCESS, FILE_SHARE_ALL}
+use Rattle.smb_access.proofs.Granted.{granted_masked, share_masked}
 use Rattle.smb_opens.proofs.Conflicts.{compatible_pushed, fresh_conflict, less_conflict}
 use Rattle.smb_access.proofs.Marks.{mark_pushed, mark_changed, deletable_pushed, deletable_changed, open_pushed_too}
 use Rattle.smb_access.proofs.Mores.{more_conflicts, or_has}
@@ -54,23 +60,38 @@ room_left : (state : StoreState) → has_all_opens state ≡ false → length st
 room_left state e = grind (arith, nat_tests, common_steps, e)
 
 -- one more open, of an entry that stands
-pub good_opened : (state : StoreState) (tree : Content) (row : OpenRow) → GoodStore state → GoodContent tree → ArePresent tree.rows state.opens → is_some (numbered tree.rows row.entry) ≡ true → row.number ≡ state.next → has_all_opens state ≡ false → has_conflict state.opens row.entry (use_of row) ≡ false → AreMarksDue tree.rows (state.opens ++ row ∷ []) → GoodStore (record { tree = tree; opens = state.opens ++ row ∷ []; locks = state.locks; next = state.next + 1 })
-good_opened state tree row good fine present stands number room alone due = record {
+pub good_opened : (state : StoreState) (tree : Content) (row : OpenRow) → GoodStore state → GoodContent tree → AreLawful tree.rows → IsMasked row → ArePresent tree.rows state.opens → is_some (numbered tree.rows row.entry) ≡ true → row.number ≡ state.next → has_all_opens state ≡ false → has_conflict state.opens row.entry (use_of row) ≡ false → AreMarksDue tree.rows (state.opens ++ row ∷ []) → GoodStore (record { tree = tree; opens = state.opens ++ row ∷ []; locks = state.locks; next = state.next + 1 })
+good_opened state tree row good fine lawful masked present stands number room alone due = record {
   tree = fine;
+  lawful = lawful;
   present = all_push (λ (o : OpenRow). is_some (numbered tree.rows o.entry) ≡ true) state.opens row present stands;
   rising = rising_push state.opens row good.rising (rw number good.below);
   below = below_push state.next state.opens row good.below number;
   few = omega (arith, room_left state room, length-append state.opens (row ∷ []));
+  masked = all_push IsMasked state.opens row good.masked masked;
   compatible = compatible_pushed state.opens row good.compatible alone;
   marked = due;
   locked = good.locked;
   held = held_pushed state.locks state.opens row good.held;
 }
 
+-- an open that is made of an entry, with access that is granted, has no bits outside its masks
+pub masked_open : (ask : FileAsked) (number entry : ℕ) (access : Access) (on_read_only : Bool) (row : OpenRow) → row ≡ opened_by ask number entry access → access ≡ granted ask.access on_read_only → IsMasked row
+masked_open ask number entry access on_read_only row r g = record {
+  access = ap (λ (o : OpenRow). bit_and o.access.0 FILE_ALL_ACCESS) r ∙ ap (λ (a : Access). bit_and a.0 FILE_ALL_ACCESS) g ∙ granted_masked ask.access on_read_only ∙ sym (ap (λ (o : OpenRow). o.access.0) r ∙ ap (λ (a : Access). a.0) g);
+  share = ap (λ (o : OpenRow). bit_and o.share.0 FILE_SHARE_ALL) r ∙ share_masked ask ∙ sym (ap (λ (o : OpenRow). o.share.0) r);
+}
+
+-- the next number of a tree in which the root is
+above_zero : (rows : List Row) (next : ℕ) → number_at rows [] ≡ Some 1 → AreBelow rows next → 0 < next
+above_zero [] next h b = cc
+above_zero (row ∷ rows) next h b = let first = b.0 in omega (arith, first)
+
 -- the tree to which an entry was added is good
-pub good_added : (tree : Content) (parts : List (List ℕ)) (kind : Kind) (attributes moment : ℕ) → GoodContent tree → add_fault tree (folded_path parts) ≡ None → GoodContent (added tree parts kind attributes moment)
-good_added tree parts kind attributes moment good free =
-    good_push tree (folded_path parts) (new_entry tree.next parts kind attributes moment) (free_path tree (folded_path parts) free) refl refl good
+pub good_added : (tree : Content) (parts : List (List ℕ)) (kind : Kind) (attributes moment : ℕ) → GoodContent tree → length parts ≤ 32 → add_fault tree (folded_path parts) ≡ None → GoodContent (added tree parts kind attributes moment)
+good_added tree parts kind attributes moment good short free =
+    let long = length-map parts folded in
+    good_push tree (folded_path parts) (new_entry tree.next parts kind attributes moment) (free_path tree (folded_path parts) (omega (arith, long, short)) free) refl refl good
 
 -- what is marked after an addition to a folder that is not
 due_added : (state : StoreState) (new : Row) (row : OpenRow) → GoodStore state → new.1.mark ≡ false → is_marked (entry_at state.tree.rows (parent new.0)) ≡ false → AreMarksDue (state.tree.rows ++ new ∷ []) (state.opens ++ row ∷ [])
@@ -79,14 +100,16 @@ due_added state new row good k above m h =
     let due = good.marked m marked in
     (deletable_pushed state.tree.rows new m good.tree.apart marked above due.0, open_pushed_too state.opens row m due.1)
 
-pub kept_added : (state : StoreState) (opens_count entries_count : ℕ) (parts : List (List ℕ)) (kind : Kind) (attributes moment : ℕ) (row : OpenRow) → IsKept state.tree state.opens state.locks state.next opens_count entries_count → add_fault state.tree (folded_path parts) ≡ None → is_marked (entry_at state.tree.rows (parent (folded_path parts))) ≡ false → has_all_opens state ≡ false → row.number ≡ state.next → row.entry ≡ state.tree.next → IsKept (added state.tree parts kind attributes moment) (state.opens ++ row ∷ []) state.locks (state.next + 1) (opens_count + 1) (entries_count + 1)
-kept_added state opens_count entries_count parts kind attributes moment row kept free above room number entry =
+pub kept_added : (state : StoreState) (opens_count entries_count : ℕ) (parts : List (List ℕ)) (kind : Kind) (attributes moment : ℕ) (row : OpenRow) → IsKept state.tree state.opens state.locks state.next opens_count entries_count → length parts ≤ 32 → list_all is_lawful_component parts ≡ true → IsMasked row → add_fault state.tree (folded_path parts) ≡ None → is_marked (entry_at state.tree.rows (parent (folded_path parts))) ≡ false → has_all_opens state ≡ false → row.number ≡ state.next → row.entry ≡ state.tree.next → IsKept (added state.tree parts kind attributes moment) (state.opens ++ row ∷ []) state.locks (state.next + 1) (opens_count + 1) (entries_count + 1)
+kept_added state opens_count entries_count parts kind attributes moment row kept short names masked free above room number entry =
     let new : Row = (folded_path parts, new_entry state.tree.next parts kind attributes moment) in
     let last : is_some (numbered (state.tree.rows ++ new ∷ []) row.entry) ≡ true = rw (entry, numbered-last state.tree new kept.good.tree refl) refl in
     let absent : numbered state.tree.rows row.entry ≡ None = ap (numbered state.tree.rows) entry ∙ numbered-fresh state.tree.rows state.tree.next kept.good.tree.below in
+    let lawful : AreLawful (state.tree.rows ++ new ∷ []) =
+    lawful_push state.tree.rows new kept.good.lawful (lawful_new state.tree.next parts kind attributes moment (above_zero state.tree.rows state.tree.next kept.good.tree.first kept.good.tree.below) names) in
     let fresh : has_conflict state.opens row.entry (use_of row) ≡ false = fresh_conflict state.tree.rows state.opens row.entry (use_of row) kept.good.present absent in
     record {
-      good = good_opened state (added state.tree parts kind attributes moment) row kept.good (good_added state.tree parts kind attributes moment kept.good.tree free) (present_push state.tree.rows new state.opens kept.good.present) last number room fresh (due_added state new row kept.good refl above);
+      good = good_opened state (added state.tree parts kind attributes moment) row kept.good (good_added state.tree parts kind attributes moment kept.good.tree short free) lawful masked (present_push state.tree.rows new state.opens kept.good.present) last number room fresh (due_added state new row kept.good refl above);
       opens_counted = omega (arith, kept.opens_counted, length-append state.opens (row ∷ []));
       entries_counted = omega (arith, kept.entries_counted, length-append state.tree.rows (new ∷ []));
     }
@@ -104,7 +127,7 @@ no_view o view e f = cc
 
 -- where an entry may be added a number is left
 pub no_number : (content : Content) (path : Path) → add_fault content path ≡ None → None ≡ next_number content → ⊥
-no_number content path e f = let free = free_path content path e in grind (arith, nat_tests, common_steps, f, free.next)
+no_number content path e f = grind (arith, nat_tests, common_steps, e, f)
 
 pub told_added : (state : StoreState) (ask : FileAsked) (moment : ℕ) (access given : Access) (parts : List (List ℕ)) (kind : Kind) (attributes : ℕ) (view : View) (o : Option View) → parts ≡ path_spelled ask.name → kind ≡ kind_asked ask → attributes ≡ attributes_asked kind ask → given ≡ access → Some view ≡ o → o ≡ Some (view_of given (new_entry state.tree.next parts kind attributes moment)) → (let told : CreatedOpen = record { number = state.next; action = Created; view = view } in told) ≡ create_result_by state ask moment access None
 told_added state ask moment access given parts kind attributes view o p k a g e f =
@@ -131,6 +154,15 @@ target_numbered rows path target a e =
 pub good_standing : (tree : Content) (ask : FileAsked) (moment number : ℕ) (row : Row) → numbered tree.rows number ≡ Some row → GoodContent tree → GoodContent (standing_tree tree ask moment number)
 good_standing tree ask moment number row h good =
     elim (overwrites_by ask.disposition) as (λ b. GoodContent (cond b (overwritten_tree tree ask moment number) tree)) [ true ↦ good_changed (overwritten ask moment) tree number row (empties ask moment) h good | false ↦ good ]
+
+-- and its entries are lawful
+pub lawful_standing : (tree : Content) (ask : FileAsked) (moment number : ℕ) → AreLawful tree.rows → AreLawful (standing_tree tree ask moment number).rows
+lawful_standing tree ask moment number h =
+    let f : Entry → Entry = overwritten ask moment in
+    elim (overwrites_by ask.disposition) as (λ b. AreLawful (let x : Content = cond b (overwritten_tree tree ask moment number) tree in x).rows) [
+      | true ↦ lawful_changed f tree.rows number (keeps_kept f (λ _. refl) (λ _. refl) (λ _. kept_twice (attributes_asked File ask))) h
+      | false ↦ h
+    ]
 
 pub present_standing : (tree : Content) (ask : FileAsked) (moment number : ℕ) (opens : List OpenRow) → ArePresent tree.rows opens → ArePresent (standing_tree tree ask moment number).rows opens
 present_standing tree ask moment number opens h =
@@ -179,12 +211,12 @@ alone_opened opens ask n target access row g r h =
     let asked_for : has_conflict opens target.number (use_asked ask access) ≡ false = ap (λ (a : Access). has_conflict opens target.number (use_asked ask a)) g ∙ h in
     ap (λ (o : OpenRow). has_conflict opens o.entry (use_of o)) r ∙ alone_by opens ask target.number access asked_for
 
-pub kept_standing : (state : StoreState) (ask : FileAsked) (moment opens_count entries_count : ℕ) (row : OpenRow) (number : ℕ) (path : Path) (entry : Entry) → IsKept state.tree state.opens state.locks state.next opens_count entries_count → numbered state.tree.rows number ≡ Some (path, entry) → has_all_opens state ≡ false → has_conflict state.opens row.entry (use_of row) ≡ false → row.number ≡ state.next → row.entry ≡ number → IsKept (standing_tree state.tree ask moment number) (state.opens ++ row ∷ []) state.locks (state.next + 1) (opens_count + 1) entries_count
-kept_standing state ask moment opens_count entries_count row number path entry kept h room alone n e =
+pub kept_standing : (state : StoreState) (ask : FileAsked) (moment opens_count entries_count : ℕ) (row : OpenRow) (number : ℕ) (path : Path) (entry : Entry) → IsKept state.tree state.opens state.locks state.next opens_count entries_count → IsMasked row → numbered state.tree.rows number ≡ Some (path, entry) → has_all_opens state ≡ false → has_conflict state.opens row.entry (use_of row) ≡ false → row.number ≡ state.next → row.entry ≡ number → IsKept (standing_tree state.tree ask moment number) (state.opens ++ row ∷ []) state.locks (state.next + 1) (opens_count + 1) entries_count
+kept_standing state ask moment opens_count entries_count row number path entry kept masked h room alone n e =
     let tree : Content = standing_tree state.tree ask moment number in
     let stands : is_some (numbered tree.rows row.entry) ≡ true = rw (e, numbered_standing state.tree ask moment number path entry h) refl in
     record {
-      good = good_opened state tree row kept.good (good_standing state.tree ask moment number (path, entry) h kept.good.tree) (present_standing state.tree ask moment number state.opens kept.good.present) stands n room alone (due_standing state ask moment number row kept.good);
+      good = good_opened state tree row kept.good (good_standing state.tree ask moment number (path, entry) h kept.good.tree) (lawful_standing state.tree ask moment number kept.good.lawful) masked (present_standing state.tree ask moment number state.opens kept.good.present) stands n room alone (due_standing state ask moment number row kept.good);
       opens_counted = omega (arith, kept.opens_counted, length-append state.opens (row ∷ []));
       entries_counted = kept.entries_counted ∙ sym (length-standing state.tree ask moment number);
     }

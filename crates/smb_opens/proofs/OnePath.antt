@@ -35,6 +35,7 @@ good_new moment capacity = record {
 pub new_tree : (moment capacity : ℕ) → UnmarkedTree (new_content moment capacity)
 new_tree moment capacity = record {
   good = good_new moment capacity;
+  lawful = (record { number = lit< tt; names = refl; same = refl; spelling = refl; attributes = refl }, tt);
   unmarked = λ number. elim (1 == number) as (λ b. option_map_or (λ (row : Row). row.1.mark) (cond b (Some (let root : Row = ([], new_entry 1 [] Folder 0 moment) in root)) None) false ≡ false) [ true ↦ refl | false ↦ refl ];
 }
 

@@ -100,9 +100,6 @@ pub lawful_ok : {X E P : Type 0} (r : Result X E) → P → OnOk r P
 lawful_ok (Ok x) p = p
 lawful_ok (Err e) p = tt
 
-short : (name : List ℕ) → path_fault name ≡ None → length (path_spelled name) ≤ 32
-short name e = grind (arith, nat_tests, common_steps, e)
-
 absent_target : (o : Option Entry) → option_map target_of o ≡ None → o ≡ None
 absent_target None e = refl
 absent_target (Some entry) e = cc
@@ -126,9 +123,8 @@ free_found state ask parts found good f p n e t =
     let absent : entry_at state.tree.rows (folded_path parts) ≡ None = absent_target _ (ap (λ (x : Found). x.target) (sym f) ∙ t) in
     let reached : is_reached state.tree.rows (folded_path parts) ≡ true = ap (λ (x : Found). x.reached) (sym f) ∙ fine.reached in
     let above : is_folder (entry_at state.tree.rows (parent (folded_path parts))) ≡ true = reached_folder state.tree good.tree (folded_path parts) reached absent in
-    let deep : length (folded_path parts) ≤ 32 = rw (length-map parts folded, p) (short ask.name n) in
     let room : has_all_entries state ≡ false = (let same = ap (λ (x : Found). x.entries_full) f in grind (arith, fine.entries, t, same)) in
-    grind (arith, nat_tests, common_steps, absent, above, deep, room)
+    grind (arith, nat_tests, common_steps, absent, above, room)
 
 pub room_found : (state : StoreState) (ask : FileAsked) (path : Path) (found : Found) → found ≡ found_at state path → first_status (found_rows state.opens ask found) ≡ STATUS_SUCCESS → has_all_opens state ≡ false
 room_found state ask path found f e = ap (λ (x : Found). x.opens_full) (sym f) ∙ (passed state.opens ask found e).opens

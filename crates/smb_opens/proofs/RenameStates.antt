@@ -1,8 +1,9 @@
 -- A rename through an open: what is refused, and the store that is left.
 use Rattle.std.proofs.Common.{◌≡◌, ◌==◌, ◌⊎◌, inl, inr, ℕ, ◌-◌, ◌<◌, ◌≤◌, Bool, true, false, not, ◌&&◌, List, [], ◌∷◌, ◌++◌, length, if◌then◌else◌, Option, None, Some, is_some, refl, sym, ap, subst, arith, ◌∙◌}
+use Rattle.std.specs.List.{list_all}
 use Rattle.std.specs.Option.{option_map, option_map_or}
 use Rattle.smb_wire.specs.NtStatus.{STATUS_SUCCESS}
-use Rattle.smb_wire.specs.Paths.{path_spelled, folded_path}
+use Rattle.smb_wire.specs.Paths.{path_spelled, folded_path, is_lawful_component}
 use Rattle.smb_tree.specs.Entries.{Entry, is_folder_kind}
 use Rattle.smb_tree.specs.Content.{Path, Row, Content, is_same_path, entry_at, numbered}
 use Rattle.smb_tree.specs.Faults.{move_fault}
@@ -19,6 +20,7 @@ use Rattle.smb_opens.specs.Renames.{rename_status, renamed_through}
 use Rattle.smb_opens.specs.State.{StoreState}
 use Rattle.smb_opens.specs.Views.{open_view}
 use Rattle.smb_entry.specs.Ways.{way_between, count_replaced, name_rows, way_rows}
+use Rattle.smb_tree.proofs.Lawful.{keeps_kept, kept_twice}
 use Rattle.smb_opens.proofs.Carried.{IsMoving, IsEither, kept_moved}
 use Rattle.smb_access.proofs.Changes.{Shrinks, keeps_of, good_changed}
 use Rattle.smb_opens.proofs.Decided.{rows_by, way_told, MayReplace, passes, code_of, status_moved, status_refused, status_named}
@@ -107,16 +109,16 @@ count_by (Some x) n c = elim (x.number == n) as (λ b. c - (if not b then 1 else
 -- a good store is left
 pub kept_renamed : (state : StoreState) (number : ℕ) (view : View) (way : Way) (name : List ℕ) (parts : List (List ℕ)) (replace : Bool) (status opens_count entries_count moment replaced : ℕ) (after : Content) → ShownBy state number view → IsWay state view way name parts →
     IsKept state.tree state.opens state.locks state.next opens_count entries_count → status ≡ first_status (way_rows state.tree.rows state.opens view way replace) → status ≡ STATUS_SUCCESS → move_fault state.tree view.entry (folded_path parts) ≡ None →
-    replaced ≡ count_replaced view.entry way.target → after ≡ renamed_tree state.tree view.entry parts moment →
+    list_all is_lawful_component parts ≡ true → replaced ≡ count_replaced view.entry way.target → after ≡ renamed_tree state.tree view.entry parts moment →
     IsKept after state.opens state.locks state.next opens_count (entries_count - replaced)
-kept_renamed state number view way name parts replace status opens_count entries_count moment replaced after s is kept e fine free count done =
+kept_renamed state number view way name parts replace status opens_count entries_count moment replaced after s is kept e fine free names count done =
     let m = moving state number view way name parts replace status opens_count entries_count s is kept e fine free in
     let target : way.target ≡ option_map target_of (entry_at state.tree.rows (folded_path parts)) = ap (λ (w : Way). w.target) is.found in
     let left = ap (λ (r : ℕ). entries_count - r) (count ∙ ap (count_replaced view.entry) target) ∙ count_by (entry_at state.tree.rows (folded_path parts)) view.entry entries_count in
-    let before = kept_moved state view.entry parts s.row opens_count entries_count (entries_count - replaced) m.0 m.1 left kept in
+    let before = kept_moved state view.entry parts s.row opens_count entries_count (entries_count - replaced) m.0 m.1 names left kept in
     let there = moved_there state.tree view.entry parts s.row kept.good.tree (at_shown state number view s) free in
     let state2 : StoreState = record { tree = moved state.tree view.entry parts; opens = state.opens; locks = state.locks; next = state.next } in
-    kept_changed (dated moment) state2 view.entry opens_count (entries_count - replaced) after done (keeps_of (dated moment) (dates moment))
+    kept_changed (dated moment) state2 view.entry opens_count (entries_count - replaced) after done (keeps_of (dated moment) (dates moment)) (keeps_kept (dated moment) (λ _. refl) (λ _. refl) (λ e. kept_twice e.basic.attributes.0))
     (good_changed (dated moment) (moved state.tree view.entry parts) view.entry _ (dates moment) there before.good.tree)
     (marks_kept (dated moment) (moved state.tree view.entry parts).rows view.entry state.opens (λ _. refl) (λ _. refl) before.good.marked) before
 

@@ -14,7 +14,7 @@ use Rattle.smb_access.specs.Opens.{open_of, open_numbers, has_open, has_number, 
 use Rattle.smb_access.specs.Present.{ArePresent}
 use Rattle.smb_access.specs.Sharing.{Use, AreCompatible, is_conflict, use_of}
 use Rattle.smb_access.specs.Views.{view_through}
-use Rattle.smb_opens.specs.Good.{GoodStore, IsKept, AreMarksDue, AreLocksHeld}
+use Rattle.smb_opens.specs.Good.{GoodStore, IsKept, IsMasked, AreMasked, AreMarksDue, AreLocksHeld}
 use Rattle.smb_opens.specs.Laws.{LeavesScan}
 use Rattle.smb_opens.specs.Scans.{scan_set}
 use Rattle.smb_opens.specs.State.{StoreState}
@@ -87,6 +87,13 @@ compatible_scanned n scan rows h = λ one other first second e f apart same.
     let right : use_of second ≡ use_of b.0 = ap use_of b.2 ∙ use_same n scan b.0 in
     ap (λ (one : Use). is_conflict one (use_of second)) left ∙ ap (is_conflict (use_of a.0)) right ∙ h one other a.0 b.0 a.1 b.1 apart entries
 
+masked_scanned : (n : ℕ) (scan : Scan) (rows : List OpenRow) → AreMasked rows → AreMasked (with_scan n scan rows)
+masked_scanned n scan [] h = h
+masked_scanned n scan (row ∷ rows) h = (
+  elim (has_number n row) as (λ b. IsMasked (if b then record row { scan = scan } else row)) [ true ↦ record { access = h.0.access; share = h.0.share } | false ↦ h.0 ],
+  masked_scanned n scan rows h.1,
+)
+
 entry_of_open : (n : ℕ) (scan : Scan) (rows : List OpenRow) (k : ℕ) → option_map (λ (row : OpenRow). row.entry) (open_of (with_scan n scan rows) k) ≡ option_map (λ (row : OpenRow). row.entry) (open_of rows k)
 entry_of_open n scan rows k = ap (option_map (λ (row : OpenRow). row.entry)) (open_scanned n scan rows k) ∙ mapped (open_of rows k)
   where
@@ -97,10 +104,12 @@ entry_of_open n scan rows k = ap (option_map (λ (row : OpenRow). row.entry)) (o
 good_scanned : (state : StoreState) (n : ℕ) (scan : Scan) → GoodStore state → GoodStore (scan_set state n scan)
 good_scanned state n scan good = record {
   tree = good.tree;
+  lawful = good.lawful;
   present = present_scanned state.tree.rows n scan state.opens good.present;
   rising = rw (numbers_scanned n scan state.opens) good.rising;
   below = rw (numbers_scanned n scan state.opens) good.below;
   few = rw (length_scanned n scan state.opens) good.few;
+  masked = masked_scanned n scan state.opens good.masked;
   compatible = compatible_scanned n scan state.opens good.compatible;
   marked = λ number e. ((good.marked number e).0, has_scanned n scan state.opens number ∙ (good.marked number e).1);
   locked = good.locked;

@@ -18,10 +18,11 @@ use Rattle.smb_access.specs.declared.view.View.{View}
 use Rattle.smb_access.specs.Access.{is_deleting}
 use Rattle.smb_access.specs.Close.{can_be_deleted, is_deletable}
 use Rattle.smb_access.specs.StatusRows.{first_status}
+use Rattle.smb_tree.proofs.Lawful.{KeepsLawful, lawful_changed, keeps_kept, kept_twice}
 use Rattle.smb_tree.specs.Good.{GoodContent}
 use Rattle.smb_opens.specs.Good.{AreMarksDue, IsKept}
 use Rattle.smb_access.specs.Opens.{open_of, has_open}
-use Rattle.smb_entry.specs.SetInfo.{changed_in, shows_read_only_file, has_entries, delete_rows, delete_set, has_no_space, resized_file, leaves_size, size_set, entry_set}
+use Rattle.smb_entry.specs.SetInfo.{changed_in, shows_read_only_file, has_entries, attributes_set, delete_rows, delete_set, has_no_space, resized_file, leaves_size, size_set, entry_set}
 use Rattle.smb_opens.specs.SetInfo.{changed_through, size_set_through}
 use Rattle.smb_opens.specs.State.{StoreState}
 use Rattle.smb_access.proofs.Changes.{Keeps, Shrinks, keeps_of, good_changed, length-changed, present_changed}
@@ -46,16 +47,18 @@ set_through f state number view after s is =
     ∙ sym (ap (λ (o : Option OpenRow). option_map_or (λ (row : OpenRow). let x : StoreState = record state { tree = changed_in f state.tree row.entry } in x) o state) s.opened)
 
 -- a good store stays good where an entry is changed so that the tree is good, and its marks
-pub kept_changed : (f : Entry → Entry) (state : StoreState) (n opens_count entries_count : ℕ) (after : Content) → after ≡ changed_in f state.tree n → Keeps f → GoodContent (changed_in f state.tree n) →
+pub kept_changed : (f : Entry → Entry) (state : StoreState) (n opens_count entries_count : ℕ) (after : Content) → after ≡ changed_in f state.tree n → Keeps f → KeepsLawful f → GoodContent (changed_in f state.tree n) →
     AreMarksDue (changed f state.tree.rows n) state.opens → IsKept state.tree state.opens state.locks state.next opens_count entries_count → IsKept after state.opens state.locks state.next opens_count entries_count
-kept_changed f state n opens_count entries_count after is k tree marked kept =
+kept_changed f state n opens_count entries_count after is k l tree marked kept =
     subst (λ (tree : Content). IsKept tree state.opens state.locks state.next opens_count entries_count) (sym is) (record {
       good = record {
         tree = tree;
+        lawful = lawful_changed f state.tree.rows n l kept.good.lawful;
         present = present_changed f state.tree.rows n state.opens k kept.good.present;
         rising = kept.good.rising;
         below = kept.good.below;
         few = kept.good.few;
+        masked = kept.good.masked;
         compatible = kept.good.compatible;
         marked = marked;
         locked = kept.good.locked;
@@ -71,7 +74,8 @@ pub kept_based : (state : StoreState) (number : ℕ) (view : View) (ask : BasicA
 kept_based state number view ask moment after opens_count entries_count s is kept =
     let f : Entry → Entry = entry_set ask moment in
     let k : Shrinks f = record { number = λ _. refl; kind = λ _. refl; bytes = λ _. omega arith } in
-    kept_changed f state view.entry opens_count entries_count after is (keeps_of f k) (good_changed f state.tree view.entry s.row k (at_shown state number view s) kept.good.tree)
+    kept_changed f state view.entry opens_count entries_count after is (keeps_of f k) (keeps_kept f (λ _. refl) (λ _. refl) (λ e. kept_twice (attributes_set ask.attributes.0 e.basic.attributes.0)))
+    (good_changed f state.tree view.entry s.row k (at_shown state number view s) kept.good.tree)
     (marks_kept f state.tree.rows view.entry state.opens (λ _. refl) (λ _. refl) kept.good.marked) kept
 
 -- an entry for which no row holds, and which is to be deleted, is not the root, and no entries are in it
@@ -123,7 +127,8 @@ kept_deleted state number view is_deleted after opens_count entries_count s is l
     let f : Entry → Entry = delete_set is_deleted in
     let at = at_shown state number view s in
     let k : Shrinks f = record { number = λ _. refl; kind = λ _. refl; bytes = λ _. omega arith } in
-    kept_changed f state view.entry opens_count entries_count after is (keeps_of f k) (good_changed f state.tree view.entry s.row k at kept.good.tree)
+    kept_changed f state view.entry opens_count entries_count after is (keeps_of f k) (record { number = λ _. refl; spelling = λ _. refl; attributes = λ _ h. h })
+    (good_changed f state.tree view.entry s.row k at kept.good.tree)
     (marks_set state.tree.rows state.opens view.entry is_deleted (λ on. (
     let free = free_entry view (has_entries state.tree.rows view.entry) (subst (λ (d : Bool). first_status (delete_rows view (has_entries state.tree.rows view.entry) d) ≡ STATUS_SUCCESS) on lawful) in
     (deletable_entry state.tree.rows view.entry s.row at free.0 free.1, ap (has_open state.opens) (entry_of state number view s) ∙ opened_on state.opens number s.held s.opened)
@@ -149,7 +154,8 @@ kept_sized (Ok x) state number view size moment after opens_count entries_count 
     let room = room_for state.tree view.entry size free in
     let small : length (resized size s.row.1.bytes) ≤ 16777216 = omega (arith, length-resized size s.row.1.bytes, room.0) in
     let fits : used_space (changed f state.tree.rows view.entry) ≤ state.tree.capacity = omega (arith, space_resized state.tree view.entry size moment s.row at, room.1) in
-    kept_changed f state view.entry opens_count entries_count after ok k (good_within f state.tree view.entry s.row k at (kind_shown state number view s file) small fits kept.good.tree)
+    kept_changed f state view.entry opens_count entries_count after ok k (keeps_kept f (λ _. refl) (λ _. refl) (λ e. kept_twice e.basic.attributes.0))
+    (good_within f state.tree view.entry s.row k at (kind_shown state number view s file) small fits kept.good.tree)
     (marks_kept f state.tree.rows view.entry state.opens (λ _. refl) (λ _. refl) kept.good.marked) kept
 kept_sized (Err e) state number view size moment after opens_count entries_count s file free ok err kept =
     subst (λ (tree : Content). IsKept tree state.opens state.locks state.next opens_count entries_count) (sym err) kept

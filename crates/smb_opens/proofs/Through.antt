@@ -19,6 +19,7 @@ use Rattle.smb_opens.specs.Bytes.{file_bytes, written_to}
 use Rattle.smb_entry.specs.Bytes.{keeps_from_writing, write_rows, write_status_by, has_no_room, written_file, written_tree}
 use Rattle.smb_access.specs.StatusRows.{first_status}
 use Rattle.smb_access.specs.Faults.{IsRefusal}
+use Rattle.smb_tree.proofs.Lawful.{lawful_changed, keeps_kept, kept_twice}
 use Rattle.smb_tree.specs.Good.{GoodContent}
 use Rattle.smb_opens.specs.Good.{AreMarksDue, IsKept}
 use Rattle.smb_opens.specs.State.{StoreState}
@@ -60,10 +61,12 @@ kept_write (Ok x) before after opens locks next opens_count entries_count n offs
     subst (λ (tree : Content). IsKept tree opens locks next opens_count entries_count) (sym ok) (record {
       good = record {
         tree = good_within (written_file offset buffer moment) before n row keeps h file room.small room.fits kept.good.tree;
+        lawful = lawful_changed (written_file offset buffer moment) before.rows n (keeps_kept (written_file offset buffer moment) (λ _. refl) (λ _. refl) (λ e. kept_twice e.basic.attributes.0)) kept.good.lawful;
         present = present_changed (written_file offset buffer moment) before.rows n opens keeps kept.good.present;
         rising = kept.good.rising;
         below = kept.good.below;
         few = kept.good.few;
+        masked = kept.good.masked;
         compatible = kept.good.compatible;
         marked = marks_kept (written_file offset buffer moment) before.rows n opens (λ _. refl) (λ _. refl) kept.good.marked;
         locked = kept.good.locked;

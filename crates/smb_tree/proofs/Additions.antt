@@ -32,10 +32,3 @@ row_new items us bytes parts basic number attributes moment kind e h f g k = rw 
 -- where nothing stands against it, a number is left
 pub number_left : (entry_at_path : Path → Option Entry) (count next : ℕ) (path : Path) → add_fault_by entry_at_path count next path ≡ None → next < 2 ^ 64 - 1
 number_left entry_at_path count next path h = grind (arith, nat_tests, h)
-
--- and the path is short enough
-pub parts_left : (entry_at_path : Path → Option Entry) (count next : ℕ) (parts : List (List ℕ)) → add_fault_by entry_at_path count next (folded_path parts) ≡ None → length parts ≤ 32
-parts_left entry_at_path count next parts h =
-    let long : length (folded_path parts) ≡ length parts = length-map parts folded in
-    let few : length (folded_path parts) ≤ 32 = grind (arith, nat_tests, h) in
-    omega (arith, long, few)

@@ -74,6 +74,3 @@ folder_is rows parts around text n b e f g h =
 
 pub taken_is : (rows : List Row) (parts text : List (List ℕ)) (b : Bool) → b ≡ is_some (entry_at rows (folded_path text)) → text ≡ parts → b ≡ is_some (entry_at rows (folded_path parts))
 taken_is rows parts text b e f = e ∙ ap (λ (ps : List (List ℕ)). is_some (entry_at rows (folded_path ps))) f
-
-pub deep_is : (parts : List (List ℕ)) (n : ℕ) → n ≡ length parts → n ≤ 32 → nat_lt 32 (length (folded_path parts)) ≡ false
-deep_is parts n h k = let long = length-map parts folded in let few : length (folded_path parts) ≤ 32 = omega (arith, long) in grind (arith, nat_tests, few)

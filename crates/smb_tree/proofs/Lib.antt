@@ -19,3 +19,4 @@ pub mod Targets
 pub mod Moving
 pub mod Renamed
 pub mod Kept
+pub mod Lawful

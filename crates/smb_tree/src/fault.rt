@@ -23,7 +23,7 @@ pub enum TreeFault {
     /// The folder has children.
     #[error("not empty")]
     NotEmpty,
-    /// The path has more than 32 components; where an entry is moved, also that of an entry beneath it.
+    /// An entry is moved, and its path, or that of an entry beneath it, would have more than 32 components.
     #[error("too deep")]
     TooDeep,
     /// There are 4,096 entries besides the root, the numbers are spent, the file would have more than

@@ -3,7 +3,7 @@
 ghost use Rattle.smb_tree.specs.Laws.{TheMapTells, AnAdditionIsOneMore, AChangeIsAtOnePath, ARemovalIsOneLess, PathsAndNumbersAgree, AnAdditionKeepsApart, AChangeKeepsApart, ARemovalKeepsApart};
 ghost use Rattle.smb_tree.specs.FileLaws.{WhatIsWrittenIsRead, WhatIsNotWrittenStays, AGapReadsAsZeros, TheSizeIsTheGreater, AChangeIsOfOneNumber};
 ghost use Rattle.smb_tree.specs.ChildLaws.{ChildrenComeInTurn};
-ghost use Rattle.smb_tree.specs.MoveLaws.{TheEntryIsAtTheNewPath, WhatWasBeneathIsBeneath, NothingIsLeftBehind, OtherPathsKeepTheirEntries, NumbersKeepTheirEntries, TheReplacedIsGone, TheRootIsNotReplaced, AMoveAddsNothing, AMoveKeepsGood};
+ghost use Rattle.smb_tree.specs.MoveLaws.{TheEntryIsAtTheNewPath, WhatWasBeneathIsBeneath, NothingIsLeftBehind, OtherPathsKeepTheirEntries, NumbersKeepTheirEntries, TheReplacedIsGone, TheRootIsNotReplaced, AMoveAddsNothing, AMoveKeepsGood, AMoveLeavesLawful};
 
 /// A content is a finite map from paths to entries, in which no path and no number stands twice; what was
 /// written to a file is read, and all else of it stays; the children of a folder come in the order of their names.
@@ -28,7 +28,7 @@ pub fn laws_of_contents()
 {}
 
 /// A move takes an entry, with all that lies beneath it, to another path and leaves nothing behind. All other paths and
-/// numbers keep their entries, but for a file that is replaced; and a good content stays good.
+/// numbers keep their entries, but for a file that is replaced; a good content stays good, and lawful entries stay lawful.
 /// The contract is the statement, and the body does nothing.
 pub fn laws_of_moves()
     ensures entry { TheEntryIsAtTheNewPath }
@@ -40,4 +40,5 @@ pub fn laws_of_moves()
     ensures root { TheRootIsNotReplaced }
     ensures nothing { AMoveAddsNothing }
     ensures good { AMoveKeepsGood }
+    ensures lawful { AMoveLeavesLawful }
 {}

@@ -2,6 +2,7 @@
 
 ghost use Rattle.std.specs.Prelude.{◌≡◌, ◌<◌, ◌-◌, ◌^◌, ◌||◌, nat_le, None, IfNone, IfSome, length, is_some, slice_index_or, unwrap_or};
 ghost use Rattle.std.specs.Option.{option_map};
+ghost use Rattle.smb_wire.specs.Counters.{is_spent};
 ghost use Rattle.smb_wire.specs.Paths.{components, folded_path};
 ghost use Rattle.smb_wire.specs.PathViews.{parts_of};
 ghost use Rattle.smb_wire.specs.Units.{units_of};
@@ -94,7 +95,7 @@ pub fn view_of<'a>(entries: &Vec<Stored>, stored: &'a Stored) -> EntryView<'a>
 
 // Whether no entry can be added to so many, the root among them, because of their number or the next one's.
 fn is_full(count: usize, next: EntryNo) -> bool
-    ensures { result ≡ (nat_le 4096 (count - 1) || nat_le (2 ^ 64 - 1) next) }
+    ensures { result ≡ (nat_le 4096 (count - 1) || is_spent 64 next) }
 {
     count > MOST_ENTRIES || next == EntryNo::MAX
 }

@@ -1,4 +1,5 @@
 use Rattle.smb_tree.proofs.Kept.{entry_moved, beneath_moved, nothing_left, others_kept, numbers_kept, replaced_gone, root_kept, adds_nothing, good_kept}
+use Rattle.smb_tree.proofs.Lawful.{lawful_moved}
 use Rattle.smb_tree.proofs.laws.laws_of_moves.Goals as goal
 
 pub returns-clause-entry : goal.returns-clause-entry
@@ -27,3 +28,6 @@ returns-clause-nothing c = adds_nothing
 
 pub returns-clause-good : goal.returns-clause-good
 returns-clause-good c = good_kept
+
+pub returns-clause-lawful : goal.returns-clause-lawful
+returns-clause-lawful c = lawful_moved

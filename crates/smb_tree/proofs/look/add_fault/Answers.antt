@@ -3,7 +3,7 @@ use Rattle.smb_wire.specs.PathViews.{parts_of}
 use Rattle.smb_wire.specs.Paths.{components}
 use Rattle.smb_wire.specs.Units.{units_of}
 use Rattle.smb_tree.specs.Plain.{rows_of}
-use Rattle.smb_tree.proofs.Keys.{folder_is, taken_is, deep_is}
+use Rattle.smb_tree.proofs.Keys.{folder_is, taken_is}
 use Rattle.smb_tree.proofs.look.add_fault.Goals as goal
 
 pub returns-then-not-is_folder_at : goal.returns-then-not-is_folder_at
@@ -21,12 +21,10 @@ pub returns-then-is_full : goal.returns-then-is_full
 returns-then-is_full c =
     let folder = folder_is (rows_of c.args.entries.now.items) (parts_of c.args.path.now) (parts_of c.front-around.result) (components (units_of c.text.result)) c.saturating_sub.result c.is_folder_at.result c.is_folder_at.ensures c.text.ensures.parts c.front-around.ensures (c.saturating_sub.ensures ∙ ap (λ (n : ℕ). n - 1) c.len.ensures.len) in
     let taken = taken_is (rows_of c.args.entries.now.items) (parts_of c.args.path.now) (components (units_of c.text-2.result)) c.is_taken.result c.is_taken.ensures c.text-2.ensures.parts in
-    let deep = deep_is (parts_of c.args.path.now) c.len.result c.len.ensures.len c.len.ensures.few in
-    grind (arith, folder, taken, deep, c.is_full.ensures, c.if-not-is_folder_at.false, c.if-is_taken.false, c.if-is_full.true)
+    grind (arith, folder, taken, c.is_full.ensures, c.if-not-is_folder_at.false, c.if-is_taken.false, c.if-is_full.true)
 
 pub returns : goal.returns
 returns c =
     let folder = folder_is (rows_of c.args.entries.now.items) (parts_of c.args.path.now) (parts_of c.front-around.result) (components (units_of c.text.result)) c.saturating_sub.result c.is_folder_at.result c.is_folder_at.ensures c.text.ensures.parts c.front-around.ensures (c.saturating_sub.ensures ∙ ap (λ (n : ℕ). n - 1) c.len.ensures.len) in
     let taken = taken_is (rows_of c.args.entries.now.items) (parts_of c.args.path.now) (components (units_of c.text-2.result)) c.is_taken.result c.is_taken.ensures c.text-2.ensures.parts in
-    let deep = deep_is (parts_of c.args.path.now) c.len.result c.len.ensures.len c.len.ensures.few in
-    grind (arith, folder, taken, deep, c.is_full.ensures, c.if-not-is_folder_at.false, c.if-is_taken.false, c.if-is_full.false)
+    grind (arith, folder, taken, c.is_full.ensures, c.if-not-is_folder_at.false, c.if-is_taken.false, c.if-is_full.false)

@@ -8,7 +8,8 @@ use Rattle.smb_tree.specs.Entries.{last_part, new_entry}
 use Rattle.smb_tree.proofs.Additions.{number_left}
 use Rattle.smb_nodes.specs.Nodes.{child_in, entry_down, walk, rows_in, levels}
 use Rattle.smb_nodes.specs.Seen.{heap_of}
-use Rattle.smb_nodes.proofs.Adding.{IsLawful, lawful, name_free, grown_tree, grown_rows, grown_used}
+use Rattle.smb_wire.proofs.Parting.{ends_count}
+use Rattle.smb_nodes.proofs.Adding.{IsLawful, lawful, short_path, name_free, grown_tree, grown_rows, grown_used}
 use Rattle.smb_nodes.proofs.Bounds.{bound_same, bound_added}
 use Rattle.smb_nodes.proofs.Kept.{same_tree, same_rows, same_bound}
 use Rattle.smb_nodes.proofs.Numbered.{add_fault_down}
@@ -22,7 +23,7 @@ returns-in-Some-clause-why c =
 
 pub place-requires-clause-free : goal.place-requires-clause-free
 place-requires-clause-free c =
-    let w : IsLawful (entry_down (heap_of c.self.inside.nodes)) (folded_path (parts_of c.args.path.now)) = lawful (entry_down (heap_of c.self.inside.nodes)) c.len.result c.self.inside.next (folded_path (parts_of c.args.path.now)) (sym c.add_fault.ensures ∙ c.in_default.is) in
+    let w : IsLawful (entry_down (heap_of c.self.inside.nodes)) (folded_path (parts_of c.args.path.now)) = lawful (entry_down (heap_of c.self.inside.nodes)) c.len.result c.self.inside.next (folded_path (parts_of c.args.path.now)) (sym c.add_fault.ensures ∙ c.in_default.is) (short_path (parts_of c.args.path.now) c.args.path.now.ends.count (ends_count _ _ _ c.args.path.now.kept.ends) c.args.path.now.kept.ends.few) in
     ap (λ (us : List ℕ). child_in (heap_of c.self.inside.nodes c.unwrap-parent.result) (folded us)) c.in_ok-spelling.ensures.units
     ∙ name_free (heap_of c.self.inside.nodes) c.self.inside.index.entries c.self.inside.next (parts_of c.args.path.now) c.self.invariant.is_tree w c.unwrap-parent.result (ap (walk (heap_of c.self.inside.nodes) (Some 0)) (sym c.around.ensures) ∙ sym c.walk_down.ensures ∙ c.unwrap-parent.ensures)
 
@@ -45,7 +46,7 @@ overflow_add-self c =
 
 pub invariant_of-self-2 : goal.invariant_of-self-2
 invariant_of-self-2 c =
-    let w : IsLawful (entry_down (heap_of c.self.inside.nodes)) (folded_path (parts_of c.args.path.now)) = lawful (entry_down (heap_of c.self.inside.nodes)) c.len.result c.self.inside.next (folded_path (parts_of c.args.path.now)) (sym c.add_fault.ensures ∙ c.in_default.is) in
+    let w : IsLawful (entry_down (heap_of c.self.inside.nodes)) (folded_path (parts_of c.args.path.now)) = lawful (entry_down (heap_of c.self.inside.nodes)) c.len.result c.self.inside.next (folded_path (parts_of c.args.path.now)) (sym c.add_fault.ensures ∙ c.in_default.is) (short_path (parts_of c.args.path.now) c.args.path.now.ends.count (ends_count _ _ _ c.args.path.now.kept.ends) c.args.path.now.kept.ends.few) in
     let used = grown_used (heap_of c.self.inside.nodes) c.self.inside.index.entries c.self.inside.next (parts_of c.args.path.now) c.self.invariant.is_tree w c.unwrap-parent.result (ap (walk (heap_of c.self.inside.nodes) (Some 0)) (sym c.around.ensures) ∙ sym c.walk_down.ensures ∙ c.unwrap-parent.ensures) (heap_of c.place.new.nodes) c.self.inside.nodes.vacant_key (record { number = c.self.inside.next; kind = c.args.kind; spelling = last_part (parts_of c.args.path.now); bytes = c.new-2.result; basic = c.of.result; mark = false }) c.args.kind c.args.attributes.0 c.args.moment (rw c.in_ok-spelling.ensures.units at c.in_ok-place.ensures.ok) (rw (c.of.ensures, c.new-2.ensures) refl) in
     let rows = grown_rows (heap_of c.self.inside.nodes) c.self.inside.index.entries c.self.inside.next (parts_of c.args.path.now) c.self.invariant.is_tree w c.unwrap-parent.result (ap (walk (heap_of c.self.inside.nodes) (Some 0)) (sym c.around.ensures) ∙ sym c.walk_down.ensures ∙ c.unwrap-parent.ensures) (heap_of c.place.new.nodes) c.self.inside.nodes.vacant_key (record { number = c.self.inside.next; kind = c.args.kind; spelling = last_part (parts_of c.args.path.now); bytes = c.new-2.result; basic = c.of.result; mark = false }) c.args.kind c.args.attributes.0 c.args.moment (rw c.in_ok-spelling.ensures.units at c.in_ok-place.ensures.ok) (rw (c.of.ensures, c.new-2.ensures) refl) in
     record {
@@ -57,7 +58,7 @@ invariant_of-self-2 c =
 
 pub returns-clause-ok : goal.returns-clause-ok
 returns-clause-ok c =
-    let w : IsLawful (entry_down (heap_of c.self.inside.nodes)) (folded_path (parts_of c.args.path.now)) = lawful (entry_down (heap_of c.self.inside.nodes)) c.len.result c.self.inside.next (folded_path (parts_of c.args.path.now)) (sym c.add_fault.ensures ∙ c.in_default.is) in
+    let w : IsLawful (entry_down (heap_of c.self.inside.nodes)) (folded_path (parts_of c.args.path.now)) = lawful (entry_down (heap_of c.self.inside.nodes)) c.len.result c.self.inside.next (folded_path (parts_of c.args.path.now)) (sym c.add_fault.ensures ∙ c.in_default.is) (short_path (parts_of c.args.path.now) c.args.path.now.ends.count (ends_count _ _ _ c.args.path.now.kept.ends) c.args.path.now.kept.ends.few) in
     let rows = grown_rows (heap_of c.self.inside.nodes) c.self.inside.index.entries c.self.inside.next (parts_of c.args.path.now) c.self.invariant.is_tree w c.unwrap-parent.result (ap (walk (heap_of c.self.inside.nodes) (Some 0)) (sym c.around.ensures) ∙ sym c.walk_down.ensures ∙ c.unwrap-parent.ensures) (heap_of c.place.new.nodes) c.self.inside.nodes.vacant_key (record { number = c.self.inside.next; kind = c.args.kind; spelling = last_part (parts_of c.args.path.now); bytes = c.new-2.result; basic = c.of.result; mark = false }) c.args.kind c.args.attributes.0 c.args.moment (rw c.in_ok-spelling.ensures.units at c.in_ok-place.ensures.ok) (rw (c.of.ensures, c.new-2.ensures) refl) in
     rw (← c.self.view_is) (ap (λ (rows : List Row). record (record { rows = rows; next = c.self.inside.next + 1; capacity = c.self.inside.capacity }) { rows = rows }) (ap (λ (es : List (ℕ × ℕ)). rows_in (heap_of c.place.new.nodes) levels es) c.in_ok-place.ensures.indexed ∙ rows))
 

@@ -1,7 +1,8 @@
-use Rattle.std.proofs.Common.{sym, ap, ◌∙◌}
+use Rattle.std.proofs.Common.{false, sym, ap, ◌∙◌, arith}
 use Rattle.smb_wire.specs.declared.attributes.FileAttributes.{FileAttributes}
 use Rattle.smb_wire.specs.Paths.{folded_path}
 use Rattle.smb_wire.specs.PathViews.{parts_of}
+use Rattle.smb_wire.proofs.Parting.{ends_count}
 use Rattle.smb_tree.specs.Content.{entry_at, parent}
 use Rattle.smb_tree.specs.Faults.{add_fault}
 use Rattle.smb_access.specs.Asked.{asked}
@@ -10,7 +11,7 @@ use Rattle.smb_access.specs.Found.{is_marked}
 use Rattle.smb_opens.specs.State.{StoreState}
 use Rattle.smb_access.specs.declared.open_row.OpenRow.{OpenRow}
 use Rattle.smb_access.proofs.Counts.{end_some}
-use Rattle.smb_opens.proofs.Made.{undone, kept_undone, good_added, kept_added, shown_added, told_added, no_view, no_number}
+use Rattle.smb_opens.proofs.Made.{undone, kept_undone, masked_open, good_added, kept_added, shown_added, told_added, no_view, no_number}
 use Rattle.smb_opens.proofs.store.Store.create_new.Goals as goal
 
 pub unreachable-requires : goal.unreachable-requires
@@ -33,7 +34,7 @@ returns-in-Err-clause-err g c =
 
 pub entry_view-requires : goal.entry_view-requires
 entry_view-requires g c =
-    rw c.in_default-add.ensures.ok (good_added (g.T.Tree.content c.self.inside.tree) _ _ _ _ c.self.invariant.good.tree (ap (λ (s : StoreState). add_fault s.tree (folded_path (parts_of c.args.path.now))) c.self.view_is ∙ c.requires.free))
+    rw c.in_default-add.ensures.ok (good_added (g.T.Tree.content c.self.inside.tree) _ _ _ _ c.self.invariant.good.tree (omega (arith, ends_count _ _ _ c.args.path.now.kept.ends, c.args.path.now.kept.ends.few)) (ap (λ (s : StoreState). add_fault s.tree (folded_path (parts_of c.args.path.now))) c.self.view_is ∙ c.requires.free))
 
 pub unreachable-requires-in_default-entry_view : goal.unreachable-requires-in_default-entry_view
 unreachable-requires-in_default-entry_view g c =
@@ -47,8 +48,9 @@ invariant_of-self-2 g c =
     let entry = ap (λ (r : OpenRow). r.entry) c.opened_by.ensures ∙ end_some (g.T.Tree.content c.self.inside.tree) _ (sym c.in-Some.ensures) in
     let free = ap (λ (s : StoreState). add_fault s.tree (folded_path (parts_of c.args.path.now))) c.self.view_is ∙ c.requires.free in
     let room = ap has_all_opens c.self.view_is ∙ c.requires.room in
+    let masked = masked_open (asked c.args.ask.now) c.self.inside.next c.in-Some.entry c.granted-access.result false c.opened_by.result c.opened_by.ensures c.granted-access.ensures in
     let above = ap (λ (s : StoreState). is_marked (entry_at s.tree.rows (parent (folded_path (parts_of c.args.path.now))))) c.self.view_is ∙ c.requires.above in
-    rw (c.in_default-add.ensures.ok, c.in_ok-add.ensures.ok) (kept_added state _ _ _ _ _ _ c.opened_by.result c.self.invariant free above room number entry)
+    rw (c.in_default-add.ensures.ok, c.in_ok-add.ensures.ok) (kept_added state _ _ _ _ _ _ c.opened_by.result c.self.invariant (omega (arith, ends_count _ _ _ c.args.path.now.kept.ends, c.args.path.now.kept.ends.few)) c.args.path.now.kept.lawful masked free above room number entry)
 
 pub returns-clause-told : goal.returns-clause-told
 returns-clause-told g c =

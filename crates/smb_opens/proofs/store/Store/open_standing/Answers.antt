@@ -9,7 +9,7 @@ use Rattle.smb_access.specs.Looked.{target_of, target_conflicts}
 use Rattle.smb_opens.specs.State.{StoreState}
 use Rattle.smb_access.specs.declared.open_row.OpenRow.{OpenRow}
 use Rattle.smb_access.specs.declared.found.Target.{Target}
-use Rattle.smb_opens.proofs.Made.{alone_opened, undone, kept_undone, target_entry, target_numbered, good_standing, shown_standing, kept_standing, told_standing, made_standing, no_view}
+use Rattle.smb_opens.proofs.Made.{alone_opened, masked_open, undone, kept_undone, target_entry, target_numbered, good_standing, shown_standing, kept_standing, told_standing, made_standing, no_view}
 use Rattle.smb_opens.proofs.store.Store.open_standing.Goals as goal
 
 pub affect-requires-clause-target : goal.affect-requires-clause-target
@@ -52,7 +52,8 @@ invariant_of-self-2 g c =
     let room = ap has_all_opens c.self.view_is ∙ c.requires.room in
     let none = ap (λ (s : StoreState). target_conflicts s.opens (asked c.args.ask.now) (Some c.args.target)) c.self.view_is ∙ c.requires.alone in
     let alone = alone_opened state.opens (asked c.args.ask.now) _ c.args.target c.granted-access.result c.opened_by.result (c.granted-access.ensures ∙ ap (granted c.args.ask.now.access.0) c.is_read_only_target.ensures) c.opened_by.ensures none in
-    rw (c.in_default.ensures.ok, c.in_ok-add.ensures.ok) (kept_standing state (asked c.args.ask.now) c.args.moment _ _ c.opened_by.result c.args.target.number (path_asked (asked c.args.ask.now)) t.0 c.self.invariant t.3 room alone number entry)
+    let masked = masked_open (asked c.args.ask.now) c.self.inside.next c.args.target.number c.granted-access.result c.is_read_only_target.result c.opened_by.result c.opened_by.ensures c.granted-access.ensures in
+    rw (c.in_default.ensures.ok, c.in_ok-add.ensures.ok) (kept_standing state (asked c.args.ask.now) c.args.moment _ _ c.opened_by.result c.args.target.number (path_asked (asked c.args.ask.now)) t.0 c.self.invariant masked t.3 room alone number entry)
 
 pub returns-clause-store : goal.returns-clause-store
 returns-clause-store g c =

@@ -67,7 +67,7 @@ invariant_of-self-2 g c =
     let shows = c.in-Some.ensures.value ∙ sym (ap (λ (s : StoreState). open_view s c.args.number) c.self.view_is) in
     let shown = shown_by state c.args.number c.in-Some.view shows in
     let is : IsWay state c.in-Some.view c.find_way-way.result (units_of c.args.name) (parts_of c.in-Ok.path) = record { found = c.find_way-way.ensures; spelled = c.in-Ok.ensures.path; lawful = c.in-Ok.ensures.lawful } in
-    kept_renamed state c.args.number c.in-Some.view c.find_way-way.result (units_of c.args.name) (parts_of c.in-Ok.path) c.args.replace c.way_status-status.result _ _ c.args.moment _ _ shown is c.self.invariant c.way_status-status.ensures c.if-status-ne-STATUS_SUCCESS.false c.in_default-move_to.ensures.lawful c.count_replaced.ensures c.in_default-move_to.ensures.ok
+    kept_renamed state c.args.number c.in-Some.view c.find_way-way.result (units_of c.args.name) (parts_of c.in-Ok.path) c.args.replace c.way_status-status.result _ _ c.args.moment _ _ shown is c.self.invariant c.way_status-status.ensures c.if-status-ne-STATUS_SUCCESS.false c.in_default-move_to.ensures.lawful c.in-Ok.path.kept.lawful c.count_replaced.ensures c.in_default-move_to.ensures.ok
 
 pub returns-clause-store : goal.returns-clause-store
 returns-clause-store g c =
