@@ -14,6 +14,7 @@ use indexmap::IndexMap;
 use smb_tree::EntryNo;
 use smb_wire::FoldedName;
 use std::alloc::{AllocError, Global};
+use std::fmt;
 use std::marker::Model;
 
 /// The opens under their numbers. A look-up by number takes constant time, one by entry, owner or use goes through
@@ -22,6 +23,12 @@ use std::marker::Model;
 #[derive(Drop)]
 pub struct PlainOpens {
     rows: IndexMap<OpenNo, OpenRow>,
+}
+
+impl fmt::Debug for PlainOpens {
+    fn fmt<W: fmt::Write>(&self, f: &mut fmt::Formatter<W>) -> fmt::Result {
+        write!(f, "PlainOpens {{ opens: {}, .. }}", self.rows.len())
+    }
 }
 
 impl Model for PlainOpens {

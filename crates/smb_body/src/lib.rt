@@ -5,10 +5,11 @@
 //! [`LockList`], other buffers slices. [`write_request`] and [`write_reply`] add a body to a vector; neither
 //! looks at a header. [`read_smb1_negotiate`] reads the SMB_COM_NEGOTIATE that a connection may begin with.
 //!
-//! What bytes say which value is `specs/`, a file for each command: a table of fields as the standard prints
-//! it, and the rules for the buffers. A request is read exactly where its bytes say a value, and then that
-//! one; what was written is read behind any header, the same but for the offsets of buffers; a reply has one
-//! spelling. `specs/Requests.antt` and `specs/Replies.antt` join the commands.
+//! What bytes say which value is `specs/`, a file for each command: a table of fields as the standard prints it, and
+//! the rules for the buffers. 16 commands have one; IOCTL, CHANGE_NOTIFY and OPLOCK_BREAK have none here. A request is
+//! read exactly where its bytes say a value, and then that one; what was written is read behind any header of 64 bytes,
+//! the same but for the offsets of checked buffers, where a NEGOTIATE has a dialect and a LOCK an element; a reply has
+//! one spelling. `specs/Requests.antt` and `specs/Replies.antt` join the commands.
 #![tactic(auto)]
 
 mod buffer;

@@ -54,7 +54,7 @@ pub(crate) fn put_query_response(
 /// Opens a QUERY_DIRECTORY response at the end of `out`: keeps the place of its fixed part free, and tells where that is. The
 /// buffer goes behind it, straight at the end of `out`.
 ///
-/// [`BodyFault::NoMemory`] is the only refusal; after it `out` is as it was.
+/// After a refusal `out` is as it was.
 pub fn open_query_response(out: &mut Vec<u8>) -> Result<usize, BodyFault>
     ensures ok { OnOk result (out.new.items ≡ out.old.items ++ replicate 8 0) }
     ensures start { IfOk result (λ start. start ≡ length out.old.items) }

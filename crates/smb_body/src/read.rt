@@ -122,7 +122,7 @@ pub(crate) fn put_read_response(
 
 /// Adds the fixed part of a READ response, whose data of this length is added behind it.
 ///
-/// [`BodyFault::NoMemory`] is the only refusal; after it `out` is as it was.
+/// After a refusal `out` is as it was.
 pub fn put_read_head(data_length: u32, out: &mut Vec<u8>) -> Result<(), BodyFault>
     ensures ok { (buffer : List ℕ) → length buffer ≡ data_length →
         OnOk result (out.new.items ++ buffer ≡ out.old.items ++ reply_spelling (answers_read buffer)) }

@@ -140,8 +140,10 @@ fn put_request(request: &Request<'_>, out: &mut Vec<u8>) -> Result<(), BodyFault
     Ok(())
 }
 
-/// Adds the body of a request at the end of `out`, each buffer straight behind the fixed part. The offsets
-/// of checked buffers are those of that layout, whatever the request has in their fields.
+/// Adds the body of a request at the end of `out`, each buffer straight behind the fixed part, and create contexts at
+/// the next multiple of 8 behind the name. The offsets of checked buffers are those of that layout, whatever the
+/// request has in their fields. What was added is read again behind any header of 64 bytes, the same but for these
+/// offsets, unless it is a NEGOTIATE without dialects or a LOCK without elements.
 ///
 /// [`BodyFault::TooLong`] comes exactly where a length or a count passes its field, whatever memory there
 /// is. After it and after [`BodyFault::NoMemory`] `out` is as it was.

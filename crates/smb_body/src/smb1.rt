@@ -103,8 +103,8 @@ fn list_of(payload: &[u8]) -> Option<&[u8]>
     Some(&payload[35..35 + size])
 }
 
-/// Which of the two dialects that count an SMB_COM_NEGOTIATE lists, or None where the payload is none or is
-/// misformed. The list may be empty, and bytes behind it are free.
+/// Which of the two dialects that count an SMB_COM_NEGOTIATE lists, also where it lists neither; None where the payload
+/// is none or is misformed. The list may be empty, and bytes behind it are free.
 #[tactic(auto, unfolding(crate::specs::Smb1::smb1_of))]
 pub fn read_smb1_negotiate(payload: &[u8]) -> Option<Smb1Dialects>
     ensures { result ≡ smb1_of payload.now }

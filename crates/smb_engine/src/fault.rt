@@ -30,7 +30,7 @@ pub(crate) struct RanOut {
 #[derive(Clone, Copy, Debug, PartialEq, Eq, Error)]
 #[error("event {place}, connection {connection}: {fault}")]
 pub struct RunFault {
-    /// The event's place in the list, from 0. The events before it stand.
+    /// The event's place in the list, from 0. The events before it were performed.
     pub place: usize,
     /// The number of the event's connection.
     pub connection: u64,

@@ -33,18 +33,21 @@
 //!
 //! # What is proved
 //!
-//! A [`Share`] is made of a [`Config`]: [`in_memory`](Share::in_memory), or [`new`](Share::new) over a tree and opens of one's own.
-//! Connections are [`opened`](Share::opened), bring pieces of their
-//! streams, which are [`feed`](Share::feed), and [end](Share::ended); [`run`](Share::run) takes a list of such
-//! [`Event`]s and gives the [`Answer`]s. What it gives is a definition, to be read in this order:
-//! `specs/Event.antt` and `Run.antt` (a list of events), `Share.antt` (one event), `Stream.antt` (a piece, payload
-//! by payload), `Chain.antt` (a payload, request by request), and of the crate smb_request `Request.antt` (one
-//! request). The definition reads each stream from its first byte; the share holds what is unread alone. That it does not matter how the bytes were
-//! cut is a law of the definition, with others of `specs/Laws.antt`: [`laws_of_shares`]. What serving a share comes to for its peers
-//! is a law too, of `specs/ServingLaws.antt`: [`laws_of_serving`].
+//! A [`Share`] is made of a [`Config`]: [`in_memory`](Share::in_memory), or [`new`](Share::new) over a tree and opens
+//! of one's own. Connections are [`opened`](Share::opened), bring pieces of their streams, which are
+//! [`feed`](Share::feed), and [end](Share::ended); [`run`](Share::run) takes a list of such [`Event`]s and gives the
+//! [`Answer`]s. What it gives is a definition, to be read in this order: `specs/Event.antt` and `Run.antt` (a list of
+//! events), `Share.antt` (one event), `Stream.antt` (a piece, payload by payload), `Chain.antt` (a payload, request by
+//! request), and of the crate smb_request `Request.antt` (one request). The definition reads each stream from its first
+//! byte; the share holds what is unread alone. That it does not matter how bytes that come at one moment were cut is a
+//! law of the definition, with others of `specs/Laws.antt`: [`laws_of_shares`]. What serving a share comes to for its
+//! peers, where memory does not run out, is a law too, of `specs/ServingLaws.antt`: [`laws_of_serving`].
 //!
-//! Refusals are [`ServeFault`]s. A piece takes time in proportion to its bytes and to those of its
-//! replies; a connection is found in logarithmic time.
+//! Refusals are [`ServeFault`]s, in a [`RunFault`] those of a run. Where [`opened`](Share::opened) is refused, nothing
+//! has changed. Where memory runs out in a piece, its first requests were performed, as many as the fault says, none of
+//! them is answered, and its connection has ended. At an end memory never runs out, nor at a piece on a connection that
+//! is not open. A piece takes time in proportion to its bytes and to those of its replies; a connection is found in
+//! logarithmic time.
 #![tactic(auto)]
 
 mod chain;

@@ -190,8 +190,8 @@ impl<A: Authenticator + Drop, T: Tree + Drop, O: Opens + Drop> Share<A, T, O> {
 
     /// Opens a connection, and gives its number: 1, 2, 3 and so on, none twice.
     ///
-    /// [`ServeFault::TooManyConnections`] where 64 are open or the numbers are spent; after it, and after
-    /// [`ServeFault::NoMemory`], nothing has changed.
+    /// [`ServeFault::TooManyConnections`] where 64 are open or the numbers are spent, and else
+    /// [`ServeFault::NoMemory`], where memory ran out. After either nothing has changed.
     pub fn opened(&mut self) -> Result<u64, ServeFault>
         ensures number { IfOk result (λ number. number ≡ self.old.next) }
         ensures state { OnOk result (self.new ≡ opened self.old) }
@@ -396,11 +396,11 @@ impl<A: Authenticator + Drop, T: Tree + Drop, O: Opens + Drop> Share<A, T, O> {
 
     /// Takes events in order, up to one that is refused, and adds the answers.
     ///
-    /// A fault tells the place of the event that it stopped at, and its connection; the events before it stand, with their
-    /// answers. A refused event ([`ServeFault::BadEvent`], [`ServeFault::TooManyConnections`]) changes
-    /// nothing. After [`ServeFault::NoMemory`] the first `done` requests of the event were performed,
-    /// unanswered, and then its connection has ended; an opening changed nothing. The end of a connection
-    /// is no event at which memory is wanting, nor is a piece on one that is not open.
+    /// A fault tells the place of the event that it stopped at, and its connection; the events before it were
+    /// performed, and their answers added. A refused event ([`ServeFault::BadEvent`],
+    /// [`ServeFault::TooManyConnections`]) changes nothing. After [`ServeFault::NoMemory`] the first `done` requests of
+    /// the event were performed, unanswered, and then its connection has ended; an opening changed nothing. Memory
+    /// never runs out at the end of a connection, nor at a piece on one that is not open.
     pub fn run(&mut self, events: &[Event], answers: &mut Vec<Answer>) -> Result<(), RunFault>
         ensures ok { OnOk result (record { state = self.new; outputs = outputs_of answers.new.items; stop = None }
             ≡ run_behind (outputs_of answers.old.items) (run A.meaning self.old (events_of events.now))) }

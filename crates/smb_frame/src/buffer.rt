@@ -11,9 +11,9 @@ use std::marker::Model;
 
 /// The bytes of a stream that have come and are not done, as whole frames and a rest.
 ///
-/// The bytes of a frame that is done are given up at the next [`push`](FrameBuffer::push) and nowhere
-/// else, so over a stream the work is in proportion to its bytes, however it is cut. Where each piece is
-/// pushed only once no whole frame is left, the buffer holds at most `limit + 3` bytes between pushes.
+/// The bytes of a frame that is done are given up at the next [`push`](FrameBuffer::push) and nowhere else, so over a
+/// stream the work is in proportion to its bytes, however it is cut. Where no whole frame is left, and nothing is wrong
+/// with what is, at most `limit + 3` bytes are unread.
 #[derive(Drop)]
 pub struct FrameBuffer {
     limit: u32,
@@ -97,7 +97,7 @@ impl FrameBuffer {
     /// Takes the next piece of the stream, and gives up the bytes of frames that are done. Once
     /// [`fault`](FrameBuffer::fault) is Some nothing is added.
     ///
-    /// After [`FrameFault::NoMemory`], the only refusal, nothing was added.
+    /// After [`FrameFault::NoMemory`], the only refusal, nothing was added, and those bytes are given up too.
     pub fn push(&mut self, piece: &[u8]) -> Result<(), FrameFault>
         ensures ok { OnOk result (self.new ≡ with_piece self.old piece.now) }
         ensures memory { IfErr result (λ fault. fault ≡ FrameFault.NoMemory) }

@@ -20,6 +20,7 @@ use smb_tree::EntryNo;
 use smb_wire::FoldedName;
 use std::alloc::{AllocError, Global};
 use std::collections::BTreeMap;
+use std::fmt;
 use std::marker::Model;
 use std::ops::Bound;
 
@@ -39,6 +40,12 @@ pub struct HandleTable {
     index: BTreeMap<OpenNo, usize>,
     groups: Groups,
     uses: Uses,
+}
+
+impl fmt::Debug for HandleTable {
+    fn fmt<W: fmt::Write>(&self, f: &mut fmt::Formatter<W>) -> fmt::Result {
+        write!(f, "HandleTable {{ opens: {}, .. }}", self.index.len())
+    }
 }
 
 impl Model for HandleTable {

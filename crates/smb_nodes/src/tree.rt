@@ -23,6 +23,7 @@ use smb_tree::{Basic, EntryCopy, EntryNo, EntryView, Kind, Tree, TreeFault, allo
 use smb_wire::{FileAttributes, FoldedName, PathView};
 use std::alloc::{AllocError, Global};
 use std::collections::BTreeMap;
+use std::fmt;
 use std::marker::Model;
 
 /// A tree that keeps each entry as a node in a slot. A slot that became empty is used again; a number never is.
@@ -66,6 +67,12 @@ pub struct NodeTree {
     // No path has more components.
     deepest: usize,
     alloc: Global,
+}
+
+impl fmt::Debug for NodeTree {
+    fn fmt<W: fmt::Write>(&self, f: &mut fmt::Formatter<W>) -> fmt::Result {
+        write!(f, "NodeTree {{ entries: {}, used: {}, .. }}", self.index.len(), self.used)
+    }
 }
 
 impl Model for NodeTree {

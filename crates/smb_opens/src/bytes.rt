@@ -90,7 +90,7 @@ impl<T: Tree + Drop, O: Opens + Drop> Store<T, O> {
     /// nothing.
     ///
     /// [`Status`](StoreFault::Status) tells the first row of the table that holds, and
-    /// [`NoMemory`](StoreFault::NoMemory) that an allocation was refused.
+    /// [`NoMemory`](StoreFault::NoMemory) that an allocation was refused, which may be where a row holds too.
     pub fn write(
         &mut self,
         number: OpenNo,

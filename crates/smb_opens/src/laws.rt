@@ -2,17 +2,17 @@
 
 ghost use Rattle.smb_opens.specs.Laws.{ANewTreeIsGood, ACreateIsAtOnePath, AnOpenLeavesEntries, ACreateReturnsWhatIsShown, AConflictIsMutual, MoreAccessKeepsAConflict, ACloseIsOfOneEntry, ACloseKeepsBytesAndTimes, WhatIsWrittenIsReadAgain, AWriteIsOfOneFile, ALockKeepsOthersOut, ASharedLockKeepsWritersOut, NoTwoLocksConflict, ACloseTakesItsLocks, ASetOfTimesKeepsBytes, ASetOfAMarkKeepsBytes, ASetOfASizeIsOfOneFile, ASetOfASizeKeepsTheFront, AMarkedEntryIsNotOpened, ARenameKeepsBytes, AScanIsOfOneOpen};
 
-/// A new tree is good, so a store can be made of it; a CREATE changes at most the entry at its own path, and none where it
-/// doesn't overwrite, and returns what its open shows; a conflict is one both ways, and more access never removes one; a
-/// CLOSE leaves every entry but its own, and of its own the bytes and times while it exists. What a WRITE put is read
-/// again through any open of the file, as long as no WRITE to it, no CREATE that overwrites it and no change of its size
-/// comes between; and a WRITE leaves all other entries and all opens. What an open has locked as its own alone, no other
-/// open reads or writes; what is under a shared lock, no open writes; no two locks of different opens conflict; and a CLOSE
-/// takes the open's locks and no others. A SET_INFO leaves all other entries, all opens and all locks; one of times and
-/// attributes, or of a mark, leaves all paths and bytes, and one of a size the bytes before the smaller of both sizes,
-/// with zeros behind those that there were. An entry that is marked isn't opened. A rename leaves all opens and all locks, and
-/// every entry's kind and bytes, but of one that it replaces. A scan is of one open, and changes nothing else. The contract is
-/// the statement, and the body does nothing.
+/// A new tree is good, so a store can be made of it; a CREATE changes at most the entry at its own path, and none where
+/// it doesn't overwrite, and returns what its open shows; a conflict is one both ways, and more access never removes
+/// one; a CLOSE leaves every entry but its own, and of its own the bytes and times while it exists. What a WRITE put is
+/// read again through any open of the file, as long as it exists, and no WRITE to it, no CREATE that overwrites it and
+/// no change of its size comes between; and a WRITE leaves all other entries and all opens. What an open has locked as
+/// its own alone, no other open reads or writes; what is under a shared lock, no open writes; no two locks of different
+/// opens conflict; and a CLOSE takes the open's locks and no others. A SET_INFO leaves all other entries, all opens and
+/// all locks; one of times and attributes, or of a mark, leaves all paths and bytes, and one of a size the bytes before
+/// the smaller of both sizes, with zeros behind those that there were. An entry that is marked isn't opened. A rename
+/// leaves all opens and all locks, and every entry's kind and bytes, but of one that it replaces. A scan is of one
+/// open, and changes nothing else. The contract is the statement, and the body does nothing.
 pub fn laws_of_stores()
     ensures new_tree { ANewTreeIsGood }
     ensures one_path { ACreateIsAtOnePath }

@@ -5,11 +5,11 @@
 //! A [`Store`] is a tree, its opens and their locks; its state is `specs/State.antt`, and what holds of it between any two
 //! calls `specs/Good.antt`. A file of specs/ here says of a store what the one of its name in those crates says of its parts.
 //!
-//! [`Store::create`] answers a CREATE: with the status that the table of `specs/Create.antt` gives; or, where no row holds, with what
-//! `specs/Effect.antt` does: one entry at most is added or overwritten, and one open comes last. A refusal changes
-//! nothing. Two opens of one entry never conflict, as smb_access says it in its `specs/Sharing.antt`. [`Store::close`] and
-//! [`Store::close_all`] take opens away, and with its last open an entry that is marked, as `specs/Close.antt` says;
-//! they take no memory.
+//! [`Store::create`] answers a CREATE: with the status that the table of `specs/Create.antt` gives; or, where no row
+//! holds, with what `specs/Effect.antt` does: one entry at most is added or overwritten, and one open comes last. A
+//! refusal, and memory that runs out, change nothing. Two opens of one entry never conflict, as smb_access says it in
+//! its `specs/Sharing.antt`. [`Store::close`] and [`Store::close_all`] take opens away, and with its last open an entry
+//! that is marked, as `specs/Close.antt` says; they take no memory.
 //!
 //! [`Store::read`] and [`Store::write`] read and write the bytes of a file, as `specs/Bytes.antt` says; they are copied once.
 //! [`Store::lock`] and [`Store::unlock`] answer a LOCK, as `specs/Locks.antt` says; the locks of a file bar reads and writes
@@ -19,6 +19,10 @@
 //! the mark of an entry, of the size of a file, and of an entry's times and attributes. [`Store::rename`] answers one of an
 //! entry's name: with the status that the table of smb_entry's `specs/Rename.antt` gives; or the entry is moved with all that lies beneath
 //! it, as `specs/Renames.antt` says.
+//!
+//! Each call that has a table is Ok only where its status by the table is STATUS_SUCCESS, and out of memory comes only
+//! there too (`IsRefusal` of smb_access); but [`Store::write`] and [`Store::lock`] may run out of memory whatever their
+//! status.
 //!
 //! [`Store::set_scan`] keeps how far a scan of a directory has come through an open.
 //!

@@ -18,7 +18,7 @@ impl<T: Tree + Drop, O: Opens + Drop> Store<T, O> {
     /// elements ask for, or none. Each element costs a pass over the file's locks, of which there are at most 256.
     ///
     /// [`Status`](StoreFault::Status) tells the status that refuses it, and [`NoMemory`](StoreFault::NoMemory) that an
-    /// allocation was refused.
+    /// allocation was refused, which may be where a status refuses it too.
     pub fn lock(&mut self, number: OpenNo, asks: &[LockAsk]) -> Result<(), StoreFault>
         ensures store { OnOk result (self.new ≡ locked_through self.old number asks.now) }
         ensures lawful { OnOk result (lock_status self.old number asks.now ≡ STATUS_SUCCESS) }

@@ -12,6 +12,7 @@ use hex::{FromHex, FromHexError};
 use smb_request::Config;
 use smb_session::{Tokens, User};
 use std::alloc::{AllocError, Global};
+use thiserror::Error;
 use toml::{Table, Value};
 
 /// The configuration that holds where none is given.
@@ -46,10 +47,12 @@ const NAME_LIMIT: usize = 256;
 const LEAST_CAPACITY: u64 = 4_096;
 
 /// Why a configuration is not taken.
-#[derive(Clone, Copy, Debug, PartialEq, Eq)]
+#[derive(Clone, Copy, Debug, PartialEq, Eq, Error)]
 pub enum ConfigFault {
     /// It breaks this rule, the first that it breaks.
+    #[error("the configuration is refused: {0}")]
     Refused(ConfigRule),
+    #[error("no memory")]
     NoMemory,
 }
 
@@ -234,7 +237,8 @@ fn read_table(alloc: Global, document: &str) -> Result<Table, ConfigFault> {
 }
 
 impl Configuration {
-    /// Reads a configuration whole: every rule is looked at before anything is done by it.
+    /// Reads a configuration whole. Where it is Ok, the share's part of it keeps its rules ([`Config::is_lawful`]).
+    /// Which rule is named where it is refused, and that no other text is, is tested.
     pub fn read(alloc: Global, document: &str) -> Result<Self, ConfigFault>
         ensures lawful { IfOk result (λ read. is_lawful (settings_of read.config) ≡ true) }
     {

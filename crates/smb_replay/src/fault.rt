@@ -4,24 +4,35 @@ use crate::config::ConfigFault;
 use crate::rule::ConfigRule;
 use crate::script::Expected;
 use std::alloc::AllocError;
-use std::fmt;
 use std::io::Write;
+use thiserror::Error;
 
 /// What ends a command. Its text is what is printed.
-#[derive(Clone, Copy, Debug, PartialEq, Eq)]
+#[derive(Clone, Copy, Debug, PartialEq, Eq, Error)]
 pub enum CommandFault {
+    #[error("config: cannot be read")]
     ConfigUnread,
     /// The configuration breaks this rule; None where the share itself refuses it.
+    #[error("config: refused")]
     ConfigRefused(Option<ConfigRule>),
+    #[error("listen: failed")]
     ListenFailed,
+    #[error("input: failed")]
     InputFailed,
+    #[error("input too long")]
     InputTooLong,
+    #[error("input: unreadable")]
     InputUnreadable,
+    #[error("output: failed")]
     OutputFailed,
     /// The line of this number is no event; its mark says what was expected.
+    #[error("line {0}: unreadable")]
     Unreadable(u64, Expected),
+    #[error("line {0}: bad event")]
     BadEvent(u64),
+    #[error("line {0}: too many connections")]
     TooManyConnections(u64),
+    #[error("no memory")]
     NoMemory,
 }
 
@@ -32,27 +43,6 @@ pub enum Detail {
     Brief,
     /// A second line, where there is more to say.
     Explained,
-}
-
-impl fmt::Display for CommandFault {
-    fn fmt<W: fmt::Write>(&self, f: &mut fmt::Formatter<W>) -> fmt::Result {
-        match self {
-            CommandFault::ConfigUnread => write!(f, "config: cannot be read"),
-            CommandFault::ConfigRefused(_) => write!(f, "config: refused"),
-            CommandFault::ListenFailed => write!(f, "listen: failed"),
-            CommandFault::InputFailed => write!(f, "input: failed"),
-            CommandFault::InputTooLong => write!(f, "input too long"),
-            CommandFault::InputUnreadable => write!(f, "input: unreadable"),
-            CommandFault::OutputFailed => write!(f, "output: failed"),
-            CommandFault::Unreadable(line, _) => write!(f, "line {line}: unreadable"),
-            CommandFault::BadEvent(line) => write!(f, "line {line}: bad event"),
-            CommandFault::TooManyConnections(line) => write!(
-                f,
-                "line {line}: too many connections"
-            ),
-            CommandFault::NoMemory => write!(f, "no memory"),
-        }
-    }
 }
 
 impl CommandFault {

@@ -4,6 +4,10 @@
 //! [`replay_text`] reads a configuration and a script, runs the script's events on a [`Share`](smb_engine::Share) and
 //! writes a line for each answer. [`show_text`] lists the requests of a stream. Both are over any reader and writers,
 //! and tell an exit status. [`Configuration::read`] reads a configuration file's text; [`BUILT_IN`] is one.
+//!
+//! Of the public calls [`Configuration::read`] has a clause: the share's part of what it takes keeps its rules. Inside
+//! the crate the listing of a stream and the events of a part of a text have clauses (`list_stream`, `Part::read`). All
+//! else that the public calls print and tell is tested.
 #![tactic(auto)]
 
 mod config;

@@ -1,5 +1,7 @@
 //! The rules of a configuration's text, and their words.
 
+use std::fmt;
+
 /// A rule of a configuration, by the key that it is about.
 #[derive(Clone, Copy, Debug, PartialEq, Eq)]
 pub enum ConfigRule {
@@ -24,6 +26,12 @@ pub enum ConfigRule {
     UserToken,
     /// No two users have one token.
     OwnTokens,
+}
+
+impl fmt::Display for ConfigRule {
+    fn fmt<W: fmt::Write>(&self, f: &mut fmt::Formatter<W>) -> fmt::Result {
+        write!(f, "{}", self.text())
+    }
 }
 
 impl ConfigRule {

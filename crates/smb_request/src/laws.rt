@@ -4,10 +4,10 @@ ghost use Rattle.smb_request.specs.Laws.{OrderIsKept, AnEndIsAlone, ARequestIsAl
 
 use smb_session::Authenticator;
 
-/// The end of a connection leaves each session of another one as it is, with its trees and its opens, and so does a request
-/// on a connection, but for a finished session that a SESSION_SETUP ends whole. Both take only that the numbers of sessions
-/// and opens are in order, which they keep. This is so with any authenticator: the contract is the statement, and the body
-/// does nothing.
+/// The end of a connection leaves each session of another one as it is, with its trees and its opens, and so does a
+/// request on a connection, or it ends that session whole, a finished one. Both take only that the numbers of sessions
+/// and opens are in order, which they keep. This is so with any authenticator: the contract is the statement, and the
+/// body does nothing.
 pub fn laws_of_connections<A: Authenticator>()
     ensures order { OrderIsKept A.meaning }
     ensures end { AnEndIsAlone A.meaning }

@@ -9,7 +9,8 @@
 //! `specs/QueryInfo.antt` and `specs/SetInfo.antt`. It knows no stream, no chain and no frame: these are smb_engine's,
 //! where the definition of the share goes on.
 //!
-//! Want of memory is an [`Unanswered`], which tells whether the request was performed.
+//! Out of memory is an [`Unanswered`], which reports whether the request was performed: the state is as after it, or as
+//! before it. What was in the vector is kept, and more may be behind it.
 #![tactic(auto)]
 
 mod bytes;

@@ -9,6 +9,7 @@ use super::context::ResponseIds;
 use super::status::Status;
 use smb_body::{Reply, write_reply};
 use std::alloc::AllocError;
+use thiserror::Error;
 
 /// What answers a request, but for its body, which stands where it is sent from: its status, and the session and the
 /// tree that it tells.
@@ -19,11 +20,13 @@ pub struct Answered {
 }
 
 /// Where memory ran out in a request.
-#[derive(Clone, Copy, Debug, PartialEq, Eq)]
+#[derive(Clone, Copy, Debug, PartialEq, Eq, Error)]
 pub enum Unanswered {
     /// Before it was performed: all is as it was.
+    #[error("no memory, before the request was performed")]
     NotPerformed,
     /// When it was answered: what it does is done.
+    #[error("no memory for the response to a request that was performed")]
     Performed,
 }
 

@@ -1,11 +1,12 @@
 //! Who may use the share: the sessions of all connections, with their trees, and the message window of one.
 //!
-//! [`Sessions`] are made over an [`Authenticator`], which is asked once for each SESSION_SETUP that is not
-//! refused, and never else. What each call gives and leaves is one definition: a table of connections and
-//! sessions (`specs/Table.antt`, `Session.antt`), a SESSION_SETUP over it (`Setup.antt`), and both over the
-//! authenticator's state (`Sessions.antt`). A refusal, a [`SessionFault`], leaves everything as it
-//! was. What holds of every table between calls is `Good.antt`, which [`Sessions::good`] tells; that a session that ended is
-//! gone for good, and no number is given twice, is the contract of [`laws_of_sessions`].
+//! [`Sessions`] are made over an [`Authenticator`], which is asked once for each SESSION_SETUP that is not refused, and
+//! never else. What each call gives and leaves is one definition: a table of connections and sessions
+//! (`specs/Table.antt`, `Session.antt`), a SESSION_SETUP over it (`Setup.antt`), and both over the authenticator's
+//! state (`Sessions.antt`). A refusal, a [`SessionFault`], leaves everything as it was. A denial is none:
+//! [`Sessions::setup`] is then Ok, and reports it. What holds of every table between calls is `Good.antt`, which
+//! [`Sessions::good`] tells; that a session that ended is gone for good, and no session's number is given twice, is the
+//! contract of [`laws_of_sessions`].
 //!
 //! What an authenticator means is three functions of its state (`specs/Authenticator.antt`). [`Scripted`]
 //! gives answers in turn; [`Tokens`] knows users by their tokens.

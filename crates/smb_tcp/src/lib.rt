@@ -1,8 +1,9 @@
 //! The peers of a TCP listener, in one thread, and the system's clock: what smb_engine's `serve` is given by the program.
 //!
-//! [`TcpPeers`] are the streams of a listener, [`SystemClock`] tells the time. Neither keeps a record of its calls: what is
-//! proved of them is that no call of theirs fails in a way that its type does not tell, that each connection is opened once, under the next
-//! number, and that time does not go back.
+//! [`TcpPeers`] are the streams of a listener, [`SystemClock`] tells the time. Neither keeps a record of its calls.
+//! Proved of the peers is what the trait asks: each connection is opened once, under the next number, and a send is
+//! refused only where a failure is counted. Of the clock it is, inside the crate, that no moment is before the last
+//! one.
 #![tactic(auto)]
 
 mod clock;

@@ -5,9 +5,9 @@ ghost use Rattle.smb_tree.specs.FileLaws.{WhatIsWrittenIsRead, WhatIsNotWrittenS
 ghost use Rattle.smb_tree.specs.ChildLaws.{ChildrenComeInTurn};
 ghost use Rattle.smb_tree.specs.MoveLaws.{TheEntryIsAtTheNewPath, WhatWasBeneathIsBeneath, NothingIsLeftBehind, OtherPathsKeepTheirEntries, NumbersKeepTheirEntries, TheReplacedIsGone, TheRootIsNotReplaced, AMoveAddsNothing, AMoveKeepsGood, AMoveLeavesLawful};
 
-/// A content is a finite map from paths to entries, in which no path and no number stands twice; what was
-/// written to a file is read, and all else of it stays; the children of a folder come in the order of their names.
-/// The contract is the statement, and the body does nothing.
+/// A list of entries, in which no path and no number is there twice, is a finite map from paths to entries, and
+/// additions, changes and removals leave it so; what was written to a file is read, and all else of it stays; the
+/// children of a folder come in the order of their names. The contract is the statement, and the body does nothing.
 pub fn laws_of_contents()
     ensures map { TheMapTells }
     ensures addition { AnAdditionIsOneMore }
@@ -27,9 +27,9 @@ pub fn laws_of_contents()
     ensures children { ChildrenComeInTurn }
 {}
 
-/// A move takes an entry, with all that lies beneath it, to another path and leaves nothing behind. All other paths and
-/// numbers keep their entries, but for a file that is replaced; a good content stays good, and lawful entries stay lawful.
-/// The contract is the statement, and the body does nothing.
+/// A move of a good content that is not refused takes an entry, with all that lies beneath it, to another path and
+/// leaves nothing behind. All other paths and numbers keep their entries, but for a file that is replaced; the content
+/// stays good, and its entries lawful, where the new path is. The contract is the statement, and the body does nothing.
 pub fn laws_of_moves()
     ensures entry { TheEntryIsAtTheNewPath }
     ensures beneath { WhatWasBeneathIsBeneath }

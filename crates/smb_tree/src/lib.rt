@@ -1,11 +1,11 @@
 //! The tree of files and folders: which entry stands at which path.
 //!
-//! A [`Tree`] has a content: the entries at their paths, in the order of their numbers, with the next number
-//! and the capacity (`specs/Content.antt`). A path is a list of folded components; the entry at a path, and
-//! the entry of a number, is the first one found in the list. Every call answers by the content and changes it
-//! as its clauses say; why one is refused is `specs/Faults.antt`, the first reason that holds, and a refusal
-//! leaves the tree as it was. That the list is a finite map from paths, in which no path and no number stands
-//! twice, is the contract of [`laws_of_contents`].
+//! A [`Tree`] has a content: the entries at their paths, in the order of their numbers, with the next number and the
+//! capacity (`specs/Content.antt`). A path is a list of folded components; the entry at a path, and the entry of a
+//! number, is the first one found in the list. Every call answers by the content and changes it as its clauses say; why
+//! one is refused is `specs/Faults.antt`, the first reason that holds, or that memory ran out, and a refusal leaves the
+//! tree as it was. That a list in which no path and no number is there twice is a finite map from paths, and stays so,
+//! is the contract of [`laws_of_contents`].
 //!
 //! A file is a list of bytes: [`Tree::read`] gives a part of it, and [`Tree::write`] replaces one, behind zeros
 //! where it is past the end. Which entries stand in a folder, and in which order [`Tree::child_after`] gives

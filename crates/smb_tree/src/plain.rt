@@ -21,6 +21,7 @@ use super::tree::Tree;
 use super::whole_names::whole_name;
 use smb_wire::{FileAttributes, FoldedName, PathView};
 use std::alloc::{AllocError, Global};
+use std::fmt;
 use std::marker::Model;
 
 /// A tree that is a list of entries, each with its whole path and its bytes. A look-up by path or number goes
@@ -37,6 +38,12 @@ pub struct PlainTree {
     used: u64,
     capacity: u64,
     alloc: Global,
+}
+
+impl fmt::Debug for PlainTree {
+    fn fmt<W: fmt::Write>(&self, f: &mut fmt::Formatter<W>) -> fmt::Result {
+        write!(f, "PlainTree {{ entries: {}, used: {}, .. }}", self.entries.len(), self.used)
+    }
 }
 
 impl Model for PlainTree {
