@@ -1,13 +1,14 @@
 -- Elements of a LOCK, and the bytes that they spell.
 use Rattle.std.proofs.Common.{◌≡◌, ℕ, zero, suc, ◌+◌, ◌*◌, ◌/◌, ◌^◌, ◌<◌, ◌≤◌, List, [], ◌∷◌, ◌++◌, length, get_or, take, drop, map, refl, ap, subst, arith, rules, ◌∙◌, length-append, length-drop, take-append-drop, append-nil}
-use Rattle.std.proofs.lemmas.List.{length-take-le, get_or-drop, take_at, drop_at, take_all, length-map, drop-drop}
+use Rattle.std.proofs.lemmas.List.{length-take, length-take-le, get_or-drop, take_at, drop_at, take_all, length-map, drop-drop}
 use Rattle.std.specs.Simd.{first_chunks}
 use Rattle.std.specs.List.{flat_map}
 use Rattle.smb_wire.specs.Number.{IsBytes, spelling}
-use Rattle.smb_wire.specs.Fields.{number_in, AllStand, AllFit, joined}
+use Rattle.smb_wire.specs.Fields.{number_in, AllStand, joined}
 use Rattle.smb_wire.proofs.Numbers.{spelling_of_number, number_below}
 use Rattle.smb_wire.proofs.FieldTables.{length-joined, stand_behind}
-use Rattle.smb_body.specs.Locks.{IsElement, AllElements, lock_at, lock_fields, locks_in, lock_bytes, AllLocksFit}
+use Rattle.smb_body.specs.Locks.{IsElement, AllElements, lock_fields, SaysElements, lock_bytes, AllLocksFit}
+use Rattle.smb_body.specs.LockLists.{lock_at, locks_in, EachElementIsRead}
 use Rattle.smb_body.specs.declared.lock_element.LockElement.{LockElement}
 
 tail_elements : (p : List ℕ) (ps : List (List ℕ)) → AllElements (p ∷ ps) → AllElements ps
@@ -95,22 +96,45 @@ pub length-lock_bytes : (locks : List LockElement) → AllLocksFit locks → len
 length-lock_bytes [] h = refl
 length-lock_bytes (e ∷ es) h = omega (arith, length-append (joined (lock_fields e)) (lock_bytes es), length-joined (lock_fields e) h.0, length-lock_bytes es h.1)
 
--- an element's bytes say the element
-element_read : (e : LockElement) → AllFit (lock_fields e) → lock_at (joined (lock_fields e)) ≡ e
-element_read e h =
-    let stand = stand_behind [] (lock_fields e) [] 0 refl (search rules) h in
-    let s : AllStand (joined (lock_fields e)) (lock_fields e) = subst (λ (bytes : List ℕ). AllStand bytes (lock_fields e)) (append-nil (joined (lock_fields e))) stand in
-    λ i. record { offset = s.0.1 i; length = s.1.0.1 i; flags = record { 0 = s.1.1.0.1 i }; reserved = s.1.1.1.0.1 i }
+-- 24 bytes say what `lock_at` gives
+said_at : (bytes : List ℕ) → length bytes ≡ 24 → AllStand bytes (lock_fields (lock_at bytes))
+said_at bytes e = ((omega arith, refl), ((omega arith, refl), ((omega arith, refl), ((omega arith, refl), tt))))
 
--- the bytes of elements are cut into the elements
-chunks_read : (locks : List LockElement) → AllLocksFit locks → map lock_at (first_chunks 24 (length locks) (lock_bytes locks)) ≡ locks
-chunks_read [] h = refl
-chunks_read (e ∷ es) h =
+-- and nothing else
+said_alone : (bytes : List ℕ) (e : LockElement) → AllStand bytes (lock_fields e) → lock_at bytes ≡ e
+said_alone bytes e s = λ i. record { offset = s.0.1 i; length = s.1.0.1 i; flags = record { 0 = s.1.1.0.1 i }; reserved = s.1.1.1.0.1 i }
+
+pub element_read : EachElementIsRead
+element_read bytes e size = (said_alone bytes e, λ same. subst (λ (a : LockElement). AllStand bytes (lock_fields a)) same (said_at bytes size))
+
+empty : (bytes : List ℕ) → length bytes ≡ 0 → bytes ≡ []
+empty [] e = refl
+empty (x ∷ bytes) e = absurd (omega arith)
+
+-- whole elements say themselves
+pub chunks_said : (k : ℕ) (bytes : List ℕ) → length bytes ≡ 24 * k → SaysElements bytes (map lock_at (first_chunks 24 k bytes))
+chunks_said zero bytes e = empty bytes e
+chunks_said (suc k) bytes e = (said_at (take 24 bytes) (length-take-le 24 bytes (omega arith)), chunks_said k (drop 24 bytes) (omega (arith, length-drop 24 bytes)))
+
+pub said_length : (bytes : List ℕ) (locks : List LockElement) → SaysElements bytes locks → length bytes ≡ 24 * length locks
+said_length bytes [] s = ap length s
+said_length bytes (e ∷ es) s = omega (arith, s.0.1.1.1.0.0, length-take 24 bytes, length-drop 24 bytes, said_length (drop 24 bytes) es s.1)
+
+chunks_only : (bytes : List ℕ) (locks : List LockElement) → SaysElements bytes locks → map lock_at (first_chunks 24 (length locks) bytes) ≡ locks
+chunks_only bytes [] s = refl
+chunks_only bytes (e ∷ es) s = rw (said_alone (take 24 bytes) e s.0, chunks_only (drop 24 bytes) es s.1) refl
+
+-- the bytes say no other elements
+pub elements_only : (bytes : List ℕ) (locks : List LockElement) → SaysElements bytes locks → locks_in bytes ≡ locks
+elements_only bytes locks s =
+    let count : length bytes / 24 ≡ length locks = omega (arith, said_length bytes locks s) in
+    rw count (chunks_only bytes locks s)
+
+-- the bytes of elements say these elements
+pub elements_written : (locks : List LockElement) → AllLocksFit locks → SaysElements (lock_bytes locks) locks
+elements_written [] h = refl
+elements_written (e ∷ es) h =
     let size = length-joined (lock_fields e) h.0 in
-    rw (take_at (joined (lock_fields e)) (lock_bytes es) 24 size, drop_at (joined (lock_fields e)) (lock_bytes es) 24 size, element_read e h.0, chunks_read es h.1) refl
-
--- the bytes of elements are read as these elements
-pub locks_read : (locks : List LockElement) → AllLocksFit locks → locks_in (lock_bytes locks) ≡ locks
-locks_read locks h =
-    let count : length (lock_bytes locks) / 24 ≡ length locks = omega (arith, length-lock_bytes locks h) in
-    rw count (chunks_read locks h)
+    let stand = stand_behind [] (lock_fields e) [] 0 refl (search rules) h.0 in
+    let s : AllStand (joined (lock_fields e)) (lock_fields e) = subst (λ (bytes : List ℕ). AllStand bytes (lock_fields e)) (append-nil (joined (lock_fields e))) stand in
+    rw (take_at (joined (lock_fields e)) (lock_bytes es) 24 size, drop_at (joined (lock_fields e)) (lock_bytes es) 24 size) (s, elements_written es h.1)

@@ -1,30 +1,30 @@
 -- LOCK's request: what tells it, and that what was written is read.
-use Rattle.std.proofs.Common.{◌≡◌, ℕ, ◌+◌, ◌*◌, ◌<◌, ◌≤◌, List, ◌++◌, true, length, take, drop, refl, ap, arith, rules, nat_le, nat_lt}
+use Rattle.std.proofs.Common.{◌≡◌, ℕ, ◌+◌, ◌*◌, ◌<◌, ◌≤◌, List, ◌++◌, true, length, take, drop, refl, arith, rules, nat_le, nat_lt}
 use Rattle.std.proofs.lemmas.Bool.Decides.{nat_tests}
 use Rattle.std.proofs.lemmas.Bool.{le-leb}
 use Rattle.std.proofs.lemmas.List.{length-take, length-drop, drop_at, take_all}
 use Rattle.smb_wire.specs.Fields.{number_in, joined}
 use Rattle.smb_wire.proofs.FieldTables.{length-joined}
 use Rattle.smb_body.specs.Buffers.{body}
-use Rattle.smb_body.specs.Locks.{locks_in, lock_bytes}
+use Rattle.smb_body.specs.Locks.{lock_bytes}
+use Rattle.smb_body.specs.LockLists.{locks_in}
 use Rattle.smb_body.specs.Lock.{LockAsked, lock_request_fields, SaysLock, is_lock, lock_of, lock_spelling, FitsLock}
 use Rattle.smb_body.proofs.Behind.{body_behind}
 use Rattle.smb_body.proofs.Buffering.{length-cut}
-use Rattle.smb_body.proofs.LockBytes.{length-locks_in, length-lock_bytes, locks_read}
+use Rattle.smb_body.proofs.LockBytes.{length-locks_in, length-lock_bytes, chunks_said, said_length, elements_only, elements_written}
 use Rattle.smb_body.proofs.Telling.{IsTold, fixed_part, stand_in_body}
 
 lock_readable : (request : List ℕ) (a : LockAsked) → SaysLock request a → is_lock request ≡ true
 lock_readable request a s =
     let cut = take (24 * length a.locks) (drop 24 (body request)) in
-    let count : length (locks_in cut) ≡ length a.locks = ap length s.locks in
     let fixed = fixed_part 24 48 request (omega arith) s.fields.0.1 in
     let some : nat_lt 0 (length a.locks) ≡ true = le-leb _ _ s.some in
     let room : nat_le (24 + 24 * length a.locks) (length (body request)) ≡ true =
-    le-leb _ _ (omega (arith, count, length-locks_in cut, length-take (24 * length a.locks) (drop 24 (body request)), length-drop 24 (body request))) in
+    le-leb _ _ (omega (arith, said_length cut a.locks s.locks, length-take (24 * length a.locks) (drop 24 (body request)), length-drop 24 (body request), s.fields.1.1.1.1.0.0)) in
     rw (fixed, s.fields.1.0.1, some, room) refl
 
 lock_only : (request : List ℕ) (a : LockAsked) → SaysLock request a → a ≡ lock_of request
-lock_only request a s = search rules
+lock_only request a s = let same = elements_only _ a.locks s.locks in search rules
 
 lock_said : (request : List ℕ) → is_lock request ≡ true → SaysLock request (lock_of request)
 lock_said request h =
@@ -35,7 +35,7 @@ lock_said request h =
     let cut = length-cut (24 * number_in 2 2 (body request)) 24 (body request) room in
     let count : length (locks_in (take (24 * number_in 2 2 (body request)) (drop 24 (body request)))) ≡ number_in 2 2 (body request) =
     omega (arith, length-locks_in (take (24 * number_in 2 2 (body request)) (drop 24 (body request))), cut) in
-    record { fields = rw count (search rules); some = rw count some; locks = rw count refl }
+    record { fields = rw count (search rules); some = rw count some; locks = rw count (chunks_said _ _ (omega (arith, cut))) }
 
 pub lock_told : IsTold SaysLock is_lock lock_of
 lock_told = record { readable = lock_readable; only = lock_only; said = lock_said }
@@ -49,5 +49,5 @@ lock_written header a e f some =
     record {
       fields = stand_in_body header (lock_request_fields a) (lock_bytes a.locks) e (search rules) f.fields;
       some = some;
-      locks = rw (body_behind header (joined (lock_request_fields a) ++ lock_bytes a.locks) e, list) (locks_read a.locks f.locks);
+      locks = rw (body_behind header (joined (lock_request_fields a) ++ lock_bytes a.locks) e, list) (elements_written a.locks f.locks);
     }

@@ -1,9 +1,9 @@
 -- LOCK's request ([MS-SMB2] 2.2.26).
-use Rattle.std.specs.Prelude.{◌≡◌, ℕ, ◌+◌, ◌*◌, ◌<◌, List, [], ◌∷◌, ◌++◌, length, take, drop, Bool, nat_le, nat_lt, ◌&&◌}
+use Rattle.std.specs.Prelude.{ℕ, ◌+◌, ◌*◌, ◌<◌, List, [], ◌∷◌, ◌++◌, length, take, drop, Bool, nat_le, nat_lt, ◌&&◌}
 use Rattle.smb_wire.specs.Fields.{Field, num, number_in, AllStand, AllFit, joined}
 use Rattle.smb_body.specs.Buffers.{body, has_fixed_part, file_id_at}
-use Rattle.smb_body.specs.Locks.{locks_in, lock_bytes, AllLocksFit}
-use Rattle.smb_body.specs.LockLists.{locks_of}
+use Rattle.smb_body.specs.Locks.{SaysElements, lock_bytes, AllLocksFit}
+use Rattle.smb_body.specs.LockLists.{locks_in, locks_of}
 use Rattle.smb_wire.specs.declared.file_id.FileId.{FileId}
 use Rattle.smb_body.specs.declared.lock_element.LockElement.{LockElement}
 use Rattle.smb_body.specs.declared.lock.LockSequence.{LockSequence}
@@ -33,7 +33,7 @@ lock_request_fields a =
 pub record SaysLock (request : List ℕ) (a : LockAsked) : Type 0 where
   pub fields : AllStand (body request) (lock_request_fields a)
   pub some : 0 < length a.locks
-  pub locks : locks_in (take (24 * length a.locks) (drop 24 (body request))) ≡ a.locks
+  pub locks : SaysElements (take (24 * length a.locks) (drop 24 (body request))) a.locks
 
 -- whether a request says anything
 abbrev pub is_lock : List ℕ → Bool

@@ -1,8 +1,7 @@
 -- Elements of a LOCK, 24 bytes each ([MS-SMB2] 2.2.26.1).
-use Rattle.std.specs.Prelude.{◌≡◌, ℕ, ◌<◌, ◌/◌, List, [], ◌∷◌, ◌++◌, length, map, slice_index_or}
-use Rattle.std.specs.Simd.{first_chunks}
+use Rattle.std.specs.Prelude.{◌≡◌, ℕ, ◌<◌, List, [], ◌∷◌, ◌++◌, length, take, drop, slice_index_or}
 use Rattle.smb_wire.specs.Number.{IsBytes}
-use Rattle.smb_wire.specs.Fields.{Field, num, number_in, AllFit, joined}
+use Rattle.smb_wire.specs.Fields.{Field, num, AllStand, AllFit, joined}
 use Rattle.smb_body.specs.declared.lock_element.LockElement.{LockElement}
 
 -- an element
@@ -14,18 +13,10 @@ lock_fields e =
     ∷ num 20 4 e.reserved  -- Reserved
     ∷ []
 
--- what the 24 bytes of an element say
-abbrev pub lock_at : List ℕ → LockElement
-lock_at bytes = record {
-  offset = number_in 8 0 bytes;
-  length = number_in 8 8 bytes;
-  flags = record { 0 = number_in 4 16 bytes };
-  reserved = number_in 4 20 bytes;
-}
-
--- the elements that bytes spell, 24 bytes each; bytes left over spell none
-abbrev pub locks_in : List ℕ → List LockElement
-locks_in bytes = map lock_at (first_chunks 24 (length bytes / 24) bytes)
+-- the bytes say these elements, one after the other, each in its own 24 bytes, and nothing more
+abbrev pub SaysElements : List ℕ → List LockElement → Type 0
+SaysElements bytes [] = bytes ≡ []
+SaysElements bytes (e ∷ es) = AllStand (take 24 bytes) (lock_fields e) × SaysElements (drop 24 bytes) es
 
 -- the bytes of elements
 abbrev pub lock_bytes : List LockElement → List ℕ

@@ -14,13 +14,13 @@ pub struct LockList<'a> {
 
 impl<'a> LockList<'a> {
     ghost use Rattle.std.specs.Prelude.{◌≡◌, ◌%◌, nat_eq, length, is_some, slice_get, IfSome};
-    ghost use Rattle.smb_body.specs.Locks.{locks_in, lock_bytes, AllLocksFit};
+    ghost use Rattle.smb_body.specs.Locks.{SaysElements, lock_bytes, AllLocksFit};
     ghost use Rattle.smb_body.specs.LockLists.{locks_of};
 
-    /// The elements that the bytes spell, or None where these are no whole elements.
+    /// The elements that the bytes say, or None where these are no whole elements.
     pub fn of(bytes: &'a [u8]) -> Option<LockList<'a>>
         ensures some { is_some result ≡ nat_eq (length bytes.now % 24) 0 }
-        ensures locks { IfSome result (λ list. locks_of list ≡ locks_in bytes.now) }
+        ensures locks { IfSome result (λ list. SaysElements bytes.now (locks_of list)) }
     {
         let (elements, rest) = bytes.as_chunks::<24>();
         if rest.is_empty() {

@@ -1,6 +1,7 @@
 //! Requests of all commands.
 
 ghost use Rattle.std.specs.Prelude.{◌≡◌, ◌++◌, length, take, Some, None, IfSome, IfNone, OnOk, OnErr, IfOk, IfErr, false};
+ghost use Rattle.smb_body.specs.LockLists.{EachElementIsRead};
 ghost use Rattle.smb_body.specs.Refusals.{body_refusal};
 ghost use Rattle.smb_body.specs.Requests.{request_value, request_of, file_id_of, request_spelling, FitsRequest, is_too_long, IsReadBack, RequestsAreTold, LaidIsTheSame};
 
@@ -170,4 +171,5 @@ pub fn write_request(request: &Request<'_>, out: &mut Vec<u8>) -> Result<(), Bod
 pub fn laws_of_requests()
     ensures told { RequestsAreTold }
     ensures laid { LaidIsTheSame }
+    ensures element { EachElementIsRead }
 {}

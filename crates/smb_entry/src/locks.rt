@@ -1,6 +1,6 @@
 //! The refusals of a LOCK ([MS-SMB2] 3.3.5.14).
 
-ghost use Rattle.std.specs.Prelude.{◌≡◌, ◌≢◌};
+ghost use Rattle.std.specs.Prelude.{◌≡◌, ◌≢◌, IfSome, IsSomeAnd};
 ghost use Rattle.smb_wire.specs.NtStatus.{STATUS_SUCCESS};
 ghost use Rattle.smb_access.specs.Faults.{IsRefusal};
 ghost use Rattle.smb_entry.specs.Locks.{lock_fault_status};
@@ -14,26 +14,27 @@ use smb_wire::nt_status::{
     STATUS_RANGE_NOT_LOCKED,
 };
 
-/// The status by which an element of a LOCK is refused, or all of it for its flags.
-pub fn lock_fault_status(fault: LockFault) -> u32
+/// The status by which an element of a LOCK is refused, or all of it for its flags. Out of memory has none.
+pub fn lock_fault_status(fault: LockFault) -> Option<u32>
     ensures status { result ≡ lock_fault_status fault }
-    ensures refused { result ≢ STATUS_SUCCESS }
+    ensures refused { IfSome result (λ status. status ≢ STATUS_SUCCESS) }
 {
     match fault {
-        LockFault::BadFlags => STATUS_INVALID_PARAMETER,
-        LockFault::BadRange => STATUS_INVALID_LOCK_RANGE,
-        LockFault::Full | LockFault::NotGranted | LockFault::NoMemory => STATUS_LOCK_NOT_GRANTED,
-        LockFault::NotLocked => STATUS_RANGE_NOT_LOCKED,
+        LockFault::BadFlags => Some(STATUS_INVALID_PARAMETER),
+        LockFault::BadRange => Some(STATUS_INVALID_LOCK_RANGE),
+        LockFault::Full | LockFault::NotGranted => Some(STATUS_LOCK_NOT_GRANTED),
+        LockFault::NotLocked => Some(STATUS_RANGE_NOT_LOCKED),
+        LockFault::NoMemory => None,
     }
 }
 
 /// The refusal of a LOCK that locks.
 pub fn lock_refusal(fault: LockFault) -> StoreFault
     ensures memory { result ≡ NoMemory → fault ≡ NoLockMemory }
-    ensures status { result ≢ NoMemory → (fault ≢ NoLockMemory) × IsRefusal (lock_fault_status fault) result }
+    ensures status { result ≢ NoMemory → (fault ≢ NoLockMemory) × IsSomeAnd (lock_fault_status fault) (λ status. IsRefusal status result) }
 {
-    match fault {
-        LockFault::NoMemory => StoreFault::NoMemory,
-        fault => StoreFault::Status(lock_fault_status(fault)),
+    match lock_fault_status(fault) {
+        Some(status) => StoreFault::Status(status),
+        None => StoreFault::NoMemory,
     }
 }

@@ -1,5 +1,5 @@
 -- The rest of a stream, and its kind.
-use Rattle.std.proofs.Common.{◌≡◌, ℕ, ◌/◌, ◌%◌, ◌^◌, ◌<◌, ◌≤◌, ◌-◌, true, false, eqb, ltb, List, [], ◌∷◌, ◌++◌, length, Option, Some, None, refl, ap, arith, length-append}
+use Rattle.std.proofs.Common.{◌≡◌, ℕ, ◌/◌, ◌%◌, ◌^◌, ◌<◌, ◌≤◌, ◌-◌, true, false, eqb, ltb, List, [], ◌∷◌, ◌++◌, length, Some, None, refl, ap, arith, length-append}
 use Rattle.std.specs.Prelude.{replicate, ◌≢◌, if◌then◌else◌}
 use Rattle.std.proofs.Common.{inl, inr}
 use Rattle.std.proofs.lemmas.Grind.{common_steps}
@@ -7,9 +7,8 @@ use Rattle.std.proofs.lemmas.List.{length-replicate}
 use Rattle.std.proofs.lemmas.Bool.{eqb-true, eqb-false, ltb-true, ltb-false, le-ltb, lt-ltb, eq-eqb, ne_eqb, lt-leb, le-leb, cases_Bool, false_from_ne_true}
 use Rattle.smb_wire.specs.Number.{IsBytes, spelling}
 use Rattle.smb_frame.specs.declared.fault.FrameFault.{FrameFault}
-use Rattle.smb_frame.specs.declared.fault.FrameFault.TheVariants.{FirstByte, TooLong, PayloadTooLong, NoMemory}
-use Rattle.smb_frame.specs.Framed.{frame, network_order, BreaksFirstByte, BreaksLimit, IsOpen, IsRest}
-use Rattle.smb_frame.specs.Reading.{size, first, fault_of}
+use Rattle.smb_frame.specs.Framed.{frame, network_order, BreaksFirstByte, BreaksLimit, IsOpen, RestKind, still_open, wrong_first_byte, too_long, IsRest}
+use Rattle.smb_frame.specs.Reading.{size, first, kind_of, fault_of}
 
 -- what is faulty stays faulty, and there is no frame in it
 pub fault_more : (limit : ℕ) (held piece : List ℕ) (fault : FrameFault) → fault_of limit held ≡ Some fault →
@@ -140,7 +139,7 @@ lacking limit k a b c bytes ek within none = grind (arith, common_steps, eq-eqb 
 
 -- the kind of bytes with no whole frame in front, from the tests of their length
 long_kind : (limit k a b c : ℕ) (bytes : List ℕ) → IsBytes (k ∷ a ∷ b ∷ c ∷ bytes) → k ≡ 0 → first limit (k ∷ a ∷ b ∷ c ∷ bytes) ≡ None →
-    IsRest limit (k ∷ a ∷ b ∷ c ∷ bytes) (if ltb limit (size a b c) then Some TooLong else None)
+    IsRest limit (k ∷ a ∷ b ∷ c ∷ bytes) (if ltb limit (size a b c) then too_long else still_open)
 long_kind limit k a b c bytes fits ek none = elim (cases_Bool (ltb limit (size a b c))) [
   | inl e ↦ rw e (record {
     size = size a b c;
@@ -152,7 +151,7 @@ long_kind limit k a b c bytes fits ek none = elim (cases_Bool (ltb limit (size a
   | inr e ↦ rw e (open_long limit k a b c bytes fits ek (ltb-false limit (size a b c) e) (lacking limit k a b c bytes ek (ltb-false limit (size a b c) e) none))
 ]
 
-pub rest_kind : (limit : ℕ) (rest : List ℕ) → IsBytes rest → first limit rest ≡ None → IsRest limit rest (fault_of limit rest)
+pub rest_kind : (limit : ℕ) (rest : List ℕ) → IsBytes rest → first limit rest ≡ None → IsRest limit rest (kind_of limit rest)
 rest_kind limit [] fits none = record {
   payload = [];
   still = 0 ∷ 0 ∷ 0 ∷ 0 ∷ [];
@@ -179,22 +178,22 @@ rest_kind limit (k ∷ a ∷ b ∷ c ∷ bytes) fits none = elim (cases_Bool (eq
   | inr e ↦ rw e (wrong_first k (a ∷ b ∷ c ∷ bytes) e)
 ]
 
--- a rest of a kind begins with no whole frame, and is faulty as the kind says
-pub record HasKind (limit : ℕ) (rest : List ℕ) (kind : Option FrameFault) : Type 0 where
+-- a rest of a kind begins with no whole frame, and `kind_of` gives the kind
+pub record HasKind (limit : ℕ) (rest : List ℕ) (kind : RestKind) : Type 0 where
   pub none : first limit rest ≡ None
-  pub fault : fault_of limit rest ≡ kind
+  pub kind_is : kind_of limit rest ≡ kind
 
-wrong_kind : (limit byte : ℕ) (more : List ℕ) → byte ≢ 0 → HasKind limit (byte ∷ more) (Some FirstByte)
-wrong_kind limit byte [] wrong = record { none = refl; fault = rw (ne_eqb byte 0 wrong) refl }
-wrong_kind limit byte (a ∷ []) wrong = record { none = refl; fault = rw (ne_eqb byte 0 wrong) refl }
-wrong_kind limit byte (a ∷ b ∷ []) wrong = record { none = refl; fault = rw (ne_eqb byte 0 wrong) refl }
-wrong_kind limit byte (a ∷ b ∷ c ∷ more) wrong = record { none = rw (ne_eqb byte 0 wrong) refl; fault = rw (ne_eqb byte 0 wrong) refl }
+wrong_kind : (limit byte : ℕ) (more : List ℕ) → byte ≢ 0 → HasKind limit (byte ∷ more) wrong_first_byte
+wrong_kind limit byte [] wrong = record { none = refl; kind_is = rw (ne_eqb byte 0 wrong) refl }
+wrong_kind limit byte (a ∷ []) wrong = record { none = refl; kind_is = rw (ne_eqb byte 0 wrong) refl }
+wrong_kind limit byte (a ∷ b ∷ []) wrong = record { none = refl; kind_is = rw (ne_eqb byte 0 wrong) refl }
+wrong_kind limit byte (a ∷ b ∷ c ∷ more) wrong = record { none = rw (ne_eqb byte 0 wrong) refl; kind_is = rw (ne_eqb byte 0 wrong) refl }
 
-over_kind : (limit n : ℕ) (more : List ℕ) → n < 2 ^ 24 → limit < n → HasKind limit (0 ∷ (network_order 3 n ++ more)) (Some TooLong)
+over_kind : (limit n : ℕ) (more : List ℕ) → n < 2 ^ 24 → limit < n → HasKind limit (0 ∷ (network_order 3 n ++ more)) too_long
 unfolding spelling
 over_kind limit n more fits over = record {
   none = rw (size_is n fits, lt-leb n limit over) refl;
-  fault = rw (size_is n fits, lt-ltb limit n over) refl;
+  kind_is = rw (size_is n fits, lt-ltb limit n over) refl;
 }
 
 -- a first byte of what some frame begins with
@@ -207,7 +206,7 @@ some_still [] h = absurd (h refl)
 some_still (x ∷ still) h = omega arith
 
 -- an open rest of four bytes or more
-open_kind_long : (limit k a b c : ℕ) (bytes : List ℕ) → IsOpen limit (k ∷ a ∷ b ∷ c ∷ bytes) → HasKind limit (k ∷ a ∷ b ∷ c ∷ bytes) None
+open_kind_long : (limit k a b c : ℕ) (bytes : List ℕ) → IsOpen limit (k ∷ a ∷ b ∷ c ∷ bytes) → HasKind limit (k ∷ a ∷ b ∷ c ∷ bytes) still_open
 unfolding spelling
 open_kind_long limit k a b c bytes o =
     let whole = o.whole in
@@ -227,19 +226,17 @@ open_kind_long limit k a b c bytes o =
     }))) in
     record {
       none = rw (eq-eqb k 0 zero_is, lt-leb (size a b c) (length bytes) short, le-leb (size a b c) limit within) refl;
-      fault = rw (eq-eqb k 0 zero_is, le-ltb limit (size a b c) within) refl;
+      kind_is = rw (eq-eqb k 0 zero_is, le-ltb limit (size a b c) within) refl;
     }
 
-open_kind : (limit : ℕ) (rest : List ℕ) → IsOpen limit rest → HasKind limit rest None
-open_kind limit [] o = record { none = refl; fault = refl }
-open_kind limit (k ∷ []) o = record { none = refl; fault = rw (first_of_open k [] o.still o.payload o.whole) refl }
-open_kind limit (k ∷ a ∷ []) o = record { none = refl; fault = rw (first_of_open k (a ∷ []) o.still o.payload o.whole) refl }
-open_kind limit (k ∷ a ∷ b ∷ []) o = record { none = refl; fault = rw (first_of_open k (a ∷ b ∷ []) o.still o.payload o.whole) refl }
+open_kind : (limit : ℕ) (rest : List ℕ) → IsOpen limit rest → HasKind limit rest still_open
+open_kind limit [] o = record { none = refl; kind_is = refl }
+open_kind limit (k ∷ []) o = record { none = refl; kind_is = rw (first_of_open k [] o.still o.payload o.whole) refl }
+open_kind limit (k ∷ a ∷ []) o = record { none = refl; kind_is = rw (first_of_open k (a ∷ []) o.still o.payload o.whole) refl }
+open_kind limit (k ∷ a ∷ b ∷ []) o = record { none = refl; kind_is = rw (first_of_open k (a ∷ b ∷ []) o.still o.payload o.whole) refl }
 open_kind limit (k ∷ a ∷ b ∷ c ∷ bytes) o = open_kind_long limit k a b c bytes o
 
-pub kind_of_rest : (limit : ℕ) (rest : List ℕ) (kind : Option FrameFault) → IsRest limit rest kind → HasKind limit rest kind
-kind_of_rest limit rest (Some FirstByte) h = rw h.whole (wrong_kind limit h.byte h.more h.wrong)
-kind_of_rest limit rest (Some TooLong) h = rw h.whole (over_kind limit h.size h.more h.fits h.over)
-kind_of_rest limit rest (Some PayloadTooLong) h = absurd h
-kind_of_rest limit rest (Some NoMemory) h = absurd h
-kind_of_rest limit rest None h = open_kind limit rest h
+pub kind_of_rest : (limit : ℕ) (rest : List ℕ) (kind : RestKind) → IsRest limit rest kind → HasKind limit rest kind
+kind_of_rest limit rest wrong_first_byte h = rw h.whole (wrong_kind limit h.byte h.more h.wrong)
+kind_of_rest limit rest too_long h = rw h.whole (over_kind limit h.size h.more h.fits h.over)
+kind_of_rest limit rest still_open h = open_kind limit rest h

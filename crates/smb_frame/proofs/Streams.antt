@@ -3,10 +3,9 @@ use Rattle.std.proofs.Common.{◌≡◌, ℕ, zero, suc, ◌+◌, ◌≤◌, Lis
 use Rattle.std.proofs.lemmas.List.{get_or-drop}
 use Rattle.std.specs.List.{flat_map}
 use Rattle.smb_wire.specs.Number.{IsBytes}
-use Rattle.smb_frame.specs.declared.fault.FrameFault.{FrameFault}
-use Rattle.smb_frame.specs.Framed.{frame, Framed}
+use Rattle.smb_frame.specs.Framed.{frame, RestKind, Framed}
 use Rattle.smb_frame.proofs.Rests.{rest_kind, kind_of_rest}
-use Rattle.smb_frame.specs.Reading.{first, fault_of, after, payloads_in, rest_in, payloads, rest}
+use Rattle.smb_frame.specs.Reading.{first, kind_of, after, payloads_in, rest_in, payloads, rest}
 use Rattle.smb_frame.proofs.Frames.{first_more, after_more, after_is_shorter, first_frame, first_fits, first_within, first-of_frame, after-of_frame}
 
 -- with as much fuel as there are bytes, more of it changes nothing
@@ -102,8 +101,8 @@ rest-more limit piece = by_frames limit (λ bytes. rest limit (bytes ++ piece) �
     (λ bytes payload e ih. rw (rest-some limit (bytes ++ piece) payload (first_more limit bytes piece payload e), after_more limit bytes piece payload e, rest-some limit bytes payload e, ih) refl)
 
 -- the functions give a reading of the stream
-pub framed_so : (limit : ℕ) (bytes : List ℕ) → IsBytes bytes → Framed limit bytes (payloads limit bytes) (rest limit bytes) (fault_of limit (rest limit bytes))
-framed_so limit = by_frames limit (λ bytes. IsBytes bytes → Framed limit bytes (payloads limit bytes) (rest limit bytes) (fault_of limit (rest limit bytes)))
+pub framed_so : (limit : ℕ) (bytes : List ℕ) → IsBytes bytes → Framed limit bytes (payloads limit bytes) (rest limit bytes) (kind_of limit (rest limit bytes))
+framed_so limit = by_frames limit (λ bytes. IsBytes bytes → Framed limit bytes (payloads limit bytes) (rest limit bytes) (kind_of limit (rest limit bytes)))
     (λ bytes e fits. rw (payloads-none limit bytes e, rest-none limit bytes e) (record { whole = refl; each = tt; ends = rest_kind limit bytes fits e }))
     (λ bytes payload e ih fits.
     let s = ih (λ i. rw get_or-drop (fits (length payload + 4 + i))) in
@@ -114,17 +113,17 @@ framed_so limit = by_frames limit (λ bytes. IsBytes bytes → Framed limit byte
     }))
 
 -- and there is no other
-pub framed_only : (limit : ℕ) (those : List (List ℕ)) (stream left : List ℕ) (kind : Option FrameFault) → Framed limit stream those left kind →
-    (those ≡ payloads limit stream) × (left ≡ rest limit stream) × (kind ≡ fault_of limit (rest limit stream))
+pub framed_only : (limit : ℕ) (those : List (List ℕ)) (stream left : List ℕ) (kind : RestKind) → Framed limit stream those left kind →
+    (those ≡ payloads limit stream) × (left ≡ rest limit stream) × (kind ≡ kind_of limit (rest limit stream))
 framed_only limit [] stream left kind f =
     let k = kind_of_rest limit left kind f.ends in
     let e : first limit stream ≡ None = ap (first limit) f.whole ∙ k.none in
     let r : rest limit stream ≡ left = rest-none limit stream e ∙ f.whole in
-    (sym (payloads-none limit stream e), sym r, rw r (sym k.fault))
+    (sym (payloads-none limit stream e), sym r, rw r (sym k.kind_is))
 framed_only limit (payload ∷ those) stream left kind f =
     let whole : stream ≡ frame payload ++ (flat_map frame those ++ left) = f.whole ∙ append_assoc (frame payload) (flat_map frame those) left in
     let e : first limit stream ≡ Some payload = ap (first limit) whole ∙ first-of_frame limit payload _ f.each.0.fits f.each.0.within in
     let left_is : after payload stream ≡ flat_map frame those ++ left = ap (after payload) whole ∙ after-of_frame payload (flat_map frame those ++ left) in
     let ih = framed_only limit those (after payload stream) left kind (record { whole = left_is; each = f.each.1; ends = f.ends }) in
     let r = rest-some limit stream payload e in
-    (ap (λ t. payload ∷ t) ih.0 ∙ sym (payloads-some limit stream payload e), ih.1 ∙ sym r, ih.2 ∙ ap (fault_of limit) (sym r))
+    (ap (λ t. payload ∷ t) ih.0 ∙ sym (payloads-some limit stream payload e), ih.1 ∙ sym r, ih.2 ∙ ap (kind_of limit) (sym r))

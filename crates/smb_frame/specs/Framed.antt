@@ -1,9 +1,7 @@
 -- A stream of bytes as frames ([MS-SMB2] 2.1).
-use Rattle.std.specs.Prelude.{◌≡◌, ◌≢◌, ℕ, ◌^◌, ◌<◌, ◌≤◌, List, [], ◌∷◌, ◌++◌, length, reverse, Option, Some, None}
+use Rattle.std.specs.Prelude.{◌≡◌, ◌≢◌, ℕ, ◌^◌, ◌<◌, ◌≤◌, List, [], ◌∷◌, ◌++◌, length, reverse}
 use Rattle.std.specs.List.{flat_map, AllByRecursion}
 use Rattle.smb_wire.specs.Number.{spelling}
-use Rattle.smb_frame.specs.declared.fault.FrameFault.{FrameFault}
-use Rattle.smb_frame.specs.declared.fault.FrameFault.TheVariants.{FirstByte, TooLong, PayloadTooLong, NoMemory}
 
 -- a number in w bytes, the highest first
 abbrev pub network_order : ℕ → ℕ → List ℕ
@@ -38,13 +36,17 @@ pub record IsOpen (limit : ℕ) (rest : List ℕ) : Type 0 where
   pub zero_first : BreaksFirstByte rest → ⊥
   pub within : BreaksLimit limit rest → ⊥
 
--- a rest of this kind: faulty at its first byte or by its length, or open
-abbrev pub IsRest : ℕ → List ℕ → Option FrameFault → Type 0
-IsRest limit rest (Some FirstByte) = BreaksFirstByte rest
-IsRest limit rest (Some TooLong) = BreaksLimit limit rest
-IsRest limit rest (Some PayloadTooLong) = ⊥
-IsRest limit rest (Some NoMemory) = ⊥
-IsRest limit rest None = IsOpen limit rest
+-- the kinds of a rest: more may follow, its first byte is wrong, or its length is over the limit
+pub data RestKind : Type 0 where
+  still_open : RestKind
+  wrong_first_byte : RestKind
+  too_long : RestKind
+
+-- a rest of this kind
+abbrev pub IsRest : ℕ → List ℕ → RestKind → Type 0
+IsRest limit rest still_open = IsOpen limit rest
+IsRest limit rest wrong_first_byte = BreaksFirstByte rest
+IsRest limit rest too_long = BreaksLimit limit rest
 
 -- a payload that a frame can say the length of, within the limit
 pub record IsPayload (limit : ℕ) (payload : List ℕ) : Type 0 where
@@ -52,7 +54,7 @@ pub record IsPayload (limit : ℕ) (payload : List ℕ) : Type 0 where
   pub within : length payload ≤ limit
 
 -- the stream is the frames of these payloads, followed by a rest of this kind
-pub record Framed (limit : ℕ) (stream : List ℕ) (payloads : List (List ℕ)) (rest : List ℕ) (kind : Option FrameFault) : Type 0 where
+pub record Framed (limit : ℕ) (stream : List ℕ) (payloads : List (List ℕ)) (rest : List ℕ) (kind : RestKind) : Type 0 where
   pub whole : stream ≡ flat_map frame payloads ++ rest
   pub each : AllByRecursion (IsPayload limit) payloads
   pub ends : IsRest limit rest kind

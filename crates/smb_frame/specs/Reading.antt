@@ -4,7 +4,7 @@ use Rattle.std.specs.Option.{option_map_or}
 use Rattle.smb_wire.specs.Number.{IsBytes}
 use Rattle.smb_frame.specs.declared.fault.FrameFault.{FrameFault}
 use Rattle.smb_frame.specs.declared.fault.FrameFault.TheVariants.{FirstByte, TooLong}
-use Rattle.smb_frame.specs.Framed.{Framed}
+use Rattle.smb_frame.specs.Framed.{RestKind, still_open, wrong_first_byte, too_long, Framed}
 
 -- the length that three bytes say in network order
 abbrev pub size : ℕ → ℕ → ℕ → ℕ
@@ -17,12 +17,22 @@ first limit (kind ∷ high ∷ middle ∷ low ∷ bytes) =
     then Some (take (size high middle low) bytes) else None
 first limit bytes = None
 
+-- the kind of a rest, by its first four bytes as far as they are there
+abbrev pub kind_of : ℕ → List ℕ → RestKind
+kind_of limit [] = still_open
+kind_of limit (kind ∷ high ∷ middle ∷ low ∷ bytes) =
+    if kind == 0 then (if nat_lt limit (size high middle low) then too_long else still_open) else wrong_first_byte
+kind_of limit (kind ∷ bytes) = if kind == 0 then still_open else wrong_first_byte
+
+-- the fault that is reported of a rest of this kind
+abbrev pub reported : RestKind → Option FrameFault
+reported still_open = None
+reported wrong_first_byte = Some FirstByte
+reported too_long = Some TooLong
+
 -- what is wrong with the frame that stands first, as far as it goes
 abbrev pub fault_of : ℕ → List ℕ → Option FrameFault
-fault_of limit [] = None
-fault_of limit (kind ∷ high ∷ middle ∷ low ∷ bytes) =
-    if kind == 0 then (if nat_lt limit (size high middle low) then Some TooLong else None) else Some FirstByte
-fault_of limit (kind ∷ bytes) = if kind == 0 then None else Some FirstByte
+fault_of limit rest = reported (kind_of limit rest)
 
 -- the bytes after the frame of this payload, which stands first
 abbrev pub after : List ℕ → List ℕ → List ℕ
@@ -49,9 +59,9 @@ rest limit stream = rest_in limit (length stream) stream
 abbrev pub EachStreamHasOneReading : Type 0
 EachStreamHasOneReading =
     (limit : ℕ) (stream : List ℕ) → IsBytes stream →
-    Framed limit stream (payloads limit stream) (rest limit stream) (fault_of limit (rest limit stream))
-    × ((those : List (List ℕ)) (left : List ℕ) (kind : Option FrameFault) → Framed limit stream those left kind →
-    (those ≡ payloads limit stream) × (left ≡ rest limit stream) × (kind ≡ fault_of limit (rest limit stream)))
+    Framed limit stream (payloads limit stream) (rest limit stream) (kind_of limit (rest limit stream))
+    × ((those : List (List ℕ)) (left : List ℕ) (kind : RestKind) → Framed limit stream those left kind →
+    (those ≡ payloads limit stream) × (left ≡ rest limit stream) × (kind ≡ kind_of limit (rest limit stream)))
 
 -- reading the rest followed by a piece gives exactly the payloads that the piece adds, and the new rest
 abbrev pub RestIsEnough : Type 0

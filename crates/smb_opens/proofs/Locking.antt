@@ -1,12 +1,19 @@
 -- LOCK through an open: what the lock table says of the file that the open shows.
-use Rattle.std.proofs.Common.{◌≡◌, ◌≢◌, ℕ, List, false, None, Some, refl, sym, ap, subst, ◌∙◌}
-use Rattle.std.specs.Prelude.{Result, Ok, Err, OnOk, OnErr}
+use Rattle.std.proofs.Common.{◌≡◌, ◌≢◌, ◌+◌, ℕ, Bool, true, false, not, List, [], ◌∷◌, Option, None, Some, is_some, if◌then◌else◌, refl, sym, ap, subst, ◌∙◌}
+use Rattle.std.specs.Prelude.{Result, Ok, Err, OnOk, OnErr, IfSome, IsSomeAnd, unwrap_or}
+use Rattle.std.specs.List.{list_any}
+use Rattle.smb_wire.specs.NtStatus.{STATUS_SUCCESS}
 use Rattle.smb_tree.specs.Entries.{is_folder_kind}
 use Rattle.smb_locks.specs.declared.ask.LockAsk.{LockAsk}
 use Rattle.smb_locks.specs.declared.fault.LockFault.{LockFault}
-use Rattle.smb_locks.specs.declared.fault.LockFault.TheVariants.{NoMemory as NoLockMemory}
+use Rattle.smb_locks.specs.declared.fault.LockFault.TheVariants.{BadFlags, BadRange, NotLocked, NoMemory as NoLockMemory}
+use Rattle.smb_locks.specs.declared.fault.UnlockError.{UnlockError}
+use Rattle.smb_locks.specs.declared.lock.Lock.{Lock}
+use Rattle.smb_locks.specs.Asks.{are_unlocks, range_asked}
 use Rattle.smb_locks.specs.Locking.{lock_all_fault}
+use Rattle.smb_locks.specs.Ranges.{is_past_the_end}
 use Rattle.smb_locks.specs.Table.{Table, locks_on, locked}
+use Rattle.smb_locks.specs.Unlocking.{is_lock_over, without_oldest, unlock_error_at, unlock_error_from, unlock_all_error}
 use Rattle.smb_access.specs.declared.fault.StoreFault.{StoreFault}
 use Rattle.smb_access.specs.declared.fault.StoreFault.TheVariants.{NoMemory}
 use Rattle.smb_access.specs.declared.view.View.{View}
@@ -32,13 +39,42 @@ kept_lock (Err e) state number view asks after opens_count entries_count s ok la
     subst (λ (locks : Table). IsKept state.tree state.opens locks state.next opens_count entries_count) (sym err) kept
 
 status_shown : (state : StoreState) (number : ℕ) (view : View) (asks : List LockAsk) (fault : LockFault) → open_view state number ≡ Some view → is_folder_kind view.kind ≡ false →
-    lock_all_fault (locks_on state.locks view.entry) number asks ≡ Some fault → lock_status state number asks ≡ lock_fault_status fault
+    lock_all_fault (locks_on state.locks view.entry) number asks ≡ Some fault → lock_status state number asks ≡ unwrap_or (lock_fault_status fault) STATUS_SUCCESS
 status_shown state number view asks fault v file f = rw (v, file, f) refl
+
+by_status : (status : Option ℕ) (refusal : StoreFault) → IsSomeAnd status (λ status. IsRefusal status refusal) → IsRefusal (unwrap_or status STATUS_SUCCESS) refusal
+by_status None refusal h = absurd h
+by_status (Some status) refusal h = h
 
 -- a LOCK that locks is refused as the lock table refuses it
 pub why_lock : (state : StoreState) (number : ℕ) (view : View) (asks : List LockAsk) (fault : LockFault) (refusal : StoreFault) → open_view state number ≡ Some view → is_folder_kind view.kind ≡ false →
-    (fault ≢ NoLockMemory → lock_all_fault (locks_on state.locks view.entry) number asks ≡ Some fault) → (refusal ≢ NoMemory → (fault ≢ NoLockMemory) × IsRefusal (lock_fault_status fault) refusal) →
+    (fault ≢ NoLockMemory → lock_all_fault (locks_on state.locks view.entry) number asks ≡ Some fault) →
+    (refusal ≢ NoMemory → (fault ≢ NoLockMemory) × IsSomeAnd (lock_fault_status fault) (λ status. IsRefusal status refusal)) →
     refusal ≢ NoMemory → IsRefusal (lock_status state number asks) refusal
 why_lock state number view asks fault refusal v file why refused q =
     let is = refused q in
-    subst (λ (status : ℕ). IsRefusal status refusal) (sym (status_shown state number view asks fault v file (why is.0))) is.1
+    subst (λ (status : ℕ). IsRefusal status refusal) (sym (status_shown state number view asks fault v file (why is.0))) (by_status (lock_fault_status fault) refusal is.1)
+
+-- a LOCK that unlocks is refused by a status, since no memory is needed
+abbrev HasStatus : Option UnlockError → Type 0
+HasStatus refusal = IfSome refusal (λ error. is_some (lock_fault_status error.fault) ≡ true)
+
+status_of_one : (done : ℕ) (later : Option UnlockError) (past held : Bool) → HasStatus later →
+    HasStatus (unlock_error_at done (let fault : Option LockFault = if past then Some BadRange else if held then None else Some NotLocked in fault) later)
+status_of_one done later true held h = refl
+status_of_one done later false true h = h
+status_of_one done later false false h = refl
+
+status_from : (done holder : ℕ) (locks : List Lock) (asks : List LockAsk) → HasStatus (unlock_error_from done holder locks asks)
+status_from done holder locks [] = tt
+status_from done holder locks (ask ∷ asks) =
+    let test = is_lock_over holder (range_asked ask) in
+    status_of_one done _ (is_past_the_end (range_asked ask)) (list_any test locks) (status_from (done + 1) holder (without_oldest test locks) asks)
+
+status_of_all : (holder : ℕ) (locks : List Lock) (asks : List LockAsk) (lawful : Bool) →
+    HasStatus (let error : Option UnlockError = if not lawful then Some (record { done = 0; fault = BadFlags }) else unlock_error_from 0 holder locks asks in error)
+status_of_all holder locks asks true = status_from 0 holder locks asks
+status_of_all holder locks asks false = refl
+
+pub has_status : (locks : List Lock) (holder : ℕ) (asks : List LockAsk) (error : UnlockError) → unlock_all_error locks holder asks ≡ Some error → is_some (lock_fault_status error.fault) ≡ true
+has_status locks holder asks error e = subst HasStatus e (status_of_all holder locks asks (are_unlocks asks))

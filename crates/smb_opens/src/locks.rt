@@ -56,7 +56,12 @@ impl<T: Tree + Drop, O: Opens + Drop> Store<T, O> {
         }
         match self.locks.unlock_all(view.entry, number, asks) {
             Ok(()) => Ok(()),
-            Err(error) => Err(lock_fault_status(error.fault)),
+            Err(error) => {
+                let Some(status) = lock_fault_status(error.fault) else {
+                    unreachable!();
+                };
+                Err(status)
+            }
         }
     }
 }

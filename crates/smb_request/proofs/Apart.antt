@@ -1,8 +1,10 @@
 -- One request, seen from the sessions of other connections.
 use Rattle.std.proofs.Common.{◌≡◌, ◌==◌, ℕ, Bool, true, false, if◌then◌else◌, List, [], ◌∷◌, length, filter, ◌⊎◌, Option, None, Some, is_some, refl, ap, arith, ◌∙◌}
 use Rattle.std.proofs.lemmas.Bool.Decides.{nat_tests}
-use Rattle.std.specs.Option.{option_map, option_map_or}
+use Rattle.std.specs.Option.{option_map, option_map_or, option_and_then}
 use Rattle.smb_session.specs.Session.{SessionState}
+use Rattle.smb_session.specs.Setup.{setup_number}
+use Rattle.smb_body.specs.SessionSetup.{SessionSetupAsked}
 use Rattle.smb_session.specs.Table.{TableState, session_at, session_ended, knows_session}
 use Rattle.smb_access.specs.declared.open_row.OpenRow.{OpenRow}
 use Rattle.smb_access.specs.declared.open_row.Owner.TheVariants.{Session, Tree}
@@ -56,7 +58,6 @@ use Rattle.smb_opens.proofs.Closing.{opens_closed}
 use Rattle.smb_request.specs.Bytes.{file_read, file_written}
 use Rattle.smb_request.specs.Locks.{lock_asks, asks_unlock, file_locked, file_unlocked}
 use Rattle.smb_request.specs.Files.{file_asked, file_created, closed_by_view, file_closed}
-use Rattle.smb_session.specs.declared.fault.SessionFault.{SessionFault}
 use Rattle.smb_session.specs.Session.{with_tree, without_tree}
 use Rattle.smb_session.specs.Table.{logoff_refusal, tree_disconnect_refusal, tree_disconnected}
 use Rattle.smb_session.specs.Sessions.{tree_connect_refusal}
@@ -66,7 +67,7 @@ use Rattle.smb_request.specs.declared.status.Status.TheVariants.{NotSupported, S
 use Rattle.smb_request.specs.Response.{success, refused}
 use Rattle.smb_request.specs.Session.{status_of_refusal, session_logged_off, tree_joined, tree_left}
 use Rattle.smb_request.specs.State.{SharedState, with_store}
-use Rattle.smb_request.specs.Laws.{NumbersInOrder, IsInOrder, IsAsItWas, IsOver}
+use Rattle.smb_request.specs.Laws.{NumbersInOrder, IsInOrder, IsAsItWas, IsOver, ReplacesSession}
 use Rattle.smb_entry.specs.Bytes.{written_tree}
 use Rattle.smb_access.specs.declared.open_row.Owner.{Owner}
 use Rattle.smb_request.specs.SetInfo.{set_through}
@@ -75,9 +76,9 @@ use Rattle.smb_access.specs.declared.scan.Scan.{Scan}
 use Rattle.smb_opens.specs.Scans.{scan_set}
 use Rattle.smb_opens.proofs.ScanLaws.{numbers_scanned}
 use Rattle.smb_request.proofs.Listings.{listed_left, none_scanned, held_scanned}
-use Rattle.smb_request.proofs.SetUp.{set_up_left}
+use Rattle.smb_request.proofs.SetUp.{MayReplace, set_up_left}
 use Rattle.smb_request.proofs.Numbers.{others_left, next_closed}
-use Rattle.smb_request.proofs.Leaving.{Leaves, LeavesShared, IsApart, leaves_own, leaves_then, leaves_opens, leaves_same, leaves_changed, leaves_ended, leaves_some, leaves_opened, known_apart, known_there, others_held, opens_of}
+use Rattle.smb_request.proofs.Leaving.{LeavesBut, LeavesShared, LeavesSharedBut, IsFinished, IsApart, leaves_own, leaves_then, leaves_opens, leaves_same, leaves_changed, leaves_ended, leaves_some, leaves_opened, known_apart, known_there, others_held, opens_of}
 
 -- opens of other sessions
 others_of_tree : (m t n : ℕ) (rows : List OpenRow) → (n == m) ≡ false → filter (is_held_by (Session n)) (others (Tree m t) rows) ≡ filter (is_held_by (Session n)) rows
@@ -127,9 +128,9 @@ written_next store k offset buffer moment =
       | Some row ↦ written_by store offset moment buffer row (length buffer == 0)
     ]
 
-module _ {S : Type 0} (acts : ℕ → Bool) (c : ℕ) (a : acts c ≡ true) (shared : SharedState S) (o : NumbersInOrder shared.sessions.table shared.store) where
+module _ {S : Type 0} (may : ℕ → SessionState → Type 0) (acts : ℕ → Bool) (c : ℕ) (a : acts c ≡ true) (shared : SharedState S) (o : NumbersInOrder shared.sessions.table shared.store) where
   abbrev Left : SharedState S → Type 0
-  Left = LeavesShared acts shared
+  Left = LeavesSharedBut may acts shared
 
   same : Left shared
   same = leaves_same acts shared.sessions.table shared.store o
@@ -141,17 +142,17 @@ module _ {S : Type 0} (acts : ℕ → Bool) (c : ℕ) (a : acts c ≡ true) (sha
   -- opens of one owner are closed, and then its session is another
   closed_then : (s : ℕ) (owner : Owner) (table : TableState) → IsApart acts shared.sessions.table s →
       ((n : ℕ) → (n == s) ≡ false → filter (is_held_by (Session n)) (others owner shared.store.opens) ≡ opens_of shared.store n) →
-      (NumbersInOrder shared.sessions.table (closed_all shared.store owner) → Leaves acts shared.sessions.table (closed_all shared.store owner) table (closed_all shared.store owner)) →
-      Leaves acts shared.sessions.table shared.store table (closed_all shared.store owner)
+      (NumbersInOrder shared.sessions.table (closed_all shared.store owner) → LeavesBut may acts shared.sessions.table (closed_all shared.store owner) table (closed_all shared.store owner)) →
+      LeavesBut may acts shared.sessions.table shared.store table (closed_all shared.store owner)
   closed_then s owner table apart held step =
       let left = others_left shared.store owner o.opens in
       let one = leaves_some acts shared.sessions.table shared.store o s apart (closed_all shared.store owner) _ left.opens left.next held in
       leaves_then acts shared.sessions.table shared.sessions.table table shared.store (closed_all shared.store owner) (closed_all shared.store owner) o one (step one.order)
 
   -- a refusal changes nothing
-  unless_refused : (under : Under) (step : CommandStep S) (refusal : Option SessionFault) → (refusal ≡ None → Left step.shared) → Left (option_map_or (λ fault. refused shared under (status_of_refusal fault)) refusal step).shared
-  unless_refused under step (Some fault) h = same
-  unless_refused under step None h = h refl
+  by_status : (under : Under) (step : CommandStep S) (status : Option Status) → (status ≡ None → Left step.shared) → Left (option_map_or (λ status. refused shared under status) status step).shared
+  by_status under step (Some status) h = same
+  by_status under step None h = h refl
 
   where_done : (under : Under) (step : CommandStep S) (status : Status) (b : Bool) → Left step.shared → Left (let x : CommandStep S = if b then step else refused shared under status in x).shared
   where_done under step status true h = h
@@ -160,7 +161,7 @@ module _ {S : Type 0} (acts : ℕ → Bool) (c : ℕ) (a : acts c ≡ true) (sha
   -- LOGOFF
   logged_off_left : (under : Under) → Left (session_logged_off c shared under).shared
   unfolding session_logged_off
-  logged_off_left under = unless_refused under _ (logoff_refusal shared.sessions.table c under.session_id) (λ e.
+  logged_off_left under = by_status under _ (option_and_then status_of_refusal (logoff_refusal shared.sessions.table c under.session_id)) (λ e.
       let s = under.session_id in
       let known : knows_session shared.sessions.table c s ≡ true = grind (arith, e) in
       let apart = known_apart acts shared.sessions.table c s a known in
@@ -170,7 +171,7 @@ module _ {S : Type 0} (acts : ℕ → Bool) (c : ℕ) (a : acts c ≡ true) (sha
   -- TREE_CONNECT
   joined_left : (under : Under) (path : List ℕ) → Left (tree_joined c shared under path).shared
   unfolding tree_joined
-  joined_left under path = unless_refused under _ (tree_connect_refusal shared.sessions c under.session_id path) (λ e.
+  joined_left under path = by_status under _ (option_and_then status_of_refusal (tree_connect_refusal shared.sessions c under.session_id path)) (λ e.
       let s = under.session_id in
       let known : knows_session shared.sessions.table c s ≡ true = grind (arith, e) in
       leaves_changed acts shared.sessions.table shared.store o s (known_apart acts shared.sessions.table c s a known) with_tree)
@@ -178,7 +179,7 @@ module _ {S : Type 0} (acts : ℕ → Bool) (c : ℕ) (a : acts c ≡ true) (sha
   -- TREE_DISCONNECT
   disconnected_left : (under : Under) → Left (tree_left c shared under).shared
   unfolding tree_left
-  disconnected_left under = unless_refused under _ (tree_disconnect_refusal shared.sessions.table c under.session_id under.tree_id) (λ e.
+  disconnected_left under = by_status under _ (option_and_then status_of_refusal (tree_disconnect_refusal shared.sessions.table c under.session_id under.tree_id)) (λ e.
       let s = under.session_id in
       let known : knows_session shared.sessions.table c s ≡ true = grind (arith, e) in
       let apart = known_apart acts shared.sessions.table c s a known in
@@ -284,67 +285,93 @@ module _ {S : Type 0} (acts : ℕ → Bool) (c : ℕ) (a : acts c ≡ true) (sha
       option_map_or (is_held_by (Tree under.session_id under.tree_id)) (open_of shared.store.opens (number_named (Some named))) false ≡ true
   named_held under asked named e = open_held under named (grind (arith, e))
 
-  acted_left : (m : Meaning S) (moment : ℕ) (dialect : Option Dialect) (under : Under) (handed : Option ContextOpen) (asked : RequestValue) → missing_refusal shared c under asked (option_map (open_named handed) (file_id_of asked)) ≡ None →
+  -- why the session that a SESSION_SETUP names as the previous one may be over
+  abbrev Causes : Meaning S → Under → RequestValue → Type 0
+  Causes m under asked =
+      (setup : SessionSetupAsked) → asked ≡ asks_session_setup setup → MayReplace may setup.previous_session_id (m.answer shared.sessions.authenticator (setup_number shared.sessions.table under.session_id) setup.security_buffer)
+
+  acted_left : (m : Meaning S) (moment : ℕ) (dialect : Option Dialect) (under : Under) (handed : Option ContextOpen) (asked : RequestValue) → Causes m under asked → missing_refusal shared c under asked (option_map (open_named handed) (file_id_of asked)) ≡ None →
       Left (acted m c moment shared dialect under (number_named (option_map (open_named handed) (file_id_of asked))) asked).shared
-  acted_left m moment dialect under handed (asks_negotiate x) e = negotiated_left m moment dialect under x.dialects
-  acted_left m moment dialect under handed (asks_session_setup x) e = set_up_left m acts c a shared o under x
-  acted_left m moment dialect under handed (asks_logoff x) e = logged_off_left under
-  acted_left m moment dialect under handed (asks_tree_connect x) e = joined_left under x.path
-  acted_left m moment dialect under handed (asks_tree_disconnect x) e = disconnected_left under
-  acted_left m moment dialect under handed (asks_create x) e = created_left moment under x (acts_known under (asks_create x) None refl e)
-  acted_left m moment dialect under handed (asks_close x) e =
+  acted_left m moment dialect under handed (asks_negotiate x) cause e = negotiated_left m moment dialect under x.dialects
+  acted_left m moment dialect under handed (asks_session_setup x) cause e = set_up_left may m acts c a shared o under x (cause x refl)
+  acted_left m moment dialect under handed (asks_logoff x) cause e = logged_off_left under
+  acted_left m moment dialect under handed (asks_tree_connect x) cause e = joined_left under x.path
+  acted_left m moment dialect under handed (asks_tree_disconnect x) cause e = disconnected_left under
+  acted_left m moment dialect under handed (asks_create x) cause e = created_left moment under x (acts_known under (asks_create x) None refl e)
+  acted_left m moment dialect under handed (asks_close x) cause e =
       let named = open_named handed x.file_id in
       let k = number_named (Some named) in
       closed_left under k x.flags (closed_open_left under k (open_of shared.store.opens k) refl (named_held under (asks_close x) named e) (acts_known under (asks_close x) (Some named) refl e))
-  acted_left m moment dialect under handed (asks_flush x) e = same
-  acted_left m moment dialect under handed (asks_read x) e = read_left under (number_named (Some (open_named handed x.file_id))) x
-  acted_left m moment dialect under handed (asks_write x) e = written_left moment under (number_named (Some (open_named handed x.file_id))) x
-  acted_left m moment dialect under handed (asks_lock x) e = locks_left under (number_named (Some (open_named handed x.file_id))) (lock_asks x.locks) (asks_unlock (lock_asks x.locks))
-  acted_left m moment dialect under handed (asks_cancel x) e = same
-  acted_left m moment dialect under handed (asks_echo x) e = same
-  acted_left m moment dialect under handed (asks_query_directory x) e =
+  acted_left m moment dialect under handed (asks_flush x) cause e = same
+  acted_left m moment dialect under handed (asks_read x) cause e = read_left under (number_named (Some (open_named handed x.file_id))) x
+  acted_left m moment dialect under handed (asks_write x) cause e = written_left moment under (number_named (Some (open_named handed x.file_id))) x
+  acted_left m moment dialect under handed (asks_lock x) cause e = locks_left under (number_named (Some (open_named handed x.file_id))) (lock_asks x.locks) (asks_unlock (lock_asks x.locks))
+  acted_left m moment dialect under handed (asks_cancel x) cause e = same
+  acted_left m moment dialect under handed (asks_echo x) cause e = same
+  acted_left m moment dialect under handed (asks_query_directory x) cause e =
       let named = open_named handed x.file_id in
       let k = number_named (Some named) in
       listed_left Left shared same under k
       (λ scan. scanned_left under k (open_of shared.store.opens k) refl (named_held under (asks_query_directory x) named e) (acts_known under (asks_query_directory x) (Some named) refl e) scan) x
-  acted_left m moment dialect under handed (asks_query_info x) e = queried_left Left shared same under (number_named (Some (open_named handed x.file_id))) x
-  acted_left m moment dialect under handed (asks_set_info x) e =
+  acted_left m moment dialect under handed (asks_query_info x) cause e = queried_left Left shared same under (number_named (Some (open_named handed x.file_id))) x
+  acted_left m moment dialect under handed (asks_set_info x) cause e =
       let k = number_named (Some (open_named handed x.file_id)) in
       info_set_left Left shared same under k moment (λ ask. opens_kept (set_through shared.store k moment ask) (set_opens shared.store k moment ask) (set_next shared.store k moment ask)) x
 
-  body_at : (m : Meaning S) (moment : ℕ) (dialect : Option Dialect) (under : Under) (handed : Option ContextOpen) (asked : RequestValue) (missing : Option Status) →
+  body_at : (m : Meaning S) (moment : ℕ) (dialect : Option Dialect) (under : Under) (handed : Option ContextOpen) (asked : RequestValue) (missing : Option Status) → Causes m under asked →
       missing_refusal shared c under asked (option_map (open_named handed) (file_id_of asked)) ≡ missing →
       Left (option_map_or (λ status. answered dialect (refused shared under status)) missing (acted m c moment shared dialect under (number_named (option_map (open_named handed) (file_id_of asked))) asked)).shared
-  body_at m moment dialect under handed asked (Some status) e = same
-  body_at m moment dialect under handed asked None e = acted_left m moment dialect under handed asked e
+  body_at m moment dialect under handed asked (Some status) cause e = same
+  body_at m moment dialect under handed asked None cause e = acted_left m moment dialect under handed asked cause e
 
-  body_left : (m : Meaning S) (moment : ℕ) (dialect : Option Dialect) (under : Under) (handed : Option ContextOpen) (asked : Option RequestValue) → Left (by_body m c moment shared dialect under handed asked).shared
+  body_left : (m : Meaning S) (moment : ℕ) (dialect : Option Dialect) (under : Under) (handed : Option ContextOpen) (asked : Option RequestValue) → ((value : RequestValue) → asked ≡ Some value → Causes m under value) → Left (by_body m c moment shared dialect under handed asked).shared
   unfolding by_body
-  body_left m moment dialect under handed None = same
-  body_left m moment dialect under handed (Some asked) = body_at m moment dialect under handed asked (missing_refusal shared c under asked (option_map (open_named handed) (file_id_of asked))) refl
+  body_left m moment dialect under handed None cause = same
+  body_left m moment dialect under handed (Some asked) cause = body_at m moment dialect under handed asked (missing_refusal shared c under asked (option_map (open_named handed) (file_id_of asked))) (cause asked refl) refl
 
-  handled_left : (m : Meaning S) (moment : ℕ) (dialect : Option Dialect) (under : Under) (handed : Option ContextOpen) (handling : Handling) (asked : Option RequestValue) → Left (by_handling m c moment shared dialect under handed handling asked).shared
-  handled_left m moment dialect under handed Handled asked = body_left m moment dialect under handed asked
-  handled_left m moment dialect under handed Unsupported asked = same
-  handled_left m moment dialect under handed Passed asked = same
+  handled_left : (m : Meaning S) (moment : ℕ) (dialect : Option Dialect) (under : Under) (handed : Option ContextOpen) (handling : Handling) (asked : Option RequestValue) → ((value : RequestValue) → asked ≡ Some value → Causes m under value) → Left (by_handling m c moment shared dialect under handed handling asked).shared
+  handled_left m moment dialect under handed Handled asked cause = body_left m moment dialect under handed asked cause
+  handled_left m moment dialect under handed Unsupported asked cause = same
+  handled_left m moment dialect under handed Passed asked cause = same
 
-  command_left : (m : Meaning S) (moment : ℕ) (dialect : Option Dialect) (under : Under) (handed : Option ContextOpen) (command : Option Command) (asked : Option RequestValue) → Left (by_command m c moment shared dialect under handed command asked).shared
-  command_left m moment dialect under handed None asked = same
-  command_left m moment dialect under handed (Some command) asked = handled_left m moment dialect under handed (command_row command).handling asked
+  command_left : (m : Meaning S) (moment : ℕ) (dialect : Option Dialect) (under : Under) (handed : Option ContextOpen) (command : Option Command) (asked : Option RequestValue) → ((value : RequestValue) → asked ≡ Some value → Causes m under value) → Left (by_command m c moment shared dialect under handed command asked).shared
+  command_left m moment dialect under handed None asked cause = same
+  command_left m moment dialect under handed (Some command) asked cause = handled_left m moment dialect under handed (command_row command).handling asked cause
 
-  pub request_left : (m : Meaning S) (moment : ℕ) (dialect : Option Dialect) (context : Context) (request : List ℕ) → Left (performed m c moment shared dialect context request).shared
+  pub request_left_but : (m : Meaning S) (moment : ℕ) (dialect : Option Dialect) (context : Context) (request : List ℕ) →
+      ((n : ℕ) (session : SessionState) → ReplacesSession m shared context request n session → may n session) → Left (performed m c moment shared dialect context request).shared
   unfolding performed
-  request_left m moment dialect context request =
+  request_left_but m moment dialect context request replaces =
       let command = known_command (header_of request).command.0 in
       command_left m moment dialect (acts_under context request) (handed_to context request) command (body_of command request)
+      (λ value says setup is user flags token session accepted same_user. replaces setup.previous_session_id session (record {
+        asked = setup;
+        user = user;
+        flags = flags;
+        token = token;
+        says = says ∙ ap (λ (v : RequestValue). Some v) is;
+        accepted = accepted;
+        same_user = same_user;
+        previous = refl;
+      }))
+
+-- a session that may be over by a request is a finished one
+finished : {S : Type 0} (m : Meaning S) (shared : SharedState S) (context : Context) (request : List ℕ) (n : ℕ) (session : SessionState) → ReplacesSession m shared context request n session → IsFinished n session
+finished m shared context request n session r = ap is_some r.same_user
+
+pub request_left : {S : Type 0} (acts : ℕ → Bool) (c : ℕ) → acts c ≡ true → (shared : SharedState S) → NumbersInOrder shared.sessions.table shared.store → (m : Meaning S) (moment : ℕ) (dialect : Option Dialect) (context : Context) (request : List ℕ) →
+    LeavesShared acts shared (performed m c moment shared dialect context request).shared
+request_left acts c a shared o m moment dialect context request = request_left_but IsFinished acts c a shared o m moment dialect context request (finished m shared context request)
 
 -- all connections but one
 same_connection : (c : ℕ) → (c == c) ≡ true
 same_connection c = grind (arith, nat_tests)
 
 pub request_alone : {S : Type 0} (m : Meaning S) (c moment : ℕ) (shared : SharedState S) (dialect : Option Dialect) (context : Context) (request : List ℕ) (n : ℕ) (session : SessionState) → NumbersInOrder shared.sessions.table shared.store →
-    session_at shared.sessions.table n ≡ Some session → session.connection == c ≡ false → IsAsItWas shared (performed m c moment shared dialect context request).shared n ⊎ (IsOver (performed m c moment shared dialect context request).shared n × (is_some session.user ≡ true))
-request_alone m c moment shared dialect context request n session o at other = (request_left (λ x. x == c) c (same_connection c) shared o m moment dialect context request).alone n session at other
+    session_at shared.sessions.table n ≡ Some session → session.connection == c ≡ false →
+    IsAsItWas shared (performed m c moment shared dialect context request).shared n ⊎ (IsOver (performed m c moment shared dialect context request).shared n × ReplacesSession m shared context request n session)
+request_alone m c moment shared dialect context request n session o at other =
+    (request_left_but (ReplacesSession m shared context request) (λ x. x == c) c (same_connection c) shared o m moment dialect context request (λ k found r. r)).alone n session at other
 
 pub request_order : {S : Type 0} (m : Meaning S) (c moment : ℕ) (shared : SharedState S) (dialect : Option Dialect) (context : Context) (request : List ℕ) → NumbersInOrder shared.sessions.table shared.store →
     IsInOrder (performed m c moment shared dialect context request).shared

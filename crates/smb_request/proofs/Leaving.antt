@@ -1,5 +1,5 @@
 -- What a step on some connections leaves of the sessions of others, and of those that are over; and one step behind another.
-use Rattle.std.proofs.Common.{◌≡◌, ◌==◌, ◌<◌, ◌≤◌, ◌+◌, ℕ, Bool, true, false, List, [], ◌∷◌, ◌++◌, filter, map, ◌⊎◌, inl, inr, None, Some, is_some, refl, sym, ap, arith, ◌∙◌}
+use Rattle.std.proofs.Common.{◌≡◌, ◌==◌, ◌<◌, ◌≤◌, ◌+◌, ℕ, Bool, true, false, List, [], ◌∷◌, ◌++◌, filter, map, ◌⊎◌, inl, inr, None, Some, is_some, refl, sym, ap, subst, arith, ◌∙◌}
 use Rattle.std.proofs.lemmas.Grind.{common_steps}
 use Rattle.std.proofs.lemmas.Bool.Decides.{nat_tests}
 use Rattle.std.specs.List.{AllByRecursion}
@@ -79,40 +79,52 @@ IsSame table store n table' store' = (session_at table' n ≡ session_at table n
 abbrev pub IsNone : TableState → StoreState → ℕ → Type 0
 IsNone table store n = (session_at table n ≡ None) × (opens_of store n ≡ [])
 
--- a session is as it was, or is over and was a finished one
-abbrev pub IsLeft : TableState → StoreState → ℕ → SessionState → TableState → StoreState → Type 0
-IsLeft table store n session table' store' = IsSame table store n table' store' ⊎ (IsNone table' store' n × (is_some session.user ≡ true))
+-- a session is as it was, or is over, as it may be
+abbrev pub IsLeft : (ℕ → SessionState → Type 0) → TableState → StoreState → ℕ → SessionState → TableState → StoreState → Type 0
+IsLeft may table store n session table' store' = IsSame table store n table' store' ⊎ (IsNone table' store' n × may n session)
 
--- what a step leaves where only these connections act: the order; numbers that were given; the sessions of the others; and what is over
-pub record Leaves (acts : ℕ → Bool) (table : TableState) (store : StoreState) (table' : TableState) (store' : StoreState) : Type 0 where
+-- what a step leaves where only these connections act: the order; numbers that were given; the sessions of the others, but those
+-- that may be over by it; and what is over
+pub record LeavesBut (may : ℕ → SessionState → Type 0) (acts : ℕ → Bool) (table : TableState) (store : StoreState) (table' : TableState) (store' : StoreState) : Type 0 where
   pub order : NumbersInOrder table' store'
   pub grown : table.next ≤ table'.next
-  pub alone : (n : ℕ) (session : SessionState) → session_at table n ≡ Some session → acts session.connection ≡ false → IsLeft table store n session table' store'
+  pub alone : (n : ℕ) (session : SessionState) → session_at table n ≡ Some session → acts session.connection ≡ false → IsLeft may table store n session table' store'
   pub over : (n : ℕ) → n < table.next → IsNone table store n → IsNone table' store' n
 
 -- of all that is shared
+abbrev pub LeavesSharedBut : {S : Type 0} → (ℕ → SessionState → Type 0) → (ℕ → Bool) → SharedState S → SharedState S → Type 0
+LeavesSharedBut may acts before after = LeavesBut may acts before.sessions.table before.store after.sessions.table after.store
+
+-- and where each finished session may be over
+abbrev pub IsFinished : ℕ → SessionState → Type 0
+IsFinished n session = is_some session.user ≡ true
+
+abbrev pub Leaves : (ℕ → Bool) → TableState → StoreState → TableState → StoreState → Type 0
+Leaves = LeavesBut IsFinished
+
 abbrev pub LeavesShared : {S : Type 0} → (ℕ → Bool) → SharedState S → SharedState S → Type 0
-LeavesShared acts before after = Leaves acts before.sessions.table before.store after.sessions.table after.store
+LeavesShared = LeavesSharedBut IsFinished
 
 -- two steps, one after the other
-module _ (acts : ℕ → Bool) (table table' table'' : TableState) (store store' store'' : StoreState) where
-  then_same : (n : ℕ) (session : SessionState) → IsSame table store n table' store' → IsLeft table' store' n session table'' store'' → IsLeft table store n session table'' store''
+module _ (may : ℕ → SessionState → Type 0) (acts : ℕ → Bool) (table table' table'' : TableState) (store store' store'' : StoreState) where
+  then_same : (n : ℕ) (session : SessionState) → IsSame table store n table' store' → IsLeft may table' store' n session table'' store'' → IsLeft may table store n session table'' store''
   then_same n session one (inl two) = inl (two.0 ∙ one.0, two.1 ∙ one.1)
   then_same n session one (inr two) = inr two
 
-  then_left : (n : ℕ) (session : SessionState) → n < table.next → session_at table n ≡ Some session → acts session.connection ≡ false → table.next ≤ table'.next → Leaves acts table' store' table'' store'' →
-      IsLeft table store n session table' store' → IsLeft table store n session table'' store''
+  then_left : (n : ℕ) (session : SessionState) → n < table.next → session_at table n ≡ Some session → acts session.connection ≡ false → table.next ≤ table'.next → LeavesBut may acts table' store' table'' store'' →
+      IsLeft may table store n session table' store' → IsLeft may table store n session table'' store''
   then_left n session l at other g two (inl same) = then_same n session same (two.alone n session (same.0 ∙ at) other)
   then_left n session l at other g two (inr over) = inr (two.over n (omega (arith, l, g)) over.0, over.1)
 
-  pub leaves_then : NumbersInOrder table store → Leaves acts table store table' store' → Leaves acts table' store' table'' store'' → Leaves acts table store table'' store''
+module _ {may : ℕ → SessionState → Type 0} (acts : ℕ → Bool) (table table' table'' : TableState) (store store' store'' : StoreState) where
+  pub leaves_then : NumbersInOrder table store → LeavesBut may acts table store table' store' → LeavesBut may acts table' store' table'' store'' → LeavesBut may acts table store table'' store''
   leaves_then o one two =
       let first = one.grown in
       let second = two.grown in
       record {
         order = two.order;
         grown = omega (arith, first, second);
-        alone = λ n session at other. then_left n session (number_below n table.next session table.sessions o.sessions_given at) at other one.grown two (one.alone n session at other);
+        alone = λ n session at other. then_left may acts table table' table'' store store' store'' n session (number_below n table.next session table.sessions o.sessions_given at) at other one.grown two (one.alone n session at other);
         over = λ n given none. two.over n (omega (arith, given, first)) (one.over n given none);
       }
 
@@ -130,9 +142,9 @@ abbrev pub IsApart : (ℕ → Bool) → TableState → ℕ → Type 0
 IsApart acts table s = (n : ℕ) (session : SessionState) → session_at table n ≡ Some session → acts session.connection ≡ false → (n == s) ≡ false
 
 -- a step that changes one session at most
-module _ (acts : ℕ → Bool) (table table' : TableState) (store store' : StoreState) (s : ℕ) (apart : IsApart acts table s) where
+module _ {may : ℕ → SessionState → Type 0} (acts : ℕ → Bool) (table table' : TableState) (store store' : StoreState) (s : ℕ) (apart : IsApart acts table s) where
   pub leaves_own : NumbersInOrder table' store' → table.next ≤ table'.next → ((n : ℕ) → (n == s) ≡ false → IsSame table store n table' store') →
-      (s < table.next → IsNone table store s → IsNone table' store' s) → Leaves acts table store table' store'
+      (s < table.next → IsNone table store s → IsNone table' store' s) → LeavesBut may acts table store table' store'
   leaves_own o g same own = record {
     order = o;
     grown = g;
@@ -148,56 +160,15 @@ module _ (acts : ℕ → Bool) (table table' : TableState) (store store' : Store
   }
 
 module _ (acts : ℕ → Bool) (table : TableState) (store : StoreState) (o : NumbersInOrder table store) where
-  -- nothing of sessions and opens is changed
-  pub leaves_opens : (store' : StoreState) → store'.opens ≡ store.opens → store'.next ≡ store.next → Leaves acts table store table store'
-  leaves_opens store' e f = record {
-    order = order_opens table store store' e f o;
-    grown = omega arith;
-    alone = λ n session at other. inl (refl, ap (filter (is_held_by (Session n))) e);
-    over = λ n given none. (none.0, ap (filter (is_held_by (Session n))) e ∙ none.1);
-  }
-
-  pub leaves_same : Leaves acts table store table store
-  leaves_same = leaves_opens store refl refl
-
-  -- a session begins
+  -- the next number is apart from all
   apart_next : IsApart acts table table.next
   apart_next n session at other = (let below = number_below n table.next session table.sessions o.sessions_given at in grind (arith, nat_tests, below))
 
-  pub leaves_begun : (c : ℕ) → Leaves acts table store (begun table c) store
-  leaves_begun c =
-      leaves_own acts table (begun table c) store store table.next apart_next (order_begun table store c o) (omega arith)
-      (λ n d. (look_last n table.sessions (table.next, fresh_session c) d, refl)) (λ l none. absurd (omega (arith, l)))
-
-  -- a session is changed or ends, or some of its opens are closed, or it has one more
-  module _ (s : ℕ) (apart : IsApart acts table s) where
-    pub leaves_changed : (f : SessionState → SessionState) → Leaves acts table store (session_changed f table s) store
-    leaves_changed f =
-        leaves_own acts table (session_changed f table s) store store s apart (order_changed f table store s o) (omega arith)
-        (λ n d. (look_changed f n s table.sessions d, refl)) (λ l none. (ap (lookup (is_at (nat_cmp s))) (changed-none f s table.sessions none.0) ∙ none.0, none.1))
-
-    pub leaves_ended : Leaves acts table store (session_ended table s) store
-    leaves_ended =
-        leaves_own acts table (session_ended table s) store store s apart (order_ended table store s o) (omega arith)
-        (λ n d. (look_removed n s table.sessions d, refl)) (λ l none. (gone s table.sessions o.sessions, none.1))
-
-    pub leaves_some : (store' : StoreState) (test : OpenRow → Bool) → store'.opens ≡ filter test store.opens → store'.next ≡ store.next →
-        ((n : ℕ) → (n == s) ≡ false → filter (is_held_by (Session n)) (filter test store.opens) ≡ opens_of store n) → Leaves acts table store table store'
-    leaves_some store' test e f same =
-        leaves_own acts table table store store' s apart (order_some test table store store' e f o) (omega arith)
-        (λ n d. (refl, ap (filter (is_held_by (Session n))) e ∙ same n d))
-        (λ l none. (none.0, ap (filter (is_held_by (Session s))) e ∙ none_fewer (is_held_by (Session s)) test store.opens none.1))
-
-    pub leaves_opened : (store' : StoreState) (row : OpenRow) → (session_at table s ≡ None → ⊥) → store'.opens ≡ store.opens ++ row ∷ [] → store'.next ≡ store.next + 1 → row.number ≡ store.next → row.session ≡ s →
-        Leaves acts table store table store'
-    leaves_opened store' row there e f number session =
-        leaves_own acts table table store store' s apart (order_opened table store store' row e f number o) (omega arith)
-        (λ n d. (refl, ap (filter (is_held_by (Session n))) e ∙ held_pushed n row store.opens (ap (λ (k : ℕ). n == k) session ∙ d))) (λ l none. absurd (there none.0))
-
-  -- a finished session ends whole, whosever it is
-  whole_at : (p n : ℕ) (session found : SessionState) (b : Bool) → (n == p) ≡ b → session_at table n ≡ Some session → session_at table p ≡ Some found → is_some found.user ≡ true →
-      IsLeft table store n session (session_ended table p) (closed_all store (Session p))
-  whole_at p n session found true t at here user =
+module _ (may : ℕ → SessionState → Type 0) (acts : ℕ → Bool) (table : TableState) (store : StoreState) (o : NumbersInOrder table store) where
+  -- a session ends whole that may
+  whole_at : (p n : ℕ) (session found : SessionState) (b : Bool) → (n == p) ≡ b → session_at table n ≡ Some session → session_at table p ≡ Some found → may p found →
+      IsLeft may table store n session (session_ended table p) (closed_all store (Session p))
+  whole_at p n session found true t at here cause =
       let is : n ≡ p = grind (arith, nat_tests, t) in
       let same : Some found ≡ Some session = sym here ∙ ap (session_at table) (sym is) ∙ at in
       let same_session : found ≡ session = cc in
@@ -206,15 +177,59 @@ module _ (acts : ℕ → Bool) (table : TableState) (store : StoreState) (o : Nu
           ap (λ k. session_at (session_ended table k) n) (sym is) ∙ gone n table.sessions o.sessions,
           ap (filter (is_held_by (Session n))) ((others_left store (Session p) o.opens).opens ∙ ap (λ k. others (Session k) store.opens) (sym is)) ∙ none_held n store.opens,
         ),
-        ap (λ (x : SessionState). is_some x.user) (sym same_session) ∙ user,
+        subst (λ (k : ℕ). may k session) (sym is) (subst (may p) same_session cause),
       )
-  whole_at p n session found false t at here user = inl (look_removed n p table.sessions t, ap (filter (is_held_by (Session n))) (others_left store (Session p) o.opens).opens ∙ others_held p n store.opens t)
+  whole_at p n session found false t at here cause = inl (look_removed n p table.sessions t, ap (filter (is_held_by (Session n))) (others_left store (Session p) o.opens).opens ∙ others_held p n store.opens t)
 
-  pub leaves_whole : (p : ℕ) (found : SessionState) → session_at table p ≡ Some found → is_some found.user ≡ true → Leaves acts table store (session_ended table p) (closed_all store (Session p))
-  leaves_whole p found here user = record {
+module _ {may : ℕ → SessionState → Type 0} (acts : ℕ → Bool) (table : TableState) (store : StoreState) (o : NumbersInOrder table store) where
+  -- nothing of sessions and opens is changed
+  pub leaves_opens : (store' : StoreState) → store'.opens ≡ store.opens → store'.next ≡ store.next → LeavesBut may acts table store table store'
+  leaves_opens store' e f = record {
+    order = order_opens table store store' e f o;
+    grown = omega arith;
+    alone = λ n session at other. inl (refl, ap (filter (is_held_by (Session n))) e);
+    over = λ n given none. (none.0, ap (filter (is_held_by (Session n))) e ∙ none.1);
+  }
+
+  pub leaves_same : LeavesBut may acts table store table store
+  leaves_same = leaves_opens store refl refl
+
+  -- a session begins
+  pub leaves_begun : (c : ℕ) → LeavesBut may acts table store (begun table c) store
+  leaves_begun c =
+      leaves_own acts table (begun table c) store store table.next (apart_next acts table store o) (order_begun table store c o) (omega arith)
+      (λ n d. (look_last n table.sessions (table.next, fresh_session c) d, refl)) (λ l none. absurd (omega (arith, l)))
+
+  -- a session is changed or ends, or some of its opens are closed, or it has one more
+  module _ (s : ℕ) (apart : IsApart acts table s) where
+    pub leaves_changed : (f : SessionState → SessionState) → LeavesBut may acts table store (session_changed f table s) store
+    leaves_changed f =
+        leaves_own acts table (session_changed f table s) store store s apart (order_changed f table store s o) (omega arith)
+        (λ n d. (look_changed f n s table.sessions d, refl)) (λ l none. (ap (lookup (is_at (nat_cmp s))) (changed-none f s table.sessions none.0) ∙ none.0, none.1))
+
+    pub leaves_ended : LeavesBut may acts table store (session_ended table s) store
+    leaves_ended =
+        leaves_own acts table (session_ended table s) store store s apart (order_ended table store s o) (omega arith)
+        (λ n d. (look_removed n s table.sessions d, refl)) (λ l none. (gone s table.sessions o.sessions, none.1))
+
+    pub leaves_some : (store' : StoreState) (test : OpenRow → Bool) → store'.opens ≡ filter test store.opens → store'.next ≡ store.next →
+        ((n : ℕ) → (n == s) ≡ false → filter (is_held_by (Session n)) (filter test store.opens) ≡ opens_of store n) → LeavesBut may acts table store table store'
+    leaves_some store' test e f same =
+        leaves_own acts table table store store' s apart (order_some test table store store' e f o) (omega arith)
+        (λ n d. (refl, ap (filter (is_held_by (Session n))) e ∙ same n d))
+        (λ l none. (none.0, ap (filter (is_held_by (Session s))) e ∙ none_fewer (is_held_by (Session s)) test store.opens none.1))
+
+    pub leaves_opened : (store' : StoreState) (row : OpenRow) → (session_at table s ≡ None → ⊥) → store'.opens ≡ store.opens ++ row ∷ [] → store'.next ≡ store.next + 1 → row.number ≡ store.next → row.session ≡ s →
+        LeavesBut may acts table store table store'
+    leaves_opened store' row there e f number session =
+        leaves_own acts table table store store' s apart (order_opened table store store' row e f number o) (omega arith)
+        (λ n d. (refl, ap (filter (is_held_by (Session n))) e ∙ held_pushed n row store.opens (ap (λ (k : ℕ). n == k) session ∙ d))) (λ l none. absurd (there none.0))
+
+  pub leaves_whole : (p : ℕ) (found : SessionState) → session_at table p ≡ Some found → may p found → LeavesBut may acts table store (session_ended table p) (closed_all store (Session p))
+  leaves_whole p found here cause = record {
     order = order_ended table (closed_all store (Session p)) p (order_closed table store (Session p) o);
     grown = omega arith;
-    alone = λ n session at other. whole_at p n session found (n == p) refl at here user;
+    alone = λ n session at other. whole_at may acts table store o p n session found (n == p) refl at here cause;
     over = λ n given none. elim (n == p) as (λ b. (n == p) ≡ b → IsNone (session_ended table p) (closed_all store (Session p)) n) [
       | true ↦ λ t. (let is : n ≡ p = grind (arith, nat_tests, t) in let no : None ≡ Some found = sym none.0 ∙ ap (session_at table) is ∙ here in cc)
       | false ↦ λ t. (look_removed n p table.sessions t ∙ none.0, ap (filter (is_held_by (Session n))) (others_left store (Session p) o.opens).opens ∙ others_held p n store.opens t ∙ none.1)

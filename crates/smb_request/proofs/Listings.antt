@@ -15,14 +15,15 @@ use Rattle.smb_info.specs.Listing.{fitting, wanted}
 use Rattle.smb_info.specs.declared.directory_class.DirectoryInformationClass.{DirectoryInformationClass}
 use Rattle.smb_tree.specs.Content.{Row}
 use Rattle.smb_opens.specs.State.{StoreState}
-use Rattle.smb_info.specs.OpenQueries.{open_list_fault, open_bytes_listed, open_scan_after, IsListRefusal}
+use Rattle.smb_info.specs.OpenQueries.{open_list_fault, open_bytes_listed, open_scan_after}
 use Rattle.smb_info.specs.declared.fault.InfoFault.{InfoFault}
-use Rattle.smb_info.specs.declared.fault.InfoFault.TheVariants.{BadClass, BadPattern, TooSmall, NoMatch, NoMore, Unreadable, NoMemory}
+use Rattle.smb_info.specs.declared.fault.InfoFault.TheVariants.{TooSmall, NoMemory}
 use Rattle.smb_request.specs.declared.status.Status.{Status}
 use Rattle.smb_request.specs.declared.status.Status.TheVariants.{InfoLengthMismatch, InvalidParameter, NotSupported}
 use Rattle.smb_request.specs.declared.context.Under.{Under}
+use Rattle.smb_request.specs.declared.query_directory.ListingRefusal.{ListingRefusal}
 use Rattle.smb_request.specs.Context.{ids_of}
-use Rattle.smb_request.specs.QueryDirectory.{list_asked_by, directory_refusal, listing_refused_by, listed_unless, listed_as_asked, directory_queried}
+use Rattle.smb_request.specs.QueryDirectory.{list_asked_by, directory_refusal, listing_refusal, listing_refused, directory_listed, listed_as_asked, directory_queried}
 use Rattle.smb_request.specs.Response.{CommandStep, RequestStep, failure, refused}
 use Rattle.smb_request.specs.State.{SharedState, with_store}
 use Rattle.smb_session.specs.Table.{TableState}
@@ -47,21 +48,16 @@ use Rattle.smb_request.specs.QueryInfo.{room_refusal, query_refusal, queried_by,
 
 module _ {S : Type 0} (Left : SharedState S → Type 0) (shared : SharedState S) (same : Left shared) (under : Under) (k : ℕ)
     (set : (scan : Scan) → Left (with_store shared (scan_set shared.store k scan))) where
-  refused_at : (fault : InfoFault) → Left (listing_refused_by shared k fault)
-  refused_at BadClass = same
-  refused_at BadPattern = same
-  refused_at TooSmall = same
-  refused_at (NoMatch scan) = set scan
-  refused_at NoMore = same
-  refused_at Unreadable = same
-  refused_at NoMemory = same
+  refused_at : (scan : Option Scan) → Left (option_map_or (λ scan. with_store shared (scan_set shared.store k scan)) scan shared)
+  refused_at None = same
+  refused_at (Some scan) = set scan
 
-  unless_at : (ask : ListAsked) (fault : Option InfoFault) → Left (listed_unless shared under k ask fault).shared
+  unless_at : (ask : ListAsked) (refusal : Option ListingRefusal) → Left (option_map_or (listing_refused shared under k) refusal (directory_listed shared under k ask)).shared
   unless_at ask None = set (open_scan_after shared.store k ask)
-  unless_at ask (Some fault) = refused_at fault
+  unless_at ask (Some refusal) = refused_at refusal.scan
 
   by_refusal : (ask : ListAsked) (status : Option Status) → Left (option_map_or (λ status. refused shared under status) status (listed_as_asked shared under k ask)).shared
-  by_refusal ask None = unless_at ask (open_list_fault shared.store k ask)
+  by_refusal ask None = unless_at ask (option_and_then listing_refusal (open_list_fault shared.store k ask))
   by_refusal ask (Some status) = same
 
   pub listed_left : (asked : QueryDirectoryAsked) → Left (directory_queried shared under k asked).shared
@@ -69,13 +65,14 @@ module _ {S : Type 0} (Left : SharedState S → Type 0) (shared : SharedState S)
   listed_left asked = by_refusal (list_asked_by asked) (directory_refusal (open_view shared.store k) asked)
 
 -- the response tells the session and the tree that the request acts under
-ids_unless : {S : Type 0} (shared : SharedState S) (under : Under) (k : ℕ) (ask : ListAsked) (fault : Option InfoFault) → (listed_unless shared under k ask fault).response.ids ≡ ids_of under
+ids_unless : {S : Type 0} (shared : SharedState S) (under : Under) (k : ℕ) (ask : ListAsked) (refusal : Option ListingRefusal) →
+    (option_map_or (listing_refused shared under k) refusal (directory_listed shared under k ask)).response.ids ≡ ids_of under
 ids_unless shared under k ask None = refl
-ids_unless shared under k ask (Some fault) = refl
+ids_unless shared under k ask (Some refusal) = refl
 
 ids_by_refusal : {S : Type 0} (shared : SharedState S) (under : Under) (k : ℕ) (ask : ListAsked) (status : Option Status) →
     (option_map_or (λ status. refused shared under status) status (listed_as_asked shared under k ask)).response.ids ≡ ids_of under
-ids_by_refusal shared under k ask None = ids_unless shared under k ask (open_list_fault shared.store k ask)
+ids_by_refusal shared under k ask None = ids_unless shared under k ask (option_and_then listing_refusal (open_list_fault shared.store k ask))
 ids_by_refusal shared under k ask (Some status) = refl
 
 pub queried_ids : {S : Type 0} (shared : SharedState S) (under : Under) (k : ℕ) (asked : QueryDirectoryAsked) → (directory_queried shared under k asked).response.ids ≡ ids_of under
@@ -145,19 +142,6 @@ pub why_status : (information : Option Information) (room : ℕ) (fault : InfoFa
 why_status information room fault status why e =
     let there : fault ≢ NoMemory = λ q. (let none : fault_status fault ≡ None = ap fault_status q in let no : None ≡ Some status = sym none ∙ e in cc) in
     same_refusal information room ∙ ap (option_and_then fault_status) (why there) ∙ e
-
-pub told_fault : (fault : InfoFault) (status : Status) → fault_status fault ≡ Some status → fault ≢ NoMemory
-told_fault fault status e = λ q. (let none : fault_status fault ≡ None = ap fault_status q in let no : None ≡ Some status = sym none ∙ e in cc)
-
--- a refusal of the listing is the one that the definitions give
-pub refusal_is : (refusal : Option InfoFault) (fault : InfoFault) → IsListRefusal refusal fault → fault ≢ NoMemory → refusal ≡ Some fault
-refusal_is refusal BadClass r n = r
-refusal_is refusal BadPattern r n = r
-refusal_is refusal TooSmall r n = r
-refusal_is refusal (NoMatch scan) r n = r
-refusal_is refusal NoMore r n = r
-refusal_is refusal Unreadable r n = r
-refusal_is refusal NoMemory r n = absurd (n refl)
 
 -- what is listed is no longer than there is room for
 fits_room : (class : DirectoryInformationClass) (room : ℕ) (cs : List Candidate) (n : ℕ) → length (laid class (fitting class room cs n)) ≤ room

@@ -1,6 +1,7 @@
 -- SESSION_SETUP, seen from the sessions of other connections.
-use Rattle.std.proofs.Common.{◌≡◌, ◌==◌, ◌<◌, ℕ, Bool, true, false, if◌then◌else◌, List, [], ◌∷◌, ◌++◌, Option, None, Some, is_some, refl, sym, ap, arith, ◌∙◌}
+use Rattle.std.proofs.Common.{◌≡◌, ◌==◌, ◌<◌, ℕ, Bool, true, false, if◌then◌else◌, List, [], ◌∷◌, ◌++◌, Option, None, Some, refl, sym, ap, arith, ◌∙◌}
 use Rattle.std.proofs.lemmas.Bool.Decides.{nat_tests}
+use Rattle.std.proofs.lemmas.Slice.Eq.{bytes_eq-Decides}
 use Rattle.std.specs.List.{AllByRecursion}
 use Rattle.std.specs.Option.{option_map_or}
 use Rattle.std.specs.Map.{lookup}
@@ -10,7 +11,7 @@ use Rattle.smb_session.specs.Session.{SessionState}
 use Rattle.smb_session.specs.Table.{TableState, session_at, session_changed, session_ended}
 use Rattle.smb_access.specs.declared.open_row.Owner.TheVariants.{Session}
 use Rattle.smb_request.proofs.Numbered.{at_is}
-use Rattle.std.specs.Option.{option_eq}
+use Rattle.std.specs.Option.{option_eq, option_and_then}
 use Rattle.std.specs.Str.{bytes_eq}
 use Rattle.smb_session.specs.declared.fault.SessionFault.TheVariants.{UnknownSession}
 use Rattle.smb_session.specs.Authenticator.{Answered, continues, accepts, denies, Meaning}
@@ -22,23 +23,30 @@ use Rattle.smb_body.specs.SessionSetup.{SessionSetupAsked}
 use Rattle.smb_opens.specs.Close.{closed_all}
 use Rattle.smb_request.specs.Session.{closed_for, setup_answered, session_set_up}
 use Rattle.smb_opens.specs.State.{StoreState}
-use Rattle.smb_session.specs.declared.fault.SessionFault.{SessionFault}
 use Rattle.smb_request.specs.declared.context.Under.{Under}
+use Rattle.smb_request.specs.declared.status.Status.{Status}
 use Rattle.smb_request.specs.Response.{refused}
 use Rattle.smb_request.specs.Session.{status_of_refusal}
 use Rattle.smb_request.specs.State.{SharedState}
 use Rattle.smb_request.specs.Laws.{NumbersInOrder}
-use Rattle.smb_request.proofs.Leaving.{Leaves, LeavesShared, IsApart, leaves_then, leaves_same, leaves_begun, leaves_changed, leaves_ended, leaves_whole, other_connection, look_removed, gone}
+use Rattle.smb_request.proofs.Leaving.{LeavesBut, LeavesSharedBut, IsApart, leaves_then, leaves_same, leaves_begun, leaves_changed, leaves_ended, leaves_whole, other_connection, look_removed, gone}
 
-finished : (user : List ℕ) (session : SessionState) → is_of_user user session ≡ true → is_some session.user ≡ true
-finished user session h = elim session.user as (λ o. option_eq bytes_eq o (Some user) ≡ true → is_some o ≡ true) [ None ↦ λ q. cc | Some u ↦ λ q. refl ] h
+-- a session of a user
+user_is : (user : List ℕ) (o : Option (List ℕ)) → option_eq bytes_eq o (Some user) ≡ true → o ≡ Some user
+user_is user None q = cc
+user_is user (Some u) q = ap (λ (text : List ℕ). Some text) ((bytes_eq-Decides u user).0 q)
+
+-- why the session that an answer names as the previous one may be over
+abbrev pub MayReplace : (ℕ → SessionState → Type 0) → ℕ → Answered → Type 0
+MayReplace may previous answer =
+    (user : List ℕ) (flags : ℕ) (token : List ℕ) (session : SessionState) → answer ≡ accepts user flags token → session.user ≡ Some user → may previous session
 
 -- what is given the next number is found there
 at_last : (n : ℕ) (x : SessionState) (es : List (ℕ × SessionState)) → AllByRecursion (λ e. e.0 < n) es → lookup (is_at (nat_cmp n)) (es ++ (n, x) ∷ []) ≡ Some x
 at_last n x [] a = (let key = at_is n n in grind (arith, nat_tests, key))
 at_last n x (e ∷ es) a = (let key = at_is n e.0 in let less = a.0 in let ih = at_last n x es a.1 in grind (arith, nat_tests, key, less, ih))
 
-module _ (acts : ℕ → Bool) (c : ℕ) (a : acts c ≡ true) (table : TableState) (store : StoreState) (o : NumbersInOrder table store) where
+module _ (may : ℕ → SessionState → Type 0) (acts : ℕ → Bool) (c : ℕ) (a : acts c ≡ true) (table : TableState) (store : StoreState) (o : NumbersInOrder table store) where
   -- the session that is set up is new, or an unfinished one of this connection
   apart_begun : IsApart acts (begun table c) table.next
   apart_begun n session at other =
@@ -72,45 +80,53 @@ module _ (acts : ℕ → Bool) (c : ℕ) (a : acts c ≡ true) (table : TableSta
       ] refl
 
   accepted_found : (number previous : ℕ) (user : List ℕ) (found : Option SessionState) → session_at table previous ≡ found → IsApart acts table number →
-      Leaves acts table store
+      ((session : SessionState) → session.user ≡ Some user → may previous session) →
+      LeavesBut may acts table store
       (session_changed (finished_by user) (option_map_or (session_ended table) (if option_map_or (is_of_user user) found false then Some previous else None) table) number)
       (closed_for store (if option_map_or (is_of_user user) found false then Some previous else None))
-  accepted_found number previous user None e apart = leaves_changed acts table store o number apart (finished_by user)
-  accepted_found number previous user (Some session) e apart =
+  accepted_found number previous user None e apart cause = leaves_changed acts table store o number apart (finished_by user)
+  accepted_found number previous user (Some session) e apart cause =
       elim (is_of_user user session) as (λ b. is_of_user user session ≡ b →
-      Leaves acts table store
+      LeavesBut may acts table store
       (session_changed (finished_by user) (option_map_or (session_ended table) (if b then Some previous else None) table) number)
       (closed_for store (if b then Some previous else None))) [
         | true ↦ λ t. (
-            let whole = leaves_whole acts table store o previous session e (finished user session t) in
+            let whole = leaves_whole acts table store o previous session e (cause session (user_is user session.user t)) in
             leaves_then acts table (session_ended table previous) (session_changed (finished_by user) (session_ended table previous) number) store (closed_all store (Session previous)) (closed_all store (Session previous)) o whole
             (leaves_changed acts (session_ended table previous) (closed_all store (Session previous)) whole.order number (apart_ended number previous apart) (finished_by user)))
         | false ↦ λ t. leaves_changed acts table store o number apart (finished_by user)
       ] refl
 
   -- what an answer leaves
-  answered_left : (number previous : ℕ) (answer : Answered) → IsApart acts table number → Leaves acts table store (table_answered table number previous answer) (closed_for store (setup_result table number previous answer).ended)
-  answered_left number previous (continues token) apart = leaves_same acts table store o
-  answered_left number previous denies apart = leaves_ended acts table store o number apart
-  answered_left number previous (accepts user flags token) apart = accepted_found number previous user (session_at table previous) refl apart
+  answered_left : (number previous : ℕ) (answer : Answered) → MayReplace may previous answer → IsApart acts table number → LeavesBut may acts table store (table_answered table number previous answer) (closed_for store (setup_result table number previous answer).ended)
+  answered_left number previous (continues token) cause apart = leaves_same acts table store o
+  answered_left number previous denies cause apart = leaves_ended acts table store o number apart
+  answered_left number previous (accepts user flags token) cause apart =
+      accepted_found number previous user (session_at table previous) refl apart (λ session same. cause user flags token session refl same)
 
-module _ (acts : ℕ → Bool) (c : ℕ) (a : acts c ≡ true) (table : TableState) (store : StoreState) (o : NumbersInOrder table store) where
-  step_left : (s flags previous : ℕ) (answer : Answered) (b : Bool) → (s == 0) ≡ b → setup_refusal table c s flags ≡ None →
-      (let table' : TableState = if b then begun table c else table in let number : ℕ = if b then table.next else s in Leaves acts table store (table_answered table' number previous answer) (closed_for store (setup_result table' number previous answer).ended))
-  step_left s flags previous answer true t e =
+module _ (may : ℕ → SessionState → Type 0) (acts : ℕ → Bool) (c : ℕ) (a : acts c ≡ true) (table : TableState) (store : StoreState) (o : NumbersInOrder table store) where
+  step_left : (s flags previous : ℕ) (answer : Answered) (b : Bool) → MayReplace may previous answer → (s == 0) ≡ b → setup_refusal table c s flags ≡ None →
+      (let table' : TableState = if b then begun table c else table in let number : ℕ = if b then table.next else s in LeavesBut may acts table store (table_answered table' number previous answer) (closed_for store (setup_result table' number previous answer).ended))
+  step_left s flags previous answer true cause t e =
       let first = leaves_begun acts table store o c in
       leaves_then acts table (begun table c) (table_answered (begun table c) table.next previous answer) store store (closed_for store (setup_result (begun table c) table.next previous answer).ended) o first
-      (answered_left acts c a (begun table c) store first.order table.next previous answer (apart_begun acts c a table store o))
-  step_left s flags previous answer false t e = answered_left acts c a table store o s previous answer (apart_stood acts c a table store o s (grind (arith, e, t)))
+      (answered_left may acts c a (begun table c) store first.order table.next previous answer cause (apart_begun may acts c a table store o))
+  step_left s flags previous answer false cause t e = answered_left may acts c a table store o s previous answer cause (apart_stood may acts c a table store o s (grind (arith, e, t)))
 
-module _ {S : Type 0} (m : Meaning S) (acts : ℕ → Bool) (c : ℕ) (a : acts c ≡ true) (shared : SharedState S) (o : NumbersInOrder shared.sessions.table shared.store) where
-  set_up_at : (under : Under) (asked : SessionSetupAsked) (refusal : Option SessionFault) → setup_refusal shared.sessions.table c under.session_id asked.flags.0 ≡ refusal →
-      LeavesShared acts shared (option_map_or (λ fault. refused shared under (status_of_refusal fault)) refusal (setup_answered shared under (setup_step m shared.sessions c under.session_id asked.previous_session_id asked.security_buffer))).shared
-  set_up_at under asked (Some fault) e = leaves_same acts shared.sessions.table shared.store o
-  set_up_at under asked None e =
+-- what has no status is no refusal
+unrefused : (table : TableState) (c s flags : ℕ) → option_and_then status_of_refusal (setup_refusal table c s flags) ≡ None → setup_refusal table c s flags ≡ None
+unrefused table c s flags e = grind (arith, e)
+
+module _ {S : Type 0} (may : ℕ → SessionState → Type 0) (m : Meaning S) (acts : ℕ → Bool) (c : ℕ) (a : acts c ≡ true) (shared : SharedState S) (o : NumbersInOrder shared.sessions.table shared.store) where
+  set_up_at : (under : Under) (asked : SessionSetupAsked) (status : Option Status) →
+      MayReplace may asked.previous_session_id (m.answer shared.sessions.authenticator (setup_number shared.sessions.table under.session_id) asked.security_buffer) → option_and_then status_of_refusal (setup_refusal shared.sessions.table c under.session_id asked.flags.0) ≡ status →
+      LeavesSharedBut may acts shared (option_map_or (λ status. refused shared under status) status (setup_answered shared under (setup_step m shared.sessions c under.session_id asked.previous_session_id asked.security_buffer))).shared
+  set_up_at under asked (Some status) cause e = leaves_same acts shared.sessions.table shared.store o
+  set_up_at under asked None cause e =
       let s = under.session_id in
-      step_left acts c a shared.sessions.table shared.store o s asked.flags.0 asked.previous_session_id (m.answer shared.sessions.authenticator (setup_number shared.sessions.table s) asked.security_buffer) (s == 0) refl e
+      step_left may acts c a shared.sessions.table shared.store o s asked.flags.0 asked.previous_session_id (m.answer shared.sessions.authenticator (setup_number shared.sessions.table s) asked.security_buffer) (s == 0) cause refl
+      (unrefused shared.sessions.table c s asked.flags.0 e)
 
-  pub set_up_left : (under : Under) (asked : SessionSetupAsked) → LeavesShared acts shared (session_set_up m c shared under asked).shared
+  pub set_up_left : (under : Under) (asked : SessionSetupAsked) → MayReplace may asked.previous_session_id (m.answer shared.sessions.authenticator (setup_number shared.sessions.table under.session_id) asked.security_buffer) → LeavesSharedBut may acts shared (session_set_up m c shared under asked).shared
   unfolding session_set_up
-  set_up_left under asked = set_up_at under asked (setup_refusal shared.sessions.table c under.session_id asked.flags.0) refl
+  set_up_left under asked cause = set_up_at under asked (option_and_then status_of_refusal (setup_refusal shared.sessions.table c under.session_id asked.flags.0)) cause refl

@@ -1,25 +1,21 @@
 -- For the proofs; nothing here need be believed.
 -- What the code holds of an information class, and of what is refused before one is looked at.
 use Rattle.std.specs.Prelude.{◌≡◌, ◌≢◌, ℕ, ◌==◌, ◌||◌, not, nat_lt, Option, Some, None, if◌then◌else◌}
-use Rattle.std.specs.Option.{option_map_or}
+use Rattle.std.specs.Option.{option_map, option_map_or}
 use Rattle.smb_body.specs.declared.query_info.QueryInfoRequest.{QueryInfoRequest}
 use Rattle.smb_info.specs.declared.fault.InfoFault.{InfoFault}
-use Rattle.smb_info.specs.declared.fault.InfoFault.TheVariants.{BadClass, BadPattern, TooSmall, NoMatch, NoMore, Unreadable, NoMemory}
+use Rattle.smb_info.specs.declared.fault.InfoFault.TheVariants.{Unreadable, NoMemory}
 use Rattle.smb_info.specs.Information.{Information, told, information_written, info_fault}
 use Rattle.smb_request.specs.declared.information.InformationTold.{InformationTold}
 use Rattle.smb_request.specs.declared.status.Status.{Status}
-use Rattle.smb_request.specs.declared.status.Status.TheVariants.{InvalidParameter, InvalidInfoClass, InfoLengthMismatch, NoMoreFiles, NoSuchFile, ObjectNameInvalid, NotSupported}
+use Rattle.smb_request.specs.declared.status.Status.TheVariants.{InvalidParameter, NotSupported}
+use Rattle.smb_request.specs.QueryDirectory.{listing_refusal}
 use Rattle.smb_request.specs.InfoTypes.{FILE, FILESYSTEM, SECURITY, QUOTA}
 
--- the status of a refusal; want of memory has none
+-- the status of a refusal: that of a rename that is unreadable, else as of a listing; being out of memory has none
 abbrev pub fault_status : InfoFault → Option Status
-fault_status BadClass = Some InvalidInfoClass
-fault_status BadPattern = Some ObjectNameInvalid
-fault_status TooSmall = Some InfoLengthMismatch
-fault_status (NoMatch scan) = Some NoSuchFile
-fault_status NoMore = Some NoMoreFiles
 fault_status Unreadable = Some InvalidParameter
-fault_status NoMemory = None
+fault_status fault = option_map (λ refusal. refusal.status) (listing_refusal fault)
 
 -- why a QUERY_INFO is refused by its InfoType, and why whatever its class tells
 abbrev pub query_type_refusal : ℕ → Option Status

@@ -1,10 +1,15 @@
 -- What follows from the definitions.
-use Rattle.std.specs.Prelude.{◌≡◌, ◌⊎◌, ℕ, ◌<◌, ◌==◌, true, false, List, [], filter, map, Option, None, Some, is_some}
+use Rattle.std.specs.Prelude.{◌≡◌, ◌⊎◌, ℕ, ◌<◌, ◌==◌, true, false, List, [], filter, map, Option, None, Some}
 use Rattle.std.specs.List.{AllByRecursion}
-use Rattle.smb_session.specs.Authenticator.{Meaning}
+use Rattle.smb_wire.specs.Commands.{known_command}
+use Rattle.smb_head.specs.Headers.{header_of}
+use Rattle.smb_body.specs.Requests.{asks_session_setup}
+use Rattle.smb_body.specs.SessionSetup.{SessionSetupAsked}
+use Rattle.smb_session.specs.Authenticator.{Meaning, accepts}
 use Rattle.smb_session.specs.Good.{GoodTable}
 use Rattle.smb_session.specs.Numbers.{IsRising}
 use Rattle.smb_session.specs.Session.{SessionState}
+use Rattle.smb_session.specs.Setup.{setup_number}
 use Rattle.smb_session.specs.Table.{TableState, session_at}
 use Rattle.smb_access.specs.declared.open_row.Owner.TheVariants.{Session}
 use Rattle.smb_opens.specs.Good.{GoodStore}
@@ -13,7 +18,7 @@ use Rattle.smb_access.specs.Opens.{is_held_by, open_numbers, AreAllBelow}
 use Rattle.smb_opens.specs.State.{StoreState}
 use Rattle.smb_wire.specs.declared.dialect.Dialect.{Dialect}
 use Rattle.smb_request.specs.declared.context.Context.{Context}
-use Rattle.smb_request.specs.Request.{performed}
+use Rattle.smb_request.specs.Request.{acts_under, body_of, performed}
 use Rattle.smb_request.specs.State.{SharedState, shared_opened, shared_ended}
 
 -- the sessions and the opens stand in rising number, and each number was given
@@ -53,11 +58,23 @@ AnEndIsAlone {S} authenticator =
     session_at shared.sessions.table number ≡ Some session → session.connection == connection ≡ false →
     IsAsItWas shared (shared_ended shared connection) number
 
--- a request on a connection leaves each session of another one as it is; or ends it whole, a finished one, as a
--- SESSION_SETUP does that names it as the previous session of its user
+-- a request is a SESSION_SETUP that lets a session's user in, and names this session as the previous one (3.3.5.5.3)
+pub record ReplacesSession {S : Type 0} (authenticator : Meaning S) (shared : SharedState S) (context : Context) (request : List ℕ) (number : ℕ) (session : SessionState) : Type 0 where
+  pub asked : SessionSetupAsked
+  pub user : List ℕ
+  pub flags : ℕ
+  pub token : List ℕ
+  pub says : body_of (known_command (header_of request).command.0) request ≡ Some (asks_session_setup asked)
+  pub accepted :
+      authenticator.answer shared.sessions.authenticator (setup_number shared.sessions.table (acts_under context request).session_id) asked.security_buffer
+      ≡ accepts user flags token
+  pub same_user : session.user ≡ Some user
+  pub previous : asked.previous_session_id ≡ number
+
+-- a request on a connection leaves each session of another one as it is; or it replaces that session, which then is over
 abbrev pub ARequestIsAlone : {S : Type 0} → Meaning S → Type 0
 ARequestIsAlone {S} authenticator =
     (connection moment : ℕ) (shared : SharedState S) (dialect : Option Dialect) (context : Context) (request : List ℕ) (number : ℕ) (session : SessionState) →
     IsInOrder shared → session_at shared.sessions.table number ≡ Some session → session.connection == connection ≡ false →
     IsAsItWas shared (performed authenticator connection moment shared dialect context request).shared number
-    ⊎ (IsOver (performed authenticator connection moment shared dialect context request).shared number × (is_some session.user ≡ true))
+    ⊎ (IsOver (performed authenticator connection moment shared dialect context request).shared number × ReplacesSession authenticator shared context request number session)

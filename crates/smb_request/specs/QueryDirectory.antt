@@ -1,11 +1,10 @@
 -- QUERY_DIRECTORY ([MS-SMB2] 3.3.5.18).
-use Rattle.std.specs.Prelude.{ℕ, not, nat_lt, Option, None, Some, if◌then◌else◌}
+use Rattle.std.specs.Prelude.{ℕ, not, nat_lt, Option, None, Some, option_and_then, if◌then◌else◌}
 use Rattle.std.specs.Option.{option_map_or}
 use Rattle.smb_wire.specs.Access.{has_any, FILE_READ_DATA}
 use Rattle.smb_tree.specs.Entries.{is_folder_kind}
 use Rattle.smb_body.specs.QueryDirectory.{QueryDirectoryAsked}
 use Rattle.smb_body.specs.Replies.{answers_query_directory}
-use Rattle.smb_access.specs.declared.scan.Scan.{Scan}
 use Rattle.smb_access.specs.declared.view.View.{View}
 use Rattle.smb_opens.specs.Scans.{scan_set}
 use Rattle.smb_opens.specs.Views.{open_view}
@@ -16,6 +15,7 @@ use Rattle.smb_info.specs.declared.fault.InfoFault.TheVariants.{BadClass, BadPat
 use Rattle.smb_request.specs.declared.status.Status.{Status}
 use Rattle.smb_request.specs.declared.status.Status.TheVariants.{InvalidParameter, AccessDenied, InvalidInfoClass, ObjectNameInvalid, InfoLengthMismatch, NoSuchFile, NoMoreFiles}
 use Rattle.smb_request.specs.declared.context.Under.{Under}
+use Rattle.smb_request.specs.declared.query_directory.ListingRefusal.{ListingRefusal}
 use Rattle.smb_request.specs.Response.{CommandStep, success, failure, refused}
 use Rattle.smb_request.specs.State.{SharedState, with_store}
 
@@ -41,25 +41,16 @@ directory_refusal view asked =
     if nat_lt 65536 asked.output_buffer_length then Some InvalidParameter else
     option_map_or view_refusal view (Some InvalidParameter)
 
--- the status of a refusal of the listing
-abbrev pub listing_status : InfoFault → Status
-listing_status BadClass = InvalidInfoClass
-listing_status BadPattern = ObjectNameInvalid
-listing_status TooSmall = InfoLengthMismatch
-listing_status (NoMatch scan) = NoSuchFile
-listing_status NoMore = NoMoreFiles
-listing_status Unreadable = InvalidParameter  -- not of a listing
-listing_status NoMemory = InvalidParameter  -- has no response
-
--- what a refusal leaves: a scan that this query started stands, though no name is matched; else all is as it was
-abbrev pub listing_refused_by : {S : Type 0} → SharedState S → ℕ → InfoFault → SharedState S
-listing_refused_by shared open_number BadClass = shared
-listing_refused_by shared open_number BadPattern = shared
-listing_refused_by shared open_number TooSmall = shared
-listing_refused_by shared open_number (NoMatch scan) = with_store shared (scan_set shared.store open_number scan)
-listing_refused_by shared open_number NoMore = shared
-listing_refused_by shared open_number Unreadable = shared
-listing_refused_by shared open_number NoMemory = shared
+-- what a refusal of the listing comes to: its status, and the open's scan where this query started it, though no name is
+-- matched. (A rename alone is unreadable, and no definition refuses for being out of memory.)
+abbrev pub listing_refusal : InfoFault → Option ListingRefusal
+listing_refusal BadClass = Some (record { status = InvalidInfoClass; scan = None })
+listing_refusal BadPattern = Some (record { status = ObjectNameInvalid; scan = None })
+listing_refusal TooSmall = Some (record { status = InfoLengthMismatch; scan = None })
+listing_refusal (NoMatch scan) = Some (record { status = NoSuchFile; scan = Some scan })
+listing_refusal NoMore = Some (record { status = NoMoreFiles; scan = None })
+listing_refusal Unreadable = None
+listing_refusal NoMemory = None
 
 -- a listing that is not refused: the entries, and the open's scan goes on behind them
 abbrev pub directory_listed : {S : Type 0} → SharedState S → Under → ℕ → ListAsked → CommandStep S
@@ -68,17 +59,19 @@ directory_listed shared under open_number ask = record {
   response = success under (answers_query_directory (open_bytes_listed shared.store open_number ask));
 }
 
--- one that is refused
-abbrev pub listing_refused : {S : Type 0} → SharedState S → Under → ℕ → InfoFault → CommandStep S
-listing_refused shared under open_number fault = record {
-  shared = listing_refused_by shared open_number fault;
-  response = failure under (listing_status fault);
+-- one that is refused: but for the scan, all is as it was
+abbrev pub listing_refused : {S : Type 0} → SharedState S → Under → ℕ → ListingRefusal → CommandStep S
+listing_refused shared under open_number refusal = record {
+  shared = option_map_or (λ scan. with_store shared (scan_set shared.store open_number scan)) refusal.scan shared;
+  response = failure under refusal.status;
 }
 
 -- what is listed, or why nothing is
 abbrev pub listed_unless : {S : Type 0} → SharedState S → Under → ℕ → ListAsked → Option InfoFault → CommandStep S
-listed_unless shared under open_number ask fault =
-    option_map_or (listing_refused shared under open_number) fault (directory_listed shared under open_number ask)
+listed_unless shared under open_number ask fault = option_map_or
+    (listing_refused shared under open_number)
+    (option_and_then listing_refusal fault)
+    (directory_listed shared under open_number ask)
 
 abbrev pub listed_as_asked : {S : Type 0} → SharedState S → Under → ℕ → ListAsked → CommandStep S
 listed_as_asked shared under open_number ask = listed_unless shared under open_number ask (open_list_fault shared.store open_number ask)

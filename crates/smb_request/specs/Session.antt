@@ -1,5 +1,5 @@
 -- SESSION_SETUP, LOGOFF, TREE_CONNECT and TREE_DISCONNECT ([MS-SMB2] 3.3.5.5 to 3.3.5.8).
-use Rattle.std.specs.Prelude.{ℕ, List, Option, Some, None}
+use Rattle.std.specs.Prelude.{ℕ, List, Option, Some, None, option_and_then}
 use Rattle.std.specs.Option.{option_map_or}
 use Rattle.smb_wire.specs.Access.{FILE_ALL_ACCESS}
 use Rattle.smb_body.specs.Replies.{ReplyValue, answers_error, answers_session_setup, answers_logoff, answers_tree_connect, answers_tree_disconnect}
@@ -25,14 +25,19 @@ use Rattle.smb_request.specs.Context.{ids_of}
 use Rattle.smb_request.specs.State.{SharedState, with_table, with_store}
 use Rattle.smb_request.specs.Response.{ResponseState, CommandStep, with_body, success, refused}
 
--- the status of a refusal (want of memory is none: no definition refuses for it)
-abbrev pub status_of_refusal : SessionFault → Status
-status_of_refusal UnknownSession = UserSessionDeleted
-status_of_refusal UnknownTree = NetworkNameDeleted
-status_of_refusal NoShare = BadNetworkName
-status_of_refusal NotAccepted = RequestNotAccepted
-status_of_refusal NoDialect = NotSupported
-status_of_refusal NoMemory = RequestNotAccepted
+-- the status of a refusal (no definition refuses for being out of memory)
+abbrev pub status_of_refusal : SessionFault → Option Status
+status_of_refusal UnknownSession = Some UserSessionDeleted
+status_of_refusal UnknownTree = Some NetworkNameDeleted
+status_of_refusal NoShare = Some BadNetworkName
+status_of_refusal NotAccepted = Some RequestNotAccepted
+status_of_refusal NoDialect = Some NotSupported
+status_of_refusal NoMemory = None
+
+-- a request that the sessions refuse, or else what is done
+abbrev pub unless_refused : {S : Type 0} → SharedState S → Under → Option SessionFault → CommandStep S → CommandStep S
+unless_refused shared under refusal step =
+    option_map_or (λ status. refused shared under status) (option_and_then status_of_refusal refusal) step
 
 -- what a SESSION_SETUP is answered: flags and a token where the client goes on or is in, else a failure; either tells the
 -- session's number (2.2.6)
@@ -57,8 +62,7 @@ setup_answered shared under step = record {
 }
 
 unfoldable pub session_set_up : {S : Type 0} → Meaning S → ℕ → SharedState S → Under → SessionSetupAsked → CommandStep S
-session_set_up authenticator connection shared under asked = option_map_or
-    (λ fault. refused shared under (status_of_refusal fault))
+session_set_up authenticator connection shared under asked = unless_refused shared under
     (setup_refusal shared.sessions.table connection under.session_id asked.flags.0)
     (setup_answered shared under (setup_step authenticator shared.sessions connection under.session_id asked.previous_session_id asked.security_buffer))
 
@@ -68,8 +72,7 @@ with_closed shared owner = with_store shared (closed_all shared.store owner)
 
 -- LOGOFF (3.3.5.6): the session ends with its trees, and their opens
 unfoldable pub session_logged_off : {S : Type 0} → ℕ → SharedState S → Under → CommandStep S
-session_logged_off connection shared under = option_map_or
-    (λ fault. refused shared under (status_of_refusal fault))
+session_logged_off connection shared under = unless_refused shared under
     (logoff_refusal shared.sessions.table connection under.session_id)
     (record {
       shared = with_closed (with_table shared (session_ended shared.sessions.table under.session_id)) (Session under.session_id);
@@ -87,8 +90,7 @@ tree_response = record {
 
 -- TREE_CONNECT (3.3.5.7): the answer tells the new tree's number
 unfoldable pub tree_joined : {S : Type 0} → ℕ → SharedState S → Under → List ℕ → CommandStep S
-tree_joined connection shared under path = option_map_or
-    (λ fault. refused shared under (status_of_refusal fault))
+tree_joined connection shared under path = unless_refused shared under
     (tree_connect_refusal shared.sessions connection under.session_id path)
     (record {
       shared = with_table shared (tree_connected shared.sessions.table under.session_id);
@@ -99,8 +101,7 @@ tree_joined connection shared under path = option_map_or
 
 -- TREE_DISCONNECT (3.3.5.8): the tree is gone, with its opens
 unfoldable pub tree_left : {S : Type 0} → ℕ → SharedState S → Under → CommandStep S
-tree_left connection shared under = option_map_or
-    (λ fault. refused shared under (status_of_refusal fault))
+tree_left connection shared under = unless_refused shared under
     (tree_disconnect_refusal shared.sessions.table connection under.session_id under.tree_id)
     (record {
       shared = with_closed

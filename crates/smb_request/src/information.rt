@@ -6,6 +6,7 @@ ghost use Rattle.smb_info.specs.declared.fault.InfoFault.TheVariants.{NoMemory};
 ghost use Rattle.smb_request.specs.Information.{fault_status};
 ghost use Rattle.smb_request.specs.QueryInfo.{written_status};
 
+use super::query_directory::listing_refusal;
 use super::status::Status;
 use smb_body::{QueryResponse, Reply};
 use smb_info::{InfoFault, Written};
@@ -42,18 +43,16 @@ impl InformationTold {
     }
 }
 
-/// The status of a refusal. Want of memory is none: nothing was performed.
+/// The status of a refusal. Out of memory is none: nothing was performed.
 pub(crate) fn fault_status(fault: InfoFault) -> Result<Status, AllocError>
     ensures ok { IfOk result (λ status. fault_status fault ≡ Some status) }
     ensures err { OnErr result (fault ≡ NoMemory) }
 {
     match fault {
-        InfoFault::BadClass => Ok(Status::InvalidInfoClass),
-        InfoFault::BadPattern => Ok(Status::ObjectNameInvalid),
-        InfoFault::TooSmall => Ok(Status::InfoLengthMismatch),
-        InfoFault::NoMatch(_) => Ok(Status::NoSuchFile),
-        InfoFault::NoMore => Ok(Status::NoMoreFiles),
         InfoFault::Unreadable => Ok(Status::InvalidParameter),
-        InfoFault::NoMemory => Err(AllocError),
+        fault => match listing_refusal(fault) {
+            Some(refusal) => Ok(refusal.status),
+            None => Err(AllocError),
+        },
     }
 }

@@ -1,23 +1,21 @@
 //! QUERY_DIRECTORY ([MS-SMB2] 3.3.5.18).
 
-ghost use Rattle.std.specs.Prelude.{◌≡◌, ◌≢◌, ◌≤◌, ◌+◌, Some, IfOk, OnOk, OnErr, IsSome, length, take};
+ghost use Rattle.std.specs.Prelude.{◌≡◌, ◌≤◌, ◌+◌, Some, IfOk, OnOk, OnErr, IsSome, length, take};
 ghost use Rattle.smb_access.specs.Opens.{open_of};
 ghost use Rattle.smb_body.specs.QueryDirectory.{query_directory_asked};
 ghost use Rattle.smb_info.specs.Asks.{list_asked};
-ghost use Rattle.smb_info.specs.declared.fault.InfoFault.TheVariants.{NoMemory};
 ghost use Rattle.smb_opens.specs.Views.{open_view};
 ghost use Rattle.smb_request.specs.InPlace.{answer_held, answer_behind};
-ghost use Rattle.smb_request.specs.QueryDirectory.{list_asked_by, directory_refusal, view_refusal, listed_as_asked, listing_refused, directory_queried};
+ghost use Rattle.smb_request.specs.QueryDirectory.{list_asked_by, directory_refusal, listing_refusal, view_refusal, listed_as_asked, listing_refused, directory_queried};
 
 use super::context::{ResponseIds, Under};
-use super::information::fault_status;
 use super::response::{Answered, put_response};
 use super::shared::Shared;
 use super::status::Status;
 use bitflags::Flags;
 use smb_body::{QueryDirectoryRequest, Reply, close_query_response, open_query_response};
 use smb_info::{InfoFault, ListAsk, list};
-use smb_opens::{Opens, View};
+use smb_opens::{Opens, Scan, View};
 use smb_session::Authenticator;
 use smb_tree::{Kind, Tree};
 use smb_wire::Access;
@@ -51,6 +49,14 @@ impl<'a> DirectoryQuery<'a> {
     }
 }
 
+/// What a refusal of a listing comes to.
+#[derive(Clone, Copy)]
+pub(crate) struct ListingRefusal {
+    pub(crate) status: Status,
+    /// The scan that the query started, though no name is matched: it is the open's.
+    pub(crate) scan: Option<Scan>,
+}
+
 /// What is asked of the directory.
 fn list_ask<'a>(request: &QueryDirectoryRequest<'a>) -> ListAsk<'a>
     ensures { list_asked result ≡ list_asked_by (query_directory_asked request.now) }
@@ -61,6 +67,21 @@ fn list_ask<'a>(request: &QueryDirectoryRequest<'a>) -> ListAsk<'a>
         pattern: request.file_name,
         room: request.output_buffer_length,
     }
+}
+
+/// What a refusal comes to. None where no listing is refused so.
+pub(crate) fn listing_refusal(fault: InfoFault) -> Option<ListingRefusal>
+    ensures { result ≡ listing_refusal fault }
+{
+    let (status, scan) = match fault {
+        InfoFault::BadClass => (Status::InvalidInfoClass, None),
+        InfoFault::BadPattern => (Status::ObjectNameInvalid, None),
+        InfoFault::TooSmall => (Status::InfoLengthMismatch, None),
+        InfoFault::NoMatch(scan) => (Status::NoSuchFile, Some(scan)),
+        InfoFault::NoMore => (Status::NoMoreFiles, None),
+        InfoFault::Unreadable | InfoFault::NoMemory => return None,
+    };
+    Some(ListingRefusal { status, scan })
 }
 
 /// Why the open that shows this may not list, or None.
@@ -97,13 +118,12 @@ impl<A: Authenticator + Drop, T: Tree + Drop, O: Opens + Drop> Shared<A, T, O> {
     fn refuse_listing(
         &mut self,
         query: &DirectoryQuery<'_>,
-        fault: InfoFault,
+        refusal: &ListingRefusal,
         out: &mut Vec<u8>,
     ) -> Result<Answered, AllocError>
-        ensures told { OnOk result (fault ≢ NoMemory) }
-        ensures shared { OnOk result (self.new ≡ (listing_refused self.old query.now.under query.now.open_number fault).shared) }
+        ensures shared { OnOk result (self.new ≡ (listing_refused self.old query.now.under query.now.open_number refusal.now).shared) }
         ensures ok { IfOk result (λ r. answer_held r out.new.items
-            ≡ answer_behind out.old.items (listing_refused self.old query.now.under query.now.open_number fault).response) }
+            ≡ answer_behind out.old.items (listing_refused self.old query.now.under query.now.open_number refusal.now).response) }
         ensures len { OnOk result (length out.new.items ≤ length out.old.items + 65552) }
         ensures err { OnErr result (self.new ≡ self.old) }
         ensures out { OnErr result (out.new.items ≡ out.old.items) }
@@ -111,8 +131,8 @@ impl<A: Authenticator + Drop, T: Tree + Drop, O: Opens + Drop> Shared<A, T, O> {
         ensures known { self.new.sessions.table.connections ≡ self.old.sessions.table.connections }
     {
         let ids = ResponseIds::of(query.under);
-        let answered = put_response(fault_status(fault)?, ids, &Reply::Error, out)?;
-        if let InfoFault::NoMatch(scan) = fault {
+        let answered = put_response(refusal.status, ids, &Reply::Error, out)?;
+        if let Some(scan) = refusal.scan {
             self.store.set_scan(query.open_number, scan);
         }
         Ok(answered)
@@ -155,7 +175,10 @@ impl<A: Authenticator + Drop, T: Tree + Drop, O: Opens + Drop> Shared<A, T, O> {
             }
             Err(fault) => {
                 out.truncate(start);
-                let answered = self.refuse_listing(query, fault, out)?;
+                let Some(refusal) = listing_refusal(fault) else {
+                    return Err(AllocError);
+                };
+                let answered = self.refuse_listing(query, &refusal, out)?;
                 Ok(answered)
             }
         }

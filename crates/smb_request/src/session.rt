@@ -2,7 +2,7 @@
 //!
 //! Where a session or a tree ends, the opens beneath are closed; that takes no memory.
 
-ghost use Rattle.std.specs.Prelude.{◌≡◌, ◌≢◌, ◌≤◌, IfOk, OnErr, length};
+ghost use Rattle.std.specs.Prelude.{◌≡◌, ◌≢◌, ◌≤◌, IfOk, OnErr, IsSomeAnd, length};
 ghost use Rattle.smb_wire.specs.Units.{units_of};
 ghost use Rattle.smb_body.specs.SessionSetup.{session_setup_asked};
 ghost use Rattle.smb_request.specs.Session.{closed_for, status_of_refusal, session_set_up, session_logged_off, tree_response, tree_joined, tree_left};
@@ -31,21 +31,30 @@ pub(crate) const TREE: TreeConnectResponse = TreeConnectResponse {
     maximal_access: Access::FILE_ALL_ACCESS,
 };
 
-/// What comes of a request that the sessions refuse. Want of memory is no refusal: nothing was performed.
+/// The status of a refusal. Out of memory has none.
+fn status_of_refusal(fault: SessionFault) -> Option<Status>
+    ensures { result ≡ status_of_refusal fault }
+{
+    match fault {
+        SessionFault::UnknownSession => Some(Status::UserSessionDeleted),
+        SessionFault::UnknownTree => Some(Status::NetworkNameDeleted),
+        SessionFault::NoShare => Some(Status::BadNetworkName),
+        SessionFault::NotAccepted => Some(Status::RequestNotAccepted),
+        SessionFault::NoDialect => Some(Status::NotSupported),
+        SessionFault::NoMemory => None,
+    }
+}
+
+/// What comes of a request that the sessions refuse. Out of memory is no refusal: nothing was performed.
 fn refused_by(under: Under, fault: SessionFault) -> Result<Told, AllocError>
-    ensures ok { IfOk result (λ told. told ≡ record { ids = ids_of under; outcome = Outcome.Failed (status_of_refusal fault) }) }
+    ensures ok { IfOk result (λ told. IsSomeAnd (status_of_refusal fault) (λ status. told ≡ record { ids = ids_of under; outcome = Outcome.Failed status })) }
     ensures memory { IfOk result (λ told. fault ≢ SessionFault.NoMemory) }
     ensures err { OnErr result (fault ≡ SessionFault.NoMemory) }
 {
-    let status = match fault {
-        SessionFault::UnknownSession => Status::UserSessionDeleted,
-        SessionFault::UnknownTree => Status::NetworkNameDeleted,
-        SessionFault::NoShare => Status::BadNetworkName,
-        SessionFault::NotAccepted => Status::RequestNotAccepted,
-        SessionFault::NoDialect => Status::NotSupported,
-        SessionFault::NoMemory => return Err(AllocError),
-    };
-    Ok(Told::failed(under, status))
+    match status_of_refusal(fault) {
+        Some(status) => Ok(Told::failed(under, status)),
+        None => Err(AllocError),
+    }
 }
 
 /// What comes of a SESSION_SETUP that was not refused ([MS-SMB2] 2.2.6).

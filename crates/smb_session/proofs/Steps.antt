@@ -1,12 +1,12 @@
 -- What each call on the table leaves is what its definition says.
 use Rattle.std.proofs.Common.{◌≡◌, ℕ, ◌+◌, ◌-◌, ◌<◌, ◌≤◌, ◌==◌, ◌||◌, ◌&&◌, Bool, true, false, not, List, [], ◌∷◌, ◌++◌, length, map, Option, Some, None, is_some, nat_le, slice_get, refl, sym, ap, ◌∙◌, arith, length-append}
-use Rattle.std.proofs.lemmas.Bool.{eqb-false}
 use Rattle.std.proofs.lemmas.Bool.Decides.{nat_tests}
 use Rattle.std.specs.List.{AllByRecursion}
 use Rattle.std.specs.Option.{option_map_or}
 use Rattle.std.specs.Map.{lookup, remove_entry}
 use Rattle.std.specs.BTreeMap.{is_at, insert_entry}
 use Rattle.std.specs.Ordering.{nat_cmp}
+use Rattle.smb_wire.specs.Counters.{is_spent}
 use Rattle.smb_session.specs.Numbers.{contains, without_number}
 use Rattle.smb_session.specs.Session.{SessionState, fresh_session, finished_by, with_tree, without_tree, has_all_trees}
 use Rattle.smb_session.specs.Table.{TableState, changed_at, numbers_on, session_at, connected, begun, session_ended, knows_session, end_connection_step}
@@ -45,10 +45,11 @@ module _ (index : List (ℕ × List ℕ)) (sessions : List (ℕ × SessionState)
 
   pub full_else : (c n : ℕ) (ns : List ℕ) → IsHeld index sessions next → lookup (is_at (nat_cmp c)) index ≡ Some ns → n ≡ length ns → n < 16 → (next == 18446744073709551615) ≡ has_all_sessions (table_of index sessions next) c
   full_else c n ns held found len less =
+      let below = held.good.next.1 in
       let same : ns ≡ numbers_on sessions c = index-found (numbers_on sessions) c ns index held.indexed found in
       let l : length (numbers_on sessions c) ≡ n = ap length (sym same) ∙ sym len in
       let t : nat_le 16 (length (numbers_on sessions c)) ≡ false = rw l (grind (arith, nat_tests)) in
-      rw (known_found c ns found, t) refl
+      rw (known_found c ns found, t) (grind (arith, nat_tests))
 
 -- a connection that can begin a session
 or_parts : (a b c : Bool) → (not a || b || c) ≡ false → (a ≡ true) × (b ≡ false) × (c ≡ false)
@@ -64,11 +65,10 @@ pub record CanBegin (index : List (ℕ × List ℕ)) (sessions : List (ℕ × Se
 
 pub can_begin : (index : List (ℕ × List ℕ)) (sessions : List (ℕ × SessionState)) (next c : ℕ) → IsHeld index sessions next → has_all_sessions (table_of index sessions next) c ≡ false → CanBegin index sessions next c
 can_begin index sessions next c held h =
-    let p = or_parts (contains (map (λ e. e.0) index) c) (nat_le 16 (length (numbers_on sessions c))) (next == 18446744073709551615) h in
+    let p = or_parts (contains (map (λ e. e.0) index) c) (nat_le 16 (length (numbers_on sessions c))) (is_spent 64 next) h in
     let few = p.1 in
-    let spent = eqb-false next 18446744073709551615 p.2 in
-    let below = held.good.next.1 in
-    record { known = p.0; room = grind (arith, nat_tests); fits = omega arith }
+    let left = p.2 in
+    record { known = p.0; room = grind (arith, nat_tests); fits = grind (arith, nat_tests) }
 
 pub below : (next : ℕ) (es : List (ℕ × SessionState)) → AllByRecursion (λ e. (0 < e.0) × (e.0 < next)) es → AllByRecursion (λ e. e.0 < next) es
 below next es h = all-more _ _ es (λ e k. k.1) h
@@ -139,10 +139,9 @@ finished_user (Some user) trees h e = cc
 
 pub tree_good : (s : SessionState) → is_some s.user ≡ true → has_all_trees s ≡ false → GoodSession s → GoodSession (with_tree s)
 tree_good s finished room g =
-    let p = no_parts (nat_le 16 (length s.trees)) (s.next_tree == 4294967295) room in
+    let p = no_parts (nat_le 16 (length s.trees)) (is_spent 32 s.next_tree) room in
     let few : length s.trees < 16 = let t = p.0 in grind (arith, nat_tests) in
-    let spent = eqb-false s.next_tree 4294967295 p.1 in
-    let below = g.next.1 in
+    let below : s.next_tree < 4294967295 = let t = p.1 in grind (arith, nat_tests) in
     let above = g.next.0 in
     record {
       few = omega (arith, few, length-append s.trees (s.next_tree ∷ []));

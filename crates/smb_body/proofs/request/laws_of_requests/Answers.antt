@@ -1,3 +1,4 @@
+use Rattle.smb_body.proofs.LockBytes.{element_read}
 use Rattle.smb_body.proofs.RequestLemmas.{request_said, request_told, laid_same}
 use Rattle.smb_body.proofs.request.laws_of_requests.Goals as goal
 
@@ -6,3 +7,6 @@ returns-clause-told c = λ command request v. (request_told command request v, r
 
 pub returns-clause-laid : goal.returns-clause-laid
 returns-clause-laid c = laid_same
+
+pub returns-clause-element : goal.returns-clause-element
+returns-clause-element c = element_read
