@@ -1,5 +1,5 @@
 -- Sessions that are gone stay so.
-use Rattle.std.proofs.Common.{◌≡◌, ◌==◌, ℕ, ◌<◌, ◌+◌, Bool, true, false, List, [], ◌∷◌, ◌++◌, map, Option, Some, None, refl, sym, ap, arith, ◌∙◌}
+use Rattle.std.proofs.Common.{◌≡◌, ◌==◌, ℕ, ◌<◌, Bool, true, false, List, [], ◌∷◌, ◌++◌, map, Option, Some, None, refl, sym, arith, ◌∙◌}
 use Rattle.std.proofs.lemmas.Bool.Decides.{nat_tests}
 use Rattle.std.specs.List.{AllByRecursion}
 use Rattle.std.specs.Map.{lookup, remove_entry}
@@ -11,7 +11,7 @@ use Rattle.smb_session.specs.Good.{GoodTable}
 use Rattle.smb_session.specs.Numbers.{contains, IsRising}
 use Rattle.smb_session.specs.Session.{SessionState, fresh_session, finished_by}
 use Rattle.smb_session.specs.Setup.{setup_number, setup_table, table_answered, previous_ended}
-use Rattle.smb_session.specs.Table.{TableState, connected, begun, session_ended, session_changed, changed_at, knows_session, numbers_on, end_connection_step}
+use Rattle.smb_session.specs.Table.{TableState, connected, begun, session_ended, session_changed, knows_session, numbers_on, end_connection_step}
 use Rattle.smb_session.specs.Laws.{IsGone}
 use Rattle.smb_session.proofs.Entries.{at-eq, all-removed, all-changed}
 

@@ -1,9 +1,7 @@
 -- An entry as a plain tree stores it when it is added.
 use Rattle.std.proofs.Common.{◌≡◌, ℕ, ◌-◌, ◌^◌, ◌<◌, ◌≤◌, true, false, List, [], length, Option, None, refl, ap, ◌∙◌, arith}
 use Rattle.std.proofs.lemmas.Bool.Decides.{nat_tests}
-use Rattle.std.proofs.lemmas.List.{length-map}
 use Rattle.std.specs.List.{list_all}
-use Rattle.smb_wire.specs.Names.{folded}
 use Rattle.smb_wire.specs.Pairs.{units_in, unit_bytes, AreUnits}
 use Rattle.smb_wire.specs.Paths.{components, folded_path, is_lawful_component}
 use Rattle.smb_wire.proofs.Pairing.{units_read, length-unit_bytes}

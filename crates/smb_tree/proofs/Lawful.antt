@@ -1,15 +1,15 @@
 -- Entries stay lawful: by a change, an addition, a removal and a move.
-use Rattle.std.proofs.Common.{◌≡◌, ℕ, ◌<◌, ◌==◌, Bool, true, false, not, ◌&&◌, if◌then◌else◌, nat_lt, nat_le, List, [], ◌∷◌, ◌++◌, length, Option, Some, None, refl, sym, ap, subst, inl, inr, ◌∙◌, arith, append-nil, length-append}
+use Rattle.std.proofs.Common.{◌≡◌, ℕ, ◌<◌, ◌==◌, true, false, ◌&&◌, if◌then◌else◌, List, [], ◌∷◌, ◌++◌, length, Option, Some, None, refl, sym, ap, subst, inl, inr, ◌∙◌, arith, append-nil, length-append}
 use Rattle.std.proofs.lemmas.Bool.Decides.{nat_tests}
 use Rattle.std.proofs.lemmas.List.{length-map}
 use Rattle.std.proofs.lemmas.Nat.{and_assoc}
-use Rattle.std.specs.List.{AllByRecursion, list_all}
+use Rattle.std.specs.List.{list_all}
 use Rattle.smb_wire.specs.Names.{folded_unit, folded}
 use Rattle.smb_wire.specs.Paths.{folded_path, is_lawful_unit, is_lawful_component, is_dots}
 use Rattle.smb_tree.specs.declared.entry.Kind.{Kind}
 use Rattle.smb_tree.specs.Entries.{Entry, kept_attributes, last_part, new_entry}
 use Rattle.smb_tree.specs.Content.{Path, Row, Content, is_same_path, entry_at, numbered, changed, without}
-use Rattle.smb_tree.specs.Moves.{is_within, replaced, respelled, moved_row, renamed, without_other, moved_rows, moved}
+use Rattle.smb_tree.specs.Moves.{replaced, moved_row, without_other, moved_rows, moved}
 use Rattle.smb_tree.specs.Good.{IsLawfulRow, AreLawful}
 use Rattle.smb_tree.proofs.Heads.{within_or_not, replaced-within, replaced-elsewhere, not_within_not_it, beneath_not_it}
 use Rattle.smb_tree.proofs.Keys.{same_path-itself}
@@ -153,12 +153,12 @@ row_moved : (from : Path) (parts : List (List ℕ)) (row : Row) → list_all is_
 row_moved from parts row l h =
     elim (within_or_not from row.0) [
       | inl s ↦ (let at : row ≡ (from ++ s.0, row.1) = λ i. (s.1 i, row.1) in
-        let P : Row → Type 0 = λ r. IsLawfulRow (moved_row from parts r) in
-        let Q : Row → Type 0 = IsLawfulRow in
-        subst P (sym at) (row_moved_within from parts row.1 s.0 l (subst Q at h)))
+          let P : Row → Type 0 = λ r. IsLawfulRow (moved_row from parts r) in
+          let Q : Row → Type 0 = IsLawfulRow in
+          subst P (sym at) (row_moved_within from parts row.1 s.0 l (subst Q at h)))
       | inr k ↦ (let apart : is_same_path row.0 from ≡ false = not_within_not_it from row.0 k in
-        let there : replaced from (folded_path parts) row.0 ≡ row.0 = replaced-elsewhere from (folded_path parts) row.0 k in
-        rw (there, apart) h)
+          let there : replaced from (folded_path parts) row.0 ≡ row.0 = replaced-elsewhere from (folded_path parts) row.0 k in
+          rw (there, apart) h)
     ]
 
 rows_left : (rows : List Row) (n : ℕ) (o : Option Entry) → AreLawful rows → AreLawful (without_other rows n o)

@@ -1,5 +1,5 @@
 -- Why a change of a tree is refused: the first reason that holds. Want of memory stands apart.
-use Rattle.std.specs.Prelude.{ℕ, ◌+◌, ◌-◌, ◌^◌, max, not, ◌&&◌, ◌||◌, ◌==◌, false, Bool, nat_le, nat_lt, is_some, if◌then◌else◌, List, length, Option, None, Some}
+use Rattle.std.specs.Prelude.{ℕ, ◌+◌, ◌-◌, max, not, ◌&&◌, ◌||◌, ◌==◌, false, Bool, nat_le, nat_lt, is_some, if◌then◌else◌, List, length, Option, None, Some}
 use Rattle.std.specs.List.{list_any}
 use Rattle.smb_wire.specs.Counters.{is_spent}
 use Rattle.smb_tree.specs.declared.fault.TreeFault.{TreeFault}

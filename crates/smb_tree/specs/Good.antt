@@ -1,5 +1,5 @@
 -- Good contents: what a store keeps of its tree, and what a move keeps.
-use Rattle.std.specs.Prelude.{◌≡◌, ℕ, ◌<◌, ◌≤◌, ◌^◌, true, List, [], length, Some}
+use Rattle.std.specs.Prelude.{◌≡◌, ◌<◌, ◌≤◌, ◌^◌, true, List, [], length, Some}
 use Rattle.std.specs.List.{AllByRecursion, list_all}
 use Rattle.smb_wire.specs.Names.{folded}
 use Rattle.smb_wire.specs.Paths.{folded_path, is_lawful_component}

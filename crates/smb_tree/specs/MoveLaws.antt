@@ -1,11 +1,11 @@
 -- A move that is not refused, in a user's words.
-use Rattle.std.specs.Prelude.{◌≡◌, ◌≢◌, ℕ, ◌<◌, ◌≤◌, ◌^◌, true, false, List, [], ◌∷◌, ◌++◌, length, None, Some}
+use Rattle.std.specs.Prelude.{◌≡◌, ◌≢◌, ℕ, ◌≤◌, true, false, List, [], ◌∷◌, ◌++◌, length, None, Some}
 use Rattle.std.specs.List.{list_all}
 use Rattle.std.specs.Option.{option_map}
 use Rattle.smb_wire.specs.Paths.{folded_path, is_lawful_component}
 use Rattle.smb_tree.specs.declared.fault.TreeFault.TheVariants.{Exists}
-use Rattle.smb_tree.specs.Entries.{Entry, is_folder, is_folder_kind, last_part}
-use Rattle.smb_tree.specs.Content.{Path, Row, Content, is_same_path, entry_at, number_at, numbered, parent, used_space}
+use Rattle.smb_tree.specs.Entries.{Entry, last_part}
+use Rattle.smb_tree.specs.Content.{Path, Row, Content, is_same_path, entry_at, number_at, numbered, used_space}
 use Rattle.smb_tree.specs.Good.{GoodContent, AreLawful}
 use Rattle.smb_tree.specs.Moves.{is_within, moved_row, moved}
 use Rattle.smb_tree.specs.Faults.{move_fault}

@@ -42,7 +42,12 @@ pub struct PlainTree {
 
 impl fmt::Debug for PlainTree {
     fn fmt<W: fmt::Write>(&self, f: &mut fmt::Formatter<W>) -> fmt::Result {
-        write!(f, "PlainTree {{ entries: {}, used: {}, .. }}", self.entries.len(), self.used)
+        write!(
+            f,
+            "PlainTree {{ entries: {}, used: {}, .. }}",
+            self.entries.len(),
+            self.used
+        )
     }
 }
 

@@ -1,4 +1,4 @@
-use Rattle.std.proofs.Common.{◌≡◌, ℕ, Bool, false, List, Option, None, Some, refl, sym, ap, ◌∙◌}
+use Rattle.std.proofs.Common.{◌≡◌, ℕ, false, List, Option, None, Some, refl, ap, ◌∙◌}
 use Rattle.smb_wire.specs.PathViews.{parts_of}
 use Rattle.smb_wire.specs.Paths.{folded_path}
 use Rattle.smb_tree.specs.Content.{Row}
