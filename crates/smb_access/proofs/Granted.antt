@@ -1,5 +1,5 @@
 -- The access that is granted has no bits but the rights.
-use Rattle.std.proofs.Common.{◌≡◌, ℕ, ◌/◌, ◌==◌, Bool, true, false, cond, if◌then◌else◌, bit_and, bit_or, refl, sym, ap, arith, ◌∙◌}
+use Rattle.std.proofs.Common.{◌≡◌, ℕ, ◌/◌, Bool, true, false, if◌then◌else◌, bit_and, bit_or, refl, sym, ap, arith, ◌∙◌}
 use Rattle.std.proofs.lemmas.Nat.{and_assoc, and_shr, or_shr}
 use Rattle.std.specs.Int.Bits.{and_zero_r}
 use lib.Arith.{bin_ind}

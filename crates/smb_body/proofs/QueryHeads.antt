@@ -1,9 +1,7 @@
 -- The fixed part of a QUERY_DIRECTORY response, written when its buffer is there.
-use Rattle.std.proofs.Common.{◌≡◌, ℕ, ◌+◌, ◌-◌, List, [], ◌∷◌, ◌++◌, length, take, drop, replicate, refl, sym, ap, ◌∙◌, arith, length-append, append_assoc}
+use Rattle.std.proofs.Common.{◌≡◌, ℕ, ◌+◌, ◌-◌, List, ◌∷◌, ◌++◌, length, take, drop, replicate, refl, sym, ap, ◌∙◌, arith, length-append, append_assoc}
 use Rattle.std.proofs.lemmas.List.{take_at, drop_at}
 use Rattle.smb_wire.specs.Number.{spelling}
-use Rattle.smb_wire.specs.Fields.{joined}
-use Rattle.smb_body.specs.Query.{query_response_fields}
 use Rattle.smb_body.specs.Replies.{reply_spelling, answers_query_directory}
 
 query_head : (buffer : List ℕ) (long : ℕ) → long ≡ length buffer →

@@ -71,7 +71,12 @@ pub struct NodeTree {
 
 impl fmt::Debug for NodeTree {
     fn fmt<W: fmt::Write>(&self, f: &mut fmt::Formatter<W>) -> fmt::Result {
-        write!(f, "NodeTree {{ entries: {}, used: {}, .. }}", self.index.len(), self.used)
+        write!(
+            f,
+            "NodeTree {{ entries: {}, used: {}, .. }}",
+            self.index.len(),
+            self.used
+        )
     }
 }
 

@@ -1,4 +1,4 @@
-use Rattle.std.proofs.Common.{◌∷◌, ◌≡◌, ◌∙◌, ◌-◌, length, refl, sym, ap, arith, rules}
+use Rattle.std.proofs.Common.{◌∷◌, ◌≡◌, ◌∙◌, ◌-◌, length, refl, ap, rules}
 use Rattle.smb_wire.specs.Number.{spelling}
 use Rattle.smb_body.proofs.QueryHeads.{closed_is}
 use Rattle.smb_body.proofs.ReadHeads.{spelling_4}
