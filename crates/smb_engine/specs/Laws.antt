@@ -101,7 +101,7 @@ module _ {S : Type 0} (authenticator : Meaning S) where
       × ((s : ShareState S) (events : List EventText) → IsInOrder s.shared → IsInOrder (run authenticator s events).state.shared)
 
   -- events on other connections leave each session of a connection as it was, with its trees and its opens; or they end
-  -- it whole, a finished one, as a SESSION_SETUP does that names it as the previous session of its user
+  -- it whole, a finished one (of a request `ARequestIsAlone` says when)
   abbrev pub SessionsOfOthersAreLeft : Type 0
   SessionsOfOthersAreLeft =
       (s : ShareState S) → IsInOrder s.shared → (events : List EventText) (connection : ℕ) → AllByRecursion (λ event. (connection_of event == connection) ≡ false) events →

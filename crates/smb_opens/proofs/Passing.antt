@@ -1,13 +1,11 @@
 -- What is known where a request passes the table.
-use Rattle.std.proofs.Common.{◌≡◌, ◌≢◌, ◌≤◌, ℕ, List, [], ◌∷◌, ◌++◌, length, Bool, true, false, cond, ◌&&◌, ◌||◌, Option, None, Some, refl, sym, ap, subst, arith, ◌∙◌}
+use Rattle.std.proofs.Common.{◌≡◌, ◌≢◌, ℕ, List, [], ◌∷◌, ◌++◌, Bool, true, false, cond, ◌&&◌, ◌||◌, Option, None, Some, refl, sym, ap, subst, arith, ◌∙◌}
 use Rattle.std.proofs.lemmas.Grind.{common_steps}
-use Rattle.std.proofs.lemmas.List.{length-map}
 use Rattle.std.proofs.lemmas.Bool.Decides.{nat_tests}
 use Rattle.std.specs.List.{AllByRecursion}
 use Rattle.std.specs.Option.{option_map, is_none}
 use Rattle.std.specs.Prelude.{Result, Ok, Err, IfErr, OnOk}
 use Rattle.smb_wire.specs.Dispositions.{overwrites_by}
-use Rattle.smb_wire.specs.Names.{folded}
 use Rattle.smb_wire.specs.Paths.{path_spelled, path_fault, folded_path}
 use Rattle.smb_tree.specs.Entries.{Entry, is_folder, is_folder_kind}
 use Rattle.smb_tree.specs.Content.{Path, entry_at, parent}

@@ -1,20 +1,16 @@
 -- A store whose open has another scan.
-use Rattle.std.proofs.Common.{◌≡◌, ◌==◌, ◌<◌, ℕ, List, [], ◌∷◌, length, map, Bool, true, false, if◌then◌else◌, Option, None, Some, is_some, refl, sym, ap, subst, arith, ◌∙◌}
+use Rattle.std.proofs.Common.{◌≡◌, ◌==◌, ℕ, List, [], ◌∷◌, length, map, Bool, true, false, if◌then◌else◌, Option, None, Some, is_some, refl, sym, ap, arith, ◌∙◌}
 use Rattle.std.proofs.lemmas.Bool.Decides.{nat_tests}
 use Rattle.std.specs.Option.{option_map}
 use Rattle.smb_tree.specs.Content.{Row, Content, numbered}
-use Rattle.smb_locks.specs.Table.{Table, locks_on}
-use Rattle.smb_locks.specs.declared.lock.Lock.{Lock}
-use Rattle.std.specs.Prelude.{Contains}
+use Rattle.smb_locks.specs.Table.{Table}
 use Rattle.smb_access.specs.declared.open_row.OpenRow.{OpenRow}
 use Rattle.smb_access.specs.declared.scan.Scan.{Scan}
-use Rattle.smb_access.specs.Close.{is_deletable, has_mark}
-use Rattle.smb_access.specs.Numbers.{AreRising}
-use Rattle.smb_access.specs.Opens.{open_of, open_numbers, has_open, has_number, with_scan, AreAllBelow}
+use Rattle.smb_access.specs.Opens.{open_of, open_numbers, has_open, has_number, with_scan}
 use Rattle.smb_access.specs.Present.{ArePresent}
 use Rattle.smb_access.specs.Sharing.{Use, AreCompatible, is_conflict, use_of}
 use Rattle.smb_access.specs.Views.{view_through}
-use Rattle.smb_opens.specs.Good.{GoodStore, IsKept, IsMasked, AreMasked, AreMarksDue, AreLocksHeld}
+use Rattle.smb_opens.specs.Good.{GoodStore, IsKept, IsMasked, AreMasked}
 use Rattle.smb_opens.specs.Laws.{LeavesScan}
 use Rattle.smb_opens.specs.Scans.{scan_set}
 use Rattle.smb_opens.specs.State.{StoreState}

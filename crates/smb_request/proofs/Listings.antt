@@ -31,7 +31,6 @@ use Rattle.smb_access.specs.declared.open_row.OpenRow.{OpenRow}
 use Rattle.smb_access.specs.declared.open_row.Owner.TheVariants.{Session}
 use Rattle.smb_access.specs.Numbers.{AreRising}
 use Rattle.smb_access.specs.Opens.{open_of, open_numbers, has_number, with_scan, is_held_by}
-use Rattle.smb_opens.proofs.ScanLaws.{looks_same}
 use Rattle.smb_info.specs.Information.{Information, fixed_length, info_fault}
 use Rattle.smb_request.specs.Information.{fault_status, request_refusal}
 use Rattle.smb_body.specs.declared.query_info.QueryInfoRequest.{QueryInfoRequest}

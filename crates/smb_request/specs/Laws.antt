@@ -1,5 +1,5 @@
 -- What follows from the definitions.
-use Rattle.std.specs.Prelude.{◌≡◌, ◌⊎◌, ℕ, ◌<◌, ◌==◌, true, false, List, [], filter, map, Option, None, Some}
+use Rattle.std.specs.Prelude.{◌≡◌, ◌⊎◌, ℕ, ◌<◌, ◌==◌, false, List, [], filter, map, Option, None, Some}
 use Rattle.std.specs.List.{AllByRecursion}
 use Rattle.smb_wire.specs.Commands.{known_command}
 use Rattle.smb_head.specs.Headers.{header_of}

@@ -14,4 +14,6 @@ mod scripted;
 #[cfg(test)]
 mod served;
 #[cfg(test)]
+mod shown;
+#[cfg(test)]
 mod talk;

@@ -1,5 +1,3 @@
-use Rattle.std.proofs.Common.{refl, ap, sym, ◌∙◌}
-use Rattle.smb_opens.specs.State.{StoreState}
 use Rattle.smb_opens.proofs.ScanLaws.{kept_scanned}
 use Rattle.smb_opens.proofs.store.Store.set_scan.Goals as goal
 

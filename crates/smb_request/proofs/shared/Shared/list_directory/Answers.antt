@@ -1,4 +1,4 @@
-use Rattle.std.proofs.Common.{ap, arith, ◌∙◌}
+use Rattle.std.proofs.Common.{ap, arith}
 use Rattle.smb_info.specs.Asks.{list_asked}
 use Rattle.smb_info.specs.Queries.{ListAsked}
 use Rattle.smb_request.proofs.Listings.{owned_scanned, listed_within, fits_behind}

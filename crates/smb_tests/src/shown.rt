@@ -1,0 +1,79 @@
+//! What a log shows of a fault, of a tree and of a list of opens.
+
+use smb_engine::{HandleTable, NodeTree, PlainOpens, PlainTree, RunFault, ServeFault};
+use smb_replay::{CommandFault, ConfigFault, ConfigRule, Expected};
+use std::alloc::Global;
+use std::error::Error;
+use std::fmt::Debug;
+
+/// Whether an error has this text.
+fn says<E: Error>(alloc: Global, error: &E, text: &str) -> bool {
+    match format!(in alloc; "{error}") {
+        Ok(said) => said.as_str() == text,
+        Err(_) => false,
+    }
+}
+
+/// Whether a value is shown so.
+fn shows<T: Debug>(alloc: Global, value: &T, text: &str) -> bool {
+    match format!(in alloc; "{value:?}") {
+        Ok(shown) => shown.as_str() == text,
+        Err(_) => false,
+    }
+}
+
+#[test]
+fn says_where_a_run_stopped(rt: HostRuntime) {
+    let fault = RunFault {
+        place: 2,
+        connection: 7,
+        fault: ServeFault::BadEvent,
+    };
+    assert!(rt; says(rt.alloc(), &fault, "event 2, connection 7: a bad event"));
+}
+
+#[test]
+fn says_what_a_configuration_breaks(rt: HostRuntime) {
+    let fault = ConfigFault::Refused(ConfigRule::Guid);
+    let text = "the configuration is refused: guid: a text of 32 hex digits";
+    assert!(rt; says(rt.alloc(), &fault, text));
+}
+
+#[test]
+fn says_which_line_is_unreadable(rt: HostRuntime) {
+    let fault = CommandFault::Unreadable(3, Expected::Piece);
+    assert!(rt; says(rt.alloc(), &fault, "line 3: unreadable"));
+}
+
+#[test]
+fn shows_how_many_entries_a_tree_has(rt: HostRuntime) {
+    let alloc = rt.alloc();
+    let nodes = match NodeTree::new(alloc, 0, 4_096) {
+        Ok(tree) => shows(alloc, &tree, "NodeTree { entries: 1, used: 0, .. }"),
+        Err(_) => false,
+    };
+    let plain = match PlainTree::new(alloc, 0, 4_096) {
+        Ok(tree) => shows(alloc, &tree, "PlainTree { entries: 1, used: 0, .. }"),
+        Err(_) => false,
+    };
+    assert!(rt; nodes && plain);
+}
+
+#[test]
+fn shows_how_many_opens_there_are(rt: HostRuntime) {
+    let alloc = rt.alloc();
+    assert!(rt;
+        shows(
+            alloc,
+            &HandleTable::new(alloc),
+            "HandleTable { opens: 0, .. }"
+        )
+    );
+    assert!(rt;
+        shows(
+            alloc,
+            &PlainOpens::new(alloc),
+            "PlainOpens { opens: 0, .. }"
+        )
+    );
+}
