@@ -8,6 +8,7 @@ ghost use Rattle.smb_body.specs.Query.{query_response_fields, is_query_response_
 
 use super::fault::BodyFault;
 use smb_wire::{WireFault, put_bytes, put_u16, put_u32};
+use std::alloc::AllocError;
 
 /// A QUERY_DIRECTORY or QUERY_INFO response ([MS-SMB2] 2.2.34, 2.2.38).
 #[derive(Clone, Copy, Debug)]
@@ -54,14 +55,14 @@ pub(crate) fn put_query_response(
 /// Opens a QUERY_DIRECTORY response at the end of `out`: keeps the place of its fixed part free, and tells where that is. The
 /// buffer goes behind it, straight at the end of `out`.
 ///
-/// After a refusal `out` is as it was.
-pub fn open_query_response(out: &mut Vec<u8>) -> Result<usize, BodyFault>
+/// After an error `out` is as it was.
+pub fn open_query_response(out: &mut Vec<u8>) -> Result<usize, AllocError>
     ensures ok { OnOk result (out.new.items ≡ out.old.items ++ replicate 8 0) }
     ensures start { IfOk result (λ start. start ≡ length out.old.items) }
     ensures err { OnErr result (out.new.items ≡ out.old.items) }
 {
     let start = out.len();
-    put_bytes(out, &[0; 8])?;
+    out.extend_from_slice(&[0; 8])?;
     Ok(start)
 }
 

@@ -12,6 +12,7 @@ use super::types::Channel;
 use smb_wire::{
     FileId, WireFault, put_bytes, put_u8, put_u16, put_u32, put_u64, u8_in, u16_in, u32_in, u64_in,
 };
+use std::alloc::AllocError;
 
 /// Flags of a READ request ([MS-SMB2] 2.2.19). The profile ignores them.
 #[derive(Clone, Copy, Debug, PartialEq, Eq)]
@@ -122,8 +123,8 @@ pub(crate) fn put_read_response(
 
 /// Adds the fixed part of a READ response, whose data of this length is added behind it.
 ///
-/// After a refusal `out` is as it was.
-pub fn put_read_head(data_length: u32, out: &mut Vec<u8>) -> Result<(), BodyFault>
+/// After an error `out` is as it was.
+pub fn put_read_head(data_length: u32, out: &mut Vec<u8>) -> Result<(), AllocError>
     ensures ok { (buffer : List ℕ) → length buffer ≡ data_length →
         OnOk result (out.new.items ++ buffer ≡ out.old.items ++ reply_spelling (answers_read buffer)) }
     ensures len { OnOk result (length out.new.items ≡ length out.old.items + 16) }
@@ -131,6 +132,6 @@ pub fn put_read_head(data_length: u32, out: &mut Vec<u8>) -> Result<(), BodyFaul
     ensures err { OnErr result (out.new.items ≡ out.old.items) }
 {
     let [a, b, c, d] = data_length.to_le_bytes();
-    put_bytes(out, &[17, 0, 80, 0, a, b, c, d, 0, 0, 0, 0, 0, 0, 0, 0])?;
+    out.extend_from_slice(&[17, 0, 80, 0, a, b, c, d, 0, 0, 0, 0, 0, 0, 0, 0])?;
     Ok(())
 }

@@ -1,5 +1,5 @@
 -- A chain, one request further.
-use Rattle.std.proofs.Common.{◌≡◌, ℕ, zero, suc, ◌+◌, ◌≤◌, Bool, true, false, eqb, ◌&&◌, ◌||◌, List, [], ◌∷◌, ◌++◌, length, take, drop, refl, sym, ap, ◌∙◌, Option, None, Some, arith, append_assoc, append-nil, if◌then◌else◌}
+use Rattle.std.proofs.Common.{◌≡◌, ℕ, zero, suc, ◌+◌, ◌≤◌, Bool, true, false, eqb, ◌&&◌, ◌||◌, List, [], ◌∷◌, ◌++◌, length, take, drop, refl, sym, ap, subst, ◌∙◌, Option, None, Some, arith, append_assoc, append-nil, if◌then◌else◌}
 use Rattle.std.specs.Prelude.{slice_get}
 use Rattle.std.specs.List.{list_any, AllByRecursion, concat}
 use Rattle.std.specs.Option.{option_map_or}
@@ -191,10 +191,16 @@ count_in_at payload k None f h = h
 count_in_at payload k (Some dialects) f h = omega (arith, f dialects refl, count_first_few dialects)
 
 -- a payload has no more requests than bytes
-pub count_in_few : {S : Type 0} (m : Meaning S) (number moment : ℕ) (shared : SharedState S) (connection : Connection) (payload : List ℕ) → count_in m number moment shared connection payload ≤ length payload
+count_in_few : {S : Type 0} (m : Meaning S) (number moment : ℕ) (shared : SharedState S) (connection : Connection) (payload : List ℕ) → count_in m number moment shared connection payload ≤ length payload
 unfolding count_in
 count_in_few m number moment shared connection payload =
     count_in_at payload _ (first_negotiate connection payload) (first_long connection payload) (count_in_chain_few m number moment shared connection payload)
+
+pub count_few : {S : Type 0} (m : Meaning S) (number moment : ℕ) (shared : SharedState S) (connection : Connection) (payload : List ℕ) (n : ℕ) → count_in m number moment shared connection payload ≡ n → n ≤ length payload
+count_few m number moment shared connection payload n e = subst (λ (k : ℕ). k ≤ length payload) e (count_in_few m number moment shared connection payload)
+
+pub within_few : {S : Type 0} (m : Meaning S) (number moment : ℕ) (shared : SharedState S) (connection : Connection) (payload : List ℕ) (n : ℕ) → n ≤ count_in m number moment shared connection payload → n ≤ length payload
+within_few m number moment shared connection payload n l = (let few = count_in_few m number moment shared connection payload in omega (arith, l, few))
 
 module _ {S : Type 0} (m : Meaning S) (number moment : ℕ) (shared : SharedState S) (connection : Connection) where
   chain-none_at : (requests : Option (List (List ℕ))) → option_map_or (λ rs. (turn_after_all m number moment (turn_before shared connection rs) (take 0 rs)).shared) requests shared ≡ shared

@@ -1,17 +1,18 @@
 -- What follows from the definitions, of every authenticator.
-use Rattle.std.specs.Prelude.{◌≡◌, ◌⊎◌, ℕ, ◌+◌, ◌<◌, true, false, ◌==◌, nat_lt, List, [], ◌∷◌, ◌++◌, length, map, None, Some, is_some, if◌then◌else◌}
+use Rattle.std.specs.Prelude.{◌≡◌, ◌⊎◌, ℕ, ◌+◌, ◌<◌, false, ◌==◌, nat_lt, List, [], ◌∷◌, ◌++◌, length, map, None, Some, if◌then◌else◌}
 use Rattle.std.specs.Option.{option_map}
-use Rattle.std.specs.List.{AllByRecursion, flat_map}
+use Rattle.std.specs.List.{AllByRecursion, Any, flat_map}
 use Rattle.smb_session.specs.Numbers.{IsRising}
 use Rattle.smb_session.specs.Authenticator.{Meaning}
 use Rattle.smb_session.specs.Session.{SessionState}
 use Rattle.smb_session.specs.Table.{session_at}
-use Rattle.smb_request.specs.Laws.{IsInOrder, IsAsItWas, IsOver}
+use Rattle.smb_request.specs.Laws.{IsInOrder, IsAsItWas, IsOver, ReplacesSession}
 use Rattle.smb_engine.specs.Event.{EventText, brings, connection_of}
 use Rattle.smb_engine.specs.State.{ShareState}
 use Rattle.smb_engine.specs.Output.{Output, frame_to, end_of}
 use Rattle.smb_engine.specs.Share.{GoodState, link_of, unread}
 use Rattle.smb_engine.specs.Run.{Stop, Ran, later, run, run_behind}
+use Rattle.smb_engine.specs.Requests.{requests_of_run}
 
 -- the open connections stand in rising number, and each number was given
 pub record LinksInOrder {S : Type 0} (s : ShareState S) : Type 0 where
@@ -100,14 +101,15 @@ module _ {S : Type 0} (authenticator : Meaning S) where
       ((s : ShareState S) → GoodState s → IsInOrder s.shared)
       × ((s : ShareState S) (events : List EventText) → IsInOrder s.shared → IsInOrder (run authenticator s events).state.shared)
 
-  -- events on other connections leave each session of a connection as it was, with its trees and its opens; or they end
-  -- it whole, a finished one (of a request `ARequestIsAlone` says when)
+  -- events on other connections leave each session of a connection as it was, with its trees and its opens; or it is over
+  -- since one of their requests replaced it: a SESSION_SETUP that lets its user in, and names it as the previous session
   abbrev pub SessionsOfOthersAreLeft : Type 0
   SessionsOfOthersAreLeft =
       (s : ShareState S) → IsInOrder s.shared → (events : List EventText) (connection : ℕ) → AllByRecursion (λ event. (connection_of event == connection) ≡ false) events →
       (number : ℕ) (session : SessionState) → session_at s.shared.sessions.table number ≡ Some session → session.connection ≡ connection →
       IsAsItWas s.shared (run authenticator s events).state.shared number
-      ⊎ (IsOver (run authenticator s events).state.shared number × (is_some session.user ≡ true))
+      ⊎ (IsOver (run authenticator s events).state.shared number
+      × Any (λ came. ReplacesSession authenticator came.shared came.context came.request number session) (requests_of_run authenticator s events))
 
   -- a session's number is given once: it stays given, and a session that is over stays over, whatever events come
   abbrev pub WhatIsOverStaysOver : Type 0

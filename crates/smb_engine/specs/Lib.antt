@@ -6,6 +6,7 @@ pub mod Stream
 pub mod Share
 pub mod Event
 pub mod Run
+pub mod Requests
 pub mod Laws
 pub mod Held
 pub mod InPlace

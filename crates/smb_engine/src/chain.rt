@@ -391,7 +391,6 @@ pub(crate) fn perform_payload<A: Authenticator + Drop, T: Tree + Drop, O: Opens 
 ) -> Result<Option<usize>, RanOut>
     ensures ok { IfOk result (λ count. record { shared = shared.new; connection = connection.new; goes_on = is_some count; out = out.new.items }
         ≡ payload_behind out.old.items (payload_step A.meaning connection_id moment shared.old connection.old payload.now)) }
-    ensures few { count_in A.meaning connection_id moment shared.old connection.old payload.now ≤ length payload.now }
     ensures count { IfOk result (λ count. IfSome count (λ n. count_in A.meaning connection_id moment shared.old connection.old payload.now ≡ n)) }
     ensures kept { OnErr result (out.new.items ≡ out.old.items) }
     ensures err { IfErr result (λ ran_out. (ran_out.done ≤ count_in A.meaning connection_id moment shared.old connection.old payload.now)

@@ -7,9 +7,9 @@ use smb_session::Authenticator;
 
 /// What a run leaves and puts out does not depend on how bytes that come at one moment were cut into pieces, nor on how
 /// the events were cut into runs; events on other connections leave a connection as it was, and put nothing out to it;
-/// they leave its sessions too, with their trees and opens, or end a finished one whole, and what is over stays over;
-/// and the share ends a connection at most once, with nothing behind it. This is so with any authenticator: the
-/// contract is the statement, and the body does nothing.
+/// they leave each of its sessions too, with its trees and opens, or one of their requests replaced it, and what is over
+/// stays over; and the share ends a connection at most once, with nothing behind it. This is so with any authenticator:
+/// the contract is the statement, and the body does nothing.
 pub fn laws_of_shares<A: Authenticator>()
     ensures order { StatesAreInOrder A.meaning }
     ensures cut { ACutDoesNotMatter A.meaning }

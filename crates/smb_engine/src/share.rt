@@ -245,11 +245,13 @@ impl<A: Authenticator + Drop, T: Tree + Drop, O: Opens + Drop> Share<A, T, O> {
         match take_piece(&mut self.shared, link, connection, moment, piece, out) {
             Ok(true) => Ok(Fate::Open),
             Ok(false) => {
+                self.shared.good();
                 self.shared.disconnect(connection);
                 self.links.remove(&connection);
                 Ok(Fate::Ended)
             }
             Err(ran_out) => {
+                self.shared.good();
                 self.shared.disconnect(connection);
                 self.links.remove(&connection);
                 Err(ran_out)
@@ -263,6 +265,7 @@ impl<A: Authenticator + Drop, T: Tree + Drop, O: Opens + Drop> Share<A, T, O> {
         ensures state { self.new ≡ ended self.old connection }
         ensures good { GoodState self.new }
     {
+        self.shared.good();
         self.shared.disconnect(connection);
         let _ = self.links.remove(&connection);
         self.good();

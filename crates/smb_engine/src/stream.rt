@@ -30,7 +30,6 @@ fn put_payload<A: Authenticator + Drop, T: Tree + Drop, O: Opens + Drop, K: Sink
 ) -> Result<Option<usize>, RanOut>
     ensures ok { IfOk result (λ count. record { shared = shared.new; connection = connection.new; goes_on = is_some count; heard = K.content out.new }
         ≡ payload_heard K.hears (K.content out.old) connection_id (payload_step A.meaning connection_id moment shared.old connection.old payload.now)) }
-    ensures few { count_in A.meaning connection_id moment shared.old connection.old payload.now ≤ length payload.now }
     ensures count { IfOk result (λ count. IfSome count (λ n. count_in A.meaning connection_id moment shared.old connection.old payload.now ≡ n)) }
     ensures err { IfErr result (λ ran_out. (ran_out.done ≤ count_in A.meaning connection_id moment shared.old connection.old payload.now)
         × (shared.new ≡ shared_after A.meaning connection_id moment shared.old connection.old payload.now ran_out.done)) }

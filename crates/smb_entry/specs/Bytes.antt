@@ -1,7 +1,7 @@
 -- READ and WRITE of a file, by what an open shows ([MS-SMB2] 3.3.5.12, 3.3.5.13).
-use Rattle.std.specs.Prelude.{ℕ, ◌+◌, ◌-◌, ◌||◌, ◌&&◌, Bool, not, min, nat_lt, nat_le, List, [], ◌∷◌, length, Option, None, Some}
+use Rattle.std.specs.Prelude.{ℕ, ◌+◌, ◌-◌, ◌||◌, ◌&&◌, Bool, not, min, nat_lt, nat_le, List, [], ◌∷◌, length}
 use Rattle.smb_wire.specs.Access.{has_any, FILE_WRITE_DATA}
-use Rattle.smb_wire.specs.NtStatus.{STATUS_INVALID_PARAMETER, STATUS_INVALID_DEVICE_REQUEST, STATUS_ACCESS_DENIED, STATUS_END_OF_FILE, STATUS_FILE_LOCK_CONFLICT, STATUS_DISK_FULL, STATUS_FILE_CLOSED}
+use Rattle.smb_wire.specs.NtStatus.{STATUS_INVALID_PARAMETER, STATUS_INVALID_DEVICE_REQUEST, STATUS_ACCESS_DENIED, STATUS_END_OF_FILE, STATUS_FILE_LOCK_CONFLICT, STATUS_DISK_FULL}
 use Rattle.smb_tree.specs.declared.entry.Basic.{Basic}
 use Rattle.smb_tree.specs.Entries.{Entry, is_folder_kind, kept_basic}
 use Rattle.smb_tree.specs.Content.{Content, changed, used_space, written, with_bytes}
@@ -9,7 +9,7 @@ use Rattle.smb_locks.specs.Conflicts.{is_read_barred, is_write_barred}
 use Rattle.smb_locks.specs.Table.{Table, locks_on}
 use Rattle.smb_access.specs.declared.view.View.{View}
 use Rattle.smb_access.specs.Access.{is_reading, is_writing}
-use Rattle.smb_access.specs.StatusRows.{StatusRow, first_status}
+use Rattle.smb_access.specs.StatusRows.{StatusRow}
 
 -- the most bytes that one request reads or writes ([MS-SMB2] 3.3.5.4: MaxReadSize, MaxWriteSize)
 abbrev pub most_at_once : ℕ
@@ -42,12 +42,6 @@ read_rows view is_barred offset count minimum =
 abbrev pub keeps_from_reading : Table → ℕ → View → ℕ → ℕ → Bool
 keeps_from_reading locks number view offset count =
     is_read_barred (locks_on locks view.entry) number (record { offset = offset; length = count })
-
--- the status of a READ of an open that shows this; no open of the number exists where it shows nothing
-abbrev pub read_status_by : Table → ℕ → Option View → ℕ → ℕ → ℕ → ℕ
-read_status_by locks number None offset count minimum = STATUS_FILE_CLOSED
-read_status_by locks number (Some view) offset count minimum =
-    first_status (read_rows view (keeps_from_reading locks number view offset count) offset count minimum)
 
 -- the open was granted neither FILE_WRITE_DATA nor FILE_APPEND_DATA, or the latter alone, and the offset is before the
 -- end of the file ([MS-SMB2] 3.3.5.13)
@@ -82,13 +76,6 @@ has_no_room tree entry offset buffer =
 abbrev pub keeps_from_writing : Table → ℕ → View → ℕ → ℕ → Bool
 keeps_from_writing locks number view offset count =
     is_write_barred (locks_on locks view.entry) number (record { offset = offset; length = count })
-
-abbrev pub write_status_by : Content → Table → ℕ → Option View → ℕ → List ℕ → ℕ
-write_status_by tree locks number None offset buffer = STATUS_FILE_CLOSED
-write_status_by tree locks number (Some view) offset buffer =
-    first_status
-    (write_rows view (keeps_from_writing locks number view offset (length buffer)) offset (length buffer)
-    (has_no_room tree view.entry offset buffer))
 
 -- the times and attributes of a file that was written at a moment
 abbrev pub written_basic : ℕ → Basic → Basic

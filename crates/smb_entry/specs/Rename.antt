@@ -2,7 +2,7 @@
 use Rattle.std.specs.Prelude.{ℕ, ◌==◌, ◌||◌, ◌&&◌, Bool, false, not, List, [], ◌∷◌, length, slice_index, Option, None, Some, is_some}
 use Rattle.std.specs.List.{list_any}
 use Rattle.std.specs.Option.{option_map_or}
-use Rattle.smb_wire.specs.NtStatus.{STATUS_SUCCESS, STATUS_INVALID_PARAMETER, STATUS_OBJECT_NAME_INVALID, STATUS_ACCESS_DENIED, STATUS_DELETE_PENDING, STATUS_OBJECT_PATH_NOT_FOUND, STATUS_OBJECT_NAME_COLLISION, STATUS_FILE_CLOSED}
+use Rattle.smb_wire.specs.NtStatus.{STATUS_SUCCESS, STATUS_INVALID_PARAMETER, STATUS_OBJECT_NAME_INVALID, STATUS_ACCESS_DENIED, STATUS_DELETE_PENDING, STATUS_OBJECT_PATH_NOT_FOUND, STATUS_OBJECT_NAME_COLLISION}
 use Rattle.smb_wire.specs.Paths.{is_separator, path_spelled, path_fault, folded_path}
 use Rattle.smb_tree.specs.declared.entry.Basic.{Basic}
 use Rattle.smb_tree.specs.Entries.{Entry, is_folder_kind, kept_basic}
@@ -12,7 +12,7 @@ use Rattle.smb_tree.specs.Moves.{is_within, moved}
 use Rattle.smb_access.specs.declared.open_row.OpenRow.{OpenRow}
 use Rattle.smb_access.specs.declared.view.View.{View}
 use Rattle.smb_access.specs.Access.{is_deleting}
-use Rattle.smb_access.specs.StatusRows.{StatusRow, first_status}
+use Rattle.smb_access.specs.StatusRows.{StatusRow}
 use Rattle.smb_access.specs.Found.{is_read_only_file, is_pending, is_reached}
 use Rattle.smb_access.specs.Opens.{has_open}
 use Rattle.smb_entry.specs.SetInfo.{changed_in}
@@ -69,12 +69,6 @@ rename_rows rows opens view name replace from to =
     -- 12. a path would have more than 32 components ([MS-FSCC] 2.1.5)
     ∷ (would_be_too_deep rows from to, STATUS_OBJECT_NAME_INVALID)
     ∷ []
-
--- the status, by what an open shows; no open of the number exists where it shows nothing
-abbrev pub rename_status_by : List Row → List OpenRow → Option View → List ℕ → Bool → ℕ
-rename_status_by rows opens None name replace = STATUS_FILE_CLOSED
-rename_status_by rows opens (Some view) name replace =
-    first_status (rename_rows rows opens view name replace (path_numbered rows view.entry) (path_named name))
 
 -- an entry's time of the last change becomes the moment; of the attributes a tree keeps four ([MS-FSCC] 2.6)
 abbrev pub dated_basic : ℕ → Basic → Basic

@@ -1,9 +1,9 @@
 -- SET_INFO of a file or a folder, by what an open shows ([MS-SMB2] 3.3.5.21.1, [MS-FSA] 2.1.5.15).
-use Rattle.std.specs.Prelude.{ℕ, ◌-◌, ◌^◌, ◌==◌, ◌||◌, ◌&&◌, Bool, false, not, nat_lt, nat_le, List, [], ◌∷◌, length, Option, None, Some, if◌then◌else◌}
+use Rattle.std.specs.Prelude.{ℕ, ◌-◌, ◌^◌, ◌==◌, ◌||◌, ◌&&◌, Bool, false, not, nat_lt, nat_le, List, [], ◌∷◌, length, if◌then◌else◌}
 use Rattle.std.specs.Option.{option_map_or}
 use Rattle.smb_wire.specs.Access.{has_any, FILE_WRITE_DATA}
 use Rattle.smb_wire.specs.Attributes.{FILE_ATTRIBUTE_READONLY, FILE_ATTRIBUTE_DIRECTORY}
-use Rattle.smb_wire.specs.NtStatus.{STATUS_INVALID_PARAMETER, STATUS_ACCESS_DENIED, STATUS_CANNOT_DELETE, STATUS_DIRECTORY_NOT_EMPTY, STATUS_DISK_FULL, STATUS_FILE_CLOSED}
+use Rattle.smb_wire.specs.NtStatus.{STATUS_INVALID_PARAMETER, STATUS_ACCESS_DENIED, STATUS_CANNOT_DELETE, STATUS_DIRECTORY_NOT_EMPTY, STATUS_DISK_FULL}
 use Rattle.smb_tree.specs.declared.entry.Basic.{Basic}
 use Rattle.smb_tree.specs.Children.{has_children}
 use Rattle.smb_tree.specs.Content.{Row, Content, numbered, changed, resized, used_space, with_size}
@@ -12,7 +12,7 @@ use Rattle.smb_entry.specs.declared.ask.BasicAsk.{BasicAsk}
 use Rattle.smb_access.specs.declared.view.View.{View}
 use Rattle.smb_access.specs.Access.{is_deleting, is_writing_attributes}
 use Rattle.smb_entry.specs.Bytes.{written_basic}
-use Rattle.smb_access.specs.StatusRows.{StatusRow, first_status}
+use Rattle.smb_access.specs.StatusRows.{StatusRow}
 
 -- a tree with the entry of a number changed
 abbrev pub changed_in : (Entry → Entry) → Content → ℕ → Content
@@ -44,11 +44,6 @@ delete_rows view is_occupied is_deleted =
     (not (is_deleting view.access), STATUS_ACCESS_DENIED)
     ∷ (if is_deleted then mark_rows view is_occupied else [])
 
--- the status, by what an open shows; no open of the number exists where it shows nothing
-abbrev pub delete_status_by : Content → Option View → Bool → ℕ
-delete_status_by tree None is_deleted = STATUS_FILE_CLOSED
-delete_status_by tree (Some view) is_deleted = first_status (delete_rows view (has_entries tree.rows view.entry) is_deleted)
-
 -- an entry marked, or its mark taken away; what its opens are to delete when they are closed is left
 abbrev pub delete_set : Bool → Entry → Entry
 delete_set is_deleted entry = record entry { mark = is_deleted }
@@ -71,11 +66,6 @@ size_rows view is_full =
     -- 3. there is no room for a file of this size ([MS-FSA] 2.1.5.15.1, 2.1.5.15.4)
     ∷ (is_full, STATUS_DISK_FULL)
     ∷ []
-
--- the status, by what an open shows; no open of the number exists where it shows nothing
-abbrev pub size_status_by : Content → Option View → ℕ → ℕ
-size_status_by tree None size = STATUS_FILE_CLOSED
-size_status_by tree (Some view) size = first_status (size_rows view (has_no_space tree view.entry size))
 
 -- a file with this size at a moment: its bytes are cut, or have zeros behind them; the times of the last write and change
 -- are the moment, also where the size is what it was ([MS-FSA] 2.1.5.15.4)
@@ -117,11 +107,6 @@ basic_rows view ask =
     -- 2. the open was not granted FILE_WRITE_ATTRIBUTES ([MS-FSA] 2.1.5.15.2)
     ∷ (not (is_writing_attributes view.access), STATUS_ACCESS_DENIED)
     ∷ []
-
--- the status, by what an open shows; no open of the number exists where it shows nothing
-abbrev pub basic_status_by : Option View → BasicAsk → ℕ
-basic_status_by None ask = STATUS_FILE_CLOSED
-basic_status_by (Some view) ask = first_status (basic_rows view ask)
 
 -- what is asked for leaves the time as it is: 0, or -1 or -2 in 64 bits ([MS-FSCC] 2.4.7)
 abbrev pub leaves_time : ℕ → Bool

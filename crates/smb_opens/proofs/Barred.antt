@@ -1,7 +1,8 @@
 -- What locks keep opens from.
 use Rattle.std.proofs.Common.{◌≡◌, ◌≢◌, inl, inr, ℕ, List, length, Bool, true, false, cond, Option, None, Some, Contains, refl, sym, ap, subst, ◌∙◌, is_some}
 use Rattle.std.specs.Option.{option_map_or}
-use Rattle.smb_wire.specs.NtStatus.{STATUS_SUCCESS, STATUS_INVALID_PARAMETER, STATUS_INVALID_DEVICE_REQUEST, STATUS_ACCESS_DENIED, STATUS_FILE_LOCK_CONFLICT}
+use Rattle.smb_wire.specs.NtStatus.{STATUS_SUCCESS, STATUS_INVALID_PARAMETER, STATUS_INVALID_DEVICE_REQUEST, STATUS_ACCESS_DENIED, STATUS_FILE_LOCK_CONFLICT, STATUS_FILE_CLOSED}
+use Rattle.smb_access.specs.StatusRows.{first_status}
 use Rattle.smb_locks.specs.declared.lock.Lock.{Lock}
 use Rattle.smb_locks.specs.Conflicts.{BarsRead, bars_read, BarsWrite, bars_write}
 use Rattle.smb_locks.specs.Ranges.{Overlap}
@@ -10,7 +11,7 @@ use Rattle.smb_locks.proofs.Ends.{read_test_from_bar, write_test_from_bar, test_
 use Rattle.smb_locks.proofs.Tables.{good_on, on_dropped, compatible_pair}
 use Rattle.smb_access.specs.declared.open_row.OpenRow.{OpenRow}
 use Rattle.smb_access.specs.declared.view.View.{View}
-use Rattle.smb_entry.specs.Bytes.{keeps_from_reading, keeps_from_writing, read_status_by, write_status_by}
+use Rattle.smb_entry.specs.Bytes.{keeps_from_reading, keeps_from_writing, read_rows, write_rows, has_no_room}
 use Rattle.smb_opens.specs.Bytes.{read_status, write_status}
 use Rattle.smb_opens.specs.Close.{closed, closed_open}
 use Rattle.smb_opens.specs.Good.{GoodStore}
@@ -48,14 +49,16 @@ write_barred state number offset count view lock c bar =
     (locks_on state.locks view.entry) (c.0, lock, c.1, c.2, bar)
 
 read_refused : (state : StoreState) (number offset count minimum : ℕ) (row : OpenRow) (lock : Lock) (view : Option View) → view ≡ open_view state number → open_of state.opens number ≡ Some row → Contains (locks_on state.locks row.entry) lock →
-    BarsRead number (record { offset = offset; length = count }) lock → read_status_by state.locks number view offset count minimum ≢ STATUS_SUCCESS
+    BarsRead number (record { offset = offset; length = count }) lock →
+    option_map_or (λ view. first_status (read_rows view (keeps_from_reading state.locks number view offset count) offset count minimum)) view STATUS_FILE_CLOSED ≢ STATUS_SUCCESS
 read_refused state number offset count minimum row lock None v opened c bar = λ e. cc
 read_refused state number offset count minimum row lock (Some view) v opened c bar =
     let here : Contains (locks_on state.locks view.entry) lock = subst (λ (n : ℕ). Contains (locks_on state.locks n) lock) (sym (same_entry state number row view opened v)) c in
     rw (read_barred state number offset count view lock here bar) (barred_row _ _ _)
 
 write_refused : (state : StoreState) (number offset : ℕ) (buffer : List ℕ) (row : OpenRow) (lock : Lock) (view : Option View) → view ≡ open_view state number → open_of state.opens number ≡ Some row → Contains (locks_on state.locks row.entry) lock →
-    BarsWrite number (record { offset = offset; length = length buffer }) lock → write_status_by state.tree state.locks number view offset buffer ≢ STATUS_SUCCESS
+    BarsWrite number (record { offset = offset; length = length buffer }) lock →
+    option_map_or (λ view. first_status (write_rows view (keeps_from_writing state.locks number view offset (length buffer)) offset (length buffer) (has_no_room state.tree view.entry offset buffer))) view STATUS_FILE_CLOSED ≢ STATUS_SUCCESS
 write_refused state number offset buffer row lock None v opened c bar = λ e. cc
 write_refused state number offset buffer row lock (Some view) v opened c bar =
     let here : Contains (locks_on state.locks view.entry) lock = subst (λ (n : ℕ). Contains (locks_on state.locks n) lock) (sym (same_entry state number row view opened v)) c in

@@ -2,7 +2,7 @@
 use Rattle.std.proofs.Common.{◌≡◌, ◌==◌, ◌⊎◌, inl, inr, ℕ, ◌-◌, ◌<◌, ◌≤◌, Bool, true, false, not, ◌&&◌, List, [], ◌∷◌, ◌++◌, length, if◌then◌else◌, Option, None, Some, is_some, refl, sym, ap, subst, arith, ◌∙◌}
 use Rattle.std.specs.List.{list_all}
 use Rattle.std.specs.Option.{option_map, option_map_or}
-use Rattle.smb_wire.specs.NtStatus.{STATUS_SUCCESS}
+use Rattle.smb_wire.specs.NtStatus.{STATUS_SUCCESS, STATUS_FILE_CLOSED}
 use Rattle.smb_wire.specs.Paths.{path_spelled, folded_path, is_lawful_component}
 use Rattle.smb_tree.specs.Entries.{Entry, is_folder_kind}
 use Rattle.smb_tree.specs.Content.{Path, Row, Content, is_same_path, entry_at, numbered}
@@ -15,7 +15,7 @@ use Rattle.smb_access.specs.declared.view.View.{View}
 use Rattle.smb_access.specs.StatusRows.{StatusRow, first_status}
 use Rattle.smb_opens.specs.Good.{IsKept}
 use Rattle.smb_access.specs.Looked.{target_of}
-use Rattle.smb_entry.specs.Rename.{path_named, path_numbered, has_open_beneath, is_not_replaced, rename_rows, rename_status_by, dated, renamed_tree}
+use Rattle.smb_entry.specs.Rename.{path_named, path_numbered, has_open_beneath, is_not_replaced, rename_rows, dated, renamed_tree}
 use Rattle.smb_opens.specs.Renames.{rename_status, renamed_through}
 use Rattle.smb_opens.specs.State.{StoreState}
 use Rattle.smb_opens.specs.Views.{open_view}
@@ -33,7 +33,7 @@ use Rattle.smb_entry.proofs.Under.{path_found}
 -- the status, by what an open shows
 status_by_view : (state : StoreState) (number : ℕ) (view : View) (name : List ℕ) (replace : Bool) → Some view ≡ open_view state number →
     first_status (rename_rows state.tree.rows state.opens view name replace (path_numbered state.tree.rows view.entry) (path_named name)) ≡ rename_status state number name replace
-status_by_view state number view name replace e = ap (λ (o : Option View). rename_status_by state.tree.rows state.opens o name replace) e
+status_by_view state number view name replace e = ap (λ (o : Option View). option_map_or (λ view. first_status (rename_rows state.tree.rows state.opens view name replace (path_numbered state.tree.rows view.entry) (path_named name))) o STATUS_FILE_CLOSED) e
 
 pub refused_name : (state : StoreState) (number : ℕ) (view : View) (name : List ℕ) (replace : Bool) (status : ℕ) → Some view ≡ open_view state number → ((rest : List StatusRow) → first_status (name_rows name ++ rest) ≡ status) →
     status ≡ rename_status state number name replace

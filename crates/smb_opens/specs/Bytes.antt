@@ -5,13 +5,13 @@ use Rattle.smb_tree.specs.Content.{bytes_read}
 use Rattle.smb_access.specs.declared.open_row.OpenRow.{OpenRow}
 use Rattle.smb_access.specs.Opens.{open_of}
 use Rattle.smb_opens.specs.State.{StoreState}
-use Rattle.smb_opens.specs.Views.{open_view}
-use Rattle.smb_entry.specs.Bytes.{read_status_by, write_status_by, written_tree}
+use Rattle.smb_opens.specs.Views.{status_through}
+use Rattle.smb_entry.specs.Bytes.{keeps_from_reading, read_rows, keeps_from_writing, has_no_room, write_rows, written_tree}
 
 -- the status of a READ of the open of a number
 abbrev pub read_status : StoreState → ℕ → ℕ → ℕ → ℕ → ℕ
-read_status state number offset count minimum =
-    read_status_by state.locks number (open_view state number) offset count minimum
+read_status state number offset count minimum = status_through state number
+    (λ view. read_rows view (keeps_from_reading state.locks number view offset count) offset count minimum)
 
 -- the bytes that it reads: those of the file from the offset on, at most so many
 abbrev pub file_bytes : StoreState → ℕ → ℕ → ℕ → List ℕ
@@ -20,8 +20,8 @@ file_bytes state number offset count =
 
 -- the status of a WRITE through the open of a number
 abbrev pub write_status : StoreState → ℕ → ℕ → List ℕ → ℕ
-write_status state number offset buffer =
-    write_status_by state.tree state.locks number (open_view state number) offset buffer
+write_status state number offset buffer = status_through state number
+    (λ view. write_rows view (keeps_from_writing state.locks number view offset (length buffer)) offset (length buffer) (has_no_room state.tree view.entry offset buffer))
 
 -- the store after a WRITE that succeeds; no bytes change nothing
 abbrev pub written_to : StoreState → ℕ → ℕ → List ℕ → ℕ → StoreState

@@ -4,14 +4,14 @@ use Rattle.std.specs.Option.{option_map_or}
 use Rattle.smb_wire.specs.Paths.{path_spelled}
 use Rattle.smb_access.specs.declared.open_row.OpenRow.{OpenRow}
 use Rattle.smb_access.specs.Opens.{open_of}
-use Rattle.smb_entry.specs.Rename.{rename_status_by, renamed_tree}
+use Rattle.smb_entry.specs.Rename.{path_named, path_numbered, rename_rows, renamed_tree}
 use Rattle.smb_opens.specs.State.{StoreState}
-use Rattle.smb_opens.specs.Views.{open_view}
+use Rattle.smb_opens.specs.Views.{status_through}
 
 -- the status of a SET_INFO that renames the entry of an open; with the flag a file at the new path is replaced
 abbrev pub rename_status : StoreState → ℕ → List ℕ → Bool → ℕ
-rename_status state number name replace =
-    rename_status_by state.tree.rows state.opens (open_view state number) name replace
+rename_status state number name replace = status_through state number
+    (λ view. rename_rows state.tree.rows state.opens view name replace (path_numbered state.tree.rows view.entry) (path_named name))
 
 -- the store afterwards; opens and locks are of entries, by their numbers, and stay
 abbrev pub renamed_through : StoreState → ℕ → List ℕ → ℕ → StoreState

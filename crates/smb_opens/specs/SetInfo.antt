@@ -6,8 +6,8 @@ use Rattle.smb_entry.specs.declared.ask.BasicAsk.{BasicAsk}
 use Rattle.smb_access.specs.declared.open_row.OpenRow.{OpenRow}
 use Rattle.smb_access.specs.Opens.{open_of}
 use Rattle.smb_opens.specs.State.{StoreState}
-use Rattle.smb_opens.specs.Views.{open_view}
-use Rattle.smb_entry.specs.SetInfo.{changed_in, delete_status_by, delete_set, size_status_by, size_set, basic_status_by, entry_set}
+use Rattle.smb_opens.specs.Views.{status_through}
+use Rattle.smb_entry.specs.SetInfo.{changed_in, has_entries, delete_rows, delete_set, has_no_space, size_rows, size_set, basic_rows, entry_set}
 
 -- the store with the entry of an open changed, by the number of the open; without such an open it is as it was
 abbrev pub changed_through : (Entry → Entry) → StoreState → ℕ → StoreState
@@ -19,7 +19,8 @@ changed_through change state number = option_map_or
 
 -- the status of a SET_INFO that marks the entry of an open, or takes its mark away
 abbrev pub delete_status : StoreState → ℕ → Bool → ℕ
-delete_status state number is_deleted = delete_status_by state.tree (open_view state number) is_deleted
+delete_status state number is_deleted = status_through state number
+    (λ view. delete_rows view (has_entries state.tree.rows view.entry) is_deleted)
 
 -- the store afterwards ([MS-FSA] 2.1.5.15.3)
 abbrev pub delete_set_through : StoreState → ℕ → Bool → StoreState
@@ -29,7 +30,8 @@ delete_set_through state number is_deleted = changed_through (delete_set is_dele
 
 -- the status of a SET_INFO that sets the size of a file through the open of a number, or its allocation size
 abbrev pub size_status : StoreState → ℕ → ℕ → ℕ
-size_status state number size = size_status_by state.tree (open_view state number) size
+size_status state number size = status_through state number
+    (λ view. size_rows view (has_no_space state.tree view.entry size))
 
 -- the store afterwards; locks are left, and bar nothing
 abbrev pub size_set_through : StoreState → ℕ → ℕ → Bool → ℕ → StoreState
@@ -39,7 +41,7 @@ size_set_through state number size is_allocation moment = changed_through (size_
 
 -- the status of a SET_INFO that sets the times and attributes of the entry of an open
 abbrev pub basic_status : StoreState → ℕ → BasicAsk → ℕ
-basic_status state number ask = basic_status_by (open_view state number) ask
+basic_status state number ask = status_through state number (λ view. basic_rows view ask)
 
 -- the store afterwards ([MS-FSA] 2.1.5.15.2)
 abbrev pub basic_set_through : StoreState → ℕ → BasicAsk → ℕ → StoreState

@@ -17,7 +17,7 @@ use Rattle.smb_request.specs.Laws.{NumbersInOrder}
 use Rattle.smb_request.specs.State.{SharedState, closed_with, without_connection, shared_opened, shared_ended}
 use Rattle.smb_request.proofs.Numbered.{at_is}
 use Rattle.smb_request.proofs.Numbers.{others_left, order_closed}
-use Rattle.smb_request.proofs.Leaving.{Leaves, LeavesShared, IsSame, leaves_same, other_connection, others_held, none_fewer, opens_of}
+use Rattle.smb_request.proofs.Leaving.{LeavesBut, LeavesSharedBut, IsSame, leaves_same, other_connection, others_held, none_fewer, opens_of}
 
 -- an entry that is left is found where it was
 kept_at : (p : (ℕ × SessionState) → Bool) (n : ℕ) (session : SessionState) (es : List (ℕ × SessionState)) → ((k : ℕ) → p (k, session) ≡ true) → lookup (is_at (nat_cmp n)) es ≡ Some session → lookup (is_at (nat_cmp n)) (filter p es) ≡ Some session
@@ -113,9 +113,9 @@ end_alone shared c n session o at other = (
   sessions_left shared.sessions.table shared.store (numbers_on shared.sessions.table.sessions c) n (not_among n c session shared.sessions.table.sessions o.sessions at other) o,
 )
 
-pub leaves_end : {S : Type 0} (acts : ℕ → Bool) (c : ℕ) → acts c ≡ true → (shared : SharedState S) → NumbersInOrder shared.sessions.table shared.store → LeavesShared acts shared (shared_ended shared c)
+pub leaves_end : {S : Type 0} (may : ℕ → SessionState → Type 0) (acts : ℕ → Bool) (c : ℕ) → acts c ≡ true → (shared : SharedState S) → NumbersInOrder shared.sessions.table shared.store → LeavesSharedBut may acts shared (shared_ended shared c)
 unfolding shared_ended
-leaves_end acts c a shared o =
+leaves_end may acts c a shared o =
     let table = shared.sessions.table in
     let numbers = numbers_on table.sessions c in
     record {
@@ -126,7 +126,7 @@ leaves_end acts c a shared o =
     }
 
 -- a connection that opens changes no session
-opened_at : (acts : ℕ → Bool) (table : TableState) (store : StoreState) (c : ℕ) (b : Bool) → contains table.connections c ≡ b → NumbersInOrder table store → Leaves acts table store (connected table c) store
+opened_at : {may : ℕ → SessionState → Type 0} (acts : ℕ → Bool) (table : TableState) (store : StoreState) (c : ℕ) (b : Bool) → contains table.connections c ≡ b → NumbersInOrder table store → LeavesBut may acts table store (connected table c) store
 opened_at acts table store c true t o = rw t (leaves_same acts table store o)
 opened_at acts table store c false t o = rw t (record {
   order = record { sessions = o.sessions; sessions_given = o.sessions_given; opens = o.opens; opens_given = o.opens_given };
@@ -135,5 +135,5 @@ opened_at acts table store c false t o = rw t (record {
   over = λ n given none. none;
 })
 
-pub leaves_start : {S : Type 0} (acts : ℕ → Bool) (shared : SharedState S) (c : ℕ) → NumbersInOrder shared.sessions.table shared.store → LeavesShared acts shared (shared_opened shared c)
-leaves_start acts shared c o = opened_at acts shared.sessions.table shared.store c (contains shared.sessions.table.connections c) refl o
+pub leaves_start : {S : Type 0} (may : ℕ → SessionState → Type 0) (acts : ℕ → Bool) (shared : SharedState S) (c : ℕ) → NumbersInOrder shared.sessions.table shared.store → LeavesSharedBut may acts shared (shared_opened shared c)
+leaves_start may acts shared c o = opened_at acts shared.sessions.table shared.store c (contains shared.sessions.table.connections c) refl o

@@ -57,13 +57,13 @@ use Rattle.smb_opens.proofs.Again.{opens_left}
 use Rattle.smb_opens.proofs.Closing.{opens_closed}
 use Rattle.smb_request.specs.Bytes.{file_read, file_written}
 use Rattle.smb_request.specs.Locks.{lock_asks, asks_unlock, file_locked, file_unlocked}
-use Rattle.smb_request.specs.Files.{file_asked, file_created, closed_by_view, file_closed}
+use Rattle.smb_request.specs.Files.{file_asked, file_created, close_response, file_closed}
 use Rattle.smb_session.specs.Session.{with_tree, without_tree}
 use Rattle.smb_session.specs.Table.{logoff_refusal, tree_disconnect_refusal, tree_disconnected}
 use Rattle.smb_session.specs.Sessions.{tree_connect_refusal}
-use Rattle.smb_body.specs.Replies.{answers_lock}
+use Rattle.smb_body.specs.Replies.{answers_close, answers_lock}
 use Rattle.smb_request.specs.declared.context.Under.{Under}
-use Rattle.smb_request.specs.declared.status.Status.TheVariants.{NotSupported, Store}
+use Rattle.smb_request.specs.declared.status.Status.TheVariants.{FileClosed, NotSupported, Store}
 use Rattle.smb_request.specs.Response.{success, refused}
 use Rattle.smb_request.specs.Session.{status_of_refusal, session_logged_off, tree_joined, tree_left}
 use Rattle.smb_request.specs.State.{SharedState, with_store}
@@ -78,7 +78,7 @@ use Rattle.smb_opens.proofs.ScanLaws.{numbers_scanned}
 use Rattle.smb_request.proofs.Listings.{listed_left, none_scanned, held_scanned}
 use Rattle.smb_request.proofs.SetUp.{MayReplace, set_up_left}
 use Rattle.smb_request.proofs.Numbers.{others_left, next_closed}
-use Rattle.smb_request.proofs.Leaving.{LeavesBut, LeavesShared, LeavesSharedBut, IsFinished, IsApart, leaves_own, leaves_then, leaves_opens, leaves_same, leaves_changed, leaves_ended, leaves_some, leaves_opened, known_apart, known_there, others_held, opens_of}
+use Rattle.smb_request.proofs.Leaving.{LeavesBut, LeavesSharedBut, IsApart, leaves_own, leaves_then, leaves_opens, leaves_same, leaves_changed, leaves_ended, leaves_some, leaves_opened, known_apart, known_there, others_held, opens_of}
 
 -- opens of other sessions
 others_of_tree : (m t n : ℕ) (rows : List OpenRow) → (n == m) ≡ false → filter (is_held_by (Session n)) (others (Tree m t) rows) ≡ filter (is_held_by (Session n)) rows
@@ -208,7 +208,8 @@ module _ {S : Type 0} (may : ℕ → SessionState → Type 0) (acts : ℕ → Bo
       leaves_some acts shared.sessions.table shared.store o s (known_apart acts shared.sessions.table c s a known) (closed shared.store k) _
       (opens_closed shared.store k (ap (λ (o : Option OpenRow). is_some o) e)) (next_closed shared.store k) (λ n d. closed_held shared.store s under.tree_id n k row e h o.opens d)
 
-  closed_at : (under : Under) (k : ℕ) (flags : CloseFlags) (view : Option View) → Left (with_store shared (closed shared.store k)) → Left (closed_by_view shared under k flags view).shared
+  closed_at : (under : Under) (k : ℕ) (flags : CloseFlags) (view : Option View) → Left (with_store shared (closed shared.store k)) →
+      Left (option_map_or (λ view. let x : CommandStep S = record { shared = with_store shared (closed shared.store k); response = success under (answers_close (close_response flags view)) } in x) view (refused shared under FileClosed)).shared
   closed_at under k flags None h = same
   closed_at under k flags (Some view) h = h
 
@@ -338,7 +339,7 @@ module _ {S : Type 0} (may : ℕ → SessionState → Type 0) (acts : ℕ → Bo
   command_left m moment dialect under handed None asked cause = same
   command_left m moment dialect under handed (Some command) asked cause = handled_left m moment dialect under handed (command_row command).handling asked cause
 
-  pub request_left_but : (m : Meaning S) (moment : ℕ) (dialect : Option Dialect) (context : Context) (request : List ℕ) →
+  request_left_but : (m : Meaning S) (moment : ℕ) (dialect : Option Dialect) (context : Context) (request : List ℕ) →
       ((n : ℕ) (session : SessionState) → ReplacesSession m shared context request n session → may n session) → Left (performed m c moment shared dialect context request).shared
   unfolding performed
   request_left_but m moment dialect context request replaces =
@@ -355,13 +356,10 @@ module _ {S : Type 0} (may : ℕ → SessionState → Type 0) (acts : ℕ → Bo
         previous = refl;
       }))
 
--- a session that may be over by a request is a finished one
-finished : {S : Type 0} (m : Meaning S) (shared : SharedState S) (context : Context) (request : List ℕ) (n : ℕ) (session : SessionState) → ReplacesSession m shared context request n session → IsFinished n session
-finished m shared context request n session r = ap is_some r.same_user
-
+-- the session that it replaces may be over
 pub request_left : {S : Type 0} (acts : ℕ → Bool) (c : ℕ) → acts c ≡ true → (shared : SharedState S) → NumbersInOrder shared.sessions.table shared.store → (m : Meaning S) (moment : ℕ) (dialect : Option Dialect) (context : Context) (request : List ℕ) →
-    LeavesShared acts shared (performed m c moment shared dialect context request).shared
-request_left acts c a shared o m moment dialect context request = request_left_but IsFinished acts c a shared o m moment dialect context request (finished m shared context request)
+    LeavesSharedBut (ReplacesSession m shared context request) acts shared (performed m c moment shared dialect context request).shared
+request_left acts c a shared o m moment dialect context request = request_left_but (ReplacesSession m shared context request) acts c a shared o m moment dialect context request (λ n session replaces. replaces)
 
 -- all connections but one
 same_connection : (c : ℕ) → (c == c) ≡ true
@@ -371,7 +369,7 @@ pub request_alone : {S : Type 0} (m : Meaning S) (c moment : ℕ) (shared : Shar
     session_at shared.sessions.table n ≡ Some session → session.connection == c ≡ false →
     IsAsItWas shared (performed m c moment shared dialect context request).shared n ⊎ (IsOver (performed m c moment shared dialect context request).shared n × ReplacesSession m shared context request n session)
 request_alone m c moment shared dialect context request n session o at other =
-    (request_left_but (ReplacesSession m shared context request) (λ x. x == c) c (same_connection c) shared o m moment dialect context request (λ k found r. r)).alone n session at other
+    (request_left (λ x. x == c) c (same_connection c) shared o m moment dialect context request).alone n session at other
 
 pub request_order : {S : Type 0} (m : Meaning S) (c moment : ℕ) (shared : SharedState S) (dialect : Option Dialect) (context : Context) (request : List ℕ) → NumbersInOrder shared.sessions.table shared.store →
     IsInOrder (performed m c moment shared dialect context request).shared

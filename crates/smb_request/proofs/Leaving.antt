@@ -1,5 +1,5 @@
 -- What a step on some connections leaves of the sessions of others, and of those that are over; and one step behind another.
-use Rattle.std.proofs.Common.{◌≡◌, ◌==◌, ◌<◌, ◌≤◌, ◌+◌, ℕ, Bool, true, false, List, [], ◌∷◌, ◌++◌, filter, map, ◌⊎◌, inl, inr, None, Some, is_some, refl, sym, ap, subst, arith, ◌∙◌}
+use Rattle.std.proofs.Common.{◌≡◌, ◌==◌, ◌<◌, ◌≤◌, ◌+◌, ℕ, Bool, true, false, List, [], ◌∷◌, ◌++◌, filter, map, ◌⊎◌, inl, inr, None, Some, refl, sym, ap, subst, arith, ◌∙◌}
 use Rattle.std.proofs.lemmas.Grind.{common_steps}
 use Rattle.std.proofs.lemmas.Bool.Decides.{nat_tests}
 use Rattle.std.specs.List.{AllByRecursion}
@@ -95,16 +95,6 @@ pub record LeavesBut (may : ℕ → SessionState → Type 0) (acts : ℕ → Boo
 abbrev pub LeavesSharedBut : {S : Type 0} → (ℕ → SessionState → Type 0) → (ℕ → Bool) → SharedState S → SharedState S → Type 0
 LeavesSharedBut may acts before after = LeavesBut may acts before.sessions.table before.store after.sessions.table after.store
 
--- and where each finished session may be over
-abbrev pub IsFinished : ℕ → SessionState → Type 0
-IsFinished n session = is_some session.user ≡ true
-
-abbrev pub Leaves : (ℕ → Bool) → TableState → StoreState → TableState → StoreState → Type 0
-Leaves = LeavesBut IsFinished
-
-abbrev pub LeavesShared : {S : Type 0} → (ℕ → Bool) → SharedState S → SharedState S → Type 0
-LeavesShared = LeavesSharedBut IsFinished
-
 -- two steps, one after the other
 module _ (may : ℕ → SessionState → Type 0) (acts : ℕ → Bool) (table table' table'' : TableState) (store store' store'' : StoreState) where
   then_same : (n : ℕ) (session : SessionState) → IsSame table store n table' store' → IsLeft may table' store' n session table'' store'' → IsLeft may table store n session table'' store''
@@ -127,6 +117,21 @@ module _ {may : ℕ → SessionState → Type 0} (acts : ℕ → Bool) (table ta
         alone = λ n session at other. then_left may acts table table' table'' store store' store'' n session (number_below n table.next session table.sessions o.sessions_given at) at other one.grown two (one.alone n session at other);
         over = λ n given none. two.over n (omega (arith, given, first)) (one.over n given none);
       }
+
+-- more sessions may be over
+wider_left : (may wider : ℕ → SessionState → Type 0) (table table' : TableState) (store store' : StoreState) (n : ℕ) (session : SessionState) → (may n session → wider n session) →
+    IsLeft may table store n session table' store' → IsLeft wider table store n session table' store'
+wider_left may wider table table' store store' n session w (inl same) = inl same
+wider_left may wider table table' store store' n session w (inr over) = inr (over.0, w over.1)
+
+module _ {may wider : ℕ → SessionState → Type 0} (acts : ℕ → Bool) (table table' : TableState) (store store' : StoreState) where
+  pub leaves_wider : ((n : ℕ) (session : SessionState) → may n session → wider n session) → LeavesBut may acts table store table' store' → LeavesBut wider acts table store table' store'
+  leaves_wider w left = record {
+    order = left.order;
+    grown = left.grown;
+    alone = λ n session at other. wider_left may wider table table' store store' n session (w n session) (left.alone n session at other);
+    over = left.over;
+  }
 
 -- no open comes to a session by one that is closed
 pub none_fewer : (p q : OpenRow → Bool) (rows : List OpenRow) → filter p rows ≡ [] → filter p (filter q rows) ≡ []

@@ -8,23 +8,23 @@ use Rattle.smb_body.specs.QueryDirectory.{QueryDirectoryAsked}
 use Rattle.smb_access.specs.declared.scan.Scan.{Scan}
 use Rattle.smb_opens.specs.Scans.{scan_set}
 use Rattle.smb_opens.specs.Views.{open_view}
-use Rattle.smb_info.specs.Queries.{ListAsked, sought_by, bytes_by, bytes_listed}
+use Rattle.smb_info.specs.Queries.{ListAsked, is_started_by, scan_by, sought_by, first_fault, fault_by, list_fault, bytes_by, bytes_listed}
 use Rattle.smb_info.specs.Candidates.{Candidate}
-use Rattle.smb_info.specs.DirectoryInformation.{directory_class, laid}
-use Rattle.smb_info.specs.Listing.{fitting, wanted}
+use Rattle.smb_info.specs.DirectoryInformation.{directory_class, directory_length, laid}
+use Rattle.smb_info.specs.Listing.{fitting, wanted, is_too_long}
 use Rattle.smb_info.specs.declared.directory_class.DirectoryInformationClass.{DirectoryInformationClass}
 use Rattle.smb_tree.specs.Content.{Row}
 use Rattle.smb_opens.specs.State.{StoreState}
-use Rattle.smb_info.specs.OpenQueries.{open_list_fault, open_bytes_listed, open_scan_after}
+use Rattle.smb_info.specs.OpenQueries.{open_list_fault, open_bytes_listed, open_scan_after, IsListRefusal}
 use Rattle.smb_info.specs.declared.fault.InfoFault.{InfoFault}
-use Rattle.smb_info.specs.declared.fault.InfoFault.TheVariants.{TooSmall, NoMemory}
+use Rattle.smb_info.specs.declared.fault.InfoFault.TheVariants.{BadClass, BadPattern, TooSmall, NoMatch, NoMore, Unreadable, NoMemory}
 use Rattle.smb_request.specs.declared.status.Status.{Status}
 use Rattle.smb_request.specs.declared.status.Status.TheVariants.{InfoLengthMismatch, InvalidParameter, NotSupported}
 use Rattle.smb_request.specs.declared.context.Under.{Under}
 use Rattle.smb_request.specs.declared.query_directory.ListingRefusal.{ListingRefusal}
 use Rattle.smb_request.specs.Context.{ids_of}
 use Rattle.smb_request.specs.QueryDirectory.{list_asked_by, directory_refusal, listing_refusal, listing_refused, directory_listed, listed_as_asked, directory_queried}
-use Rattle.smb_request.specs.Response.{CommandStep, RequestStep, failure, refused}
+use Rattle.smb_request.specs.Response.{CommandStep, failure, refused}
 use Rattle.smb_request.specs.State.{SharedState, with_store}
 use Rattle.smb_session.specs.Table.{TableState}
 use Rattle.smb_access.specs.declared.open_row.OpenRow.{OpenRow}
@@ -34,16 +34,9 @@ use Rattle.smb_access.specs.Opens.{open_of, open_numbers, has_number, with_scan,
 use Rattle.smb_info.specs.Information.{Information, fixed_length, info_fault}
 use Rattle.smb_request.specs.Information.{fault_status, request_refusal}
 use Rattle.smb_body.specs.declared.query_info.QueryInfoRequest.{QueryInfoRequest}
-use Rattle.smb_session.specs.Authenticator.{Meaning}
-use Rattle.smb_wire.specs.declared.dialect.Dialect.{Dialect}
 use Rattle.smb_request.specs.InfoTypes.{FILE, FILESYSTEM, SECURITY, QUOTA}
-use Rattle.smb_request.specs.Held.{is_performed}
-use Rattle.smb_request.specs.Outcome.{acted_step, IsStill, unanswered_of}
-use Rattle.smb_request.specs.declared.outcome.Acted.{Acted}
-use Rattle.smb_request.specs.declared.outcome.Acted.TheVariants.{Told, Lists}
-use Rattle.smb_request.specs.declared.response.Unanswered.{Unanswered}
 use Rattle.smb_request.specs.Owners.{AreOwned, is_owned}
-use Rattle.smb_request.specs.QueryInfo.{room_refusal, query_refusal, queried_by, informed}
+use Rattle.smb_request.specs.QueryInfo.{room_refusal, query_refusal, informed}
 
 module _ {S : Type 0} (Left : SharedState S → Type 0) (shared : SharedState S) (same : Left shared) (under : Under) (k : ℕ)
     (set : (scan : Scan) → Left (with_store shared (scan_set shared.store k scan))) where
@@ -183,14 +176,65 @@ room_left false false true room h = cc
 room_left false false false room h = refl
 
 pub queried_refused : {S : Type 0} (shared : SharedState S) (under : Under) (asked : QueryInfoRequest) (information : Option Information) (status : Status) → request_refusal asked ≡ None → room_refusal information asked.output_buffer_length ≡ Some status →
-    queried_by shared under asked information ≡ refused shared under status
+    (let x : CommandStep S = record { shared = shared; response = option_map_or (failure under) (query_refusal information asked) (informed under information asked.output_buffer_length) } in x) ≡ refused shared under status
 queried_refused shared under asked information status h e =
     let refusal : query_refusal information asked ≡ Some status =
     room_left (asked.info_type.0 == SECURITY || asked.info_type.0 == QUOTA) (not (asked.info_type.0 == FILE || asked.info_type.0 == FILESYSTEM)) (nat_lt 65536 asked.output_buffer_length) (room_refusal information asked.output_buffer_length) h ∙ e in
     ap (λ (r : Option Status). let x : CommandStep _ = record { shared = shared; response = option_map_or (failure under) r (informed under information asked.output_buffer_length) } in x) refusal
 
--- where memory ran out when a response was spelled, and what was performed then
-pub unanswered_left : {S : Type 0} (m : Meaning S) (mid before : SharedState S) (dialect : Option Dialect) (it : Acted) (unanswered : Unanswered) (step : RequestStep S) → acted_step m mid dialect (Some it) ≡ step → IsStill before mid it → unanswered ≡ unanswered_of it →
-    mid ≡ (if is_performed unanswered then step.shared else before)
-unanswered_left m mid before dialect (Told told) unanswered step e still u = rw u (ap (λ (s : RequestStep _). s.shared) e)
-unanswered_left m mid before dialect (Lists query) unanswered step e still u = rw u still
+-- no listing is unreadable
+unmatched_readable : (b : Bool) (scan : Scan) → (let x : Option InfoFault = Some (if b then NoMatch scan else NoMore) in x) ≡ Some Unreadable → ⊥
+unmatched_readable true scan e = cc
+unmatched_readable false scan e = cc
+
+long_readable : (b : Bool) → (let x : Option InfoFault = if b then Some TooSmall else None in x) ≡ Some Unreadable → ⊥
+long_readable true e = cc
+long_readable false e = cc
+
+class_readable : (b c : Bool) (rest : Option InfoFault) → (rest ≡ Some Unreadable → ⊥) → (let x : Option InfoFault = if b then Some BadPattern else if c then Some TooSmall else rest in x) ≡ Some Unreadable → ⊥
+class_readable true c rest h e = cc
+class_readable false true rest h e = cc
+class_readable false false rest h e = h e
+
+module _ (rows : List Row) (folder : ℕ) (scan : Scan) (ask : ListAsked) where
+  first_readable : (class : DirectoryInformationClass) (cs : List Candidate) → first_fault rows folder scan ask class cs ≡ Some Unreadable → ⊥
+  first_readable class [] e = unmatched_readable (is_started_by scan ask) (scan_by scan ask) e
+  first_readable class (c ∷ cs) e = long_readable (is_too_long class ask.room c) e
+
+  list_readable : (class : Option DirectoryInformationClass) → fault_by rows folder scan ask class ≡ Some Unreadable → ⊥
+  list_readable None e = cc
+  list_readable (Some class) e =
+      class_readable (nat_lt 255 (length ask.pattern)) (nat_lt ask.room (directory_length class)) (first_fault rows folder scan ask class (wanted rows (sought_by folder scan ask)))
+      (first_readable class (wanted rows (sought_by folder scan ask))) e
+
+open_readable : (store : StoreState) (ask : ListAsked) (row : Option OpenRow) → option_map_or (λ (row : OpenRow). list_fault store.tree.rows row.entry row.scan ask) row None ≡ Some Unreadable → ⊥
+open_readable store ask None e = cc
+open_readable store ask (Some row) e = list_readable store.tree.rows row.entry row.scan ask (directory_class ask.class) e
+
+-- so a listing's refusal that is not for want of memory comes to something
+pub refusal_comes : (store : StoreState) (number : ℕ) (ask : ListAsked) (fault : InfoFault) → fault ≢ NoMemory → IsListRefusal (open_list_fault store number ask) fault → listing_refusal fault ≡ None → ⊥
+refusal_comes store number ask BadClass q why none = cc
+refusal_comes store number ask BadPattern q why none = cc
+refusal_comes store number ask TooSmall q why none = cc
+refusal_comes store number ask (NoMatch scan) q why none = cc
+refusal_comes store number ask NoMore q why none = cc
+refusal_comes store number ask Unreadable q why none = open_readable store ask (open_of store.opens number) why
+refusal_comes store number ask NoMemory q why none = q refl
+
+pub refusal_listed : (store : StoreState) (number : ℕ) (ask : ListAsked) (fault : InfoFault) (refusal : ListingRefusal) → IsListRefusal (open_list_fault store number ask) fault → listing_refusal fault ≡ Some refusal →
+    option_and_then listing_refusal (open_list_fault store number ask) ≡ Some refusal
+refusal_listed store number ask BadClass refusal why e = ap (option_and_then listing_refusal) why ∙ e
+refusal_listed store number ask BadPattern refusal why e = ap (option_and_then listing_refusal) why ∙ e
+refusal_listed store number ask TooSmall refusal why e = ap (option_and_then listing_refusal) why ∙ e
+refusal_listed store number ask (NoMatch scan) refusal why e = ap (option_and_then listing_refusal) why ∙ e
+refusal_listed store number ask NoMore refusal why e = ap (option_and_then listing_refusal) why ∙ e
+refusal_listed store number ask Unreadable refusal why e = cc
+refusal_listed store number ask NoMemory refusal why e = cc
+
+-- what was opened and is cut off again
+front_again : (old more : List ℕ) → take (length old) (old ++ more) ≡ old
+front_again [] more = refl
+front_again (b ∷ old) more = ap (λ (bs : List ℕ). b ∷ bs) (front_again old more)
+
+pub cut_off : (old more opened listed cut : List ℕ) (start : ℕ) → opened ≡ old ++ more → listed ≡ opened → start ≡ length old → cut ≡ take start listed → cut ≡ old
+cut_off old more opened listed cut start o l s c = c ∙ ap (take start) (l ∙ o) ∙ ap (λ (n : ℕ). take n (old ++ more)) s ∙ front_again old more

@@ -1,13 +1,12 @@
 -- CREATE and CLOSE ([MS-SMB2] 3.3.5.9, 3.3.5.10).
-use Rattle.std.specs.Prelude.{ℕ, Bool, false, ◌&&◌, ◌==◌, bit_and, List, Option, None, Some, if◌then◌else◌}
+use Rattle.std.specs.Prelude.{ℕ, Bool, false, ◌&&◌, ◌==◌, bit_and, List, if◌then◌else◌}
 use Rattle.std.specs.Option.{option_map_or}
 use Rattle.smb_wire.specs.declared.file_id.FileId.{FileId}
-use Rattle.smb_wire.specs.NtStatus.{STATUS_SUCCESS}
 use Rattle.smb_body.specs.declared.create.CreateResponse.{CreateResponse}
 use Rattle.smb_body.specs.declared.close.CloseFlags.{CloseFlags}
 use Rattle.smb_body.specs.declared.close.CloseResponse.{CloseResponse}
 use Rattle.smb_body.specs.Create.{CreateAsked}
-use Rattle.smb_body.specs.Replies.{answers_create, answers_close, answers_flush}
+use Rattle.smb_body.specs.Replies.{answers_create, answers_close}
 use Rattle.smb_access.specs.declared.open_row.OpenRow.{OpenRow}
 use Rattle.smb_access.specs.declared.open_row.Owner.TheVariants.{Tree}
 use Rattle.smb_access.specs.declared.view.View.{View}
@@ -18,10 +17,10 @@ use Rattle.smb_opens.specs.Create.{create_status}
 use Rattle.smb_opens.specs.Effect.{created, create_result}
 use Rattle.smb_opens.specs.Views.{open_view}
 use Rattle.smb_opens.specs.Close.{closed}
-use Rattle.smb_request.specs.declared.status.Status.TheVariants.{FileClosed, Store}
+use Rattle.smb_request.specs.declared.status.Status.TheVariants.{FileClosed}
 use Rattle.smb_request.specs.declared.context.Under.{Under}
 use Rattle.smb_request.specs.State.{SharedState, with_store}
-use Rattle.smb_request.specs.Response.{CommandStep, success, refused}
+use Rattle.smb_request.specs.Response.{CommandStep, success, refused, by_status}
 
 -- what a CREATE asks of the files, under a session and a tree
 abbrev pub file_asked : Under → CreateAsked → FileAsked
@@ -52,19 +51,14 @@ create_response done = record {
   file_id = record { persistent = done.number; volatile = done.number };
 }
 
--- CREATE (3.3.5.9), by the status that the store gives it
-abbrev pub created_by_status : {S : Type 0} → ℕ → SharedState S → Under → FileAsked → ℕ → CommandStep S
-created_by_status moment shared under asked status =
-    if status == STATUS_SUCCESS
-    then record {
-      shared = with_store shared (created shared.store asked moment);
-      response = success under (answers_create (create_response (create_result shared.store asked moment)));
-    }
-    else refused shared under (Store status)
-
+-- CREATE (3.3.5.9)
 unfoldable pub file_created : {S : Type 0} → ℕ → SharedState S → Under → CreateAsked → CommandStep S
 file_created moment shared under asked =
-    created_by_status moment shared under (file_asked under asked) (create_status shared.store (file_asked under asked))
+    let ask = file_asked under asked in
+    by_status shared under (create_status shared.store ask) (record {
+      shared = with_store shared (created shared.store ask moment);
+      response = success under (answers_create (create_response (create_result shared.store ask moment)));
+    })
 
 -- a FileId names an open of this session and tree: both its halves are the open's number (3.3.5.10)
 abbrev pub names_open : List OpenRow → Under → FileId → Bool
@@ -72,47 +66,37 @@ names_open opens under id =
     id.persistent == id.volatile
     && option_map_or (is_held_by (Tree under.session_id under.tree_id)) (open_of opens id.persistent) false
 
--- what a CLOSE shows of the entry, and what where it shows nothing (2.2.16)
-abbrev pub close_shows : View → CloseResponse
-close_shows view = record {
-  flags = record { 0 = 1 };
-  creation_time = view.creation_time;
-  last_access_time = view.last_access_time;
-  last_write_time = view.last_write_time;
-  change_time = view.change_time;
-  allocation_size = view.allocation_size;
-  end_of_file = view.size;
-  file_attributes = view.attributes;
-}
-
-abbrev pub close_shows_nothing : CloseResponse
-close_shows_nothing = record {
-  flags = record { 0 = 0 };
-  creation_time = 0;
-  last_access_time = 0;
-  last_write_time = 0;
-  change_time = 0;
-  allocation_size = 0;
-  end_of_file = 0;
-  file_attributes = record { 0 = 0 };
-}
-
--- what a CLOSE is answered: with POSTQUERY_ATTRIB (1) set, what the open showed before (2.2.16)
+-- what a CLOSE is answered: with POSTQUERY_ATTRIB (1) set, what the open showed before, else zeros (2.2.16)
 abbrev pub close_response : CloseFlags → View → CloseResponse
-close_response flags view = if bit_and flags.0 1 == 0 then close_shows_nothing else close_shows view
+close_response flags view =
+    if bit_and flags.0 1 == 0
+    then record {
+      flags = record { 0 = 0 };
+      creation_time = 0;
+      last_access_time = 0;
+      last_write_time = 0;
+      change_time = 0;
+      allocation_size = 0;
+      end_of_file = 0;
+      file_attributes = record { 0 = 0 };
+    }
+    else record {
+      flags = record { 0 = 1 };
+      creation_time = view.creation_time;
+      last_access_time = view.last_access_time;
+      last_write_time = view.last_write_time;
+      change_time = view.change_time;
+      allocation_size = view.allocation_size;
+      end_of_file = view.size;
+      file_attributes = view.attributes;
+    }
 
--- CLOSE (3.3.5.10) of the open of a number, by what it shows
-abbrev pub closed_by_view : {S : Type 0} → SharedState S → Under → ℕ → CloseFlags → Option View → CommandStep S
-closed_by_view shared under open_number flags None = refused shared under FileClosed
-closed_by_view shared under open_number flags (Some view) = record {
-  shared = with_store shared (closed shared.store open_number);
-  response = success under (answers_close (close_response flags view));
-}
-
+-- CLOSE (3.3.5.10) of the open of a number; where there is none it is refused
 unfoldable pub file_closed : {S : Type 0} → SharedState S → Under → ℕ → CloseFlags → CommandStep S
-file_closed shared under open_number flags =
-    closed_by_view shared under open_number flags (open_view shared.store open_number)
-
--- FLUSH (3.3.5.11) of an open: what was written is in the store already
-abbrev pub file_flushed : {S : Type 0} → SharedState S → Under → CommandStep S
-file_flushed shared under = record { shared = shared; response = success under answers_flush }
+file_closed shared under open_number flags = option_map_or
+    (λ view. record {
+      shared = with_store shared (closed shared.store open_number);
+      response = success under (answers_close (close_response flags view));
+    })
+    (open_view shared.store open_number)
+    (refused shared under FileClosed)

@@ -1,15 +1,13 @@
 -- LOCK ([MS-SMB2] 3.3.5.14).
 use Rattle.std.specs.Prelude.{ℕ, ◌==◌, Bool, false, bit_and, List, [], ◌∷◌, map, if◌then◌else◌}
-use Rattle.smb_wire.specs.NtStatus.{STATUS_SUCCESS}
 use Rattle.smb_wire.specs.LockFlags.{UNLOCK}
 use Rattle.smb_locks.specs.declared.ask.LockAsk.{LockAsk}
 use Rattle.smb_body.specs.declared.lock_element.LockElement.{LockElement}
 use Rattle.smb_body.specs.Replies.{answers_lock}
 use Rattle.smb_opens.specs.Locks.{lock_status, unlock_status, locked_through, unlocked_through}
-use Rattle.smb_request.specs.declared.status.Status.TheVariants.{Store}
 use Rattle.smb_request.specs.declared.context.Under.{Under}
 use Rattle.smb_request.specs.State.{SharedState, with_store}
-use Rattle.smb_request.specs.Response.{CommandStep, success, refused}
+use Rattle.smb_request.specs.Response.{CommandStep, success, by_status}
 
 -- what the elements of a request ask (2.2.26.1)
 abbrev pub lock_ask : LockElement → LockAsk
@@ -23,31 +21,20 @@ abbrev pub asks_unlock : List LockAsk → Bool
 asks_unlock [] = false
 asks_unlock (ask ∷ asks) = bit_and ask.flags.0 UNLOCK == UNLOCK
 
--- a LOCK that locks (3.3.5.14.2), by the status that the store gives it: a refusal changes nothing
-abbrev pub locked_by_status : {S : Type 0} → SharedState S → Under → ℕ → List LockAsk → ℕ → CommandStep S
-locked_by_status shared under open_number asks status =
-    if status == STATUS_SUCCESS
-    then record {
+-- a LOCK that locks (3.3.5.14.2): a refusal changes nothing
+unfoldable pub file_locked : {S : Type 0} → SharedState S → Under → ℕ → List LockAsk → CommandStep S
+file_locked shared under open_number asks = by_status shared under
+    (lock_status shared.store open_number asks)
+    (record {
       shared = with_store shared (locked_through shared.store open_number asks);
       response = success under answers_lock;
-    }
-    else refused shared under (Store status)
+    })
 
-unfoldable pub file_locked : {S : Type 0} → SharedState S → Under → ℕ → List LockAsk → CommandStep S
-file_locked shared under open_number asks =
-    locked_by_status shared under open_number asks (lock_status shared.store open_number asks)
-
--- a LOCK that unlocks (3.3.5.14.1), by the status that the store gives it: a refusal leaves the elements before it unlocked
-abbrev pub unlocked_by_status : {S : Type 0} → SharedState S → Under → ℕ → CommandStep S
-unlocked_by_status shared under status =
-    if status == STATUS_SUCCESS
-    then record { shared = shared; response = success under answers_lock }
-    else refused shared under (Store status)
-
+-- a LOCK that unlocks (3.3.5.14.1): a refusal leaves the elements before it unlocked
 unfoldable pub file_unlocked : {S : Type 0} → SharedState S → Under → ℕ → List LockAsk → CommandStep S
 file_unlocked shared under open_number asks =
-    unlocked_by_status (with_store shared (unlocked_through shared.store open_number asks)) under
-    (unlock_status shared.store open_number asks)
+    let after = with_store shared (unlocked_through shared.store open_number asks) in
+    by_status after under (unlock_status shared.store open_number asks) (record { shared = after; response = success under answers_lock })
 
 -- LOCK (3.3.5.14) of the open of a number
 abbrev pub locks_changed : {S : Type 0} → SharedState S → Under → ℕ → List LockAsk → CommandStep S

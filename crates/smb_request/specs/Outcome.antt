@@ -95,10 +95,10 @@ abbrev pub CanBeAnswered : {S : Type 0} → SharedState S → Acted → Type 0
 CanBeAnswered shared (Told told) = CanBeSpelled shared told.outcome
 CanBeAnswered shared (Lists query) = IsSome (open_of shared.store.opens query.open_number)
 
--- where a query of a directory is still to be performed, nothing was changed
-abbrev pub IsStill : {S : Type 0} → SharedState S → SharedState S → Acted → Type 0
-IsStill before after (Told told) = Unit {0}
-IsStill before after (Lists query) = after ≡ before
+-- where a query of a directory is still to be performed, nothing was changed, nor was the dialect
+abbrev pub IsStill : {S : Type 0} → SharedState S → Option Dialect → SharedState S → Option Dialect → Acted → Type 0
+IsStill before was after is (Told told) = Unit {0}
+IsStill before was after is (Lists query) = (after ≡ before) × (is ≡ was)
 
 -- where memory ran out when a response was spelled: a query of a directory was not performed then
 abbrev pub unanswered_of : Acted → Unanswered

@@ -67,14 +67,11 @@ listing_refused shared under open_number refusal = record {
 }
 
 -- what is listed, or why nothing is
-abbrev pub listed_unless : {S : Type 0} → SharedState S → Under → ℕ → ListAsked → Option InfoFault → CommandStep S
-listed_unless shared under open_number ask fault = option_map_or
-    (listing_refused shared under open_number)
-    (option_and_then listing_refusal fault)
-    (directory_listed shared under open_number ask)
-
 abbrev pub listed_as_asked : {S : Type 0} → SharedState S → Under → ℕ → ListAsked → CommandStep S
-listed_as_asked shared under open_number ask = listed_unless shared under open_number ask (open_list_fault shared.store open_number ask)
+listed_as_asked shared under open_number ask = option_map_or
+    (listing_refused shared under open_number)
+    (option_and_then listing_refusal (open_list_fault shared.store open_number ask))
+    (directory_listed shared under open_number ask)
 
 -- QUERY_DIRECTORY (3.3.5.18) of the open of a number
 unfoldable pub directory_queried : {S : Type 0} → SharedState S → Under → ℕ → QueryDirectoryAsked → CommandStep S

@@ -68,13 +68,11 @@ abbrev pub informed : Under → Option Information → ℕ → ResponseState
 informed under information room =
     with_body (ids_of under) (written_status (information_written information room)) (answers_query_info (told information room))
 
--- QUERY_INFO (3.3.5.20) of the open of a number, by the information that it asks for: it changes nothing
-abbrev pub queried_by : {S : Type 0} → SharedState S → Under → QueryInfoRequest → Option Information → CommandStep S
-queried_by shared under asked information = record {
-  shared = shared;
-  response = option_map_or (failure under) (query_refusal information asked) (informed under information asked.output_buffer_length);
-}
-
+-- QUERY_INFO (3.3.5.20) of the open of a number: it changes nothing
 unfoldable pub information_queried : {S : Type 0} → SharedState S → Under → ℕ → QueryInfoRequest → CommandStep S
 information_queried shared under open_number asked =
-    queried_by shared under asked (information_asked shared open_number asked)
+    let information = information_asked shared open_number asked in
+    record {
+      shared = shared;
+      response = option_map_or (failure under) (query_refusal information asked) (informed under information asked.output_buffer_length);
+    }

@@ -13,7 +13,7 @@ use Rattle.smb_session.specs.Negotiate.{best_of}
 use Rattle.smb_session.specs.Table.{knows_session, knows_tree}
 use Rattle.smb_wire.specs.declared.dialect.Dialect.{Dialect}
 use Rattle.smb_body.specs.Requests.{RequestValue, asks_negotiate, asks_session_setup, asks_logoff, asks_tree_connect, asks_tree_disconnect, asks_create, asks_close, asks_flush, asks_read, asks_write, asks_lock, asks_cancel, asks_echo, asks_query_directory, asks_query_info, asks_set_info, file_id_of, request_of}
-use Rattle.smb_body.specs.Replies.{answers_echo}
+use Rattle.smb_body.specs.Replies.{answers_flush, answers_echo}
 use Rattle.smb_request.specs.declared.status.Status.{Status}
 use Rattle.smb_request.specs.declared.status.Status.TheVariants.{InvalidParameter, NotSupported, NetworkNameDeleted, FileClosed, UserSessionDeleted}
 use Rattle.smb_request.specs.declared.context.Under.{Under}
@@ -21,12 +21,12 @@ use Rattle.smb_request.specs.declared.context.Context.{Context}
 use Rattle.smb_request.specs.declared.context.ContextOpen.{ContextOpen}
 use Rattle.smb_request.specs.declared.context.ContextOpen.TheVariants.{Nothing, Named, Refused}
 use Rattle.smb_access.specs.declared.open_row.OpenRow.{OpenRow}
-use Rattle.smb_request.specs.Context.{open_named, number_named, handed_on}
+use Rattle.smb_request.specs.Context.{open_named, number_named, handed_on, context_after}
 use Rattle.smb_request.specs.Negotiate.{negotiate_answer}
 use Rattle.smb_request.specs.State.{SharedState, hello_of}
-use Rattle.smb_request.specs.Response.{RequestStep, Performed, with_context, success, answered, refused}
+use Rattle.smb_request.specs.Response.{RequestStep, Performed, success, answered, refused}
 use Rattle.smb_request.specs.Session.{session_set_up, session_logged_off, tree_joined, tree_left}
-use Rattle.smb_request.specs.Files.{file_created, file_closed, file_flushed, names_open}
+use Rattle.smb_request.specs.Files.{file_created, file_closed, names_open}
 use Rattle.smb_request.specs.Bytes.{file_read, file_written}
 use Rattle.smb_request.specs.Locks.{lock_asks, locks_changed}
 use Rattle.smb_request.specs.QueryDirectory.{directory_queried}
@@ -72,11 +72,8 @@ negotiated authenticator moment shared dialect under dialects = option_map_or
     (answered dialect (refused shared under NotSupported))
 
 module _ {S : Type 0} (authenticator : Meaning S) (connection moment : ℕ) (shared : SharedState S) (dialect : Option Dialect) (under : Under) where
-  -- CANCEL: its requests don't come here
-  abbrev pub acted_not : RequestStep S
-  acted_not = answered dialect (refused shared under NotSupported)
-
-  -- a request whose body is read and whose session, tree and open exist, by the number of the open
+  -- a request whose body is read and whose session, tree and open exist, by the number of the open. FLUSH (3.3.5.11) finds
+  -- what was written in the store already; CANCEL is passed over before it comes here
   abbrev pub acted : ℕ → RequestValue → RequestStep S
   acted open_number (asks_negotiate asked) = negotiated authenticator moment shared dialect under asked.dialects
   acted open_number (asks_session_setup asked) = answered dialect (session_set_up authenticator connection shared under asked)
@@ -85,12 +82,12 @@ module _ {S : Type 0} (authenticator : Meaning S) (connection moment : ℕ) (sha
   acted open_number (asks_tree_disconnect asked) = answered dialect (tree_left connection shared under)
   acted open_number (asks_create asked) = answered dialect (file_created moment shared under asked)
   acted open_number (asks_close asked) = answered dialect (file_closed shared under open_number asked.flags)
-  acted open_number (asks_flush asked) = answered dialect (file_flushed shared under)
+  acted open_number (asks_flush asked) = answered dialect (record { shared = shared; response = success under answers_flush })
   acted open_number (asks_read asked) = answered dialect (file_read shared under open_number asked)
   acted open_number (asks_write asked) = answered dialect (file_written moment shared under open_number asked)
   acted open_number (asks_lock asked) = answered dialect (locks_changed shared under open_number (lock_asks asked.locks))
   acted open_number (asks_echo asked) = answered dialect (record { shared = shared; response = success under answers_echo })
-  acted open_number (asks_cancel asked) = acted_not
+  acted open_number (asks_cancel asked) = answered dialect (refused shared under NotSupported)
   acted open_number (asks_query_directory asked) = answered dialect (directory_queried shared under open_number asked)
   acted open_number (asks_query_info asked) = answered dialect (information_queried shared under open_number asked)
   acted open_number (asks_set_info asked) = answered dialect (information_set moment shared under open_number asked)
@@ -122,14 +119,19 @@ module _ {S : Type 0} (authenticator : Meaning S) (connection moment : ℕ) (sha
 abbrev pub body_of : Option Command → List ℕ → Option RequestValue
 body_of command request = option_and_then (λ known. request_of (code_of known) request) command
 
--- one request that acts under this, by the open that is handed to it, its command and what its body says
-abbrev pub performed_under : {S : Type 0} → Meaning S → ℕ → ℕ → SharedState S → Option Dialect → Under → Option ContextOpen → Option Command → Option RequestValue → Performed S
-performed_under authenticator connection moment shared dialect under handed command asked =
-    with_context under (handed_on handed shared.store.next command (option_and_then file_id_of asked))
-    (by_command authenticator connection moment shared dialect under handed command asked)
-
--- what one request on a connection leaves, and what answers it
+-- what one request on a connection leaves, and what answers it: the context is what it acted under and what its response
+-- tells, with the open that it hands on (3.3.5.2.7.2)
 unfoldable pub performed : {S : Type 0} → Meaning S → ℕ → ℕ → SharedState S → Option Dialect → Context → List ℕ → Performed S
 performed authenticator connection moment shared dialect context request =
     let command = known_command (header_of request).command.0 in
-    performed_under authenticator connection moment shared dialect (acts_under context request) (handed_to context request) command (body_of command request)
+    let asked = body_of command request in
+    let under = acts_under context request in
+    let handed = handed_to context request in
+    let step = by_command authenticator connection moment shared dialect under handed command asked in
+    record {
+      shared = step.shared;
+      dialect = step.dialect;
+      context = context_after under (option_map (λ response. response.ids) step.response)
+          (handed_on handed shared.store.next command (option_and_then file_id_of asked) (option_map (λ response. response.status) step.response));
+      response = step.response;
+    }

@@ -1,15 +1,14 @@
 -- What answers a request.
-use Rattle.std.specs.Prelude.{ℕ, List, Option, Some}
-use Rattle.std.specs.Option.{option_map}
+use Rattle.std.specs.Prelude.{ℕ, ◌==◌, List, Option, Some, if◌then◌else◌}
+use Rattle.smb_wire.specs.NtStatus.{STATUS_SUCCESS}
 use Rattle.smb_body.specs.Replies.{ReplyValue, answers_error, reply_spelling}
 use Rattle.smb_wire.specs.declared.dialect.Dialect.{Dialect}
 use Rattle.smb_request.specs.declared.status.Status.{Status}
-use Rattle.smb_request.specs.declared.status.Status.TheVariants.{Success}
+use Rattle.smb_request.specs.declared.status.Status.TheVariants.{Success, Store}
 use Rattle.smb_request.specs.declared.context.Under.{Under}
 use Rattle.smb_request.specs.declared.context.ResponseIds.{ResponseIds}
 use Rattle.smb_request.specs.declared.context.Context.{Context}
-use Rattle.smb_request.specs.declared.context.ContextOpen.{ContextOpen}
-use Rattle.smb_request.specs.Context.{ids_of, context_after}
+use Rattle.smb_request.specs.Context.{ids_of}
 use Rattle.smb_request.specs.State.{SharedState}
 
 -- its status, the session and the tree that it tells, and the body
@@ -36,15 +35,6 @@ pub record Performed (S : Type 0) : Type 0 where
   pub context : Context
   pub response : Option ResponseState
 
--- with the context that a request hands on which acted under this, by the open that it hands on
-abbrev pub with_context : {S : Type 0} → Under → (Option Status → ContextOpen) → RequestStep S → Performed S
-with_context under hands step = record {
-  shared = step.shared;
-  dialect = step.dialect;
-  context = context_after under (option_map (λ response. response.ids) step.response) (hands (option_map (λ response. response.status) step.response));
-  response = step.response;
-}
-
 -- an answer with the body of its command
 abbrev pub with_body : ResponseIds → Status → ReplyValue → ResponseState
 with_body ids status reply = record { status = status; ids = ids; body = reply_spelling reply }
@@ -64,3 +54,7 @@ answered dialect step = record { shared = step.shared; dialect = dialect; respon
 -- a refusal changes nothing
 abbrev pub refused : {S : Type 0} → SharedState S → Under → Status → CommandStep S
 refused shared under status = record { shared = shared; response = failure under status }
+
+-- a request that the store gives a status: where it succeeds, what that leaves and answers
+abbrev pub by_status : {S : Type 0} → SharedState S → Under → ℕ → CommandStep S → CommandStep S
+by_status shared under status done = if status == STATUS_SUCCESS then done else refused shared under (Store status)

@@ -1,7 +1,6 @@
 -- SET_INFO ([MS-SMB2] 3.3.5.21).
 use Rattle.std.specs.Prelude.{ℕ, ◌==◌, ◌||◌, true, false, not, nat_lt, List, length, if◌then◌else◌}
 use Rattle.std.specs.Option.{option_map_or}
-use Rattle.smb_wire.specs.NtStatus.{STATUS_SUCCESS}
 use Rattle.smb_body.specs.SetInfo.{SetInfoAsked}
 use Rattle.smb_body.specs.Replies.{answers_set_info}
 use Rattle.smb_info.specs.declared.set_info.SetInformationClass.{SetInformationClass}
@@ -9,10 +8,10 @@ use Rattle.smb_info.specs.SetInformation.{SetAsked, asks_basic, asks_rename, ask
 use Rattle.smb_opens.specs.Renames.{rename_status, renamed_through}
 use Rattle.smb_opens.specs.SetInfo.{delete_status, delete_set_through, size_status, size_set_through, basic_status, basic_set_through}
 use Rattle.smb_opens.specs.State.{StoreState}
-use Rattle.smb_request.specs.declared.status.Status.TheVariants.{InvalidParameter, InvalidInfoClass, InfoLengthMismatch, NotSupported, Store}
+use Rattle.smb_request.specs.declared.status.Status.TheVariants.{InvalidParameter, InvalidInfoClass, InfoLengthMismatch, NotSupported}
 use Rattle.smb_request.specs.declared.context.Under.{Under}
 use Rattle.smb_request.specs.InfoTypes.{FILE, FILESYSTEM, SECURITY, QUOTA}
-use Rattle.smb_request.specs.Response.{CommandStep, success, refused}
+use Rattle.smb_request.specs.Response.{CommandStep, success, refused, by_status}
 use Rattle.smb_request.specs.State.{SharedState, with_store}
 
 -- the status that the store gives what is asked of the entry of an open (3.3.5.21.1)
@@ -31,19 +30,14 @@ set_through store open_number moment (asks_mark mark) = delete_set_through store
 set_through store open_number moment (asks_allocation size) = size_set_through store open_number size true moment
 set_through store open_number moment (asks_end size) = size_set_through store open_number size false moment
 
--- what is asked, by the status that the store gives it: a refusal changes nothing
-abbrev pub set_by_status : {S : Type 0} → ℕ → SharedState S → Under → ℕ → SetAsked → ℕ → CommandStep S
-set_by_status moment shared under open_number ask status =
-    if status == STATUS_SUCCESS
-    then record {
+-- what is asked: a refusal changes nothing
+abbrev pub set_as_asked : {S : Type 0} → ℕ → SharedState S → Under → ℕ → SetAsked → CommandStep S
+set_as_asked moment shared under open_number ask = by_status shared under
+    (set_status shared.store open_number ask)
+    (record {
       shared = with_store shared (set_through shared.store open_number moment ask);
       response = success under answers_set_info;
-    }
-    else refused shared under (Store status)
-
-abbrev pub set_as_asked : {S : Type 0} → ℕ → SharedState S → Under → ℕ → SetAsked → CommandStep S
-set_as_asked moment shared under open_number ask =
-    set_by_status moment shared under open_number ask (set_status shared.store open_number ask)
+    })
 
 -- a class that can be set, as its buffer asks ([MS-FSCC] 2.4)
 abbrev pub class_set : {S : Type 0} → ℕ → SharedState S → Under → ℕ → List ℕ → SetInformationClass → CommandStep S

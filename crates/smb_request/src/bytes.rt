@@ -94,9 +94,7 @@ impl<A: Authenticator + Drop, T: Tree + Drop, O: Opens + Drop> Shared<A, T, O> {
         ensures kept { take (length out.old.items) out.new.items ≡ out.old.items }
     {
         let start = out.len();
-        let Ok(()) = put_read_head(ask.there, out) else {
-            return Err(AllocError);
-        };
+        put_read_head(ask.there, out)?;
         match self.store.read(
             ask.open_number,
             ask.offset,

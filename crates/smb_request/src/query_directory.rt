@@ -156,15 +156,9 @@ impl<A: Authenticator + Drop, T: Tree + Drop, O: Opens + Drop> Shared<A, T, O> {
         ensures kept { take (length out.old.items) out.new.items ≡ out.old.items }
         ensures known { self.new.sessions.table.connections ≡ self.old.sessions.table.connections }
     {
-        let Ok(start) = open_query_response(out) else {
-            return Err(AllocError);
-        };
-        match list(
-            &self.store,
-            query.open_number,
-            &list_ask(&query.request),
-            out,
-        ) {
+        let start = open_query_response(out)?;
+        let ask = list_ask(&query.request);
+        match list(&self.store, query.open_number, &ask, out) {
             Ok(scan) => {
                 close_query_response(start, out);
                 self.store.set_scan(query.open_number, scan);
@@ -175,11 +169,16 @@ impl<A: Authenticator + Drop, T: Tree + Drop, O: Opens + Drop> Shared<A, T, O> {
             }
             Err(fault) => {
                 out.truncate(start);
-                let Some(refusal) = listing_refusal(fault) else {
-                    return Err(AllocError);
-                };
-                let answered = self.refuse_listing(query, &refusal, out)?;
-                Ok(answered)
+                match fault {
+                    InfoFault::NoMemory => Err(AllocError),
+                    fault => {
+                        let Some(refusal) = listing_refusal(fault) else {
+                            unreachable!();
+                        };
+                        let answered = self.refuse_listing(query, &refusal, out)?;
+                        Ok(answered)
+                    }
+                }
             }
         }
     }

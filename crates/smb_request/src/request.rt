@@ -194,8 +194,9 @@ impl<A: Authenticator + Drop, T: Tree + Drop, O: Opens + Drop> Shared<A, T, O> {
         ensures ok { IfOk result (λ it. answered dialect.new (acted_command A.meaning self.new it)
             ≡ acted A.meaning connection moment self.old dialect.old under open_number (request_value request.now)) }
         ensures answered { IfOk result (CanBeAnswered self.new) }
-        ensures still { IfOk result (IsStill self.old self.new) }
+        ensures still { IfOk result (IsStill self.old dialect.old self.new dialect.new) }
         ensures err { OnErr result (self.new ≡ self.old) }
+        ensures dialect { OnErr result (dialect.new ≡ dialect.old) }
         ensures known { self.new.sessions.table.connections ≡ self.old.sessions.table.connections }
     {
         let told = match request {
@@ -239,8 +240,9 @@ impl<A: Authenticator + Drop, T: Tree + Drop, O: Opens + Drop> Shared<A, T, O> {
         ensures ok { IfOk result (λ it. answered dialect.new (acted_command A.meaning self.new it)
             ≡ by_open A.meaning connection moment self.old dialect.old under (request_value request.now) (option_map (open_named handed) (file_id_of (request_value request.now)))) }
         ensures answered { IfOk result (CanBeAnswered self.new) }
-        ensures still { IfOk result (IsStill self.old self.new) }
+        ensures still { IfOk result (IsStill self.old dialect.old self.new dialect.new) }
         ensures err { OnErr result (self.new ≡ self.old) }
+        ensures dialect { OnErr result (dialect.new ≡ dialect.old) }
         ensures known { self.new.sessions.table.connections ≡ self.old.sessions.table.connections }
     {
         let _ = &self.sessions;
@@ -273,8 +275,9 @@ impl<A: Authenticator + Drop, T: Tree + Drop, O: Opens + Drop> Shared<A, T, O> {
         ensures ok { IfOk result (λ it. answered dialect.new (acted_command A.meaning self.new it)
             ≡ by_body A.meaning connection moment self.old dialect.old under handed (option_map request_value asked.now)) }
         ensures answered { IfOk result (CanBeAnswered self.new) }
-        ensures still { IfOk result (IsStill self.old self.new) }
+        ensures still { IfOk result (IsStill self.old dialect.old self.new dialect.new) }
         ensures err { OnErr result (self.new ≡ self.old) }
+        ensures dialect { OnErr result (dialect.new ≡ dialect.old) }
         ensures known { self.new.sessions.table.connections ≡ self.old.sessions.table.connections }
     {
         let _ = &self.sessions;
@@ -302,8 +305,9 @@ impl<A: Authenticator + Drop, T: Tree + Drop, O: Opens + Drop> Shared<A, T, O> {
         ensures ok { IfOk result (λ it. acted_step A.meaning self.new dialect.new it
             ≡ by_command A.meaning connection moment self.old dialect.old under handed command (option_map request_value asked.now)) }
         ensures answered { IfOk result (λ it. IfSome it (CanBeAnswered self.new)) }
-        ensures still { IfOk result (λ it. IfSome it (IsStill self.old self.new)) }
+        ensures still { IfOk result (λ it. IfSome it (IsStill self.old dialect.old self.new dialect.new)) }
         ensures err { OnErr result (self.new ≡ self.old) }
+        ensures dialect { OnErr result (dialect.new ≡ dialect.old) }
         ensures known { self.new.sessions.table.connections ≡ self.old.sessions.table.connections }
     {
         let _ = &self.sessions;
@@ -352,7 +356,8 @@ impl<A: Authenticator + Drop, T: Tree + Drop, O: Opens + Drop> Shared<A, T, O> {
     /// Performs one request of this header, and adds the body of what answers it to `out`. CANCEL has no answer: None,
     /// and `out` is as it was.
     ///
-    /// An error says that memory could not be had, and whether the request was performed. What stood in `out` is kept.
+    /// An error says that memory could not be had, and whether the request was performed, which then changed what is shared
+    /// and the dialect. `context` is as it was, and what stood in `out` is kept.
     #[tactic(auto, unfolding(crate::specs::Request::performed))]
     pub fn perform(
         &mut self,
@@ -371,6 +376,9 @@ impl<A: Authenticator + Drop, T: Tree + Drop, O: Opens + Drop> Shared<A, T, O> {
         ensures len { OnOk result (length out.new.items ≤ length out.old.items + 65552) }
         ensures err { IfErr result (λ unanswered. self.new
             ≡ (if is_performed unanswered then (performed A.meaning connection moment self.old dialect.old context.old request.now).shared else self.old)) }
+        ensures dialect { IfErr result (λ unanswered. dialect.new
+            ≡ (if is_performed unanswered then (performed A.meaning connection moment self.old dialect.old context.old request.now).dialect else dialect.old)) }
+        ensures context { OnErr result (context.new ≡ context.old) }
         ensures kept { take (length out.old.items) out.new.items ≡ out.old.items }
         ensures known { self.new.sessions.table.connections ≡ self.old.sessions.table.connections }
     {

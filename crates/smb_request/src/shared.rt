@@ -4,7 +4,6 @@ ghost use Rattle.std.specs.Prelude.{◌≡◌, ◌<◌, ◌≤◌, ◌+◌, [], 
 ghost use Rattle.std.specs.Bool.{OnTrue, OnFalse};
 ghost use Rattle.smb_wire.specs.Number.{spelling};
 ghost use Rattle.smb_wire.specs.Pairs.{unit_bytes, AreUnits};
-ghost use Rattle.smb_session.specs.Numbers.{IsRising};
 ghost use Rattle.smb_session.specs.Table.{numbers_on};
 ghost use Rattle.smb_body.specs.Replies.{reply_value, reply_spelling};
 ghost use Rattle.smb_session.specs.Good.{GoodTable};
@@ -178,7 +177,6 @@ impl<A: Authenticator + Drop, T: Tree + Drop, O: Opens + Drop> Shared<A, T, O> {
     /// Ends a connection's sessions in rising number, and forgets it. It takes no memory.
     pub fn disconnect(&mut self, connection: u64)
         ensures ended { self.new ≡ shared_ended self.old connection }
-        ensures rising { IsRising self.old.sessions.table.connections }
     {
         self.sessions.good();
         while self.end_one(connection) {}

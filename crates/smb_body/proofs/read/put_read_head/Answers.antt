@@ -7,4 +7,4 @@ pub returns-clause-ok : goal.returns-clause-ok
 unfolding spelling
 returns-clause-ok c = λ buffer e.
     let bytes = c.to_le_bytes.ensures ∙ spelling_4 c.args.data_length in
-    read_head c.args.out.now.items c.put_bytes.new.out.items buffer c.args.data_length e (c.in_ok-put_bytes.ensures.ok ∙ rw bytes refl)
+    read_head c.args.out.now.items c.extend_from_slice.new.self.items buffer c.args.data_length e (c.in_ok-extend_from_slice.ensures.items ∙ rw bytes refl)

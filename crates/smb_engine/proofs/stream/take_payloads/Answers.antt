@@ -1,5 +1,5 @@
-use Rattle.std.proofs.Common.{sym, ap, ◌∙◌, arith}
-use Rattle.smb_engine.proofs.Turns.{refused-shared}
+use Rattle.std.proofs.Common.{sym, ap, ◌∙◌, arith, rules}
+use Rattle.smb_engine.proofs.Turns.{refused-shared, count_few, within_few}
 use Rattle.smb_engine.proofs.Placing.{went_on, ended_here, front_kept}
 use Rattle.smb_engine.proofs.Steps.{steps_more, steps_over, steps_all, held_all, steps_stopped, steps_stopped_in, steps_within, kept_more, at_limit}
 use Rattle.smb_engine.proofs.stream.take_payloads.Goals as goal
@@ -34,7 +34,7 @@ loop-payload-preserved g c =
           (at_limit c.loop-payload.buffer.limit c.loop-payload.buffer.bytes _ c.loop-payload.invariant.limit c.in-Some.ensures.first)
           w.1.0 (rw c.in-Ok-Some.field-0-is at c.in-Ok-Some.ensures.count)
           (ap (λ b. b.bytes) (c.done.ensures _ (sym c.in-Some.ensures.first))) w.1.1
-          (let n = rw c.in-Ok-Some.field-0-is at c.in-Ok-Some.ensures.count in omega (arith, n, c.put_payload.ensures.few));
+          (let few = count_few g.A.Authenticator.meaning _ _ _ _ _ _ (rw c.in-Ok-Some.field-0-is at c.in-Ok-Some.ensures.count) in omega (arith, few));
       kept = kept_more _ _ _ c.loop-payload.invariant.kept (front_kept _ _ _ w.1.1);
       known = c.put_payload.ensures.known ∙ c.loop-payload.invariant.known;
       limit = ap (λ b. b.limit) (c.done.ensures _ (sym c.in-Some.ensures.first)) ∙ c.loop-payload.invariant.limit;
@@ -52,3 +52,15 @@ returns-clause-rest g c = λ t. (
 
 pub returns-clause-done : goal.returns-clause-done
 returns-clause-done g c = steps_stopped g.A.Authenticator.meaning g.K.Sink.hears _ _ _ _ _ _ _ _ _ _ _ c.loop-payload.invariant.so_far
+
+pub overflow_add-done : goal.overflow_add-done
+overflow_add-done g c =
+    let few = within_few g.A.Authenticator.meaning _ _ _ _ _ _ c.in-Err.ensures.err.0 in
+    let count = c.loop-payload.invariant.so_far.count in
+    search rules
+
+pub overflow_add-done-in-Ok-Some : goal.overflow_add-done-in-Ok-Some
+overflow_add-done-in-Ok-Some g c =
+    let few = count_few g.A.Authenticator.meaning _ _ _ _ _ _ (rw c.in-Ok-Some.field-0-is at c.in-Ok-Some.ensures.count) in
+    let count = c.loop-payload.invariant.so_far.count in
+    search rules

@@ -8,8 +8,8 @@ pub returns : goal.returns
 returns g c = record {
   order = (
     (λ shared table store. order_good shared.sessions.table shared.store table store),
-    (λ shared connection o. (leaves_start (λ x. true) shared connection o).order),
-    (λ shared connection o. (leaves_end (λ x. true) connection refl shared o).order),
+    (λ shared connection o. (leaves_start (λ n session. ⊥) (λ x. true) shared connection o).order),
+    (λ shared connection o. (leaves_end (λ n session. ⊥) (λ x. true) connection refl shared o).order),
     (λ connection moment shared dialect context request o. request_order g.A.Authenticator.meaning connection moment shared dialect context request o),
   );
   end = λ shared connection number session o at other. end_alone shared connection number session o at other;

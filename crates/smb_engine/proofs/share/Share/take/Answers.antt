@@ -23,11 +23,11 @@ invariant_of-self-in-Ok-true g c =
 
 pub invariant_of-self-in-Ok-false : goal.invariant_of-self-in-Ok-false
 invariant_of-self-in-Ok-false g c =
-    rw (c.remove.ensures.entries, (c.get_mut.follows.holds c.take_piece.new.link).0, remove-set) (kept_over _ _ c.args.connection c.self.inside.links.entries c.self.inside.next c.disconnect.ensures.ended c.disconnect.ensures.rising (rw c.take_piece.ensures.known c.self.invariant))
+    rw (c.remove.ensures.entries, (c.get_mut.follows.holds c.take_piece.new.link).0, remove-set) (kept_over _ _ c.args.connection c.self.inside.links.entries c.self.inside.next c.disconnect.ensures.ended c.good.ensures.sessions.connections (rw c.take_piece.ensures.known c.self.invariant))
 
 pub invariant_of-self-in-Err : goal.invariant_of-self-in-Err
 invariant_of-self-in-Err g c =
-    rw (c.remove-in-Err.ensures.entries, (c.get_mut.follows.holds c.take_piece.new.link).0, remove-set) (kept_over _ _ c.args.connection c.self.inside.links.entries c.self.inside.next c.disconnect-in-Err.ensures.ended c.disconnect-in-Err.ensures.rising (rw c.take_piece.ensures.known c.self.invariant))
+    rw (c.remove-in-Err.ensures.entries, (c.get_mut.follows.holds c.take_piece.new.link).0, remove-set) (kept_over _ _ c.args.connection c.self.inside.links.entries c.self.inside.next c.disconnect-in-Err.ensures.ended c.good-in-Err.ensures.sessions.connections (rw c.take_piece.ensures.known c.self.invariant))
 
 pub returns-in-Ok-true-clause-state : goal.returns-in-Ok-true-clause-state
 returns-in-Ok-true-clause-state g c =
