@@ -30,12 +30,12 @@ token = \"61\"
 ";
 
 /// The keys that a configuration has, all but `user` required.
-const KEYS: [&str; 8] = [
+pub(crate) const KEYS: [&str; 8] = [
     "share", "label", "guid", "capacity", "created", "hello", "guest", "user",
 ];
 
 /// The keys that a user has, both required.
-const USER_KEYS: [&str; 2] = ["name", "token"];
+pub(crate) const USER_KEYS: [&str; 2] = ["name", "token"];
 
 /// How many bytes a hello or a token has at most.
 const TOKEN_LIMIT: usize = 4_096;
@@ -70,7 +70,7 @@ pub struct Configuration {
 }
 
 /// Whether a key is one of these.
-fn is_known(key: &str, keys: &[&str]) -> bool {
+pub(crate) fn is_known(key: &str, keys: &[&str]) -> bool {
     keys.iter().any(|known| *known == key)
 }
 
@@ -136,19 +136,19 @@ fn read_guid(table: &Table) -> Result<[u8; 16], ConfigFault> {
     }
 }
 
-/// One user.
-fn read_user(alloc: Global, value: &Value) -> Result<User, ConfigFault>
+/// The user of a number.
+fn read_user(alloc: Global, number: usize, value: &Value) -> Result<User, ConfigFault>
     ensures { IfOk result (λ user. length user.name.items ≤ 256) }
 {
     let table = value
         .as_table()
         .ok_or(ConfigFault::Refused(ConfigRule::Users))?;
-    only_keys(table, &USER_KEYS, ConfigRule::UserKeys)?;
-    let name = text(table, "name", ConfigRule::UserName)?.as_bytes();
+    only_keys(table, &USER_KEYS, ConfigRule::UserKeys(number))?;
+    let name = text(table, "name", ConfigRule::UserName(number))?.as_bytes();
     if name.is_empty() || name.len() > NAME_LIMIT {
-        return Err(ConfigFault::Refused(ConfigRule::UserName));
+        return Err(ConfigFault::Refused(ConfigRule::UserName(number)));
     }
-    let token = read_token(alloc, table, "token", ConfigRule::UserToken)?;
+    let token = read_token(alloc, table, "token", ConfigRule::UserToken(number))?;
     let name = Vec::from_slice(alloc, name)?;
     Ok(User { name, token })
 }
@@ -182,9 +182,10 @@ fn read_users(alloc: Global, table: &Table) -> Result<Vec<User>, ConfigFault>
         .as_array()
         .ok_or(ConfigFault::Refused(ConfigRule::Users))?;
     for value in values {
-        let user = read_user(alloc, value)?;
+        let number = users.len().saturating_add(1);
+        let user = read_user(alloc, number, value)?;
         if is_taken(&users, &user.token) {
-            return Err(ConfigFault::Refused(ConfigRule::OwnTokens));
+            return Err(ConfigFault::Refused(ConfigRule::OwnTokens(number)));
         }
         add_user(&mut users, user)?;
     }
@@ -225,12 +226,21 @@ fn read_share(alloc: Global, table: &Table) -> Result<Config, ConfigFault>
     Ok(config)
 }
 
+/// The number of the line in which a place of a text is, counted from 1.
+fn line_at(document: &str, place: usize) -> usize {
+    let lines = document.bytes().take(place).filter(|byte| *byte == b'\n');
+    lines.count().saturating_add(1)
+}
+
 /// The table of a text, with no key that is not known.
 fn read_table(alloc: Global, document: &str) -> Result<Table, ConfigFault> {
     let table = match toml::table_from_str(alloc, document) {
         Ok(table) => table,
         Err(error) if error.is_memory() => return Err(ConfigFault::NoMemory),
-        Err(_) => return Err(ConfigFault::Refused(ConfigRule::Toml)),
+        Err(error) => {
+            let line = error.span().map(|span| line_at(document, span.start));
+            return Err(ConfigFault::Refused(ConfigRule::Toml(line)));
+        }
     };
     only_keys(&table, &KEYS, ConfigRule::Keys)?;
     Ok(table)

@@ -1,22 +1,51 @@
 //! What ends a command, and what is printed of it.
 
 use crate::config::ConfigFault;
+use crate::key_place::write_place;
 use crate::rule::ConfigRule;
 use crate::script::Expected;
-use std::alloc::AllocError;
-use std::io::Write;
+use std::alloc::{AllocError, Global};
+use std::io;
+use std::io::{ErrorKind, Write};
 use thiserror::Error;
+
+/// Why a share cannot listen.
+#[derive(Clone, Copy, Debug, PartialEq, Eq, Error)]
+pub enum ListenFault {
+    #[error("not ADDR:PORT, an IP address with a port, such as 127.0.0.1:4450")]
+    NotAnAddress,
+    #[error("in use: another program listens there")]
+    InUse,
+    #[error("not an address of this machine")]
+    NotHere,
+    #[error("no right to the port: those below 1024 are the system's")]
+    NotAllowed,
+    #[error("the system refuses it")]
+    Refused,
+}
+
+impl From<ErrorKind> for ListenFault {
+    fn from(kind: ErrorKind) -> ListenFault {
+        match kind {
+            ErrorKind::AddrInUse => ListenFault::InUse,
+            ErrorKind::AddrNotAvailable => ListenFault::NotHere,
+            ErrorKind::PermissionDenied => ListenFault::NotAllowed,
+            _ => ListenFault::Refused,
+        }
+    }
+}
 
 /// What ends a command. Its text is what is printed.
 #[derive(Clone, Copy, Debug, PartialEq, Eq, Error)]
 pub enum CommandFault {
+    /// The configuration's file cannot be opened or read, for a reason of this kind.
     #[error("config: cannot be read")]
-    ConfigUnread,
+    ConfigUnread(ErrorKind),
     /// The configuration breaks this rule; None where the share itself refuses it.
     #[error("config: refused")]
     ConfigRefused(Option<ConfigRule>),
     #[error("listen: failed")]
-    ListenFailed,
+    ListenFailed(ListenFault),
     #[error("input: failed")]
     InputFailed,
     #[error("input too long")]
@@ -28,24 +57,45 @@ pub enum CommandFault {
     /// The line of this number is no event; its mark says what was expected.
     #[error("line {0}: unreadable")]
     Unreadable(u64, Expected),
+    /// The line of this number opens a connection out of turn, or names one that was never opened; the second is the number
+    /// of the next connection to open.
     #[error("line {0}: bad event")]
-    BadEvent(u64),
+    BadEvent(u64, u64),
     #[error("line {0}: too many connections")]
     TooManyConnections(u64),
     #[error("no memory")]
     NoMemory,
 }
 
+/// What a command was given, as its words name it: what is said more of a fault speaks of it.
+#[derive(Clone, Copy, Debug)]
+pub struct Given<'a> {
+    /// The name of the configuration's file, as it can be shown.
+    pub file: &'a str,
+    /// The configuration's text.
+    pub document: &'a str,
+    /// Where the share was to listen.
+    pub address: &'a str,
+}
+
 /// How much is printed of a fault.
-#[derive(Clone, Copy, Debug, PartialEq, Eq)]
-pub enum Detail {
+#[derive(Clone, Copy, Debug)]
+pub enum Detail<'a> {
     /// Its line alone.
     Brief,
-    /// A second line, where there is more to say.
-    Explained,
+    /// A second line, where there is more to say; and in a replay a line for each connection that the share ends.
+    Explained(Given<'a>),
 }
 
 impl CommandFault {
+    /// Why a configuration's file was not opened or read.
+    pub fn unread(reason: ErrorKind) -> CommandFault {
+        match reason {
+            ErrorKind::OutOfMemory => CommandFault::NoMemory,
+            _ => CommandFault::ConfigUnread(reason),
+        }
+    }
+
     /// The exit status: 3 for want of memory, else 1.
     pub fn status(self) -> u8 {
         match self {
@@ -54,22 +104,37 @@ impl CommandFault {
         }
     }
 
-    /// What the text was to be in place of what is faulty, in one line; None where nothing more is said.
-    pub fn explanation(self) -> Option<&'static str> {
+    /// Writes what was wrong, in one line, where there is more to say than the fault's own line.
+    fn explain<E: Write>(self, alloc: Global, given: Given<'_>, errors: &mut E) -> io::Result<()> {
+        let (file, address) = (given.file, given.address);
         match self {
-            CommandFault::ConfigRefused(Some(rule)) => Some(rule.text()),
-            CommandFault::Unreadable(_, expected) => Some(expected.text()),
-            _ => None,
+            CommandFault::ConfigUnread(reason) => writeln!(errors, "{file}: {reason}"),
+            CommandFault::ConfigRefused(Some(rule)) => {
+                write!(errors, "{rule}")?;
+                write_place(alloc, given.document, rule, errors)?;
+                writeln!(errors)
+            }
+            CommandFault::ListenFailed(reason) => writeln!(errors, "{address}: {reason}"),
+            CommandFault::Unreadable(_, expected) => writeln!(errors, "{}", expected.text()),
+            CommandFault::BadEvent(_, next) => {
+                let opened = next.saturating_sub(1);
+                writeln!(
+                    errors,
+                    "connections are numbered as they open: the next to open is {next}, and {opened} were opened before"
+                )
+            }
+            CommandFault::TooManyConnections(_) => {
+                writeln!(errors, "at most 64 connections are open at a time")
+            }
+            _ => Ok(()),
         }
     }
 
     /// Writes what is printed of it, and gives the exit status. That the writer fails is passed over.
-    pub fn report<E: Write>(self, detail: Detail, errors: &mut E) -> u8 {
+    pub fn report<E: Write>(self, alloc: Global, detail: Detail<'_>, errors: &mut E) -> u8 {
         let _ = writeln!(errors, "{self}");
-        if detail == Detail::Explained {
-            if let Some(explanation) = self.explanation() {
-                let _ = writeln!(errors, "{explanation}");
-            }
+        if let Detail::Explained(given) = detail {
+            let _ = self.explain(alloc, given, errors);
         }
         let _ = errors.flush();
         self.status()

@@ -4,10 +4,11 @@ ghost use Rattle.std.specs.Prelude.{◌≡◌, [], IfOk};
 ghost use Rattle.smb_tree.specs.Content.{new_content};
 
 use crate::config::Configuration;
+use crate::ending::Streams;
 use crate::fault::{CommandFault, Detail};
 use crate::input::read_input;
 use crate::script::{Part, Script, Unread};
-use smb_engine::{Answer, RunFault, ServeFault, Share};
+use smb_engine::{Answer, Event, RunFault, ServeFault, Share};
 use smb_handles::HandleTable;
 use smb_nodes::NodeTree;
 use smb_opens::{Opens, PlainOpens};
@@ -52,12 +53,27 @@ fn write_answers<W: Write>(answers: &[Answer], output: &mut W) -> Result<(), Com
     output.flush().map_err(|_| CommandFault::OutputFailed)
 }
 
-/// What a fault of the share is in the text's lines.
-fn fault_at(places: &[u64], fault: RunFault) -> CommandFault {
-    let line = places.get(fault.place).copied().unwrap_or(0);
+/// How many connections these events open.
+fn count_opened(events: &[Event]) -> u64 {
+    let mut count = 0u64;
+    for event in events {
+        if let Event::Opened(_) = event {
+            count = count.saturating_add(1);
+        }
+    }
+    count
+}
+
+/// What a fault of the share is in the text's lines. `opened` is how many connections were opened before the script.
+fn fault_at(script: &Script, opened: u64, fault: RunFault) -> CommandFault {
+    let line = script.places.get(fault.place).copied().unwrap_or(0);
     match fault.fault {
         ServeFault::TooManyConnections => CommandFault::TooManyConnections(line),
-        ServeFault::BadEvent => CommandFault::BadEvent(line),
+        ServeFault::BadEvent => {
+            let performed = script.events.get(..fault.place).unwrap_or(&[]);
+            let opened = opened.saturating_add(count_opened(performed));
+            CommandFault::BadEvent(line, opened.saturating_add(1))
+        }
         ServeFault::NoMemory { done: _ } => CommandFault::NoMemory,
         ServeFault::BadConfig => CommandFault::ConfigRefused(None),
     }
@@ -107,19 +123,64 @@ pub fn new_plain_share(
     share_over(alloc, configuration, tree, PlainOpens::new(alloc))
 }
 
+/// What is said of connections that the share ends, beside its answers: nothing, or the rule by which each was ended.
+#[derive(Drop)]
+struct Beside<'a, E: Write> {
+    /// The streams that are read anew, where the rules are to be said.
+    streams: Option<Streams>,
+    errors: &'a mut E,
+    /// How many connections were opened.
+    opened: u64,
+}
+
+impl<'a, E: Write> Beside<'a, E> {
+    /// Beside a new share.
+    fn new(alloc: Global, detail: Detail<'_>, errors: &'a mut E) -> Self {
+        let streams = match detail {
+            Detail::Brief => None,
+            Detail::Explained(_) => Some(Streams::new(alloc)),
+        };
+        Beside {
+            streams,
+            errors,
+            opened: 0,
+        }
+    }
+
+    /// Takes the first events of a script, which the share performed, so many. That the writer fails is passed over.
+    fn take(&mut self, script: &Script, count: usize) -> Result<(), CommandFault> {
+        let events = script.events.get(..count).unwrap_or(&script.events);
+        self.opened = self.opened.saturating_add(count_opened(events));
+        let Some(streams) = &mut self.streams else {
+            return Ok(());
+        };
+        for (event, line) in events.iter().zip(script.places.iter()) {
+            if let Some(ending) = streams.take(event)? {
+                let connection = event.connection();
+                let _ = writeln!(self.errors, "x {connection}, line {line}: {ending}");
+            }
+        }
+        Ok(())
+    }
+}
+
 /// Runs the events of a script on a share, and writes what it answers.
-fn run_script<T: Tree + Drop, O: Opens + Drop, W: Write>(
+fn run_script<T: Tree + Drop, O: Opens + Drop, W: Write, E: Write>(
     alloc: Global,
     share: &mut Share<Tokens, T, O>,
     script: &Script,
     output: &mut W,
+    beside: &mut Beside<'_, E>,
 ) -> Result<(), CommandFault> {
     let mut answers = Vec::new(alloc);
     let ran = share.run(&script.events, &mut answers);
     write_answers(&answers, output)?;
     if let Err(fault) = ran {
-        return Err(fault_at(&script.places, fault));
+        let refused = fault_at(script, beside.opened, fault);
+        beside.take(script, fault.place)?;
+        return Err(refused);
     }
+    beside.take(script, script.events.len())?;
     match script.unreadable_at {
         Some((line, expected)) => Err(CommandFault::Unreadable(line, expected)),
         None => Ok(()),
@@ -127,16 +188,17 @@ fn run_script<T: Tree + Drop, O: Opens + Drop, W: Write>(
 }
 
 /// Runs the events of a text on a share, part by part, and writes what it answers.
-fn run_text<T: Tree + Drop, O: Opens + Drop, W: Write>(
+fn run_text<T: Tree + Drop, O: Opens + Drop, W: Write, E: Write>(
     alloc: Global,
     share: &mut Share<Tokens, T, O>,
     text: &[u8],
     output: &mut W,
+    beside: &mut Beside<'_, E>,
 ) -> Result<(), CommandFault> {
     let mut left = Some(Unread::of(text));
     while let Some(unread) = left {
         let part = Part::read(alloc, unread)?;
-        run_script(alloc, share, &part.script, output)?;
+        run_script(alloc, share, &part.script, output, beside)?;
         left = part.left;
     }
     Ok(())
@@ -154,34 +216,41 @@ fn read_replay<R: Read + Drop>(
 }
 
 /// Replays a text on a new share, and writes what the share answers.
-fn replay<R: Read + Drop, W: Write>(
+fn replay<R: Read + Drop, W: Write, E: Write>(
     alloc: Global,
     config: &str,
     input: R,
     output: &mut W,
+    mut beside: Beside<'_, E>,
 ) -> Result<(), CommandFault> {
     let (configuration, text) = read_replay(alloc, config, input)?;
     let mut share = new_share(alloc, configuration)?;
-    run_text(alloc, &mut share, &text, output)
+    run_text(alloc, &mut share, &text, output, &mut beside)
 }
 
 /// Replays a text on a new plain share, and writes what the share answers.
-fn replay_plain<R: Read + Drop, W: Write>(
+fn replay_plain<R: Read + Drop, W: Write, E: Write>(
     alloc: Global,
     config: &str,
     input: R,
     output: &mut W,
+    mut beside: Beside<'_, E>,
 ) -> Result<(), CommandFault> {
     let (configuration, text) = read_replay(alloc, config, input)?;
     let mut share = new_plain_share(alloc, configuration)?;
-    run_text(alloc, &mut share, &text, output)
+    run_text(alloc, &mut share, &text, output, &mut beside)
 }
 
 /// Writes the fault of a replay, if there is one, and gives the exit status.
-fn status_of<E: Write>(replayed: Result<(), CommandFault>, detail: Detail, errors: &mut E) -> u8 {
+fn status_of<E: Write>(
+    alloc: Global,
+    replayed: Result<(), CommandFault>,
+    detail: Detail<'_>,
+    errors: &mut E,
+) -> u8 {
     match replayed {
         Ok(()) => 0,
-        Err(fault) => fault.report(detail, errors),
+        Err(fault) => fault.report(alloc, detail, errors),
     }
 }
 
@@ -202,17 +271,20 @@ pub fn replay_text<R: Read + Drop, W: Write, E: Write>(
     replay_in_detail(alloc, config, Detail::Brief, input, output, errors)
 }
 
-/// The same; with [`Detail::Explained`] `errors` gets a second line, behind a configuration that is refused and a line that
-/// cannot be read: what was expected there.
+/// The same; with [`Detail::Explained`] `errors` gets a second line behind a fault, where there is more to say of it, and before it a
+/// line `x N, line L: RULE` for each connection that the share ends: the rule by which it did. The streams are read a second time for
+/// it.
 pub fn replay_in_detail<R: Read + Drop, W: Write, E: Write>(
     alloc: Global,
     config: &str,
-    detail: Detail,
+    detail: Detail<'_>,
     input: R,
     output: &mut W,
     errors: &mut E,
 ) -> u8 {
-    status_of(replay(alloc, config, input, output), detail, errors)
+    let beside = Beside::new(alloc, detail, errors);
+    let replayed = replay(alloc, config, input, output, beside);
+    status_of(alloc, replayed, detail, errors)
 }
 
 /// The same on a share over the plain tree and the plain list of opens, for tests.
@@ -223,6 +295,7 @@ pub fn replay_plain_text<R: Read + Drop, W: Write, E: Write>(
     output: &mut W,
     errors: &mut E,
 ) -> u8 {
-    let replayed = replay_plain(alloc, config, input, output);
-    status_of(replayed, Detail::Brief, errors)
+    let beside = Beside::new(alloc, Detail::Brief, errors);
+    let replayed = replay_plain(alloc, config, input, output, beside);
+    status_of(alloc, replayed, Detail::Brief, errors)
 }

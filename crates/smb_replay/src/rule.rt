@@ -9,7 +9,8 @@ pub enum ConfigRule {
     Size,
     /// The file is a text.
     Text,
-    Toml,
+    /// What is wrong begins in the line of this number, where the reader tells.
+    Toml(Option<usize>),
     /// Which keys there are.
     Keys,
     Share,
@@ -20,12 +21,12 @@ pub enum ConfigRule {
     Hello,
     Guest,
     Users,
-    /// Which keys a user has.
-    UserKeys,
-    UserName,
-    UserToken,
-    /// No two users have one token.
-    OwnTokens,
+    /// Which keys the user of this number has; users are counted from 1.
+    UserKeys(usize),
+    UserName(usize),
+    UserToken(usize),
+    /// No two users have one token; the later one has this number.
+    OwnTokens(usize),
 }
 
 impl fmt::Display for ConfigRule {
@@ -40,7 +41,7 @@ impl ConfigRule {
         match self {
             ConfigRule::Size => "file: at most 1048576 bytes",
             ConfigRule::Text => "file: a text in UTF-8",
-            ConfigRule::Toml => "file: a text in TOML, no key given twice",
+            ConfigRule::Toml(_) => "file: a text in TOML, no key given twice",
             ConfigRule::Keys => {
                 "keys: none but share, label, guid, capacity, created, hello, guest and user"
             }
@@ -54,10 +55,10 @@ impl ConfigRule {
             ConfigRule::Hello => "hello: at most 4096 bytes in hex, as a text",
             ConfigRule::Guest => "guest: true or false",
             ConfigRule::Users => "user: a table [[user]] for each user",
-            ConfigRule::UserKeys => "user: no keys but name and token",
-            ConfigRule::UserName => "user.name: a text of 1 to 256 bytes",
-            ConfigRule::UserToken => "user.token: at most 4096 bytes in hex, as a text",
-            ConfigRule::OwnTokens => "user.token: no two users have the same token",
+            ConfigRule::UserKeys(_) => "user: no keys but name and token",
+            ConfigRule::UserName(_) => "user.name: a text of 1 to 256 bytes",
+            ConfigRule::UserToken(_) => "user.token: at most 4096 bytes in hex, as a text",
+            ConfigRule::OwnTokens(_) => "user.token: no two users have the same token",
         }
     }
 }

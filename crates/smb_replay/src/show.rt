@@ -43,7 +43,7 @@ fn drop_white(text: &mut Vec<u8>)
 }
 
 /// The bytes that a text spells in hex, its white space left out; None where it spells no whole bytes.
-fn read_stream(alloc: Global, mut text: Vec<u8>) -> Result<Option<Vec<u8>>, AllocError>
+pub(crate) fn read_stream(alloc: Global, mut text: Vec<u8>) -> Result<Option<Vec<u8>>, AllocError>
     ensures { IfOk result (λ stream. option_map (λ bytes. bytes.items) stream ≡ stream_of text.items) }
 {
     drop_white(&mut text);
@@ -82,7 +82,7 @@ fn command_name(command: Command) -> &'static str
 }
 
 /// Adds what a code is called: a command's name, or past the last one its number.
-fn put_name(code: CommandCode, text: &mut String) -> Result<(), AllocError>
+pub(crate) fn put_name(code: CommandCode, text: &mut String) -> Result<(), AllocError>
     ensures { OnOk result (string_bytes text.new ≡ string_bytes text.old ++ called code.0) }
 {
     match code.known() {
@@ -165,7 +165,7 @@ fn put_payload(frame: u64, payload: &[u8], text: &mut String) -> Result<bool, Al
 }
 
 /// The number of a fault, 1 to 4: 2 for F2.
-fn fault_number(fault: FrameFault) -> u8
+pub(crate) fn fault_number(fault: FrameFault) -> u8
     ensures { result ≡ frame_fault_number fault }
 {
     match fault {
@@ -197,7 +197,7 @@ fn put_rest(frame: u64, buffer: &FrameBuffer, text: &mut String) -> Result<bool,
 }
 
 /// A buffer that holds a whole stream.
-fn buffer_of(alloc: Global, stream: &[u8]) -> Result<FrameBuffer, AllocError>
+pub(crate) fn buffer_of(alloc: Global, stream: &[u8]) -> Result<FrameBuffer, AllocError>
     ensures { IfOk result (λ buffer. buffer ≡ record { limit = longest_payload; done = 0; bytes = stream.now }) }
 {
     let mut buffer = FrameBuffer::new(alloc, LONGEST_PAYLOAD);
@@ -259,6 +259,6 @@ pub fn show_text<R: Read + Drop, W: Write, E: Write>(
 ) -> u8 {
     match show(alloc, input, output) {
         Ok(is_good) => u8::from(!is_good),
-        Err(fault) => fault.report(Detail::Brief, errors),
+        Err(fault) => fault.report(alloc, Detail::Brief, errors),
     }
 }

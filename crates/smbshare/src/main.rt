@@ -11,22 +11,27 @@ use clap::{Arg, ArgAction, ArgMatches, Command};
 use command_line::CommandLine;
 use named_file::NamedFile;
 use serve::{ServeWords, serve_share};
-use smb_replay::{BUILT_IN, CommandFault, Detail, read_config, replay_in_detail, show_text};
+use smb_replay::{
+    BUILT_IN, CommandFault, Detail, Given, read_config, replay_in_detail, show_fields, show_text,
+};
 use std::alloc::{AllocError, Global};
-use std::io::{BufWriter, ErrorKind};
+use std::io::{BufWriter, ErrorKind, IsTerminal};
 use std::process::ExitCode;
 
 /// The end of the program's help.
 const HELP: &str =
     "Built in, where no configuration is given: the share `data` with room for 64 MiB, and one user, `ann`,
-whose token is 61 in hex, the letter `a`; guests are not let in.
+whose token is 61 in hex, the letter `a`; guests are not let in. A token is the whole security buffer of a
+SESSION_SETUP and no password: no client of Samba's sends `a`, so serve with --config guest.toml.
 
 Examples:
   smbshare replay --explain < examples/two_clients
   smbshare serve --listen 127.0.0.1:4450 --config guest.toml
   echo 00000044fe534d42 | smbshare show
 
-With --explain `replay` and `serve` say more of a configuration that is refused and a line that is unreadable.";
+With --explain, and always on a terminal, `replay` and `serve` say in a second line what is wrong: of a
+configuration the key, the line and the value, of an address the system's reason, of a line what was expected.
+A replay then says by which rule the share ended a connection.";
 
 /// The end of the help of `replay`.
 const REPLAY_HELP: &str = "Example:
@@ -39,8 +44,9 @@ const SERVE_HELP: &str = "Example, of a share that lets guests in:
 /// The end of the help of `show`.
 const SHOW_HELP: &str = "No share is made, so nothing is built in.
 
-Example, of a frame that ends too early:
-  echo 00000044fe534d42 | smbshare show";
+Examples, of a frame that ends too early, and of what a replay answers:
+  echo 00000044fe534d42 | smbshare show
+  smbshare replay < examples/two_clients | smbshare show --fields";
 
 /// The option for a configuration.
 fn config_option<'a>(alloc: Global) -> Arg<'a> {
@@ -58,7 +64,7 @@ fn explain_option<'a>(alloc: Global) -> Arg<'a> {
         .long("explain")
         .action(ArgAction::SetTrue)
         .help(
-            "Says in a second line what was expected of a configuration that is refused, or of a line that is unreadable",
+            "Says in a second line what is wrong, and in a replay by which rule a connection was ended; always so on a terminal",
         )
 }
 
@@ -98,9 +104,16 @@ fn command<'a>(alloc: Global) -> Result<Command<'a>, AllocError> {
         .after_help(REPLAY_HELP)
         .arg(config_option(alloc))?
         .arg(explain_option(alloc))?;
+    let fields = Arg::new(alloc, "fields")
+        .long("fields")
+        .action(ArgAction::SetTrue)
+        .help(
+            "Shows the fields of each request; or, of a replay's output, the status of each reply",
+        );
     let show = Command::new(alloc, "show")
         .about("Lists the requests of a client's stream, hex on standard input")
-        .after_help(SHOW_HELP);
+        .after_help(SHOW_HELP)
+        .arg(fields)?;
     Command::new(alloc, "smbshare")
         .version("0.1.0")
         .about("A proved SMB2 file share. Without a command it replays standard input.")
@@ -111,9 +124,9 @@ fn command<'a>(alloc: Global) -> Result<Command<'a>, AllocError> {
 }
 
 /// Prints a fault on standard error, and gives its exit status.
-fn report(rt: &HostRuntime, fault: CommandFault, detail: Detail) -> ExitCode {
+fn report(rt: &HostRuntime, fault: CommandFault, detail: Detail<'_>) -> ExitCode {
     let mut errors = rt.stderr();
-    ExitCode::from(fault.report(detail, &mut errors))
+    ExitCode::from(fault.report(rt.alloc(), detail, &mut errors))
 }
 
 /// The text of the configuration that the command line names, or of the one that is built in.
@@ -131,17 +144,49 @@ fn config_text(
     }
 }
 
-/// How much the words of a command ask to be said of a fault.
-fn detail_of(words: &ArgMatches<'_>) -> Detail {
-    if words.get_flag("explain") {
-        Detail::Explained
+/// The value of an option, or nothing.
+fn word_of<'a>(words: &'a ArgMatches<'_>, option: &str) -> &'a str {
+    match words.get_str(option) {
+        Some(word) => word,
+        None => "",
+    }
+}
+
+/// What the words of a command give, with the text of its configuration.
+fn given_of<'a>(words: &'a ArgMatches<'_>, document: &'a str) -> Given<'a> {
+    let file = word_of(words, "config");
+    let address = word_of(words, "listen");
+    Given {
+        file,
+        document,
+        address,
+    }
+}
+
+/// How much is said of a fault: all where the words ask for it, and where a person reads it.
+fn detail_of<'a>(rt: &HostRuntime, words: &'a ArgMatches<'_>, document: &'a str) -> Detail<'a> {
+    if words.get_flag("explain") || rt.stderr().is_terminal() {
+        Detail::Explained(given_of(words, document))
+    } else {
+        Detail::Brief
+    }
+}
+
+/// How much is said of a fault where there are no words.
+fn detail_without_words(rt: &HostRuntime) -> Detail<'static> {
+    if rt.stderr().is_terminal() {
+        Detail::Explained(Given {
+            file: "",
+            document: BUILT_IN,
+            address: "",
+        })
     } else {
         Detail::Brief
     }
 }
 
 /// Replays standard input, and gives the exit status.
-fn replay_input(rt: &HostRuntime, config: &str, detail: Detail) -> ExitCode {
+fn replay_input(rt: &HostRuntime, config: &str, detail: Detail<'_>) -> ExitCode {
     let Ok(mut output) = BufWriter::new(rt.alloc(), rt.stdout()) else {
         return report(rt, CommandFault::NoMemory, detail);
     };
@@ -150,26 +195,36 @@ fn replay_input(rt: &HostRuntime, config: &str, detail: Detail) -> ExitCode {
     ExitCode::from(status)
 }
 
-/// Shows the stream of standard input, and gives the exit status.
-fn show_input(rt: &HostRuntime) -> ExitCode {
+/// Shows the stream of standard input, with fields or without, and gives the exit status.
+fn show_input(rt: &HostRuntime, with_fields: bool) -> ExitCode {
     let Ok(mut output) = BufWriter::new(rt.alloc(), rt.stdout()) else {
         return report(rt, CommandFault::NoMemory, Detail::Brief);
     };
-    let mut errors = rt.stderr();
-    ExitCode::from(show_text(rt.alloc(), rt.stdin(), &mut output, &mut errors))
+    let (alloc, mut errors) = (rt.alloc(), rt.stderr());
+    ExitCode::from(if with_fields {
+        show_fields(alloc, rt.stdin(), &mut output, &mut errors)
+    } else {
+        show_text(alloc, rt.stdin(), &mut output, &mut errors)
+    })
 }
 
 /// Serves a share by the words of the command, and gives the exit status.
-fn serve_clients(rt: &HostRuntime, config: &str, words: &ArgMatches<'_>) -> ExitCode {
+fn serve_clients<'a>(
+    rt: &HostRuntime,
+    config: &'a str,
+    is_built_in: bool,
+    words: &'a ArgMatches<'_>,
+) -> ExitCode {
     let serve_words = ServeWords {
         config,
-        listen: words.get_str("listen").unwrap_or(""),
+        is_built_in,
+        listen: word_of(words, "listen"),
         turns: words.get_one("turns").unwrap_or(u64::MAX),
         idle_seconds: words.get_one("idle").unwrap_or(3600),
     };
     match serve_share(rt, &serve_words) {
         Ok(()) => ExitCode::SUCCESS,
-        Err(fault) => report(rt, fault, detail_of(words)),
+        Err(fault) => report(rt, fault, detail_of(rt, words, config)),
     }
 }
 
@@ -182,11 +237,12 @@ fn run_with_config(
 ) -> ExitCode {
     let config = match config_text(rt, line, words) {
         Ok(config) => config,
-        Err(fault) => return report(rt, fault, detail_of(words)),
+        Err(fault) => return report(rt, fault, detail_of(rt, words, "")),
     };
+    let config = config.as_str();
     match name {
-        "serve" => serve_clients(rt, config.as_str(), words),
-        _ => replay_input(rt, config.as_str(), detail_of(words)),
+        "serve" => serve_clients(rt, config, words.get_str("config").is_none(), words),
+        _ => replay_input(rt, config, detail_of(rt, words, config)),
     }
 }
 
@@ -197,9 +253,9 @@ fn run_command(
     command: Option<(&str, &ArgMatches<'_>)>,
 ) -> ExitCode {
     match command {
-        Some(("show", _)) => show_input(rt),
+        Some(("show", words)) => show_input(rt, words.get_flag("fields")),
         Some((name, words)) => run_with_config(rt, name, line, words),
-        None => replay_input(rt, BUILT_IN, Detail::Brief),
+        None => replay_input(rt, BUILT_IN, detail_without_words(rt)),
     }
 }
 

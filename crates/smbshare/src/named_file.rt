@@ -2,7 +2,7 @@
 
 use smb_replay::CommandFault;
 use std::io;
-use std::io::{ErrorKind, Read};
+use std::io::Read;
 
 /// A file that is open for reading.
 pub struct NamedFile {
@@ -21,10 +21,7 @@ impl NamedFile {
         if descriptor >= 0 {
             return Ok(NamedFile { descriptor });
         }
-        match last_error().kind() {
-            ErrorKind::OutOfMemory => Err(CommandFault::NoMemory),
-            _ => Err(CommandFault::ConfigUnread),
-        }
+        Err(CommandFault::unread(last_error().kind()))
     }
 }
 

@@ -2,7 +2,7 @@
 
 use mio::net::TcpListener;
 use smb_engine::serve;
-use smb_replay::{CommandFault, Configuration, new_share};
+use smb_replay::{CommandFault, Configuration, ListenFault, new_share};
 use smb_tcp::{SystemClock, TcpPeers};
 use std::io::ErrorKind;
 use std::net::SocketAddr;
@@ -17,6 +17,8 @@ const LONGEST_WAIT: u64 = 1;
 pub struct ServeWords<'a> {
     /// The text of the configuration.
     pub config: &'a str,
+    /// Whether that is the one that is built in.
+    pub is_built_in: bool,
     /// An IP address with a port.
     pub listen: &'a str,
     pub turns: u64,
@@ -28,14 +30,14 @@ pub struct ServeWords<'a> {
 fn fault_of(error: io::Error) -> CommandFault {
     match error.kind() {
         ErrorKind::OutOfMemory => CommandFault::NoMemory,
-        _ => CommandFault::ListenFailed,
+        kind => CommandFault::ListenFailed(ListenFault::from(kind)),
     }
 }
 
 /// A listener at an address.
 fn listen(rt: &HostRuntime, address: &str) -> Result<net::TcpListener, CommandFault> {
     let Ok(address) = address.parse::<SocketAddr>() else {
-        return Err(CommandFault::ListenFailed);
+        return Err(CommandFault::ListenFailed(ListenFault::NotAnAddress));
     };
     match TcpListener::bind(rt, address) {
         Ok(listener) => Ok(net::TcpListener::from(listener)),
@@ -43,10 +45,17 @@ fn listen(rt: &HostRuntime, address: &str) -> Result<net::TcpListener, CommandFa
     }
 }
 
-/// Tells on standard error where a listener is: with the port that the system gave for port 0.
-fn announce(rt: &HostRuntime, listener: &net::TcpListener) {
+/// What is said of the configuration that is built in.
+const NOBODY: &str =
+    "no client of Samba's can log in: the built-in configuration takes the token `a` alone; --config guest.toml lets guests in";
+
+/// Says on standard error where a listener is, with the port that the system gave for port 0, and who cannot come in.
+fn announce(rt: &HostRuntime, listener: &net::TcpListener, is_built_in: bool) {
     if let Ok(address) = listener.local_addr() {
         let _ = eprintln!(rt; "listening on {address}");
+    }
+    if is_built_in {
+        let _ = eprintln!(rt; "{NOBODY}");
     }
 }
 
@@ -72,7 +81,7 @@ pub fn serve_share(rt: &HostRuntime, words: &ServeWords<'_>) -> Result<(), Comma
     let configuration = Configuration::read(rt.alloc(), words.config)?;
     let listener = listen(rt, words.listen)?;
     let mut share = new_share(rt.alloc(), configuration)?;
-    announce(rt, &listener);
+    announce(rt, &listener, words.is_built_in);
     let mut peers = peers(rt, listener, words.idle_seconds)?;
     let mut clock = SystemClock::new(rt);
     let _ = serve(&mut share, &mut peers, &mut clock, words.turns);
