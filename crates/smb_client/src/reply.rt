@@ -1,7 +1,8 @@
 //! What a share answers.
 
+use super::status::Status;
 use smb_head::{Header, read_header};
-use smb_wire::{FileId, u16_at, u32_at, u64_at};
+use smb_wire::{Command, FileId, u16_at, u32_at, u64_at};
 
 /// A reply: its header, and its bytes from the header's first on.
 #[derive(Clone, Copy, Debug)]
@@ -11,6 +12,16 @@ pub struct Reply<'a> {
 }
 
 impl<'a> Reply<'a> {
+    /// The command that it answers; None of a code that is no command's.
+    pub fn command(&self) -> Option<Command> {
+        self.header.command.known()
+    }
+
+    /// How the request ended.
+    pub fn status(&self) -> Status {
+        Status(self.header.status)
+    }
+
     /// The FileId that stands in the response to a CREATE ([MS-SMB2] 2.2.14), where it is long enough.
     pub fn file_id(&self) -> Option<FileId> {
         Some(FileId {

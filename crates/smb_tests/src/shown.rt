@@ -1,5 +1,6 @@
 //! What a log shows of a fault, of a tree and of a list of opens.
 
+use smb_client::Status;
 use smb_engine::{HandleTable, NodeTree, PlainOpens, PlainTree, RunFault, ServeFault};
 use smb_replay::{CommandFault, ConfigFault, ConfigRule, Expected};
 use std::alloc::Global;
@@ -43,6 +44,21 @@ fn says_what_a_configuration_breaks(rt: HostRuntime) {
 fn says_which_line_is_unreadable(rt: HostRuntime) {
     let fault = CommandFault::Unreadable(3, Expected::Piece);
     assert!(rt; says(rt.alloc(), &fault, "line 3: unreadable"));
+}
+
+/// Whether a status prints this.
+fn prints(alloc: Global, status: Status, text: &str) -> bool {
+    match format!(in alloc; "{status}") {
+        Ok(printed) => printed.as_str() == text,
+        Err(_) => false,
+    }
+}
+
+#[test]
+fn says_a_status_by_its_name(rt: HostRuntime) {
+    let named = prints(rt.alloc(), Status(0xC000_0043), "STATUS_SHARING_VIOLATION");
+    let unnamed = prints(rt.alloc(), Status(0x0C00_0001), "0x0C000001");
+    assert!(rt; named && unnamed);
 }
 
 #[test]
