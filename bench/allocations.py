@@ -1,5 +1,5 @@
 #!/usr/bin/env python3
-"""Counts the proved program's allocations for a request, and prints the rows of docs/TESTING.md.
+"""Counts the proved program's allocations for a request, and prints the rows of bench/FIGURES.md.
 
     (cd crates/smbshare && rt run < stdin > /dev/null)     builds crates/smbshare/out/smbshare
     python3 bench/allocations.py [PROGRAM]

@@ -1,5 +1,7 @@
 #!/usr/bin/env python3
-"""Times the proved program on READ and WRITE, and on a CREATE of a file with other opens; prints the rows of docs/TESTING.md.
+"""Times the proved program on READ and WRITE, and on a CREATE of a file with other opens.
+
+Prints the rows of bench/FIGURES.md.
 
     (cd crates/smbshare && rt run < stdin > /dev/null)     builds crates/smbshare/out/smbshare
     python3 bench/bytes.py

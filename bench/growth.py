@@ -1,5 +1,5 @@
 #!/usr/bin/env python3
-"""Times the proved program on requests beside few and many entries and opens; prints the rows of docs/TESTING.md.
+"""Times the proved program on requests beside few and many entries and opens; prints the rows of bench/FIGURES.md.
 
     (cd crates/smbshare && rt run < stdin > /dev/null)     builds crates/smbshare/out/smbshare
     python3 bench/growth.py [PROGRAM [WORD]]

@@ -1,5 +1,7 @@
 #!/usr/bin/env python3
-"""Times the proved program on QUERY_INFO and SET_INFO, and on renames among other entries; prints the rows of docs/TESTING.md.
+"""Times the proved program on QUERY_INFO and SET_INFO, and on renames among other entries.
+
+Prints the rows of bench/FIGURES.md.
 
     (cd crates/smbshare && rt run < stdin > /dev/null)     builds crates/smbshare/out/smbshare
     python3 bench/information.py

@@ -1,5 +1,5 @@
 #!/usr/bin/env python3
-"""Times the proved program on LOCK, and on a CLOSE beside locks of other files; prints the rows of docs/TESTING.md.
+"""Times the proved program on LOCK, and on a CLOSE beside locks of other files; prints the rows of bench/FIGURES.md.
 
     (cd crates/smbshare && rt run < stdin > /dev/null)     builds crates/smbshare/out/smbshare
     python3 bench/locks.py

@@ -1,5 +1,7 @@
 #!/usr/bin/env python3
-"""Times READ and WRITE of a file that is kept in pages, over TCP, and what memory files take; prints the rows of docs/TESTING.md.
+"""Times READ and WRITE of a file that is kept in pages, over TCP, and what memory files take.
+
+Prints the rows of bench/FIGURES.md.
 
     (cd crates/smbshare && rt run < stdin > /dev/null)     builds crates/smbshare/out/smbshare
     python3 bench/pages.py [PROGRAM]

@@ -1,5 +1,5 @@
 #!/usr/bin/env python3
-"""Times single frames that ask as much as a frame may; prints the rows of docs/TESTING.md.
+"""Times single frames that ask as much as a frame may; prints the rows of bench/FIGURES.md.
 
     (cd crates/smbshare && rt run < stdin > /dev/null)     builds crates/smbshare/out/smbshare
     python3 bench/worst.py

@@ -3,7 +3,9 @@
 
 --list prints them by file. --check fails where docs/DEFINITIONS.md does not name one beside its file, or names a file or a definition that is not there,
 and where a file of which nothing need be believed does not begin by saying so, or another one does.
-A row of it whose first cell is "the whole file" or "the whole files", without the quotes, names all definitions of its files.
+Under a heading with a crate's name the page has an item for each file, or for several, whose names it begins with, as
+`Number.antt`. Of the text behind them names count where a colon, or sections in parentheses and a colon, are behind
+them. With `, whole:` behind its files an item names all definitions.
 
 Public is what lib.rt exports; of an inner crate, whose lib.rt says `An inner crate of NAME:`, what the lib.rt of NAME exports on. Of it count
 the clauses of functions, of types' `pub` methods and of traits' methods, and the ghost members of traits, types and impls; of an `impl Model` the
@@ -175,19 +177,28 @@ class Crate:
             yield from (find(specs, *imports[name][1]) for part in parts for name in used_in(clauses_of(part)) & set(imports))
 
 
+def items_on(page):
+    """The items of the page: the crate of the heading above, the files, whether they are named whole, and the text."""
+    for section in re.split(r"^## ", page, flags=re.M)[1:]:
+        crate, _, text = section.partition("\n")
+        for item in re.split(r"^- (?=`[\w/]+\.antt`)", text, flags=re.M)[1:]:
+            head = re.match(r"((?:`[\w/]+\.antt`,\s+)*`[\w/]+\.antt`)(?:\s+\([^)]*\))?(,\s+whole:)?", item)
+            files = re.findall(r"`([\w/]+)\.antt`", head.group(1))
+            yield crate.strip(), files, bool(head.group(2)), item.partition("\n\n")[0]
+
+
 def told(specs):
     """The definitions that the page names, those that it names one by one, and what it names that is not there."""
     named, quoted_there, wrong = set(), set(), []
-    for names, files in re.findall(r"^\|(.*)\|(.*)\|.*\|.*\|$", PAGE.read_text(encoding="utf-8"), re.M):
-        crate, there = "", set()
-        for inside, file in re.findall(r"(?:(\w+)/specs/)?([\w/]+)\.antt", files):
-            crate = inside or crate
-            wrong += [] if (crate, file) in specs else [f"{crate}/specs/{file}.antt is not there"]
-            there |= {(crate, file, name) for name in specs[crate, file].texts} if (crate, file) in specs else set()
-        quoted = re.findall(r"`([^`]+)`", names)
-        wrong += [f"`{name}` is not in {files.strip()}" for name in quoted if name not in {it[2] for it in there}]
+    for crate, files, whole, text in items_on(PAGE.read_text(encoding="utf-8")):
+        wrong += [f"{crate}/specs/{file}.antt is not there" for file in files if (crate, file) not in specs]
+        there = {(crate, file, name) for file in files if (crate, file) in specs for name in specs[crate, file].texts}
+        rows = re.findall(rf"((?:`{NAME}`,\s+)*`{NAME}`)(?:\s+\([^)]*\))?:\s", text)
+        quoted = {name for row in rows for name in re.findall(rf"`({NAME})`", row)}
+        places = ", ".join(f"{crate}/specs/{file}.antt" for file in files)
+        wrong += [f"`{name}` is not in {places}" for name in sorted(quoted - {it[2] for it in there})]
         quoted_there |= {one for one in there if one[2] in quoted}
-        named |= there if names.strip() in ("the whole file", "the whole files") else {one for one in there if one[2] in quoted}
+        named |= there if whole else {one for one in there if one[2] in quoted}
     return named, quoted_there, wrong
 
 

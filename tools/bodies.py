@@ -22,8 +22,9 @@ HEADER = 64
 LOCK_ELEMENT = ((0, 8, 'Offset'), (8, 8, 'Length'), (16, 4, 'Flags'), (20, 4, 'Reserved'))
 HEAD = """# Bodies, field by field
 
-One request and one reply of each command, by the tables of [MS-SMB2] 2.2, as `smb_body` writes them. This page is written by `tools/bodies.py`, from the bytes that
-the tests of `smb_layer_tests` compare with, and the test command compares the two. All numbers are little-endian; a body is behind the 64 bytes of its header, and offsets of buffers
+One request and one reply of each command, by the tables of [MS-SMB2] 2.2, as `smb_body` writes them. This page is
+written by `tools/bodies.py`, from the bytes that the tests of `smb_layer_tests` compare with, and the test command
+compares the two. All numbers are little-endian; a body is behind the 64 bytes of its header, and offsets of buffers
 count from the header's first byte. A reply's fields that the profile gives no value are 0.
 """
 SMB1 = """

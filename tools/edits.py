@@ -1,15 +1,19 @@
 #!/usr/bin/env python3
-"""edits.py: writes the list of must-fail edits into docs/TESTING.md, from the edits' files and names. edits.py --check: fails where that list is not what stands there.
+"""edits.py: writes docs/EDITS.md, the list of must-fail edits, from the edits' files and names.
 
-Each edit's first line is `turns: ` and what the wrong body would do; its name begins with the name of the file that it changes.
+--check fails where that page is not what would be written. Each edit's first line is `turns: ` and what the wrong body
+would do; its name begins with the name of the file that it changes.
 """
 import pathlib
 import re
 import sys
 
 ROOT = pathlib.Path(__file__).resolve().parent.parent
-PAGE = ROOT / "docs" / "TESTING.md"
-BEGIN, END = "<!-- edits: written by tools/edits.py -->", "<!-- end of edits -->"
+PAGE = ROOT / "docs" / "EDITS.md"
+HEAD = """# Wrong bodies that the prover refuses
+
+Written by tools/edits.py. The gate tries each edit; its name begins with the name of the file that it changes.
+"""
 
 
 def what_it_turns(edit):
@@ -25,21 +29,18 @@ def what_it_turns(edit):
 
 def table():
     rows = ["| crate | edit | what it would do |", "|---|---|---|"]
-    for crate in [it.split(":")[0] for it in (ROOT / "crates.txt").read_text().splitlines() if ":" in it and not it.startswith("#")]:
+    listed = (ROOT / "crates.txt").read_text(encoding="utf-8").splitlines()
+    for crate in [it.split(":")[0] for it in listed if ":" in it and not it.startswith("#")]:
         for edit in sorted((ROOT / "crates" / crate / "must-fail").glob("*.edit")):
             rows.append(f"| {crate} | {edit.stem} | {what_it_turns(edit)} |")
     return "\n".join(rows)
 
 
 def main(words):
-    text = PAGE.read_text(encoding="utf-8")
-    front, begin, rest = text.partition(BEGIN)
-    _, end, back = rest.partition(END)
-    if not begin or not end:
-        sys.exit(f"{PAGE.relative_to(ROOT)} has no place for the list")
-    wanted = f"{front}{BEGIN}\n{table()}\n{END}{back}"
+    wanted = f"{HEAD}\n{table()}\n"
     if words == ["--check"]:
-        sys.exit(None if wanted == text else f"{PAGE.relative_to(ROOT)}: its list of edits is not theirs: run tools/edits.py")
+        written = PAGE.read_text(encoding="utf-8") if PAGE.exists() else ""
+        sys.exit(None if wanted == written else "docs/EDITS.md is not the list of the edits: run tools/edits.py")
     PAGE.write_text(wanted, encoding="utf-8")
 
 
