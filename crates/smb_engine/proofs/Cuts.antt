@@ -13,7 +13,7 @@ use Rattle.smb_session.specs.Authenticator.{Meaning}
 use Rattle.smb_engine.specs.declared.connection.Connection.{Connection}
 use Rattle.smb_engine.specs.declared.fault.ServeFault.{ServeFault}
 use Rattle.smb_engine.specs.Event.{EventText, brings}
-use Rattle.smb_request.specs.State.{SharedState}
+use Rattle.smb_request.specs.State.{ServerState}
 use Rattle.smb_engine.specs.State.{LinkState, ShareState}
 use Rattle.smb_engine.specs.Chain.{PayloadStep, payload_step}
 use Rattle.smb_engine.specs.Output.{end_of, reply_frame}
@@ -58,68 +58,68 @@ nothing_more : (stream b : List ℕ) → kind_after stream ≡ false → Nothing
 nothing_more stream b h = nothing_at stream b _ refl h
 
 module _ {S : Type 0} (m : Meaning S) (n moment : ℕ) where
-  abbrev all : SharedState S → Connection → List (List ℕ) → PayloadSteps S
+  abbrev all : ServerState S → Connection → List (List ℕ) → PayloadSteps S
   all = payload_steps m n moment
 
   -- payloads after payloads that leave the connection open
   on_at : (p : PayloadStep S) (xs ys : List (List ℕ)) (o : Option (List ℕ)) → p.replies ≡ o →
-      ((all p.shared p.connection xs).stays_open ≡ true →
-      all p.shared p.connection (xs ++ ys) ≡ after_outputs (all p.shared p.connection xs).outputs (all (all p.shared p.connection xs).shared (all p.shared p.connection xs).connection ys)) →
+      ((all p.server p.connection xs).stays_open ≡ true →
+      all p.server p.connection (xs ++ ys) ≡ after_outputs (all p.server p.connection xs).outputs (all (all p.server p.connection xs).server (all p.server p.connection xs).connection ys)) →
       (and_then n (λ s c. all s c xs) p).stays_open ≡ true →
       and_then n (λ s c. all s c (xs ++ ys)) p
-      ≡ after_outputs (and_then n (λ s c. all s c xs) p).outputs (all (and_then n (λ s c. all s c xs) p).shared (and_then n (λ s c. all s c xs) p).connection ys)
+      ≡ after_outputs (and_then n (λ s c. all s c xs) p).outputs (all (and_then n (λ s c. all s c xs) p).server (and_then n (λ s c. all s c xs) p).connection ys)
   on_at p xs ys None e ih h = let h' = rw e at h in cc
   on_at p xs ys (Some r) e ih h =
-      let before = all p.shared p.connection xs in
-      let others = all before.shared before.connection ys in
+      let before = all p.server p.connection xs in
+      let others = all before.server before.connection ys in
       rw (e, ih (rw e at h)) (ap (λ t. record others { outputs = t }) (sym (append_assoc (reply_frame n r) before.outputs others.outputs)))
 
-  steps-on : (shared : SharedState S) (connection : Connection) (xs ys : List (List ℕ)) → (all shared connection xs).stays_open ≡ true →
-      all shared connection (xs ++ ys) ≡ after_outputs (all shared connection xs).outputs (all (all shared connection xs).shared (all shared connection xs).connection ys)
-  steps-on shared connection [] ys h = refl
-  steps-on shared connection (x ∷ xs) ys h =
-      let p = payload_step m n moment shared connection x in
-      on_at p xs ys p.replies refl (steps-on p.shared p.connection xs ys) h
+  steps-on : (server : ServerState S) (connection : Connection) (xs ys : List (List ℕ)) → (all server connection xs).stays_open ≡ true →
+      all server connection (xs ++ ys) ≡ after_outputs (all server connection xs).outputs (all (all server connection xs).server (all server connection xs).connection ys)
+  steps-on server connection [] ys h = refl
+  steps-on server connection (x ∷ xs) ys h =
+      let p = payload_step m n moment server connection x in
+      on_at p xs ys p.replies refl (steps-on p.server p.connection xs ys) h
 
   -- payloads after payloads that end it
   over_at : (p : PayloadStep S) (xs ys : List (List ℕ)) (o : Option (List ℕ)) → p.replies ≡ o →
-      ((all p.shared p.connection xs).stays_open ≡ false → all p.shared p.connection (xs ++ ys) ≡ all p.shared p.connection xs) →
+      ((all p.server p.connection xs).stays_open ≡ false → all p.server p.connection (xs ++ ys) ≡ all p.server p.connection xs) →
       (and_then n (λ s c. all s c xs) p).stays_open ≡ false → and_then n (λ s c. all s c (xs ++ ys)) p ≡ and_then n (λ s c. all s c xs) p
   over_at p xs ys None e ih h = rw e refl
   over_at p xs ys (Some r) e ih h = rw e (ap (after_outputs (reply_frame n r)) (ih (rw e at h)))
 
-  steps-over : (shared : SharedState S) (connection : Connection) (xs ys : List (List ℕ)) → (all shared connection xs).stays_open ≡ false → all shared connection (xs ++ ys) ≡ all shared connection xs
-  steps-over shared connection [] ys h = cc
-  steps-over shared connection (x ∷ xs) ys h =
-      let p = payload_step m n moment shared connection x in
-      over_at p xs ys p.replies refl (steps-over p.shared p.connection xs ys) h
+  steps-over : (server : ServerState S) (connection : Connection) (xs ys : List (List ℕ)) → (all server connection xs).stays_open ≡ false → all server connection (xs ++ ys) ≡ all server connection xs
+  steps-over server connection [] ys h = cc
+  steps-over server connection (x ∷ xs) ys h =
+      let p = payload_step m n moment server connection x in
+      over_at p xs ys p.replies refl (steps-over p.server p.connection xs ys) h
 
-  abbrev by_piece : SharedState S → LinkState → List ℕ → PayloadSteps S
+  abbrev by_piece : ServerState S → LinkState → List ℕ → PayloadSteps S
   by_piece = steps_by m n moment
 
   -- a piece whose payloads come to these steps
-  bytes-open : (s : ShareState S) (link : LinkState) (piece : List ℕ) (steps : PayloadSteps S) → link_of n s.links ≡ Some link → by_piece s.shared link piece ≡ steps →
+  bytes-open : (s : ShareState S) (link : LinkState) (piece : List ℕ) (steps : PayloadSteps S) → link_of n s.links ≡ Some link → by_piece s.server link piece ≡ steps →
       (steps.stays_open && kind_after (link.stream ++ piece)) ≡ true →
       bytes_step m s n moment piece ≡ record {
-        state = record s { shared = steps.shared; links = with_link n (record { stream = link.stream ++ piece; connection = steps.connection }) s.links };
+        state = record s { server = steps.server; links = with_link n (record { stream = link.stream ++ piece; connection = steps.connection }) s.links };
         outputs = steps.outputs;
       }
   bytes-open s link piece steps h e t =
-      bytes_step-some m s n moment piece link h ∙ ap (settled s n) (step-open m n moment s.shared link piece (rw e t)) ∙ rw e refl
+      bytes_step-some m s n moment piece link h ∙ ap (settled s n) (step-open m n moment s.server link piece (rw e t)) ∙ rw e refl
 
-  bytes-over : (s : ShareState S) (link : LinkState) (piece : List ℕ) (steps : PayloadSteps S) → link_of n s.links ≡ Some link → by_piece s.shared link piece ≡ steps →
+  bytes-over : (s : ShareState S) (link : LinkState) (piece : List ℕ) (steps : PayloadSteps S) → link_of n s.links ≡ Some link → by_piece s.server link piece ≡ steps →
       (steps.stays_open && kind_after (link.stream ++ piece)) ≡ false →
-      bytes_step m s n moment piece ≡ record { state = ended (record s { shared = steps.shared }) n; outputs = steps.outputs ++ end_of n ∷ [] }
+      bytes_step m s n moment piece ≡ record { state = ended (record s { server = steps.server }) n; outputs = steps.outputs ++ end_of n ∷ [] }
   bytes-over s link piece steps h e t =
-      bytes_step-some m s n moment piece link h ∙ ap (settled s n) (step-over m n moment s.shared link piece (rw e t)) ∙ rw e refl
+      bytes_step-some m s n moment piece link h ∙ ap (settled s n) (step-over m n moment s.server link piece (rw e t)) ∙ rw e refl
 
-  by-cut : (shared : SharedState S) (link : LinkState) (a b : List ℕ) → by_piece shared link (a ++ b) ≡ all shared link.connection (added_payloads link.stream a ++ added_payloads (link.stream ++ a) b)
+  by-cut : (server : ServerState S) (link : LinkState) (a b : List ℕ) → by_piece server link (a ++ b) ≡ all server link.connection (added_payloads link.stream a ++ added_payloads (link.stream ++ a) b)
   unfolding steps_by
-  by-cut shared link a b = rw added-cut refl
+  by-cut server link a b = rw added-cut refl
 
-  by-is : (shared : SharedState S) (link : LinkState) (a : List ℕ) → by_piece shared link a ≡ all shared link.connection (added_payloads link.stream a)
+  by-is : (server : ServerState S) (link : LinkState) (a : List ℕ) → by_piece server link a ≡ all server link.connection (added_payloads link.stream a)
   unfolding steps_by
-  by-is shared link a = refl
+  by-is server link a = refl
 
   abbrev two : ShareState S → List ℕ → List ℕ → EventStep S
   two s a b = record {
@@ -129,14 +129,14 @@ module _ {S : Type 0} (m : Meaning S) (n moment : ℕ) where
 
   -- the first piece leaves the connection open
   cut_open_at : (s : ShareState S) (link : LinkState) (a b : List ℕ) (first_steps more : PayloadSteps S) (c : Bool) → link_of n s.links ≡ Some link →
-      by_piece s.shared link a ≡ first_steps → (first_steps.stays_open && kind_after (link.stream ++ a)) ≡ true →
-      by_piece first_steps.shared (record { stream = link.stream ++ a; connection = first_steps.connection }) b ≡ more →
-      by_piece s.shared link (a ++ b) ≡ after_outputs first_steps.outputs more →
+      by_piece s.server link a ≡ first_steps → (first_steps.stays_open && kind_after (link.stream ++ a)) ≡ true →
+      by_piece first_steps.server (record { stream = link.stream ++ a; connection = first_steps.connection }) b ≡ more →
+      by_piece s.server link (a ++ b) ≡ after_outputs first_steps.outputs more →
       (more.stays_open && kind_after ((link.stream ++ a) ++ b)) ≡ c →
       bytes_step m s n moment (a ++ b) ≡ two s a b
   cut_open_at s link a b f more true h e t e' e'' t' =
       let link' : LinkState = record { stream = link.stream ++ a; connection = f.connection } in
-      let s' : ShareState S = record s { shared = f.shared; links = with_link n link' s.links } in
+      let s' : ShareState S = record s { server = f.server; links = with_link n link' s.links } in
       let q : (link.stream ++ a) ++ b ≡ link.stream ++ (a ++ b) = append_assoc link.stream a b in
       let t'' : (more.stays_open && kind_after (link.stream ++ (a ++ b))) ≡ true = rw (← q) t' in
       rw (
@@ -148,7 +148,7 @@ module _ {S : Type 0} (m : Meaning S) (n moment : ℕ) where
       ) refl
   cut_open_at s link a b f more false h e t e' e'' t' =
       let link' : LinkState = record { stream = link.stream ++ a; connection = f.connection } in
-      let s' : ShareState S = record s { shared = f.shared; links = with_link n link' s.links } in
+      let s' : ShareState S = record s { server = f.server; links = with_link n link' s.links } in
       let q : (link.stream ++ a) ++ b ≡ link.stream ++ (a ++ b) = append_assoc link.stream a b in
       let t'' : (more.stays_open && kind_after (link.stream ++ (a ++ b))) ≡ false = rw (← q) t' in
       rw (
@@ -164,47 +164,47 @@ module _ {S : Type 0} (m : Meaning S) (n moment : ℕ) where
   open_parts false y h = cc
 
   cut_open : (s : ShareState S) (link : LinkState) (a b : List ℕ) → link_of n s.links ≡ Some link →
-      ((by_piece s.shared link a).stays_open && kind_after (link.stream ++ a)) ≡ true → bytes_step m s n moment (a ++ b) ≡ two s a b
+      ((by_piece s.server link a).stays_open && kind_after (link.stream ++ a)) ≡ true → bytes_step m s n moment (a ++ b) ≡ two s a b
   cut_open s link a b h t =
-      let f = by_piece s.shared link a in
-      let is = by-is s.shared link a in
+      let f = by_piece s.server link a in
+      let is = by-is s.server link a in
       let link' : LinkState = record { stream = link.stream ++ a; connection = f.connection } in
       let open_still = ap (λ d. d.stays_open) (sym is) ∙ open_parts f.stays_open _ t in
-      let on = by-cut s.shared link a b ∙ steps-on s.shared link.connection (added_payloads link.stream a) (added_payloads (link.stream ++ a) b) open_still in
-      let on' : by_piece s.shared link (a ++ b) ≡ after_outputs f.outputs (by_piece f.shared link' b) = rw (by-is f.shared link' b, is) on in
-      cut_open_at s link a b f (by_piece f.shared link' b) _ h refl t refl on' refl
+      let on = by-cut s.server link a b ∙ steps-on s.server link.connection (added_payloads link.stream a) (added_payloads (link.stream ++ a) b) open_still in
+      let on' : by_piece s.server link (a ++ b) ≡ after_outputs f.outputs (by_piece f.server link' b) = rw (by-is f.server link' b, is) on in
+      cut_open_at s link a b f (by_piece f.server link' b) _ h refl t refl on' refl
 
   -- the first piece ends it
   cut_over_by : (s : ShareState S) (link : LinkState) (a b : List ℕ) → LinksInOrder s → link_of n s.links ≡ Some link →
-      ((by_piece s.shared link a).stays_open && kind_after (link.stream ++ a)) ≡ false →
-      by_piece s.shared link (a ++ b) ≡ by_piece s.shared link a → ((by_piece s.shared link a).stays_open && kind_after (link.stream ++ (a ++ b))) ≡ false →
+      ((by_piece s.server link a).stays_open && kind_after (link.stream ++ a)) ≡ false →
+      by_piece s.server link (a ++ b) ≡ by_piece s.server link a → ((by_piece s.server link a).stays_open && kind_after (link.stream ++ (a ++ b))) ≡ false →
       bytes_step m s n moment (a ++ b) ≡ two s a b
   cut_over_by s link a b r h t e t' =
-      let f = by_piece s.shared link a in
-      let gone : ShareState S = ended (record s { shared = f.shared }) n in
+      let f = by_piece s.server link a in
+      let gone : ShareState S = ended (record s { server = f.server }) n in
       rw (bytes-over s link (a ++ b) f h e t', bytes-over s link a f h refl t, bytes_step-none m gone n moment b (link_of-without n s.links r.rising))
       (ap (λ t. record { state = gone; outputs = t }) (sym (append-nil (f.outputs ++ end_of n ∷ []))))
 
-  cut_over_at : (s : ShareState S) (link : LinkState) (a b : List ℕ) (x : Bool) → LinksInOrder s → link_of n s.links ≡ Some link → (by_piece s.shared link a).stays_open ≡ x →
+  cut_over_at : (s : ShareState S) (link : LinkState) (a b : List ℕ) (x : Bool) → LinksInOrder s → link_of n s.links ≡ Some link → (by_piece s.server link a).stays_open ≡ x →
       (x && kind_after (link.stream ++ a)) ≡ false → bytes_step m s n moment (a ++ b) ≡ two s a b
   cut_over_at s link a b true r h e t =
-      let f = by_piece s.shared link a in
-      let is = by-is s.shared link a in
+      let f = by_piece s.server link a in
+      let is = by-is s.server link a in
       let more = nothing_more (link.stream ++ a) b t in
       let open_still = ap (λ d. d.stays_open) (sym is) ∙ e in
-      let on = by-cut s.shared link a b ∙ steps-on s.shared link.connection (added_payloads link.stream a) (added_payloads (link.stream ++ a) b) open_still in
-      let none : after_outputs f.outputs (all f.shared f.connection []) ≡ f =
-      ap (λ t. record { shared = f.shared; connection = f.connection; outputs = t; stays_open = true }) (append-nil f.outputs) ∙ ap (λ y. record f { stays_open = y }) (sym e) in
-      let on' : by_piece s.shared link (a ++ b) ≡ after_outputs f.outputs (all f.shared f.connection []) = rw (more.added, ← is) at on in
+      let on = by-cut s.server link a b ∙ steps-on s.server link.connection (added_payloads link.stream a) (added_payloads (link.stream ++ a) b) open_still in
+      let none : after_outputs f.outputs (all f.server f.connection []) ≡ f =
+      ap (λ t. record { server = f.server; connection = f.connection; outputs = t; stays_open = true }) (append-nil f.outputs) ∙ ap (λ y. record f { stays_open = y }) (sym e) in
+      let on' : by_piece s.server link (a ++ b) ≡ after_outputs f.outputs (all f.server f.connection []) = rw (more.added, ← is) at on in
       let t' = rw (append_assoc link.stream a b) at more.faulty in
       cut_over_by s link a b r h (rw (e, t) refl) (on' ∙ none) (rw (e, t') refl)
   cut_over_at s link a b false r h e t =
-      let is = by-is s.shared link a in
-      let over = steps-over s.shared link.connection (added_payloads link.stream a) (added_payloads (link.stream ++ a) b) (ap (λ d. d.stays_open) (sym is) ∙ e) in
-      cut_over_by s link a b r h (rw e refl) (by-cut s.shared link a b ∙ over ∙ sym is) (rw e refl)
+      let is = by-is s.server link a in
+      let over = steps-over s.server link.connection (added_payloads link.stream a) (added_payloads (link.stream ++ a) b) (ap (λ d. d.stays_open) (sym is) ∙ e) in
+      cut_over_by s link a b r h (rw e refl) (by-cut s.server link a b ∙ over ∙ sym is) (rw e refl)
 
   cut_link : (s : ShareState S) (link : LinkState) (a b : List ℕ) (c : Bool) → LinksInOrder s → link_of n s.links ≡ Some link →
-      ((by_piece s.shared link a).stays_open && kind_after (link.stream ++ a)) ≡ c → bytes_step m s n moment (a ++ b) ≡ two s a b
+      ((by_piece s.server link a).stays_open && kind_after (link.stream ++ a)) ≡ c → bytes_step m s n moment (a ++ b) ≡ two s a b
   cut_link s link a b true r h t = cut_open s link a b h t
   cut_link s link a b false r h t = cut_over_at s link a b _ r h refl t
 

@@ -12,7 +12,7 @@ use Rattle.smb_frame.specs.Reading.{rest, fault_of}
 use Rattle.smb_engine.specs.declared.connection.Connection.{Connection}
 use Rattle.smb_engine.specs.declared.fault.ServeFault.{ServeFault}
 use Rattle.smb_engine.specs.declared.fault.ServeFault.TheVariants.{BadEvent}
-use Rattle.smb_request.specs.State.{SharedState}
+use Rattle.smb_request.specs.State.{ServerState}
 use Rattle.smb_engine.specs.State.{LinkState, ShareState}
 use Rattle.smb_engine.specs.Event.{EventText, opens, brings, ends, connection_of}
 use Rattle.smb_engine.specs.Chain.{PayloadStep, payload_step}
@@ -111,16 +111,16 @@ module _ {S : Type 0} (m : Meaning S) (n : ℕ) where
   reply_no_end [] = tt
   reply_no_end (byte ∷ replies) = (λ e. cc, tt)
 
-  steps_at : (p : PayloadStep S) (others : SharedState S → Connection → PayloadSteps S) (o : Option (List ℕ)) → p.replies ≡ o →
-      AllByRecursion (IsNoEnd n) (others p.shared p.connection).outputs → AllByRecursion (IsNoEnd n) (and_then n others p).outputs
+  steps_at : (p : PayloadStep S) (others : ServerState S → Connection → PayloadSteps S) (o : Option (List ℕ)) → p.replies ≡ o →
+      AllByRecursion (IsNoEnd n) (others p.server p.connection).outputs → AllByRecursion (IsNoEnd n) (and_then n others p).outputs
   steps_at p others None e ih = rw e tt
-  steps_at p others (Some r) e ih = rw e (all-append (IsNoEnd n) (reply_frame n r) (others p.shared p.connection).outputs (reply_no_end r) ih)
+  steps_at p others (Some r) e ih = rw e (all-append (IsNoEnd n) (reply_frame n r) (others p.server p.connection).outputs (reply_no_end r) ih)
 
-  steps_no_end : (moment : ℕ) (shared : SharedState S) (connection : Connection) (xs : List (List ℕ)) → AllByRecursion (IsNoEnd n) (payload_steps m n moment shared connection xs).outputs
-  steps_no_end moment shared connection [] = tt
-  steps_no_end moment shared connection (x ∷ xs) =
-      let p = payload_step m n moment shared connection x in
-      steps_at p (λ s c. payload_steps m n moment s c xs) p.replies refl (steps_no_end moment p.shared p.connection xs)
+  steps_no_end : (moment : ℕ) (server : ServerState S) (connection : Connection) (xs : List (List ℕ)) → AllByRecursion (IsNoEnd n) (payload_steps m n moment server connection xs).outputs
+  steps_no_end moment server connection [] = tt
+  steps_no_end moment server connection (x ∷ xs) =
+      let p = payload_step m n moment server connection x in
+      steps_at p (λ s c. payload_steps m n moment s c xs) p.replies refl (steps_no_end moment p.server p.connection xs)
 
   -- whatever comes behind it, if nothing of it goes to a connection that is gone
   abbrev Ends : EventStep S → Type 0
@@ -137,9 +137,9 @@ module _ {S : Type 0} (m : Meaning S) (n : ℕ) where
       let q' = rw e at q in
       rw e (end_last steps.outputs others h (q' (record { gone = link_of-without n s.links o.rising; before = p })))
 
-  piece_ends : (s : ShareState S) (moment : ℕ) (link : LinkState) (piece : List ℕ) → LinksInOrder s → n < s.next → Ends (settled s n (piece_step m n moment s.shared link piece))
+  piece_ends : (s : ShareState S) (moment : ℕ) (link : LinkState) (piece : List ℕ) → LinksInOrder s → n < s.next → Ends (settled s n (piece_step m n moment s.server link piece))
   unfolding piece_step
-  piece_ends s moment link piece o p = closed_at s link (link.stream ++ piece) _ _ refl o p (steps_no_end moment s.shared link.connection (added_payloads link.stream piece))
+  piece_ends s moment link piece o p = closed_at s link (link.stream ++ piece) _ _ refl o p (steps_no_end moment s.server link.connection (added_payloads link.stream piece))
 
   bytes_at : (s : ShareState S) (moment : ℕ) (piece : List ℕ) (o : Option LinkState) → link_of n s.links ≡ o → LinksInOrder s → n < s.next → Ends (bytes_step m s n moment piece)
   bytes_at s moment piece None e o p = rw (bytes_step-none m s n moment piece e) (λ others l q. l)

@@ -12,7 +12,7 @@ use Rattle.smb_session.specs.Good.{GoodTable}
 use Rattle.smb_opens.specs.Good.{GoodStore}
 use Rattle.smb_request.specs.Settings.{is_lawful}
 use Rattle.smb_request.specs.Owners.{AreOwned}
-use Rattle.smb_request.specs.State.{SharedState, shared_ended}
+use Rattle.smb_request.specs.State.{ServerState, connection_ended}
 use Rattle.smb_engine.specs.State.{LinkState, ShareState}
 use Rattle.smb_engine.specs.Stream.{longest_payload}
 use Rattle.smb_engine.specs.Share.{IsGoodLink, GoodState, new_link}
@@ -127,7 +127,7 @@ given_below [] next h = tt
 given_below (e ∷ links) next h = (h.0.1, given_below links next h.1)
 
 -- what is held is good
-pub kept_good : {S : Type 0} (s : ShareState S) → is_lawful s.shared.settings ≡ true → s.shared.sessions.share ≡ s.shared.settings.share → s.shared.store.tree.capacity ≡ s.shared.settings.capacity → GoodTable s.shared.sessions.table → GoodStore s.shared.store → AreOwned s.shared.sessions.table s.shared.store.opens → AreKept s.shared.sessions.table.connections s.links s.next → GoodState s
+pub kept_good : {S : Type 0} (s : ShareState S) → is_lawful s.server.settings ≡ true → s.server.sessions.share ≡ s.server.settings.share → s.server.store.tree.capacity ≡ s.server.settings.capacity → GoodTable s.server.sessions.table → GoodStore s.server.store → AreOwned s.server.sessions.table s.server.store.opens → AreKept s.server.sessions.table.connections s.links s.next → GoodState s
 kept_good s lawful named room sessions store owned k = record {
   lawful = lawful;
   named = named;
@@ -143,8 +143,8 @@ kept_good s lawful named room sessions store owned k = record {
 }
 
 -- a connection is gone, with its sessions
-pub kept_over : {S : Type 0} (shared shared' : SharedState S) (number : ℕ) (links : List (ℕ × LinkState)) (next : ℕ) → shared' ≡ shared_ended shared number →
-    IsRising shared.sessions.table.connections → AreKept shared.sessions.table.connections links next →
-    AreKept shared'.sessions.table.connections (remove_entry (is_at (nat_cmp number)) links) next
-unfolding shared_ended
-kept_over shared shared' number links next e r k = rw e (kept_remove number shared.sessions.table.connections links next r k)
+pub kept_over : {S : Type 0} (server server' : ServerState S) (number : ℕ) (links : List (ℕ × LinkState)) (next : ℕ) → server' ≡ connection_ended server number →
+    IsRising server.sessions.table.connections → AreKept server.sessions.table.connections links next →
+    AreKept server'.sessions.table.connections (remove_entry (is_at (nat_cmp number)) links) next
+unfolding connection_ended
+kept_over server server' number links next e r k = rw e (kept_remove number server.sessions.table.connections links next r k)

@@ -10,11 +10,11 @@ use Rattle.std.specs.declared.cmp.Ordering.TheVariants.{Less, Equal, Greater}
 use Rattle.std.proofs.lemmas.List.{append-nil}
 use Rattle.smb_frame.proofs.Streams.{rest-none}
 use Rattle.smb_session.specs.Authenticator.{Meaning}
-use Rattle.smb_request.specs.State.{SharedState, shared_ended}
+use Rattle.smb_request.specs.State.{ServerState, connection_ended}
 use Rattle.smb_engine.specs.State.{LinkState, ShareState}
 use Rattle.smb_engine.specs.Output.{Output}
 use Rattle.smb_engine.specs.Sink.{Heard}
-use Rattle.smb_engine.specs.Stream.{longest_payload, PieceStep, piece_step, shared_after_piece, count_in_piece}
+use Rattle.smb_engine.specs.Stream.{longest_payload, PieceStep, piece_step, server_after_piece, count_in_piece}
 use Rattle.smb_engine.specs.Share.{link_of, with_link, without_link, settled, bytes_step, is_open_after, stopped, count_on, unread, unread_link, unread_entry}
 use Rattle.smb_engine.specs.Held.{Waits, AllWait, IsPieceHeld}
 
@@ -142,14 +142,14 @@ unfolding bytes_step
 bytes_step-none m s n moment piece h = rw h refl
 
 pub bytes_step-some : {S : Type 0} (m : Meaning S) (s : ShareState S) (n moment : ℕ) (piece : List ℕ) (link : LinkState) → link_of n s.links ≡ Some link →
-    bytes_step m s n moment piece ≡ settled s n (piece_step m n moment s.shared link piece)
+    bytes_step m s n moment piece ≡ settled s n (piece_step m n moment s.server link piece)
 unfolding bytes_step
 bytes_step-some m s n moment piece link h = rw h refl
 
-pub fate_is : {S : Type 0} (m : Meaning S) (s : ShareState S) (n moment : ℕ) (piece : List ℕ) (link link' : LinkState) (shared' : SharedState S) (stays : Bool) → link_of n s.links ≡ Some link →
-    IsPieceHeld (piece_step m n moment s.shared link piece) shared' link' stays → stays ≡ is_open_after m s n moment piece
+pub fate_is : {S : Type 0} (m : Meaning S) (s : ShareState S) (n moment : ℕ) (piece : List ℕ) (link link' : LinkState) (server' : ServerState S) (stays : Bool) → link_of n s.links ≡ Some link →
+    IsPieceHeld (piece_step m n moment s.server link piece) server' link' stays → stays ≡ is_open_after m s n moment piece
 unfolding is_open_after
-fate_is m s n moment piece link link' shared' stays h t = rw h t.fate
+fate_is m s n moment piece link link' server' stays h t = rw h t.fate
 
 pub fate_none : {S : Type 0} (m : Meaning S) (s : ShareState S) (n moment : ℕ) (piece : List ℕ) → link_of n s.links ≡ None → false ≡ is_open_after m s n moment piece
 unfolding is_open_after
@@ -166,34 +166,34 @@ settled_at s n t true e = rw e refl
 settled_at s n t false e = rw e refl
 
 -- the connection stays open
-pub take_open : {S : Type 0} (m : Meaning S) (s : ShareState S) (n moment : ℕ) (piece : List ℕ) (link link' : LinkState) (shared' : SharedState S) → AllWait s.links → link_of n s.links ≡ Some link →
-    IsPieceHeld (piece_step m n moment s.shared link piece) shared' link' true → record s { shared = shared'; links = with_link n link' s.links } ≡ unread (bytes_step m s n moment piece).state
-take_open m s n moment piece link link' shared' w h t =
-    let t' = piece_step m n moment s.shared link piece in
-    let is : bytes_step m s n moment piece ≡ record { state = record s { shared = t'.shared; links = with_link n t'.link s.links }; outputs = t'.outputs } =
+pub take_open : {S : Type 0} (m : Meaning S) (s : ShareState S) (n moment : ℕ) (piece : List ℕ) (link link' : LinkState) (server' : ServerState S) → AllWait s.links → link_of n s.links ≡ Some link →
+    IsPieceHeld (piece_step m n moment s.server link piece) server' link' true → record s { server = server'; links = with_link n link' s.links } ≡ unread (bytes_step m s n moment piece).state
+take_open m s n moment piece link link' server' w h t =
+    let t' = piece_step m n moment s.server link piece in
+    let is : bytes_step m s n moment piece ≡ record { state = record s { server = t'.server; links = with_link n t'.link s.links }; outputs = t'.outputs } =
     bytes_step-some m s n moment piece link h ∙ rw (← t.fate) refl in
     rw (is, unread-with (is_at (nat_cmp n)) t'.link s.links, unread-waits s.links w, t.same, ← t.rests refl) refl
 
-pub take_over : {S : Type 0} (m : Meaning S) (s : ShareState S) (n moment : ℕ) (piece : List ℕ) (link link' : LinkState) (shared' : SharedState S) → AllWait s.links → link_of n s.links ≡ Some link →
-    IsPieceHeld (piece_step m n moment s.shared link piece) shared' link' false → record s { shared = shared_ended shared' n; links = without_link n s.links } ≡ unread (bytes_step m s n moment piece).state
-take_over m s n moment piece link link' shared' w h t =
-    let t' = piece_step m n moment s.shared link piece in
-    let is : bytes_step m s n moment piece ≡ record { state = record s { shared = shared_ended t'.shared n; links = without_link n s.links }; outputs = t'.outputs } =
+pub take_over : {S : Type 0} (m : Meaning S) (s : ShareState S) (n moment : ℕ) (piece : List ℕ) (link link' : LinkState) (server' : ServerState S) → AllWait s.links → link_of n s.links ≡ Some link →
+    IsPieceHeld (piece_step m n moment s.server link piece) server' link' false → record s { server = connection_ended server' n; links = without_link n s.links } ≡ unread (bytes_step m s n moment piece).state
+take_over m s n moment piece link link' server' w h t =
+    let t' = piece_step m n moment s.server link piece in
+    let is : bytes_step m s n moment piece ≡ record { state = record s { server = connection_ended t'.server n; links = without_link n s.links }; outputs = t'.outputs } =
     bytes_step-some m s n moment piece link h ∙ rw (← t.fate) refl in
     rw (is, unread-without (is_at (nat_cmp n)) s.links, unread-waits s.links w, t.same) refl
 
 pub take_outputs : {S : Type 0} (m : Meaning S) (hears : Output → List Heard) (s : ShareState S) (n moment : ℕ) (piece : List ℕ) (link : LinkState) (front all : List Heard) → link_of n s.links ≡ Some link →
-    all ≡ front ++ flat_map hears (piece_step m n moment s.shared link piece).outputs → all ≡ front ++ flat_map hears (bytes_step m s n moment piece).outputs
+    all ≡ front ++ flat_map hears (piece_step m n moment s.server link piece).outputs → all ≡ front ++ flat_map hears (bytes_step m s n moment piece).outputs
 take_outputs m hears s n moment piece link front all h f =
-    let t' = piece_step m n moment s.shared link piece in
+    let t' = piece_step m n moment s.server link piece in
     f ∙ ap (λ t. front ++ flat_map hears t) (sym (ap (λ d. d.outputs) (bytes_step-some m s n moment piece link h) ∙ settled_at s n t' t'.stays_open refl))
 
-pub take_stopped : {S : Type 0} (m : Meaning S) (s : ShareState S) (n moment k : ℕ) (piece : List ℕ) (link : LinkState) (shared' : SharedState S) → AllWait s.links → link_of n s.links ≡ Some link →
-    shared' ≡ shared_after_piece m n moment s.shared link piece k → record s { shared = shared_ended shared' n; links = without_link n s.links } ≡ unread (stopped m s n moment piece k)
+pub take_stopped : {S : Type 0} (m : Meaning S) (s : ShareState S) (n moment k : ℕ) (piece : List ℕ) (link : LinkState) (server' : ServerState S) → AllWait s.links → link_of n s.links ≡ Some link →
+    server' ≡ server_after_piece m n moment s.server link piece k → record s { server = connection_ended server' n; links = without_link n s.links } ≡ unread (stopped m s n moment piece k)
 unfolding stopped
-take_stopped m s n moment k piece link shared' w h t =
+take_stopped m s n moment k piece link server' w h t =
     rw (h, unread-without (is_at (nat_cmp n)) s.links, unread-waits s.links w, t) refl
 
-pub take_within : {S : Type 0} (m : Meaning S) (s : ShareState S) (n moment k : ℕ) (piece : List ℕ) (link : LinkState) → link_of n s.links ≡ Some link → k ≤ count_in_piece m n moment s.shared link piece → k ≤ count_on m s n moment piece
+pub take_within : {S : Type 0} (m : Meaning S) (s : ShareState S) (n moment k : ℕ) (piece : List ℕ) (link : LinkState) → link_of n s.links ≡ Some link → k ≤ count_in_piece m n moment s.server link piece → k ≤ count_on m s n moment piece
 unfolding count_on
 take_within m s n moment k piece link h b = rw h b

@@ -15,7 +15,7 @@ use Rattle.smb_session.specs.Authenticator.{Meaning}
 use Rattle.smb_engine.specs.declared.fault.ServeFault.{ServeFault}
 use Rattle.smb_frame.specs.Reading.{rest, fault_of}
 use Rattle.smb_engine.specs.declared.connection.Connection.{Connection}
-use Rattle.smb_request.specs.State.{SharedState}
+use Rattle.smb_request.specs.State.{ServerState}
 use Rattle.smb_engine.specs.State.{LinkState, ShareState}
 use Rattle.smb_engine.specs.Event.{EventText, opens, brings, ends, connection_of}
 use Rattle.smb_engine.specs.Chain.{PayloadStep, payload_step}
@@ -96,11 +96,11 @@ next_settled s n t false e = rw e refl
 module _ {S : Type 0} (m : Meaning S) where
   order_bytes : (s : ShareState S) (n moment : ℕ) (piece : List ℕ) (o : Option LinkState) → link_of n s.links ≡ o → LinksInOrder s → LinksInOrder (bytes_step m s n moment piece).state
   order_bytes s n moment piece None e h = rw (bytes_step-none m s n moment piece e) h
-  order_bytes s n moment piece (Some link) e h = rw (bytes_step-some m s n moment piece link e) (order_settled s n (piece_step m n moment s.shared link piece) _ refl h)
+  order_bytes s n moment piece (Some link) e h = rw (bytes_step-some m s n moment piece link e) (order_settled s n (piece_step m n moment s.server link piece) _ refl h)
 
   next_at : (s : ShareState S) (n moment : ℕ) (piece : List ℕ) (o : Option LinkState) → link_of n s.links ≡ o → (bytes_step m s n moment piece).state.next ≡ s.next
   next_at s n moment piece None e = rw (bytes_step-none m s n moment piece e) refl
-  next_at s n moment piece (Some link) e = rw (bytes_step-some m s n moment piece link e) (next_settled s n (piece_step m n moment s.shared link piece) _ refl)
+  next_at s n moment piece (Some link) e = rw (bytes_step-some m s n moment piece link e) (next_settled s n (piece_step m n moment s.server link piece) _ refl)
 
   pub bytes_step-next : (s : ShareState S) (n moment : ℕ) (piece : List ℕ) → (bytes_step m s n moment piece).state.next ≡ s.next
   bytes_step-next s n moment piece = next_at s n moment piece (link_of n s.links) refl
@@ -162,7 +162,7 @@ module _ {S : Type 0} (m : Meaning S) where
   other_bytes : (s : ShareState S) (n k moment : ℕ) (piece : List ℕ) (o : Option LinkState) → link_of n s.links ≡ o → eqb n k ≡ false →
       link_of k (bytes_step m s n moment piece).state.links ≡ link_of k s.links
   other_bytes s n k moment piece None e d = rw (bytes_step-none m s n moment piece e) refl
-  other_bytes s n k moment piece (Some link) e d = rw (bytes_step-some m s n moment piece link e) (other_settled s n k (piece_step m n moment s.shared link piece) _ refl d)
+  other_bytes s n k moment piece (Some link) e d = rw (bytes_step-some m s n moment piece link e) (other_settled s n k (piece_step m n moment s.server link piece) _ refl d)
 
   opens_at : (s : ShareState S) (n : ℕ) (b : Bool) → eqb n s.next ≡ b → event_refusal s (opens n) ≡ None → n ≡ s.next
   opens_at s n true t h = eqb-true n s.next t
@@ -185,25 +185,25 @@ module _ {S : Type 0} (m : Meaning S) (n k : ℕ) (d : eqb n k ≡ false) where
   reply_not_for [] = tt
   reply_not_for (byte ∷ replies) = (d, tt)
 
-  steps_at : (p : PayloadStep S) (others : SharedState S → Connection → PayloadSteps S) (o : Option (List ℕ)) → p.replies ≡ o →
-      AllByRecursion IsNotFor (others p.shared p.connection).outputs → AllByRecursion IsNotFor (and_then n others p).outputs
+  steps_at : (p : PayloadStep S) (others : ServerState S → Connection → PayloadSteps S) (o : Option (List ℕ)) → p.replies ≡ o →
+      AllByRecursion IsNotFor (others p.server p.connection).outputs → AllByRecursion IsNotFor (and_then n others p).outputs
   steps_at p others None e ih = rw e tt
-  steps_at p others (Some r) e ih = rw e (all-append IsNotFor (reply_frame n r) (others p.shared p.connection).outputs (reply_not_for r) ih)
+  steps_at p others (Some r) e ih = rw e (all-append IsNotFor (reply_frame n r) (others p.server p.connection).outputs (reply_not_for r) ih)
 
-  steps_not_for : (moment : ℕ) (shared : SharedState S) (connection : Connection) (xs : List (List ℕ)) → AllByRecursion IsNotFor (payload_steps m n moment shared connection xs).outputs
-  steps_not_for moment shared connection [] = tt
-  steps_not_for moment shared connection (x ∷ xs) =
-      let p = payload_step m n moment shared connection x in
-      steps_at p (λ s c. payload_steps m n moment s c xs) p.replies refl (steps_not_for moment p.shared p.connection xs)
+  steps_not_for : (moment : ℕ) (server : ServerState S) (connection : Connection) (xs : List (List ℕ)) → AllByRecursion IsNotFor (payload_steps m n moment server connection xs).outputs
+  steps_not_for moment server connection [] = tt
+  steps_not_for moment server connection (x ∷ xs) =
+      let p = payload_step m n moment server connection x in
+      steps_at p (λ s c. payload_steps m n moment s c xs) p.replies refl (steps_not_for moment p.server p.connection xs)
 
   closed_at : (link : LinkState) (stream : List ℕ) (steps : PayloadSteps S) (b : Bool) → (steps.stays_open && is_none (fault_of longest_payload (rest longest_payload stream))) ≡ b →
       AllByRecursion IsNotFor steps.outputs → AllByRecursion IsNotFor (closed_by n link stream steps).outputs
   closed_at link stream steps true e h = rw e h
   closed_at link stream steps false e h = rw e (all-append IsNotFor steps.outputs (end_of n ∷ []) h (d, tt))
 
-  piece_not_for : (moment : ℕ) (shared : SharedState S) (link : LinkState) (piece : List ℕ) → AllByRecursion IsNotFor (piece_step m n moment shared link piece).outputs
+  piece_not_for : (moment : ℕ) (server : ServerState S) (link : LinkState) (piece : List ℕ) → AllByRecursion IsNotFor (piece_step m n moment server link piece).outputs
   unfolding piece_step
-  piece_not_for moment shared link piece = closed_at link (link.stream ++ piece) _ _ refl (steps_not_for moment shared link.connection (added_payloads link.stream piece))
+  piece_not_for moment server link piece = closed_at link (link.stream ++ piece) _ _ refl (steps_not_for moment server link.connection (added_payloads link.stream piece))
 
   settled_not_for : (s : ShareState S) (t : PieceStep S) (b : Bool) → t.stays_open ≡ b → AllByRecursion IsNotFor t.outputs → AllByRecursion IsNotFor (settled s n t).outputs
   settled_not_for s t true e h = rw e h
@@ -212,7 +212,7 @@ module _ {S : Type 0} (m : Meaning S) (n k : ℕ) (d : eqb n k ≡ false) where
   bytes_not_for : (s : ShareState S) (moment : ℕ) (piece : List ℕ) (o : Option LinkState) → link_of n s.links ≡ o → AllByRecursion IsNotFor (bytes_step m s n moment piece).outputs
   bytes_not_for s moment piece None e = rw (bytes_step-none m s n moment piece e) tt
   bytes_not_for s moment piece (Some link) e =
-      rw (bytes_step-some m s n moment piece link e) (settled_not_for s (piece_step m n moment s.shared link piece) _ refl (piece_not_for moment s.shared link piece))
+      rw (bytes_step-some m s n moment piece link e) (settled_not_for s (piece_step m n moment s.server link piece) _ refl (piece_not_for moment s.server link piece))
 
 module _ {S : Type 0} (m : Meaning S) where
   pub not_for : (s : ShareState S) (event : EventText) (k : ℕ) → eqb (connection_of event) k ≡ false → AllByRecursion (λ output. eqb (receiver output) k ≡ false) (event_step m s event).outputs

@@ -12,11 +12,11 @@ use Rattle.smb_engine.specs.declared.event.Event.{Event}
 use Rattle.smb_engine.specs.declared.fault.ServeFault.{ServeFault}
 use Rattle.smb_engine.specs.declared.fault.ServeFault.TheVariants.{TooManyConnections, NoMemory, BadEvent, BadConfig}
 use Rattle.smb_session.specs.Authenticator.{Meaning}
-use Rattle.smb_request.specs.State.{SharedState, shared_opened}
+use Rattle.smb_request.specs.State.{ServerState, connection_added}
 use Rattle.smb_engine.specs.State.{LinkState, ShareState}
 use Rattle.smb_engine.specs.Event.{EventText, opens, brings, ends, text_of, events_of, connection_of, connection_at}
 use Rattle.smb_engine.specs.Output.{Output}
-use Rattle.smb_engine.specs.Stream.{longest_payload, PayloadSteps, payload_steps, added_payloads, PieceStep, closed_by, piece_step, shared_after_piece, count_in_piece}
+use Rattle.smb_engine.specs.Stream.{longest_payload, PayloadSteps, payload_steps, added_payloads, PieceStep, closed_by, piece_step, server_after_piece, count_in_piece}
 use Rattle.smb_engine.specs.Share.{EventStep, settled, bytes_step, stopped, count_on, ended, opened, new_link, opening_refusal, OpeningRefused, unread, unread_link, unread_entry, link_of}
 use Rattle.smb_engine.specs.Run.{Stop, Ran, run, run_behind, then_ran, later, refused_at_once, event_refusal, event_step, count_of, stopped_event, can_want_memory, EventStopped, RunStopped}
 use Rattle.smb_engine.proofs.Pieces.{added_is}
@@ -48,10 +48,10 @@ module _ {S : Type 0} (m : Meaning S) where
   closed-rest n moment link steps stream held true r e = rw (r, e) (rw r refl)
   closed-rest n moment link steps stream held false r e = rw (r, e) (rw (rest-rest link.stream) refl)
 
-  piece-rest : (n moment : ℕ) (shared : SharedState S) (link : LinkState) (piece : List ℕ) → unread_piece (piece_step m n moment shared (unread_link link) piece) ≡ unread_piece (piece_step m n moment shared link piece)
+  piece-rest : (n moment : ℕ) (server : ServerState S) (link : LinkState) (piece : List ℕ) → unread_piece (piece_step m n moment server (unread_link link) piece) ≡ unread_piece (piece_step m n moment server link piece)
   unfolding piece_step
-  piece-rest n moment shared link piece =
-      rw added-rest (closed-rest n moment link (payload_steps m n moment shared link.connection (added_payloads link.stream piece)) (link.stream ++ piece) (rest longest_payload link.stream ++ piece) _ (sym (rest-more longest_payload piece link.stream)) refl)
+  piece-rest n moment server link piece =
+      rw added-rest (closed-rest n moment link (payload_steps m n moment server link.connection (added_payloads link.stream piece)) (link.stream ++ piece) (rest longest_payload link.stream ++ piece) _ (sym (rest-more longest_payload piece link.stream)) refl)
 
   settled-unread_at : (s : ShareState S) (n : ℕ) (t : PieceStep S) (b : Bool) → t.stays_open ≡ b → unread_step (settled s n t) ≡ settled (unread s) n (unread_piece t)
   settled-unread_at s n t true e = rw (e, unread-with (is_at (nat_cmp n)) t.link s.links) refl
@@ -61,14 +61,14 @@ module _ {S : Type 0} (m : Meaning S) where
   settled-unread s n t = settled-unread_at s n t t.stays_open refl
 
   bytes_at : (s : ShareState S) (n moment : ℕ) (piece : List ℕ) (o : Option LinkState) →
-      unread_step (option_map_or (λ link. settled (unread s) n (piece_step m n moment s.shared link piece)) (option_map unread_link o) (record { state = unread s; outputs = [] }))
-      ≡ unread_step (option_map_or (λ link. settled s n (piece_step m n moment s.shared link piece)) o (record { state = s; outputs = [] }))
+      unread_step (option_map_or (λ link. settled (unread s) n (piece_step m n moment s.server link piece)) (option_map unread_link o) (record { state = unread s; outputs = [] }))
+      ≡ unread_step (option_map_or (λ link. settled s n (piece_step m n moment s.server link piece)) o (record { state = s; outputs = [] }))
   bytes_at s n moment piece None = rw unread-unread refl
   bytes_at s n moment piece (Some link) =
-      settled-unread (unread s) n (piece_step m n moment s.shared (unread_link link) piece)
-      ∙ ap (λ t. settled t n (unread_piece (piece_step m n moment s.shared (unread_link link) piece))) (unread-unread s)
-      ∙ ap (settled (unread s) n) (piece-rest n moment s.shared link piece)
-      ∙ sym (settled-unread s n (piece_step m n moment s.shared link piece))
+      settled-unread (unread s) n (piece_step m n moment s.server (unread_link link) piece)
+      ∙ ap (λ t. settled t n (unread_piece (piece_step m n moment s.server (unread_link link) piece))) (unread-unread s)
+      ∙ ap (settled (unread s) n) (piece-rest n moment s.server link piece)
+      ∙ sym (settled-unread s n (piece_step m n moment s.server link piece))
 
   bytes_step-unread : (s : ShareState S) (n moment : ℕ) (piece : List ℕ) → unread_step (bytes_step m (unread s) n moment piece) ≡ unread_step (bytes_step m s n moment piece)
   unfolding bytes_step
@@ -139,9 +139,9 @@ module _ {S : Type 0} (m : Meaning S) where
       rw (whole, run-cons s x events p.0, run-refused first.state events others event i why h p.1 r') refl
 
   stopped_at : (s : ShareState S) (n moment k : ℕ) (piece : List ℕ) (o : Option LinkState) →
-      unread (option_map_or (λ link. ended (record (unread s) { shared = shared_after_piece m n moment s.shared link piece k }) n) (option_map unread_link o) (unread s))
-      ≡ unread (option_map_or (λ link. ended (record s { shared = shared_after_piece m n moment s.shared link piece k }) n) o s)
-  unfolding shared_after_piece
+      unread (option_map_or (λ link. ended (record (unread s) { server = server_after_piece m n moment s.server link piece k }) n) (option_map unread_link o) (unread s))
+      ≡ unread (option_map_or (λ link. ended (record s { server = server_after_piece m n moment s.server link piece k }) n) o s)
+  unfolding server_after_piece
   stopped_at s n moment k piece None = unread-unread s
   stopped_at s n moment k piece (Some link) =
       rw (added-rest, unread-without (is_at (nat_cmp n)) (map unread_entry s.links), unread_entries s.links, unread-without (is_at (nat_cmp n)) s.links) refl
@@ -156,7 +156,7 @@ module _ {S : Type 0} (m : Meaning S) where
   stopped_event-unread s (ends n) k = unread-unread s
 
   count_at : (s : ShareState S) (n moment : ℕ) (piece : List ℕ) (o : Option LinkState) →
-      option_map_or (λ link. count_in_piece m n moment s.shared link piece) (option_map unread_link o) 0 ≡ option_map_or (λ link. count_in_piece m n moment s.shared link piece) o 0
+      option_map_or (λ link. count_in_piece m n moment s.server link piece) (option_map unread_link o) 0 ≡ option_map_or (λ link. count_in_piece m n moment s.server link piece) o 0
   unfolding count_in_piece
   count_at s n moment piece None = refl
   count_at s n moment piece (Some link) = rw added-rest refl
@@ -250,7 +250,7 @@ module _ {S : Type 0} (m : Meaning S) where
 
   pub opened-unread : (s : ShareState S) → s ≡ unread s → opened s ≡ unread (opened s)
   unfolding rest
-  opened-unread s h = rw (unread-insert s.next new_link s.links) (ap (λ t. record { shared = shared_opened s.shared s.next; links = insert_entry nat_cmp t.links s.next new_link; next = s.next + 1 }) h)
+  opened-unread s h = rw (unread-insert s.next new_link s.links) (ap (λ t. record { server = connection_added s.server s.next; links = insert_entry nat_cmp t.links s.next new_link; next = s.next + 1 }) h)
 
   open_refused : (s : ShareState S) (n : ℕ) (o : Option ServeFault) → n ≡ s.next → opening_refusal s ≡ o → event_refusal s (opens n) ≡ o
   open_refused s n o e h = rw (eq-eqb n s.next e) h

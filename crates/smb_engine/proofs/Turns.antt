@@ -21,12 +21,12 @@ use Rattle.smb_head.specs.Placed.{placed, replies_written}
 use Rattle.smb_engine.specs.declared.connection.Connection.{Connection}
 use Rattle.smb_session.specs.Authenticator.{Meaning}
 use Rattle.smb_request.specs.Context.{first_context}
-use Rattle.smb_request.specs.State.{SharedState}
+use Rattle.smb_request.specs.State.{ServerState}
 use Rattle.smb_request.specs.Response.{Performed}
 use Rattle.smb_request.specs.Request.{performed}
-use Rattle.smb_engine.specs.Chain.{is_cancel, is_negotiate_request, message_ids, keeps_negotiate_rule, Turn, replied, turn_after, turn_after_all, admitted, turn_before, PayloadStep, step_of, refused_step, first_negotiate, first_step, count_in_first, chain_step, shared_after_chain, count_in_chain, payload_step, shared_after, count_in}
-use Rattle.smb_request.specs.declared.response.Unanswered.{Unanswered}
-use Rattle.smb_request.specs.declared.response.Unanswered.TheVariants.{NotPerformed, Performed as WasPerformed}
+use Rattle.smb_engine.specs.Chain.{is_cancel, is_negotiate_request, message_ids, keeps_negotiate_rule, Turn, replied, turn_after, turn_after_all, admitted, turn_before, PayloadStep, step_of, refused_step, first_negotiate, first_step, count_in_first, chain_step, server_after_chain, count_in_chain, payload_step, server_after, count_in}
+use Rattle.smb_request.specs.declared.response.NoReply.{NoReply}
+use Rattle.smb_request.specs.declared.response.NoReply.TheVariants.{NotPerformed, Performed as WasPerformed}
 use Rattle.smb_request.specs.Held.{is_performed}
 use Rattle.smb_engine.specs.InPlace.{TurnPlaced, turn_behind, chain_behind}
 use Rattle.smb_engine.proofs.Lists.{drop_found}
@@ -78,24 +78,24 @@ turns-more m number moment turn (suc i) (x ∷ requests) request h =
     rw e (turns-more m number moment (turn_after m number moment turn x) i requests request h)
 
 -- the turn that a chain begins with
-abbrev pub first_turn : {S : Type 0} → SharedState S → Connection → Turn S
-first_turn shared connection = record { shared = shared; connection = connection; context = first_context; replies = [] }
+abbrev pub first_turn : {S : Type 0} → ServerState S → Connection → Turn S
+first_turn server connection = record { server = server; connection = connection; context = first_context; replies = [] }
 
 -- i requests are done, and this is what the code holds, behind what stood there
 pub record ChainSoFar {S : Type 0} (m : Meaning S) (number moment : ℕ) (front : List ℕ) (start : Turn S) (now : TurnPlaced S) (requests : List (List ℕ)) (i : ℕ) : Type 0 where
   pub so_far : now ≡ turn_behind front (turn_after_all m number moment start (take i requests))
 
 turn_of_placed : {S : Type 0} (front : List ℕ) (turn : Turn S) (now : TurnPlaced S) → now ≡ turn_behind front turn →
-    record { shared = now.shared; connection = now.connection; context = now.context; replies = turn.replies } ≡ turn
+    record { server = now.server; connection = now.connection; context = now.context; replies = turn.replies } ≡ turn
 turn_of_placed front turn now h = rw h refl
 
 -- where a chain begins, nothing stands behind the front
 pub chain_begins : {S : Type 0} (m : Meaning S) (number moment : ℕ) (front : List ℕ) (start : Turn S) (now : TurnPlaced S) (requests : List (List ℕ)) → start.replies ≡ [] →
-    now.shared ≡ start.shared → now.connection ≡ start.connection → now.context ≡ start.context → now.writer ≡ placed front [] → now.out ≡ front →
+    now.server ≡ start.server → now.connection ≡ start.connection → now.context ≡ start.context → now.writer ≡ placed front [] → now.out ≡ front →
     ChainSoFar m number moment front start now requests 0
 unfolding joined_replies
 chain_begins m number moment front start now requests none s c x w o =
-    record { so_far = rw (none, s, c, x, w, o) (ap (λ bytes. record { shared = start.shared; connection = start.connection; context = start.context; writer = placed front []; out = bytes }) (sym (append-nil front))) }
+    record { so_far = rw (none, s, c, x, w, o) (ap (λ bytes. record { server = start.server; connection = start.connection; context = start.context; writer = placed front []; out = bytes }) (sym (append-nil front))) }
 
 -- where a chain stands before its next request
 pub writer_at : {S : Type 0} (m : Meaning S) (number moment : ℕ) (front : List ℕ) (start : Turn S) (now : TurnPlaced S) (requests : List (List ℕ)) (i : ℕ) → ChainSoFar m number moment front start now requests i →
@@ -108,7 +108,7 @@ out_at m number moment front start now requests i h = ap (λ t. t.out) h.so_far
 
 pub chain_more : {S : Type 0} (m : Meaning S) (number moment : ℕ) (front : List ℕ) (start : Turn S) (now new : TurnPlaced S) (requests : List (List ℕ)) (request : List ℕ) (i : ℕ) →
     ChainSoFar m number moment front start now requests i → slice_get requests i ≡ Some request →
-    new ≡ turn_behind front (turn_after m number moment (record { shared = now.shared; connection = now.connection; context = now.context; replies = (turn_after_all m number moment start (take i requests)).replies }) request) →
+    new ≡ turn_behind front (turn_after m number moment (record { server = now.server; connection = now.connection; context = now.context; replies = (turn_after_all m number moment start (take i requests)).replies }) request) →
     ChainSoFar m number moment front start new requests (i + 1)
 chain_more m number moment front start now new requests request i h at e = record {
   so_far = e ∙ ap (λ t. turn_behind front (turn_after m number moment t request)) (turn_of_placed front (turn_after_all m number moment start (take i requests)) now h.so_far)
@@ -117,30 +117,30 @@ chain_more m number moment front start now new requests request i h at e = recor
 
 pub chain_all : {S : Type 0} (m : Meaning S) (number moment : ℕ) (front : List ℕ) (start : Turn S) (now : TurnPlaced S) (requests : List (List ℕ)) (i : ℕ) →
     ChainSoFar m number moment front start now requests i → length requests ≤ i →
-    record { shared = now.shared; connection = now.connection; out = now.out } ≡ chain_behind front (turn_after_all m number moment start requests)
+    record { server = now.server; connection = now.connection; out = now.out } ≡ chain_behind front (turn_after_all m number moment start requests)
 chain_all m number moment front start now requests i h p =
     let e = h.so_far ∙ ap (λ rs. turn_behind front (turn_after_all m number moment start rs)) (take_all i requests p) in
     rw e refl
 
-shared-replied : {S : Type 0} (now : Turn S) (request : List ℕ) (p : Performed S) → (replied now request p).shared ≡ p.shared
-shared-replied now request p = elim (p.response) as (λ r. (replied now request (record p { response = r })).shared ≡ p.shared) [ None ↦ refl | Some response ↦ refl ]
+server-replied : {S : Type 0} (now : Turn S) (request : List ℕ) (p : Performed S) → (replied now request p).server ≡ p.server
+server-replied now request p = elim (p.response) as (λ r. (replied now request (record p { response = r })).server ≡ p.server) [ None ↦ refl | Some response ↦ refl ]
 
--- a reply changes nothing of what is shared
-pub shared-turn_after : {S : Type 0} (m : Meaning S) (number moment : ℕ) (now : Turn S) (request : List ℕ) →
-    (turn_after m number moment now request).shared ≡ (performed m number moment now.shared now.connection.dialect now.context request).shared
+-- a reply changes nothing of the server
+pub server-turn_after : {S : Type 0} (m : Meaning S) (number moment : ℕ) (now : Turn S) (request : List ℕ) →
+    (turn_after m number moment now request).server ≡ (performed m number moment now.server now.connection.dialect now.context request).server
 unfolding turn_after
-shared-turn_after m number moment now request = shared-replied now request (performed m number moment now.shared now.connection.dialect now.context request)
+server-turn_after m number moment now request = server-replied now request (performed m number moment now.server now.connection.dialect now.context request)
 
 -- where memory ran out, before the request was performed or after
-pub chain_stopped : {S : Type 0} (m : Meaning S) (number moment : ℕ) (front : List ℕ) (start : Turn S) (now : TurnPlaced S) (requests : List (List ℕ)) (request : List ℕ) (i : ℕ) (left : SharedState S) (unanswered : Unanswered) →
+pub chain_stopped : {S : Type 0} (m : Meaning S) (number moment : ℕ) (front : List ℕ) (start : Turn S) (now : TurnPlaced S) (requests : List (List ℕ)) (request : List ℕ) (i : ℕ) (left : ServerState S) (no_reply : NoReply) →
     ChainSoFar m number moment front start now requests i → slice_get requests i ≡ Some request →
-    left ≡ (if is_performed unanswered then (performed m number moment now.shared now.connection.dialect now.context request).shared else now.shared) →
-    left ≡ (turn_after_all m number moment start (take (if is_performed unanswered then i + 1 else i) requests)).shared
+    left ≡ (if is_performed no_reply then (performed m number moment now.server now.connection.dialect now.context request).server else now.server) →
+    left ≡ (turn_after_all m number moment start (take (if is_performed no_reply then i + 1 else i) requests)).server
 chain_stopped m number moment front start now requests request i left WasPerformed h at e =
-    e ∙ ap (λ t. (performed m number moment t.shared t.connection.dialect t.context request).shared) h.so_far
-    ∙ sym (shared-turn_after m number moment (turn_after_all m number moment start (take i requests)) request)
-    ∙ ap (λ t. t.shared) (sym (turns-more m number moment start i requests request at))
-chain_stopped m number moment front start now requests request i left NotPerformed h at e = e ∙ ap (λ t. t.shared) h.so_far
+    e ∙ ap (λ t. (performed m number moment t.server t.connection.dialect t.context request).server) h.so_far
+    ∙ sym (server-turn_after m number moment (turn_after_all m number moment start (take i requests)) request)
+    ∙ ap (λ t. t.server) (sym (turns-more m number moment start i requests request at))
+chain_stopped m number moment front start now requests request i left NotPerformed h at e = e ∙ ap (λ t. t.server) h.so_far
 
 -- requests take a byte each and more
 requests_short : (requests : List (List ℕ)) → AllByRecursion IsRequest requests → length requests ≤ length (concat requests)
@@ -166,10 +166,10 @@ count_at connection payload (Some requests) h =
     omega (arith, requests_short requests chained.each, ap length chained.whole)
 
 -- a chain has no more requests than bytes
-count_in_chain_few : {S : Type 0} (m : Meaning S) (number moment : ℕ) (shared : SharedState S) (connection : Connection) (payload : List ℕ) →
-    count_in_chain m number moment shared connection payload ≤ length payload
+count_in_chain_few : {S : Type 0} (m : Meaning S) (number moment : ℕ) (server : ServerState S) (connection : Connection) (payload : List ℕ) →
+    count_in_chain m number moment server connection payload ≤ length payload
 unfolding count_in_chain
-count_in_chain_few m number moment shared connection payload = count_at connection payload (admitted connection payload) refl
+count_in_chain_few m number moment server connection payload = count_at connection payload (admitted connection payload) refl
 
 -- an SMB_COM_NEGOTIATE takes a byte and more
 first_long_at : (payload : List ℕ) (came readable : Bool) (dialects : Smb1Dialects) (o : Option Smb1Dialects) → is_smb1 payload ≡ readable →
@@ -191,91 +191,91 @@ count_in_at payload k None f h = h
 count_in_at payload k (Some dialects) f h = omega (arith, f dialects refl, count_first_few dialects)
 
 -- a payload has no more requests than bytes
-count_in_few : {S : Type 0} (m : Meaning S) (number moment : ℕ) (shared : SharedState S) (connection : Connection) (payload : List ℕ) → count_in m number moment shared connection payload ≤ length payload
+count_in_few : {S : Type 0} (m : Meaning S) (number moment : ℕ) (server : ServerState S) (connection : Connection) (payload : List ℕ) → count_in m number moment server connection payload ≤ length payload
 unfolding count_in
-count_in_few m number moment shared connection payload =
-    count_in_at payload _ (first_negotiate connection payload) (first_long connection payload) (count_in_chain_few m number moment shared connection payload)
+count_in_few m number moment server connection payload =
+    count_in_at payload _ (first_negotiate connection payload) (first_long connection payload) (count_in_chain_few m number moment server connection payload)
 
-pub count_few : {S : Type 0} (m : Meaning S) (number moment : ℕ) (shared : SharedState S) (connection : Connection) (payload : List ℕ) (n : ℕ) → count_in m number moment shared connection payload ≡ n → n ≤ length payload
-count_few m number moment shared connection payload n e = subst (λ (k : ℕ). k ≤ length payload) e (count_in_few m number moment shared connection payload)
+pub count_few : {S : Type 0} (m : Meaning S) (number moment : ℕ) (server : ServerState S) (connection : Connection) (payload : List ℕ) (n : ℕ) → count_in m number moment server connection payload ≡ n → n ≤ length payload
+count_few m number moment server connection payload n e = subst (λ (k : ℕ). k ≤ length payload) e (count_in_few m number moment server connection payload)
 
-pub within_few : {S : Type 0} (m : Meaning S) (number moment : ℕ) (shared : SharedState S) (connection : Connection) (payload : List ℕ) (n : ℕ) → n ≤ count_in m number moment shared connection payload → n ≤ length payload
-within_few m number moment shared connection payload n l = (let few = count_in_few m number moment shared connection payload in omega (arith, l, few))
+pub within_few : {S : Type 0} (m : Meaning S) (number moment : ℕ) (server : ServerState S) (connection : Connection) (payload : List ℕ) (n : ℕ) → n ≤ count_in m number moment server connection payload → n ≤ length payload
+within_few m number moment server connection payload n l = (let few = count_in_few m number moment server connection payload in omega (arith, l, few))
 
-module _ {S : Type 0} (m : Meaning S) (number moment : ℕ) (shared : SharedState S) (connection : Connection) where
-  chain-none_at : (requests : Option (List (List ℕ))) → option_map_or (λ rs. (turn_after_all m number moment (turn_before shared connection rs) (take 0 rs)).shared) requests shared ≡ shared
+module _ {S : Type 0} (m : Meaning S) (number moment : ℕ) (server : ServerState S) (connection : Connection) where
+  chain-none_at : (requests : Option (List (List ℕ))) → option_map_or (λ rs. (turn_after_all m number moment (turn_before server connection rs) (take 0 rs)).server) requests server ≡ server
   chain-none_at None = refl
   chain-none_at (Some requests) = refl
 
-  chain-none : (payload : List ℕ) → shared_after_chain m number moment shared connection payload 0 ≡ shared
-  unfolding shared_after_chain
+  chain-none : (payload : List ℕ) → server_after_chain m number moment server connection payload 0 ≡ server
+  unfolding server_after_chain
   chain-none payload = chain-none_at (admitted connection payload)
 
-  after-none_at : (payload : List ℕ) (o : Option Smb1Dialects) → option_map_or (λ dialects. shared) o (shared_after_chain m number moment shared connection payload 0) ≡ shared
+  after-none_at : (payload : List ℕ) (o : Option Smb1Dialects) → option_map_or (λ dialects. server) o (server_after_chain m number moment server connection payload 0) ≡ server
   after-none_at payload None = chain-none payload
   after-none_at payload (Some dialects) = refl
 
   -- after no request nothing has changed
-  pub shared_after-none : (payload : List ℕ) → shared_after m number moment shared connection payload 0 ≡ shared
-  unfolding shared_after
-  shared_after-none payload = after-none_at payload (first_negotiate connection payload)
+  pub server_after-none : (payload : List ℕ) → server_after m number moment server connection payload 0 ≡ server
+  unfolding server_after
+  server_after-none payload = after-none_at payload (first_negotiate connection payload)
 
   chain-all_at : (requests : Option (List (List ℕ))) →
-      option_map_or (λ rs. (turn_after_all m number moment (turn_before shared connection rs) (take (option_map_or length requests 0) rs)).shared) requests shared
-      ≡ (option_map_or (λ rs. step_of (turn_after_all m number moment (turn_before shared connection rs) rs)) requests (refused_step shared connection)).shared
+      option_map_or (λ rs. (turn_after_all m number moment (turn_before server connection rs) (take (option_map_or length requests 0) rs)).server) requests server
+      ≡ (option_map_or (λ rs. step_of (turn_after_all m number moment (turn_before server connection rs) rs)) requests (refused_step server connection)).server
   chain-all_at None = refl
-  chain-all_at (Some requests) = ap (λ rs. (turn_after_all m number moment (turn_before shared connection requests) rs).shared) (take_all (length requests) requests (omega arith))
+  chain-all_at (Some requests) = ap (λ rs. (turn_after_all m number moment (turn_before server connection requests) rs).server) (take_all (length requests) requests (omega arith))
 
-  chain-all : (payload : List ℕ) → shared_after_chain m number moment shared connection payload (count_in_chain m number moment shared connection payload) ≡ (chain_step m number moment shared connection payload).shared
-  unfolding shared_after_chain count_in_chain chain_step
+  chain-all : (payload : List ℕ) → server_after_chain m number moment server connection payload (count_in_chain m number moment server connection payload) ≡ (chain_step m number moment server connection payload).server
+  unfolding server_after_chain count_in_chain chain_step
   chain-all payload = chain-all_at (admitted connection payload)
 
-  first-shared_at : (o : Option Smb1Answer) (f : Smb1Answer → PayloadStep S) → ((answer : Smb1Answer) → (f answer).shared ≡ shared) →
-      (option_map_or f o (refused_step shared connection)).shared ≡ shared
-  first-shared_at None f h = refl
-  first-shared_at (Some answer) f h = h answer
+  first-server_at : (o : Option Smb1Answer) (f : Smb1Answer → PayloadStep S) → ((answer : Smb1Answer) → (f answer).server ≡ server) →
+      (option_map_or f o (refused_step server connection)).server ≡ server
+  first-server_at None f h = refl
+  first-server_at (Some answer) f h = h answer
 
-  -- an SMB_COM_NEGOTIATE changes nothing that is shared
-  pub first-shared : (dialects : Smb1Dialects) → (first_step m moment shared connection dialects).shared ≡ shared
+  -- an SMB_COM_NEGOTIATE changes nothing of the server
+  pub first-server : (dialects : Smb1Dialects) → (first_step m moment server connection dialects).server ≡ server
   unfolding first_step
-  first-shared dialects = first-shared_at (answer_to_smb1 dialects) _ (λ answer. refl)
+  first-server dialects = first-server_at (answer_to_smb1 dialects) _ (λ answer. refl)
 
   after-all_at : (payload : List ℕ) (o : Option Smb1Dialects) →
-      option_map_or (λ dialects. shared) o (shared_after_chain m number moment shared connection payload (option_map_or count_in_first o (count_in_chain m number moment shared connection payload)))
-      ≡ (option_map_or (first_step m moment shared connection) o (chain_step m number moment shared connection payload)).shared
+      option_map_or (λ dialects. server) o (server_after_chain m number moment server connection payload (option_map_or count_in_first o (count_in_chain m number moment server connection payload)))
+      ≡ (option_map_or (first_step m moment server connection) o (chain_step m number moment server connection payload)).server
   after-all_at payload None = chain-all payload
-  after-all_at payload (Some dialects) = sym (first-shared dialects)
+  after-all_at payload (Some dialects) = sym (first-server dialects)
 
   -- after all of its requests, what the payload leaves
-  pub shared_after-all : (payload : List ℕ) → shared_after m number moment shared connection payload (count_in m number moment shared connection payload) ≡ (payload_step m number moment shared connection payload).shared
-  unfolding shared_after count_in payload_step
-  shared_after-all payload = after-all_at payload (first_negotiate connection payload)
+  pub server_after-all : (payload : List ℕ) → server_after m number moment server connection payload (count_in m number moment server connection payload) ≡ (payload_step m number moment server connection payload).server
+  unfolding server_after count_in payload_step
+  server_after-all payload = after-all_at payload (first_negotiate connection payload)
 
   chain-refused_at : (requests : Option (List (List ℕ))) →
-      (option_map_or (λ rs. step_of (turn_after_all m number moment (turn_before shared connection rs) rs)) requests (refused_step shared connection)).replies ≡ None →
-      (option_map_or (λ rs. step_of (turn_after_all m number moment (turn_before shared connection rs) rs)) requests (refused_step shared connection)).shared ≡ shared
+      (option_map_or (λ rs. step_of (turn_after_all m number moment (turn_before server connection rs) rs)) requests (refused_step server connection)).replies ≡ None →
+      (option_map_or (λ rs. step_of (turn_after_all m number moment (turn_before server connection rs) rs)) requests (refused_step server connection)).server ≡ server
   chain-refused_at None h = refl
   chain-refused_at (Some requests) h = cc
 
-  chain-refused : (payload : List ℕ) → (chain_step m number moment shared connection payload).replies ≡ None → (chain_step m number moment shared connection payload).shared ≡ shared
+  chain-refused : (payload : List ℕ) → (chain_step m number moment server connection payload).replies ≡ None → (chain_step m number moment server connection payload).server ≡ server
   unfolding chain_step
   chain-refused payload h = chain-refused_at (admitted connection payload) h
 
   refused_at : (payload : List ℕ) (o : Option Smb1Dialects) →
-      (option_map_or (first_step m moment shared connection) o (chain_step m number moment shared connection payload)).replies ≡ None →
-      (option_map_or (first_step m moment shared connection) o (chain_step m number moment shared connection payload)).shared ≡ shared
+      (option_map_or (first_step m moment server connection) o (chain_step m number moment server connection payload)).replies ≡ None →
+      (option_map_or (first_step m moment server connection) o (chain_step m number moment server connection payload)).server ≡ server
   refused_at payload None h = chain-refused payload h
-  refused_at payload (Some dialects) h = first-shared dialects
+  refused_at payload (Some dialects) h = first-server dialects
 
-  -- what ends the connection changes nothing that is shared
-  pub refused-shared : (payload : List ℕ) (shared' : SharedState S) (connection' : Connection) →
-      record { shared = shared'; connection = connection'; replies = None } ≡ payload_step m number moment shared connection payload → shared' ≡ shared
+  -- what ends the connection changes nothing of the server
+  pub refused-server : (payload : List ℕ) (server' : ServerState S) (connection' : Connection) →
+      record { server = server'; connection = connection'; replies = None } ≡ payload_step m number moment server connection payload → server' ≡ server
   unfolding payload_step
-  refused-shared payload shared' connection' h =
-      ap (λ s. s.shared) h ∙ refused_at payload (first_negotiate connection payload) (sym (ap (λ s. s.replies) h))
+  refused-server payload server' connection' h =
+      ap (λ s. s.server) h ∙ refused_at payload (first_negotiate connection payload) (sym (ap (λ s. s.replies) h))
 
 -- at most one request more than the others is done
-pub done_least : (unanswered : Unanswered) (i n : ℕ) → n ≡ (if is_performed unanswered then i + 1 else i) → n ≤ i + 1
+pub done_least : (no_reply : NoReply) (i n : ℕ) → n ≡ (if is_performed no_reply then i + 1 else i) → n ≤ i + 1
 done_least WasPerformed i n h = omega (arith, h)
 done_least NotPerformed i n h = omega (arith, h)
 

@@ -18,7 +18,7 @@ use Rattle.smb_session.specs.Authenticator.{Meaning}
 use Rattle.smb_request.specs.Negotiate.{negotiate_answer}
 use Rattle.smb_request.specs.Smb1.{answer_to_smb1, reply_to_smb1}
 use Rattle.smb_request.specs.Context.{first_context}
-use Rattle.smb_request.specs.State.{SharedState, hello_of}
+use Rattle.smb_request.specs.State.{ServerState, hello_of}
 use Rattle.smb_request.specs.Response.{ResponseState, Performed}
 use Rattle.smb_request.specs.Request.{performed}
 
@@ -46,9 +46,9 @@ admitted connection payload =
     (λ requests. if keeps_negotiate_rule connection.dialect requests && may_use connection.window (message_ids requests) then Some requests else None)
     (chain_of payload) None
 
--- where a chain stands: what is shared, the connection, what the next related request acts under, and the replies
+-- a chain in progress: the server's state, the connection, what the next related request acts under, and the replies
 pub record Turn (S : Type 0) : Type 0 where
-  pub shared : SharedState S
+  pub server : ServerState S
   pub connection : Connection
   pub context : Context
   pub replies : List Reply
@@ -77,18 +77,18 @@ reply_to request response credits = record {
 abbrev pub replied : {S : Type 0} → Turn S → List ℕ → Performed S → Turn S
 replied turn request p = option_map_or
     (λ response. let credits = credits_granted turn.connection.window (header_of request).credits in record {
-      shared = p.shared;
+      server = p.server;
       connection = record turn.connection { dialect = p.dialect; window = with_more turn.connection.window credits };
       context = p.context;
       replies = turn.replies ++ reply_to request response credits ∷ [];
     })
     p.response
-    (record { shared = p.shared; connection = record turn.connection { dialect = p.dialect }; context = p.context; replies = turn.replies })
+    (record { server = p.server; connection = record turn.connection { dialect = p.dialect }; context = p.context; replies = turn.replies })
 
 module _ {S : Type 0} (authenticator : Meaning S) (connection_id moment : ℕ) where
   -- one request of a chain on a connection
   unfoldable pub turn_after : Turn S → List ℕ → Turn S
-  turn_after turn request = replied turn request (performed authenticator connection_id moment turn.shared turn.connection.dialect turn.context request)
+  turn_after turn request = replied turn request (performed authenticator connection_id moment turn.server turn.connection.dialect turn.context request)
 
   -- the requests of a chain, in order
   abbrev pub turn_after_all : Turn S → List (List ℕ) → Turn S
@@ -96,9 +96,9 @@ module _ {S : Type 0} (authenticator : Meaning S) (connection_id moment : ℕ) w
   turn_after_all turn (request ∷ requests) = turn_after_all (turn_after turn request) requests
 
 -- where a chain begins: its MessageIds have left the window
-abbrev pub turn_before : {S : Type 0} → SharedState S → Connection → List (List ℕ) → Turn S
-turn_before shared connection requests = record {
-  shared = shared;
+abbrev pub turn_before : {S : Type 0} → ServerState S → Connection → List (List ℕ) → Turn S
+turn_before server connection requests = record {
+  server = server;
   connection = record connection { payload_came = true; window = without_ids connection.window (message_ids requests) };
   context = first_context;
   replies = [];
@@ -106,15 +106,15 @@ turn_before shared connection requests = record {
 
 -- what a payload leaves, and the payload of its replies; no payload where it ends the connection
 pub record PayloadStep (S : Type 0) : Type 0 where
-  pub shared : SharedState S
+  pub server : ServerState S
   pub connection : Connection
   pub replies : Option (List ℕ)
 
 abbrev pub step_of : {S : Type 0} → Turn S → PayloadStep S
-step_of turn = record { shared = turn.shared; connection = turn.connection; replies = Some (joined_replies turn.replies) }
+step_of turn = record { server = turn.server; connection = turn.connection; replies = Some (joined_replies turn.replies) }
 
-abbrev pub refused_step : {S : Type 0} → SharedState S → Connection → PayloadStep S
-refused_step shared connection = record { shared = shared; connection = connection; replies = None }
+abbrev pub refused_step : {S : Type 0} → ServerState S → Connection → PayloadStep S
+refused_step server connection = record { server = server; connection = connection; replies = None }
 
 -- the first payload of a connection may be an SMB_COM_NEGOTIATE: which dialects it lists (3.3.5.3.1)
 unfoldable pub first_negotiate : Connection → List ℕ → Option Smb1Dialects
@@ -122,31 +122,31 @@ first_negotiate connection payload = if connection.payload_came then None else s
 
 -- it is answered by an SMB2 NEGOTIATE response, and the client goes on with MessageId 1; without a dialect of the share
 -- it ends the connection
-unfoldable pub first_step : {S : Type 0} → Meaning S → ℕ → SharedState S → Connection → Smb1Dialects → PayloadStep S
-first_step authenticator moment shared connection dialects = option_map_or
+unfoldable pub first_step : {S : Type 0} → Meaning S → ℕ → ServerState S → Connection → Smb1Dialects → PayloadStep S
+first_step authenticator moment server connection dialects = option_map_or
     (λ answer. record {
-      shared = shared;
+      server = server;
       connection = record connection { payload_came = true; dialect = answer.dialect; window = first_window 1 };
-      replies = Some (joined_replies (reply_to_smb1 (negotiate_answer shared.settings.guid (hello_of authenticator shared) moment answer.dialect_revision) ∷ []));
+      replies = Some (joined_replies (reply_to_smb1 (negotiate_answer server.settings.guid (hello_of authenticator server) moment answer.dialect_revision) ∷ []));
     })
     (answer_to_smb1 dialects)
-    (refused_step shared connection)
+    (refused_step server connection)
 
 abbrev pub count_in_first : Smb1Dialects → ℕ
 count_in_first dialects = option_map_or (λ answer. 1) (answer_to_smb1 dialects) 0
 
-module _ {S : Type 0} (authenticator : Meaning S) (connection_id moment : ℕ) (shared : SharedState S) (connection : Connection) where
+module _ {S : Type 0} (authenticator : Meaning S) (connection_id moment : ℕ) (server : ServerState S) (connection : Connection) where
   -- a chain: performed whole and answered, or refused whole, which ends the connection
   unfoldable pub chain_step : List ℕ → PayloadStep S
   chain_step payload =
-      option_map_or (λ requests. step_of (turn_after_all authenticator connection_id moment (turn_before shared connection requests) requests))
-      (admitted connection payload) (refused_step shared connection)
+      option_map_or (λ requests. step_of (turn_after_all authenticator connection_id moment (turn_before server connection requests) requests))
+      (admitted connection payload) (refused_step server connection)
 
-  -- what is shared after its first k requests
-  unfoldable pub shared_after_chain : List ℕ → ℕ → SharedState S
-  shared_after_chain payload k =
-      option_map_or (λ requests. (turn_after_all authenticator connection_id moment (turn_before shared connection requests) (take k requests)).shared)
-      (admitted connection payload) shared
+  -- the server's state after its first k requests
+  unfoldable pub server_after_chain : List ℕ → ℕ → ServerState S
+  server_after_chain payload k =
+      option_map_or (λ requests. (turn_after_all authenticator connection_id moment (turn_before server connection requests) (take k requests)).server)
+      (admitted connection payload) server
 
   -- how many of its requests are performed
   unfoldable pub count_in_chain : List ℕ → ℕ
@@ -154,11 +154,11 @@ module _ {S : Type 0} (authenticator : Meaning S) (connection_id moment : ℕ) (
 
   -- one payload
   unfoldable pub payload_step : List ℕ → PayloadStep S
-  payload_step payload = option_map_or (first_step authenticator moment shared connection) (first_negotiate connection payload) (chain_step payload)
+  payload_step payload = option_map_or (first_step authenticator moment server connection) (first_negotiate connection payload) (chain_step payload)
 
-  -- what is shared after the first k requests of a payload; an SMB_COM_NEGOTIATE changes nothing of it
-  unfoldable pub shared_after : List ℕ → ℕ → SharedState S
-  shared_after payload k = option_map_or (λ dialects. shared) (first_negotiate connection payload) (shared_after_chain payload k)
+  -- the server's state after the first k requests of a payload; an SMB_COM_NEGOTIATE changes nothing of it
+  unfoldable pub server_after : List ℕ → ℕ → ServerState S
+  server_after payload k = option_map_or (λ dialects. server) (first_negotiate connection payload) (server_after_chain payload k)
 
   -- how many requests of a payload are performed; an SMB_COM_NEGOTIATE that is answered is one
   unfoldable pub count_in : List ℕ → ℕ

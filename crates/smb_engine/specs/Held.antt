@@ -5,7 +5,7 @@ use Rattle.std.specs.List.{flat_map, AllByRecursion}
 use Rattle.smb_frame.specs.Reading.{first, fault_of}
 use Rattle.std.specs.Prelude.{None, false, ◌≤◌, ◌<◌, length, map}
 use Rattle.smb_engine.specs.declared.connection.Connection.{Connection}
-use Rattle.smb_request.specs.State.{SharedState}
+use Rattle.smb_request.specs.State.{ServerState}
 use Rattle.smb_engine.specs.State.{LinkState}
 use Rattle.smb_session.specs.Window.{GoodWindow}
 use Rattle.smb_engine.specs.Output.{Output}
@@ -15,14 +15,14 @@ use Rattle.smb_engine.specs.Share.{new_link, unread_link}
 
 -- steps, with their outputs as a place for outputs holds them, behind what stood there
 pub record StepsHeard (S : Type 0) : Type 0 where
-  pub shared : SharedState S
+  pub server : ServerState S
   pub connection : Connection
   pub heard : List Heard
   pub stays_open : Bool
 
 abbrev pub steps_heard : {S : Type 0} → (Output → List Heard) → List Heard → PayloadSteps S → StepsHeard S
 steps_heard hears before steps = record {
-  shared = steps.shared;
+  server = steps.server;
   connection = steps.connection;
   heard = before ++ flat_map hears steps.outputs;
   stays_open = steps.stays_open;
@@ -49,8 +49,8 @@ pub record AreKept (connections : List ℕ) (links : List (ℕ × LinkState)) (n
   pub known : connections ≡ map (λ entry. entry.0) links
 
 -- what the code leaves of a piece: the connection with its rest alone, where it is still open
-pub record IsPieceHeld {S : Type 0} (step : PieceStep S) (shared : SharedState S) (link : LinkState) (stays_open : Bool) : Type 0 where
-  pub same : shared ≡ step.shared
+pub record IsPieceHeld {S : Type 0} (step : PieceStep S) (server : ServerState S) (link : LinkState) (stays_open : Bool) : Type 0 where
+  pub same : server ≡ step.server
   pub fate : stays_open ≡ step.stays_open
   pub rests : IsTrue stays_open → link ≡ unread_link step.link
   pub waits : IsTrue stays_open → Waits link

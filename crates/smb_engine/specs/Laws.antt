@@ -98,25 +98,25 @@ module _ {S : Type 0} (authenticator : Meaning S) where
   -- the sessions and opens of a good state are in order, and so are those that a run leaves of such ones
   abbrev pub SessionsAreInOrder : Type 0
   SessionsAreInOrder =
-      ((s : ShareState S) → GoodState s → IsInOrder s.shared)
-      × ((s : ShareState S) (events : List EventText) → IsInOrder s.shared → IsInOrder (run authenticator s events).state.shared)
+      ((s : ShareState S) → GoodState s → IsInOrder s.server)
+      × ((s : ShareState S) (events : List EventText) → IsInOrder s.server → IsInOrder (run authenticator s events).state.server)
 
   -- events on other connections leave each session of a connection as it was, with its trees and its opens; or it is over
   -- since one of their requests replaced it: a SESSION_SETUP that lets its user in, and names it as the previous session
   abbrev pub SessionsOfOthersAreLeft : Type 0
   SessionsOfOthersAreLeft =
-      (s : ShareState S) → IsInOrder s.shared → (events : List EventText) (connection : ℕ) → AllByRecursion (λ event. (connection_of event == connection) ≡ false) events →
-      (number : ℕ) (session : SessionState) → session_at s.shared.sessions.table number ≡ Some session → session.connection ≡ connection →
-      IsAsItWas s.shared (run authenticator s events).state.shared number
-      ⊎ (IsOver (run authenticator s events).state.shared number
-      × Any (λ came. ReplacesSession authenticator came.shared came.context came.request number session) (requests_of_run authenticator s events))
+      (s : ShareState S) → IsInOrder s.server → (events : List EventText) (connection : ℕ) → AllByRecursion (λ event. (connection_of event == connection) ≡ false) events →
+      (number : ℕ) (session : SessionState) → session_at s.server.sessions.table number ≡ Some session → session.connection ≡ connection →
+      IsAsItWas s.server (run authenticator s events).state.server number
+      ⊎ (IsOver (run authenticator s events).state.server number
+      × Any (λ came. ReplacesSession authenticator came.server came.context came.request number session) (requests_of_run authenticator s events))
 
   -- a session's number is given once: it stays given, and a session that is over stays over, whatever events come
   abbrev pub WhatIsOverStaysOver : Type 0
   WhatIsOverStaysOver =
-      (s : ShareState S) → IsInOrder s.shared → (events : List EventText) (number : ℕ) → number < s.shared.sessions.table.next →
-      (number < (run authenticator s events).state.shared.sessions.table.next)
-      × (IsOver s.shared number → IsOver (run authenticator s events).state.shared number)
+      (s : ShareState S) → IsInOrder s.server → (events : List EventText) (number : ℕ) → number < s.server.sessions.table.next →
+      (number < (run authenticator s events).state.server.sessions.table.next)
+      × (IsOver s.server number → IsOver (run authenticator s events).state.server number)
 
   -- the share ends a connection at most once, and puts nothing out to it afterwards
   abbrev pub AnEndIsTheLast : Type 0

@@ -14,15 +14,15 @@ use Rattle.smb_session.specs.Window.{first_window, GoodWindow}
 use Rattle.smb_session.specs.Good.{GoodTable}
 use Rattle.smb_session.specs.Authenticator.{Meaning}
 use Rattle.smb_opens.specs.Good.{GoodStore}
-use Rattle.smb_request.specs.State.{new_shared, shared_opened, shared_ended}
+use Rattle.smb_request.specs.State.{new_server, connection_added, connection_ended}
 use Rattle.smb_engine.specs.State.{LinkState, ShareState}
 use Rattle.smb_request.specs.Owners.{AreOwned}
 use Rattle.smb_engine.specs.Output.{Output}
-use Rattle.smb_engine.specs.Stream.{longest_payload, PieceStep, piece_step, shared_after_piece, count_in_piece}
+use Rattle.smb_engine.specs.Stream.{longest_payload, PieceStep, piece_step, server_after_piece, count_in_piece}
 
 -- a new share: no connection, and the first will be 1
 abbrev pub new_share : {S : Type 0} → Settings → S → ShareState S
-new_share settings authenticator = record { shared = new_shared settings authenticator; links = []; next = 1 }
+new_share settings authenticator = record { server = new_server settings authenticator; links = []; next = 1 }
 
 -- the connection of a number, another in its place, and all but it
 abbrev pub link_of : ℕ → List (ℕ × LinkState) → Option LinkState
@@ -40,11 +40,11 @@ new_link = record { stream = []; connection = record { payload_came = false; dia
 
 -- the share with one connection more
 abbrev pub opened : {S : Type 0} → ShareState S → ShareState S
-opened s = record s { shared = shared_opened s.shared s.next; links = insert_entry nat_cmp s.links s.next new_link; next = s.next + 1 }
+opened s = record s { server = connection_added s.server s.next; links = insert_entry nat_cmp s.links s.next new_link; next = s.next + 1 }
 
 -- the share without a connection: its sessions end with it
 abbrev pub ended : {S : Type 0} → ShareState S → ℕ → ShareState S
-ended s connection = record s { shared = shared_ended s.shared connection; links = without_link connection s.links }
+ended s connection = record s { server = connection_ended s.server connection; links = without_link connection s.links }
 
 -- why no connection opens: 64 are open, or the numbers are spent
 abbrev pub opening_refusal : {S : Type 0} → ShareState S → Option ServeFault
@@ -59,29 +59,29 @@ pub record EventStep (S : Type 0) : Type 0 where
 abbrev pub settled : {S : Type 0} → ShareState S → ℕ → PieceStep S → EventStep S
 settled s connection step =
     if step.stays_open
-    then record { state = record s { shared = step.shared; links = with_link connection step.link s.links }; outputs = step.outputs }
-    else record { state = ended (record s { shared = step.shared }) connection; outputs = step.outputs }
+    then record { state = record s { server = step.server; links = with_link connection step.link s.links }; outputs = step.outputs }
+    else record { state = ended (record s { server = step.server }) connection; outputs = step.outputs }
 
 -- a piece on a connection; on one that is not open it is passed over
 unfoldable pub bytes_step : {S : Type 0} → Meaning S → ShareState S → ℕ → ℕ → List ℕ → EventStep S
 bytes_step authenticator s connection moment piece =
-    option_map_or (λ link. settled s connection (piece_step authenticator connection moment s.shared link piece)) (link_of connection s.links)
+    option_map_or (λ link. settled s connection (piece_step authenticator connection moment s.server link piece)) (link_of connection s.links)
     (record { state = s; outputs = [] })
 
 -- whether a connection is open after a piece on it
 unfoldable pub is_open_after : {S : Type 0} → Meaning S → ShareState S → ℕ → ℕ → List ℕ → Bool
 is_open_after authenticator s connection moment piece =
-    option_map_or (λ link. (piece_step authenticator connection moment s.shared link piece).stays_open) (link_of connection s.links) false
+    option_map_or (λ link. (piece_step authenticator connection moment s.server link piece).stays_open) (link_of connection s.links) false
 
 -- where memory ran out after k requests of a piece: those k stand, and then the connection has ended
 unfoldable pub stopped : {S : Type 0} → Meaning S → ShareState S → ℕ → ℕ → List ℕ → ℕ → ShareState S
 stopped authenticator s connection moment piece k =
-    option_map_or (λ link. ended (record s { shared = shared_after_piece authenticator connection moment s.shared link piece k }) connection) (link_of connection s.links) s
+    option_map_or (λ link. ended (record s { server = server_after_piece authenticator connection moment s.server link piece k }) connection) (link_of connection s.links) s
 
 -- how many requests of a piece are performed
 unfoldable pub count_on : {S : Type 0} → Meaning S → ShareState S → ℕ → ℕ → List ℕ → ℕ
 count_on authenticator s connection moment piece =
-    option_map_or (λ link. count_in_piece authenticator connection moment s.shared link piece) (link_of connection s.links) 0
+    option_map_or (λ link. count_in_piece authenticator connection moment s.server link piece) (link_of connection s.links) 0
 
 -- a state as the code holds it: of each stream the unread rest alone
 abbrev pub unread_link : LinkState → LinkState
@@ -127,14 +127,14 @@ pub record IsGoodLink (link : LinkState) : Type 0 where
 -- those connections may have some that are open; the files and their opens are good, and each open is a session's and a
 -- tree's that stand
 pub record GoodState {S : Type 0} (s : ShareState S) : Type 0 where
-  pub lawful : is_lawful s.shared.settings ≡ true
-  pub named : s.shared.sessions.share ≡ s.shared.settings.share
-  pub room : s.shared.store.tree.capacity ≡ s.shared.settings.capacity
+  pub lawful : is_lawful s.server.settings ≡ true
+  pub named : s.server.sessions.share ≡ s.server.settings.share
+  pub room : s.server.store.tree.capacity ≡ s.server.settings.capacity
   pub few : length s.links ≤ 64
   pub given : AllByRecursion (λ entry. (0 < entry.0) × (entry.0 < s.next)) s.links
   pub next : 0 < s.next
   pub good : AllByRecursion (λ entry. IsGoodLink entry.1) s.links
-  pub sessions : GoodTable s.shared.sessions.table
-  pub known : s.shared.sessions.table.connections ≡ map (λ entry. entry.0) s.links
-  pub store : GoodStore s.shared.store
-  pub owned : AreOwned s.shared.sessions.table s.shared.store.opens
+  pub sessions : GoodTable s.server.sessions.table
+  pub known : s.server.sessions.table.connections ≡ map (λ entry. entry.0) s.links
+  pub store : GoodStore s.server.store
+  pub owned : AreOwned s.server.sessions.table s.server.store.opens

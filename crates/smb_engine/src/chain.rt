@@ -13,7 +13,7 @@ ghost use Rattle.smb_head.specs.Replies.{joined_replies};
 ghost use Rattle.smb_request.specs.Negotiate.{negotiate_answer};
 ghost use Rattle.smb_request.specs.State.{hello_of};
 ghost use Rattle.smb_request.specs.Smb1.{reply_to_smb1};
-ghost use Rattle.smb_engine.specs.Chain.{is_negotiate_request, message_ids, keeps_negotiate_rule, admitted, reply_to, turn_after, turn_after_all, step_of, first_negotiate, first_step, count_in_first, chain_step, shared_after_chain, count_in_chain, payload_step, shared_after, count_in};
+ghost use Rattle.smb_engine.specs.Chain.{is_negotiate_request, message_ids, keeps_negotiate_rule, admitted, reply_to, turn_after, turn_after_all, step_of, first_negotiate, first_step, count_in_first, chain_step, server_after_chain, count_in_chain, payload_step, server_after, count_in};
 ghost use Rattle.smb_request.specs.Held.{is_performed};
 ghost use Rattle.smb_engine.specs.Output.{reply_frame, output_bytes};
 ghost use Rattle.smb_engine.specs.InPlace.{turn_behind, chain_behind, payload_behind};
@@ -26,7 +26,7 @@ use smb_body::{Smb1Dialects, read_smb1_negotiate};
 use smb_frame::{close_frame, open_frame};
 use smb_head::{Chain, Header, HeaderFlags, ReplyWriter, read_chain};
 use smb_opens::Opens;
-use smb_request::{Answered, Context, Shared, Unanswered, smb1};
+use smb_request::{Answered, Context, NoReply, Server, smb1};
 use smb_session::{Authenticator, Window};
 use smb_tree::Tree;
 use smb_wire::{Command, Dialect};
@@ -140,7 +140,7 @@ fn first_negotiate(connection: &Connection, payload: &[u8]) -> Option<Smb1Dialec
 /// request was performed.
 #[tactic(auto, unfolding(crate::specs::Chain::turn_after))]
 fn turn<A: Authenticator + Drop, T: Tree + Drop, O: Opens + Drop>(
-    shared: &mut Shared<A, T, O>,
+    server: &mut Server<A, T, O>,
     connection_id: u64,
     moment: u64,
     connection: &mut Connection,
@@ -149,27 +149,27 @@ fn turn<A: Authenticator + Drop, T: Tree + Drop, O: Opens + Drop>(
     header: &Header,
     request: &[u8],
     out: &mut Vec<u8>,
-) -> Result<(), Unanswered>
+) -> Result<(), NoReply>
     requires header { header.now ≡ header_of request.now }
     requires order { writer.old.base ≤ writer.old.last }
     requires within { writer.old.last ≤ length out.old.items }
     requires room { rounded_up (length out.old.items - writer.old.base) + 65616 < 2 ^ 24 }
     ensures ok { (front : List ℕ) (before : List Reply) → writer.old ≡ placed front before → out.old.items ≡ replies_written front before →
-        OnOk result (record { shared = shared.new; connection = connection.new; context = context.new; writer = writer.new; out = out.new.items }
-        ≡ turn_behind front (turn_after A.meaning connection_id moment (record { shared = shared.old; connection = connection.old; context = context.old; replies = before }) request.now)) }
+        OnOk result (record { server = server.new; connection = connection.new; context = context.new; writer = writer.new; out = out.new.items }
+        ≡ turn_behind front (turn_after A.meaning connection_id moment (record { server = server.old; connection = connection.old; context = context.old; replies = before }) request.now)) }
     ensures order { writer.new.base ≤ writer.new.last }
     ensures base { writer.new.base ≡ writer.old.base }
     ensures within { OnOk result (writer.new.last ≤ length out.new.items) }
     ensures len { OnOk result (rounded_up (length out.new.items - writer.old.base) ≤ rounded_up (length out.old.items - writer.old.base) + 65616) }
     ensures kept { take writer.old.base out.new.items ≡ take writer.old.base out.old.items }
-    ensures known { shared.new.sessions.table.connections ≡ shared.old.sessions.table.connections }
-    ensures err { IfErr result (λ unanswered. shared.new
-        ≡ (if is_performed unanswered then (performed A.meaning connection_id moment shared.old connection.old.dialect context.old request.now).shared else shared.old)) }
+    ensures known { server.new.sessions.table.connections ≡ server.old.sessions.table.connections }
+    ensures err { IfErr result (λ no_reply. server.new
+        ≡ (if is_performed no_reply then (performed A.meaning connection_id moment server.old connection.old.dialect context.old request.now).server else server.old)) }
 {
     let Ok(reply) = writer.open_reply(out) else {
-        return Err(Unanswered::NotPerformed);
+        return Err(NoReply::NotPerformed);
     };
-    let answered = match shared.perform(
+    let answered = match server.perform(
         connection_id,
         moment,
         &mut connection.dialect,
@@ -179,7 +179,7 @@ fn turn<A: Authenticator + Drop, T: Tree + Drop, O: Opens + Drop>(
         out,
     ) {
         Ok(answered) => answered,
-        Err(unanswered) => return Err(unanswered),
+        Err(no_reply) => return Err(no_reply),
     };
     let Some(answered) = answered else {
         writer.drop_reply(reply, out);
@@ -192,20 +192,20 @@ fn turn<A: Authenticator + Drop, T: Tree + Drop, O: Opens + Drop>(
 }
 
 /// How many requests of a chain were performed, where memory ran out in the one behind so many others.
-fn done_behind(others: usize, unanswered: Unanswered) -> usize
+fn done_behind(others: usize, no_reply: NoReply) -> usize
     requires { others < 16 }
-    ensures { result ≡ (if is_performed unanswered then others + 1 else others) }
+    ensures { result ≡ (if is_performed no_reply then others + 1 else others) }
 {
-    match unanswered {
-        Unanswered::NotPerformed => others,
-        Unanswered::Performed => others + 1,
+    match no_reply {
+        NoReply::NotPerformed => others,
+        NoReply::Performed => others + 1,
     }
 }
 
 /// Performs the requests of a chain in order, and adds their replies, joined, to `out`. An error tells how many were
 /// performed.
 fn perform_chain<A: Authenticator + Drop, T: Tree + Drop, O: Opens + Drop>(
-    shared: &mut Shared<A, T, O>,
+    server: &mut Server<A, T, O>,
     connection_id: u64,
     moment: u64,
     connection: &mut Connection,
@@ -213,20 +213,20 @@ fn perform_chain<A: Authenticator + Drop, T: Tree + Drop, O: Opens + Drop>(
     out: &mut Vec<u8>,
 ) -> Result<(), RanOut>
     requires few { length chain.now ≤ 16 }
-    ensures ok { OnOk result (record { shared = shared.new; connection = connection.new; out = out.new.items }
-        ≡ chain_behind out.old.items (turn_after_all A.meaning connection_id moment (record { shared = shared.old; connection = connection.old; context = first_context; replies = [] }) chain.now)) }
+    ensures ok { OnOk result (record { server = server.new; connection = connection.new; out = out.new.items }
+        ≡ chain_behind out.old.items (turn_after_all A.meaning connection_id moment (record { server = server.old; connection = connection.old; context = first_context; replies = [] }) chain.now)) }
     ensures len { OnOk result (length out.new.items ≤ length out.old.items + 1049856) }
     ensures kept { take (length out.old.items) out.new.items ≡ out.old.items }
-    ensures known { shared.new.sessions.table.connections ≡ shared.old.sessions.table.connections }
-    ensures err { IfErr result (λ ran_out. (ran_out.done ≤ length chain.now) × (shared.new
-        ≡ (turn_after_all A.meaning connection_id moment (record { shared = shared.old; connection = connection.old; context = first_context; replies = [] }) (take ran_out.done chain.now)).shared)) }
+    ensures known { server.new.sessions.table.connections ≡ server.old.sessions.table.connections }
+    ensures err { IfErr result (λ ran_out. (ran_out.done ≤ length chain.now) × (server.new
+        ≡ (turn_after_all A.meaning connection_id moment (record { server = server.old; connection = connection.old; context = first_context; replies = [] }) (take ran_out.done chain.now)).server)) }
 {
     let mut writer = ReplyWriter::begin(out);
     let mut context = Context::first();
     for i in 0..chain.len() {
         let (header, request) = request_at(chain, i);
         match turn(
-            shared,
+            server,
             connection_id,
             moment,
             connection,
@@ -237,8 +237,8 @@ fn perform_chain<A: Authenticator + Drop, T: Tree + Drop, O: Opens + Drop>(
             out,
         ) {
             Ok(()) => {}
-            Err(unanswered) => {
-                let done = done_behind(i, unanswered);
+            Err(no_reply) => {
+                let done = done_behind(i, no_reply);
                 return Err(RanOut { done });
             }
         }
@@ -263,7 +263,7 @@ fn end_frame(start: usize, out: &mut Vec<u8>)
 /// Performs the requests of a chain, and adds the frame of their replies to `out`, where there are any. An error tells
 /// how many were performed, and leaves `out` as it was.
 fn frame_chain<A: Authenticator + Drop, T: Tree + Drop, O: Opens + Drop>(
-    shared: &mut Shared<A, T, O>,
+    server: &mut Server<A, T, O>,
     connection_id: u64,
     moment: u64,
     connection: &mut Connection,
@@ -271,17 +271,17 @@ fn frame_chain<A: Authenticator + Drop, T: Tree + Drop, O: Opens + Drop>(
     out: &mut Vec<u8>,
 ) -> Result<(), RanOut>
     requires few { length chain.now ≤ 16 }
-    ensures ok { OnOk result (record { shared = shared.new; connection = connection.new; goes_on = true; out = out.new.items }
-        ≡ payload_behind out.old.items (step_of (turn_after_all A.meaning connection_id moment (record { shared = shared.old; connection = connection.old; context = first_context; replies = [] }) chain.now))) }
+    ensures ok { OnOk result (record { server = server.new; connection = connection.new; goes_on = true; out = out.new.items }
+        ≡ payload_behind out.old.items (step_of (turn_after_all A.meaning connection_id moment (record { server = server.old; connection = connection.old; context = first_context; replies = [] }) chain.now))) }
     ensures kept { OnErr result (out.new.items ≡ out.old.items) }
-    ensures known { shared.new.sessions.table.connections ≡ shared.old.sessions.table.connections }
-    ensures err { IfErr result (λ ran_out. (ran_out.done ≤ length chain.now) × (shared.new
-        ≡ (turn_after_all A.meaning connection_id moment (record { shared = shared.old; connection = connection.old; context = first_context; replies = [] }) (take ran_out.done chain.now)).shared)) }
+    ensures known { server.new.sessions.table.connections ≡ server.old.sessions.table.connections }
+    ensures err { IfErr result (λ ran_out. (ran_out.done ≤ length chain.now) × (server.new
+        ≡ (turn_after_all A.meaning connection_id moment (record { server = server.old; connection = connection.old; context = first_context; replies = [] }) (take ran_out.done chain.now)).server)) }
 {
     let Ok(start) = open_frame(out) else {
         return Err(RanOut { done: 0 });
     };
-    match perform_chain(shared, connection_id, moment, connection, chain, out) {
+    match perform_chain(server, connection_id, moment, connection, chain, out) {
         Ok(()) => {
             end_frame(start, out);
             Ok(())
@@ -296,40 +296,40 @@ fn frame_chain<A: Authenticator + Drop, T: Tree + Drop, O: Opens + Drop>(
 /// Performs a payload that is a chain, adds the frame of its replies to `out`, and tells the number of its requests;
 /// None where it ends the connection. An error tells how many requests were performed. Where it is not performed whole
 /// `out` is as it was.
-#[tactic(auto, unfolding(crate::specs::Chain::chain_step, crate::specs::Chain::shared_after_chain, crate::specs::Chain::count_in_chain))]
+#[tactic(auto, unfolding(crate::specs::Chain::chain_step, crate::specs::Chain::server_after_chain, crate::specs::Chain::count_in_chain))]
 fn chain_payload<A: Authenticator + Drop, T: Tree + Drop, O: Opens + Drop>(
-    shared: &mut Shared<A, T, O>,
+    server: &mut Server<A, T, O>,
     connection_id: u64,
     moment: u64,
     connection: &mut Connection,
     payload: &[u8],
     out: &mut Vec<u8>,
 ) -> Result<Option<usize>, RanOut>
-    ensures ok { IfOk result (λ count. record { shared = shared.new; connection = connection.new; goes_on = is_some count; out = out.new.items }
-        ≡ payload_behind out.old.items (chain_step A.meaning connection_id moment shared.old connection.old payload.now)) }
-    ensures count { IfOk result (λ count. IfSome count (λ n. count_in_chain A.meaning connection_id moment shared.old connection.old payload.now ≡ n)) }
+    ensures ok { IfOk result (λ count. record { server = server.new; connection = connection.new; goes_on = is_some count; out = out.new.items }
+        ≡ payload_behind out.old.items (chain_step A.meaning connection_id moment server.old connection.old payload.now)) }
+    ensures count { IfOk result (λ count. IfSome count (λ n. count_in_chain A.meaning connection_id moment server.old connection.old payload.now ≡ n)) }
     ensures kept { OnErr result (out.new.items ≡ out.old.items) }
-    ensures err { IfErr result (λ ran_out. (ran_out.done ≤ count_in_chain A.meaning connection_id moment shared.old connection.old payload.now)
-        × (shared.new ≡ shared_after_chain A.meaning connection_id moment shared.old connection.old payload.now ran_out.done)) }
-    ensures known { shared.new.sessions.table.connections ≡ shared.old.sessions.table.connections }
+    ensures err { IfErr result (λ ran_out. (ran_out.done ≤ count_in_chain A.meaning connection_id moment server.old connection.old payload.now)
+        × (server.new ≡ server_after_chain A.meaning connection_id moment server.old connection.old payload.now ran_out.done)) }
+    ensures known { server.new.sessions.table.connections ≡ server.old.sessions.table.connections }
 {
     let Some(chain) = admit(connection, payload) else {
         return Ok(None);
     };
-    frame_chain(shared, connection_id, moment, connection, &chain, out)?;
+    frame_chain(server, connection_id, moment, connection, &chain, out)?;
     Ok(Some(chain.len()))
 }
 
 /// Adds the frame of the response to an SMB_COM_NEGOTIATE to `out`. False says that memory was wanting; `out` is as it
 /// was then.
 fn frame_smb1<A: Authenticator + Drop, T: Tree + Drop, O: Opens + Drop>(
-    shared: &Shared<A, T, O>,
+    server: &Server<A, T, O>,
     moment: u64,
     dialect_revision: u16,
     out: &mut Vec<u8>,
 ) -> bool
     ensures ok { OnTrue result (out.new.items ≡ out.old.items
-        ++ flat_map output_bytes (reply_frame 0 (joined_replies (reply_to_smb1 (negotiate_answer shared.now.settings.guid (hello_of A.meaning shared.now) moment dialect_revision) ∷ [])))) }
+        ++ flat_map output_bytes (reply_frame 0 (joined_replies (reply_to_smb1 (negotiate_answer server.now.settings.guid (hello_of A.meaning server.now) moment dialect_revision) ∷ [])))) }
     ensures kept { OnFalse result (out.new.items ≡ out.old.items) }
 {
     let Ok(start) = open_frame(out) else {
@@ -340,7 +340,7 @@ fn frame_smb1<A: Authenticator + Drop, T: Tree + Drop, O: Opens + Drop>(
         out.truncate(start);
         return false;
     };
-    let Ok(()) = shared.put_smb1_body(moment, dialect_revision, out) else {
+    let Ok(()) = server.put_smb1_body(moment, dialect_revision, out) else {
         out.truncate(start);
         return false;
     };
@@ -353,14 +353,14 @@ fn frame_smb1<A: Authenticator + Drop, T: Tree + Drop, O: Opens + Drop>(
 /// connection. Where it is not answered `out` is as it was.
 #[tactic(auto, unfolding(crate::specs::Chain::first_step))]
 fn first_payload<A: Authenticator + Drop, T: Tree + Drop, O: Opens + Drop>(
-    shared: &Shared<A, T, O>,
+    server: &Server<A, T, O>,
     moment: u64,
     connection: &mut Connection,
     dialects: Smb1Dialects,
     out: &mut Vec<u8>,
 ) -> Result<Option<usize>, RanOut>
-    ensures ok { IfOk result (λ count. record { shared = shared.now; connection = connection.new; goes_on = is_some count; out = out.new.items }
-        ≡ payload_behind out.old.items (first_step A.meaning moment shared.now connection.old dialects)) }
+    ensures ok { IfOk result (λ count. record { server = server.now; connection = connection.new; goes_on = is_some count; out = out.new.items }
+        ≡ payload_behind out.old.items (first_step A.meaning moment server.now connection.old dialects)) }
     ensures count { IfOk result (λ count. IfSome count (λ n. count_in_first dialects ≡ n)) }
     ensures err { IfErr result (λ ran_out. ran_out.done ≡ 0) }
     ensures kept { OnErr result (out.new.items ≡ out.old.items) }
@@ -368,7 +368,7 @@ fn first_payload<A: Authenticator + Drop, T: Tree + Drop, O: Opens + Drop>(
     let Some(answer) = smb1::answer(dialects) else {
         return Ok(None);
     };
-    if !frame_smb1(shared, moment, answer.dialect_revision, out) {
+    if !frame_smb1(server, moment, answer.dialect_revision, out) {
         return Err(RanOut { done: 0 });
     }
     connection.payload_came = true;
@@ -380,25 +380,25 @@ fn first_payload<A: Authenticator + Drop, T: Tree + Drop, O: Opens + Drop>(
 /// Performs a payload, adds the frame of its replies to `out`, where there are any, and tells the number of its
 /// requests; None where it ends the connection. An error tells how many requests were performed. Where it is not
 /// performed whole `out` is as it was.
-#[tactic(auto, unfolding(crate::specs::Chain::payload_step, crate::specs::Chain::shared_after, crate::specs::Chain::count_in))]
+#[tactic(auto, unfolding(crate::specs::Chain::payload_step, crate::specs::Chain::server_after, crate::specs::Chain::count_in))]
 pub(crate) fn perform_payload<A: Authenticator + Drop, T: Tree + Drop, O: Opens + Drop>(
-    shared: &mut Shared<A, T, O>,
+    server: &mut Server<A, T, O>,
     connection_id: u64,
     moment: u64,
     connection: &mut Connection,
     payload: &[u8],
     out: &mut Vec<u8>,
 ) -> Result<Option<usize>, RanOut>
-    ensures ok { IfOk result (λ count. record { shared = shared.new; connection = connection.new; goes_on = is_some count; out = out.new.items }
-        ≡ payload_behind out.old.items (payload_step A.meaning connection_id moment shared.old connection.old payload.now)) }
-    ensures count { IfOk result (λ count. IfSome count (λ n. count_in A.meaning connection_id moment shared.old connection.old payload.now ≡ n)) }
+    ensures ok { IfOk result (λ count. record { server = server.new; connection = connection.new; goes_on = is_some count; out = out.new.items }
+        ≡ payload_behind out.old.items (payload_step A.meaning connection_id moment server.old connection.old payload.now)) }
+    ensures count { IfOk result (λ count. IfSome count (λ n. count_in A.meaning connection_id moment server.old connection.old payload.now ≡ n)) }
     ensures kept { OnErr result (out.new.items ≡ out.old.items) }
-    ensures err { IfErr result (λ ran_out. (ran_out.done ≤ count_in A.meaning connection_id moment shared.old connection.old payload.now)
-        × (shared.new ≡ shared_after A.meaning connection_id moment shared.old connection.old payload.now ran_out.done)) }
-    ensures known { shared.new.sessions.table.connections ≡ shared.old.sessions.table.connections }
+    ensures err { IfErr result (λ ran_out. (ran_out.done ≤ count_in A.meaning connection_id moment server.old connection.old payload.now)
+        × (server.new ≡ server_after A.meaning connection_id moment server.old connection.old payload.now ran_out.done)) }
+    ensures known { server.new.sessions.table.connections ≡ server.old.sessions.table.connections }
 {
     match first_negotiate(connection, payload) {
-        None => chain_payload(shared, connection_id, moment, connection, payload, out),
-        Some(dialects) => first_payload(shared, moment, connection, dialects, out),
+        None => chain_payload(server, connection_id, moment, connection, payload, out),
+        Some(dialects) => first_payload(server, moment, connection, dialects, out),
     }
 }

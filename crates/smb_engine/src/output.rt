@@ -29,10 +29,10 @@ pub(crate) trait Sink {
 
     ghost hears: { Output → List Heard };
 
-    /// What stands there, with the vector that was handed out, which holds these bytes.
+    /// What stands there, with the vector that was inherited out, which holds these bytes.
     ghost with_bytes: { Self → List ℕ → List Heard };
 
-    /// A vector that was handed out with these bytes.
+    /// A vector that was inherited out with these bytes.
     ghost lends: { Self → List ℕ → Type 0 };
 
     /// How much stands there.
@@ -50,7 +50,7 @@ pub(crate) trait Sink {
             OnOk result (content self.new ≡ with_bytes self.old before ++ flat_map hears (reply_frame connection replies)) }
         ensures err { (before : List ℕ) → lends self.old before → OnErr result (content self.new ≡ with_bytes self.old before) };
 
-    /// Takes the vector back as it was handed out.
+    /// Takes the vector back as it was inherited out.
     fn give_back(&mut self, bytes: Vec<u8>)
         ensures { (before : List ℕ) → lends self.old before → bytes.items ≡ before → content self.new ≡ with_bytes self.old before };
 

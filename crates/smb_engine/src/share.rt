@@ -7,7 +7,7 @@ ghost use Rattle.std.specs.BTreeMap.{is_at, insert_entry};
 ghost use Rattle.std.specs.Ordering.{nat_cmp};
 ghost use Rattle.smb_tree.specs.Content.{new_content};
 ghost use Rattle.smb_request.specs.Settings.{settings_of, is_lawful};
-ghost use Rattle.smb_request.specs.State.{shared_opened};
+ghost use Rattle.smb_request.specs.State.{connection_added};
 ghost use Rattle.smb_engine.specs.Event.{text_of, events_of, connection_at};
 ghost use Rattle.smb_engine.specs.Output.{output_bytes, outputs_of};
 ghost use Rattle.smb_engine.specs.Share.{MakingRefused, new_share, link_of, new_link, opened, ended, opening_refusal, bytes_step, is_open_after, stopped, count_on, unread, OpeningRefused, PieceStopped, GoodState};
@@ -22,7 +22,7 @@ use smb_frame::FrameBuffer;
 use smb_handles::HandleTable;
 use smb_nodes::NodeTree;
 use smb_opens::Opens;
-use smb_request::{Config, Shared};
+use smb_request::{Config, Server};
 use smb_session::{Authenticator, Window};
 use smb_tree::Tree;
 use std::alloc::{AllocError, Global};
@@ -37,7 +37,7 @@ const CONNECTION_LIMIT: usize = 64;
 /// kept in a tree and a list of opens of any kind.
 #[derive(Drop)]
 pub struct Share<A: Authenticator + Drop, T: Tree + Drop, O: Opens + Drop> {
-    shared: Shared<A, T, O>,
+    server: Server<A, T, O>,
     links: BTreeMap<u64, Link>,
     next: u64,
 }
@@ -54,9 +54,9 @@ impl<A: Authenticator + Drop, T: Tree + Drop, O: Opens + Drop> Model for Share<A
 
     ghost Value = { ShareState A };
 
-    ghost view = { λ s. record { shared = s.shared; links = s.links.entries; next = s.next } };
+    ghost view = { λ s. record { server = s.server; links = s.links.entries; next = s.next } };
 
-    ghost invariant = { λ s. AreKept s.shared.sessions.table.connections s.links.entries s.next };
+    ghost invariant = { λ s. AreKept s.server.sessions.table.connections s.links.entries s.next };
 }
 
 /// A new connection: nothing came, no dialect stands, and its window is {0}.
@@ -91,19 +91,19 @@ fn drop_link(links: &mut BTreeMap<u64, Link>, connection: u64)
 
 /// Adds a connection, which may begin sessions from now on. An error changes nothing.
 fn add_connection<A: Authenticator + Drop, T: Tree + Drop, O: Opens + Drop>(
-    shared: &mut Shared<A, T, O>,
+    server: &mut Server<A, T, O>,
     links: &mut BTreeMap<u64, Link>,
     connection: u64,
     link: Link,
 ) -> Result<(), AllocError>
     requires { AllByRecursion (λ entry. entry.0 < connection) links.old.entries }
-    ensures shared { OnOk result (shared.new ≡ shared_opened shared.old connection) }
+    ensures server { OnOk result (server.new ≡ connection_added server.old connection) }
     ensures links { OnOk result (links.new.entries ≡ insert_entry nat_cmp links.old.entries connection link) }
-    ensures err_shared { OnErr result (shared.new ≡ shared.old) }
+    ensures err_server { OnErr result (server.new ≡ server.old) }
     ensures err_links { OnErr result (links.new.entries ≡ links.old.entries) }
 {
     put_link(links, connection, link)?;
-    match shared.connect(connection) {
+    match server.connect(connection) {
         Ok(()) => Ok(()),
         Err(fault) => {
             drop_link(links, connection);
@@ -117,7 +117,7 @@ impl<A: Authenticator + Drop> Share<A, NodeTree, HandleTable> {
     /// [`Share::new`] makes of them. No condition is asked of the caller.
     ///
     /// A configuration that breaks its rules is [`ServeFault::BadConfig`], before any memory is asked for; else
-    /// memory may be wanting, [`ServeFault::NoMemory`]. Both drop what was handed in.
+    /// memory may be wanting, [`ServeFault::NoMemory`]. Both drop what was inherited in.
     pub fn in_memory(alloc: Global, config: Config, authenticator: A) -> Result<Self, ServeFault>
         ensures lawful { OnOk result (is_lawful (settings_of config) ≡ true) }
         ensures state { IfOk result (λ share. share ≡ new_share (settings_of config) authenticator) }
@@ -139,7 +139,7 @@ impl<A: Authenticator + Drop, T: Tree + Drop, O: Opens + Drop> Share<A, T, O> {
     /// configuration, and there are no opens.
     ///
     /// A configuration that breaks its rules is [`ServeFault::BadConfig`]; else memory may be wanting,
-    /// [`ServeFault::NoMemory`]. Both drop what was handed in.
+    /// [`ServeFault::NoMemory`]. Both drop what was inherited in.
     pub fn new(
         alloc: Global,
         config: Config,
@@ -173,9 +173,9 @@ impl<A: Authenticator + Drop, T: Tree + Drop, O: Opens + Drop> Share<A, T, O> {
         ensures state { IfOk result (λ share. share ≡ new_share (settings_of config) authenticator) }
         ensures err { IfErr result (λ fault. fault ≡ ServeFault.NoMemory 0) }
     {
-        match Shared::new(alloc, config, authenticator, tree, opens) {
-            Ok(shared) => Ok(Share {
-                shared,
+        match Server::new(alloc, config, authenticator, tree, opens) {
+            Ok(server) => Ok(Share {
+                server,
                 links: BTreeMap::new(alloc),
                 next: 1,
             }),
@@ -185,7 +185,7 @@ impl<A: Authenticator + Drop, T: Tree + Drop, O: Opens + Drop> Share<A, T, O> {
 
     /// The allocator of what the share makes.
     pub(crate) fn allocator(&self) -> Global {
-        self.shared.allocator()
+        self.server.allocator()
     }
 
     /// Opens a connection, and gives its number: 1, 2, 3 and so on, none twice.
@@ -203,8 +203,8 @@ impl<A: Authenticator + Drop, T: Tree + Drop, O: Opens + Drop> Share<A, T, O> {
         if self.links.len() >= CONNECTION_LIMIT || connection == u64::MAX {
             return Err(ServeFault::TooManyConnections);
         }
-        let link = fresh_link(self.shared.allocator());
-        match add_connection(&mut self.shared, &mut self.links, connection, link) {
+        let link = fresh_link(self.server.allocator());
+        match add_connection(&mut self.server, &mut self.links, connection, link) {
             Ok(()) => {}
             Err(_) => return Err(ServeFault::NoMemory { done: 0 }),
         }
@@ -242,17 +242,17 @@ impl<A: Authenticator + Drop, T: Tree + Drop, O: Opens + Drop> Share<A, T, O> {
             Some(link) => link,
             None => return Ok(Fate::Ended),
         };
-        match take_piece(&mut self.shared, link, connection, moment, piece, out) {
+        match take_piece(&mut self.server, link, connection, moment, piece, out) {
             Ok(true) => Ok(Fate::Open),
             Ok(false) => {
-                self.shared.good();
-                self.shared.disconnect(connection);
+                self.server.good();
+                self.server.disconnect(connection);
                 self.links.remove(&connection);
                 Ok(Fate::Ended)
             }
             Err(ran_out) => {
-                self.shared.good();
-                self.shared.disconnect(connection);
+                self.server.good();
+                self.server.disconnect(connection);
                 self.links.remove(&connection);
                 Err(ran_out)
             }
@@ -265,8 +265,8 @@ impl<A: Authenticator + Drop, T: Tree + Drop, O: Opens + Drop> Share<A, T, O> {
         ensures state { self.new ≡ ended self.old connection }
         ensures good { GoodState self.new }
     {
-        self.shared.good();
-        self.shared.disconnect(connection);
+        self.server.good();
+        self.server.disconnect(connection);
         let _ = self.links.remove(&connection);
         self.good();
     }
@@ -337,7 +337,7 @@ impl<A: Authenticator + Drop, T: Tree + Drop, O: Opens + Drop> Share<A, T, O> {
         ensures err { IfErr result (λ fault. EventStopped A.meaning self.old (text_of event.now) fault self.new) }
         ensures kept { OnErr result (outputs_of answers.new.items ≡ outputs_of answers.old.items) }
     {
-        let _ = &self.shared;
+        let _ = &self.server;
         match event {
             Event::Opened(connection) => {
                 if *connection != self.next {
@@ -378,7 +378,7 @@ impl<A: Authenticator + Drop, T: Tree + Drop, O: Opens + Drop> Share<A, T, O> {
         ensures err { IfErr result (λ e. RunStopped A.meaning self.old (events_of events.now) e.place e.fault self.new (outputs_of answers.old.items) (outputs_of answers.new.items)) }
         ensures connection { IfErr result (λ e. connection_at (events_of events.now) e.place ≡ Some e.connection) }
     {
-        let _ = &self.shared;
+        let _ = &self.server;
         let mut place = 0;
         for event in events {
             match self.event(event, answers) {
@@ -402,7 +402,7 @@ impl<A: Authenticator + Drop, T: Tree + Drop, O: Opens + Drop> Share<A, T, O> {
     /// A fault tells the place of the event that it stopped at, and its connection; the events before it were
     /// performed, and their answers added. A refused event ([`ServeFault::BadEvent`],
     /// [`ServeFault::TooManyConnections`]) changes nothing. After [`ServeFault::NoMemory`] the first `done` requests of
-    /// the event were performed, unanswered, and then its connection has ended; an opening changed nothing. Memory
+    /// the event were performed, no_reply, and then its connection has ended; an opening changed nothing. Memory
     /// never runs out at the end of a connection, nor at a piece on one that is not open.
     pub fn run(&mut self, events: &[Event], answers: &mut Vec<Answer>) -> Result<(), RunFault>
         ensures ok { OnOk result (record { state = self.new; outputs = outputs_of answers.new.items; stop = None }
@@ -420,7 +420,7 @@ impl<A: Authenticator + Drop, T: Tree + Drop, O: Opens + Drop> Share<A, T, O> {
     pub fn good(&self)
         ensures { GoodState self.now }
     {
-        self.shared.good();
+        self.server.good();
         let _ = &self.links;
     }
 }

@@ -3,8 +3,8 @@
 ghost use Rattle.std.specs.Prelude.{◌≡◌, ◌≤◌, ◌++◌, ◌&&◌, None, OnOk, OnErr, IfOk, IfErr, IfSome, IsTrue, is_none, is_some, length, take};
 ghost use Rattle.std.specs.List.{flat_map};
 ghost use Rattle.smb_frame.specs.Reading.{first, fault_of, payloads, rest};
-ghost use Rattle.smb_engine.specs.Stream.{longest_payload, payload_steps, shared_after_some, count_in_all, piece_step, shared_after_piece, count_in_piece};
-ghost use Rattle.smb_engine.specs.Chain.{payload_step, shared_after, count_in};
+ghost use Rattle.smb_engine.specs.Stream.{longest_payload, payload_steps, server_after_some, count_in_all, piece_step, server_after_piece, count_in_piece};
+ghost use Rattle.smb_engine.specs.Chain.{payload_step, server_after, count_in};
 ghost use Rattle.smb_engine.specs.Held.{steps_heard, Waits, IsPieceHeld};
 ghost use Rattle.smb_engine.specs.InPlace.{payload_heard};
 
@@ -14,31 +14,31 @@ use super::fault::RanOut;
 use super::output::Sink;
 use smb_frame::FrameBuffer;
 use smb_opens::Opens;
-use smb_request::Shared;
+use smb_request::Server;
 use smb_session::Authenticator;
 use smb_tree::Tree;
 
 /// Performs a payload, puts out the frame of its replies, where there are any, and tells the number of its requests;
 /// None where it ends the connection. An error tells how many requests were performed, and puts nothing out.
 fn put_payload<A: Authenticator + Drop, T: Tree + Drop, O: Opens + Drop, K: Sink>(
-    shared: &mut Shared<A, T, O>,
+    server: &mut Server<A, T, O>,
     connection: &mut Connection,
     connection_id: u64,
     moment: u64,
     payload: &[u8],
     out: &mut K,
 ) -> Result<Option<usize>, RanOut>
-    ensures ok { IfOk result (λ count. record { shared = shared.new; connection = connection.new; goes_on = is_some count; heard = K.content out.new }
-        ≡ payload_heard K.hears (K.content out.old) connection_id (payload_step A.meaning connection_id moment shared.old connection.old payload.now)) }
-    ensures count { IfOk result (λ count. IfSome count (λ n. count_in A.meaning connection_id moment shared.old connection.old payload.now ≡ n)) }
-    ensures err { IfErr result (λ ran_out. (ran_out.done ≤ count_in A.meaning connection_id moment shared.old connection.old payload.now)
-        × (shared.new ≡ shared_after A.meaning connection_id moment shared.old connection.old payload.now ran_out.done)) }
+    ensures ok { IfOk result (λ count. record { server = server.new; connection = connection.new; goes_on = is_some count; heard = K.content out.new }
+        ≡ payload_heard K.hears (K.content out.old) connection_id (payload_step A.meaning connection_id moment server.old connection.old payload.now)) }
+    ensures count { IfOk result (λ count. IfSome count (λ n. count_in A.meaning connection_id moment server.old connection.old payload.now ≡ n)) }
+    ensures err { IfErr result (λ ran_out. (ran_out.done ≤ count_in A.meaning connection_id moment server.old connection.old payload.now)
+        × (server.new ≡ server_after A.meaning connection_id moment server.old connection.old payload.now ran_out.done)) }
     ensures kept { OnErr result (K.content out.new ≡ K.content out.old) }
-    ensures known { shared.new.sessions.table.connections ≡ shared.old.sessions.table.connections }
+    ensures known { server.new.sessions.table.connections ≡ server.old.sessions.table.connections }
 {
-    let mut bytes = out.take_bytes(shared.allocator());
+    let mut bytes = out.take_bytes(server.allocator());
     match perform_payload(
-        shared,
+        server,
         connection_id,
         moment,
         connection,
@@ -63,7 +63,7 @@ fn put_payload<A: Authenticator + Drop, T: Tree + Drop, O: Opens + Drop, K: Sink
 /// Performs the payloads of the whole frames that are held, in order, and puts out their replies. Ok tells
 /// whether the connection stays open and how many requests were performed; an error, the latter.
 fn take_payloads<A: Authenticator + Drop, T: Tree + Drop, O: Opens + Drop, K: Sink>(
-    shared: &mut Shared<A, T, O>,
+    server: &mut Server<A, T, O>,
     buffer: &mut FrameBuffer,
     connection: &mut Connection,
     connection_id: u64,
@@ -71,21 +71,21 @@ fn take_payloads<A: Authenticator + Drop, T: Tree + Drop, O: Opens + Drop, K: Si
     out: &mut K,
 ) -> Result<(bool, usize), RanOut>
     requires { buffer.old.limit ≡ longest_payload }
-    ensures ok { IfOk result (λ r. record { shared = shared.new; connection = connection.new; heard = K.content out.new; stays_open = r.0 }
-        ≡ steps_heard K.hears (K.content out.old) (payload_steps A.meaning connection_id moment shared.old connection.old (payloads longest_payload buffer.old.bytes))) }
+    ensures ok { IfOk result (λ r. record { server = server.new; connection = connection.new; heard = K.content out.new; stays_open = r.0 }
+        ≡ steps_heard K.hears (K.content out.old) (payload_steps A.meaning connection_id moment server.old connection.old (payloads longest_payload buffer.old.bytes))) }
     ensures rest { IfOk result (λ r. IsTrue r.0 → (buffer.new.bytes ≡ rest longest_payload buffer.old.bytes) × (first longest_payload buffer.new.bytes ≡ None)) }
-    ensures done { IfOk result (λ r. shared.new ≡ shared_after_some A.meaning connection_id moment shared.old connection.old (payloads longest_payload buffer.old.bytes) r.1) }
-    ensures count { IfOk result (λ r. r.1 ≤ count_in_all A.meaning connection_id moment shared.old connection.old (payloads longest_payload buffer.old.bytes)) }
-    ensures err { IfErr result (λ ran_out. shared.new ≡ shared_after_some A.meaning connection_id moment shared.old connection.old (payloads longest_payload buffer.old.bytes) ran_out.done) }
-    ensures within { IfErr result (λ ran_out. ran_out.done ≤ count_in_all A.meaning connection_id moment shared.old connection.old (payloads longest_payload buffer.old.bytes)) }
+    ensures done { IfOk result (λ r. server.new ≡ server_after_some A.meaning connection_id moment server.old connection.old (payloads longest_payload buffer.old.bytes) r.1) }
+    ensures count { IfOk result (λ r. r.1 ≤ count_in_all A.meaning connection_id moment server.old connection.old (payloads longest_payload buffer.old.bytes)) }
+    ensures err { IfErr result (λ ran_out. server.new ≡ server_after_some A.meaning connection_id moment server.old connection.old (payloads longest_payload buffer.old.bytes) ran_out.done) }
+    ensures within { IfErr result (λ ran_out. ran_out.done ≤ count_in_all A.meaning connection_id moment server.old connection.old (payloads longest_payload buffer.old.bytes)) }
     ensures kept { take (length (K.content out.old)) (K.content out.new) ≡ K.content out.old }
     ensures limit { buffer.new.limit ≡ longest_payload }
-    ensures known { shared.new.sessions.table.connections ≡ shared.old.sessions.table.connections }
+    ensures known { server.new.sessions.table.connections ≡ server.old.sessions.table.connections }
 {
     let _length = buffer.len();
     let mut done = 0;
     while let Some(payload) = buffer.next() {
-        match put_payload(shared, connection, connection_id, moment, payload, out) {
+        match put_payload(server, connection, connection_id, moment, payload, out) {
             Err(ran_out) => {
                 let done = done + ran_out.done;
                 return Err(RanOut { done });
@@ -113,7 +113,7 @@ fn stays_open(open_still: bool, buffer: &FrameBuffer) -> bool
 ///
 /// After an error nothing was put out. The connection is to be given up then, and where it doesn't stay open.
 pub(crate) fn take_piece<A: Authenticator + Drop, T: Tree + Drop, O: Opens + Drop, K: Sink>(
-    shared: &mut Shared<A, T, O>,
+    server: &mut Server<A, T, O>,
     link: &mut Link,
     connection_id: u64,
     moment: u64,
@@ -121,12 +121,12 @@ pub(crate) fn take_piece<A: Authenticator + Drop, T: Tree + Drop, O: Opens + Dro
     out: &mut K,
 ) -> Result<bool, RanOut>
     requires { Waits link.old }
-    ensures ok { IfOk result (λ stays_open. IsPieceHeld (piece_step A.meaning connection_id moment shared.old link.old piece.now) shared.new link.new stays_open) }
-    ensures outputs { OnOk result (K.content out.new ≡ K.content out.old ++ flat_map K.hears (piece_step A.meaning connection_id moment shared.old link.old piece.now).outputs) }
-    ensures err { IfErr result (λ ran_out. shared.new ≡ shared_after_piece A.meaning connection_id moment shared.old link.old piece.now ran_out.done) }
-    ensures within { IfErr result (λ ran_out. ran_out.done ≤ count_in_piece A.meaning connection_id moment shared.old link.old piece.now) }
+    ensures ok { IfOk result (λ stays_open. IsPieceHeld (piece_step A.meaning connection_id moment server.old link.old piece.now) server.new link.new stays_open) }
+    ensures outputs { OnOk result (K.content out.new ≡ K.content out.old ++ flat_map K.hears (piece_step A.meaning connection_id moment server.old link.old piece.now).outputs) }
+    ensures err { IfErr result (λ ran_out. server.new ≡ server_after_piece A.meaning connection_id moment server.old link.old piece.now ran_out.done) }
+    ensures within { IfErr result (λ ran_out. ran_out.done ≤ count_in_piece A.meaning connection_id moment server.old link.old piece.now) }
     ensures kept { OnErr result (K.content out.new ≡ K.content out.old) }
-    ensures known { shared.new.sessions.table.connections ≡ shared.old.sessions.table.connections }
+    ensures known { server.new.sessions.table.connections ≡ server.old.sessions.table.connections }
 {
     let before = out.mark();
     match link.buffer.push(piece) {
@@ -134,7 +134,7 @@ pub(crate) fn take_piece<A: Authenticator + Drop, T: Tree + Drop, O: Opens + Dro
         Err(_) => return Err(RanOut { done: 0 }),
     }
     let (open_still, done) = match take_payloads(
-        shared,
+        server,
         &mut link.buffer,
         &mut link.connection,
         connection_id,

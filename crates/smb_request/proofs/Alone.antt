@@ -14,7 +14,7 @@ use Rattle.smb_opens.specs.Close.{closed_all}
 use Rattle.smb_access.specs.Opens.{is_held_by}
 use Rattle.smb_opens.specs.State.{StoreState}
 use Rattle.smb_request.specs.Laws.{NumbersInOrder}
-use Rattle.smb_request.specs.State.{SharedState, closed_with, without_connection, shared_opened, shared_ended}
+use Rattle.smb_request.specs.State.{ServerState, closed_with, without_connection, connection_added, connection_ended}
 use Rattle.smb_request.proofs.Numbered.{at_is}
 use Rattle.smb_request.proofs.Numbers.{others_left, order_closed}
 use Rattle.smb_request.proofs.Leaving.{LeavesBut, LeavesSharedBut, IsSame, leaves_same, other_connection, others_held, none_fewer, opens_of}
@@ -105,24 +105,24 @@ none_comes table store (m ∷ numbers) n o h =
     none_comes table (closed_all store (Session m)) numbers n (order_closed table store (Session m) o)
     (ap (filter (is_held_by (Session n))) (others_left store (Session m) o.opens).opens ∙ none_fewer (is_held_by (Session n)) (λ row. not (is_held_by (Session m) row)) store.opens h)
 
-pub end_alone : {S : Type 0} (shared : SharedState S) (c n : ℕ) (session : SessionState) → NumbersInOrder shared.sessions.table shared.store → session_at shared.sessions.table n ≡ Some session → session.connection == c ≡ false →
-    IsSame shared.sessions.table shared.store n (shared_ended shared c).sessions.table (shared_ended shared c).store
-unfolding shared_ended
-end_alone shared c n session o at other = (
-  kept_at (λ e. not (e.1.connection == c)) n session shared.sessions.table.sessions (λ k. rw other refl) at ∙ sym at,
-  sessions_left shared.sessions.table shared.store (numbers_on shared.sessions.table.sessions c) n (not_among n c session shared.sessions.table.sessions o.sessions at other) o,
+pub end_alone : {S : Type 0} (server : ServerState S) (c n : ℕ) (session : SessionState) → NumbersInOrder server.sessions.table server.store → session_at server.sessions.table n ≡ Some session → session.connection == c ≡ false →
+    IsSame server.sessions.table server.store n (connection_ended server c).sessions.table (connection_ended server c).store
+unfolding connection_ended
+end_alone server c n session o at other = (
+  kept_at (λ e. not (e.1.connection == c)) n session server.sessions.table.sessions (λ k. rw other refl) at ∙ sym at,
+  sessions_left server.sessions.table server.store (numbers_on server.sessions.table.sessions c) n (not_among n c session server.sessions.table.sessions o.sessions at other) o,
 )
 
-pub leaves_end : {S : Type 0} (may : ℕ → SessionState → Type 0) (acts : ℕ → Bool) (c : ℕ) → acts c ≡ true → (shared : SharedState S) → NumbersInOrder shared.sessions.table shared.store → LeavesSharedBut may acts shared (shared_ended shared c)
-unfolding shared_ended
-leaves_end may acts c a shared o =
-    let table = shared.sessions.table in
+pub leaves_end : {S : Type 0} (may : ℕ → SessionState → Type 0) (acts : ℕ → Bool) (c : ℕ) → acts c ≡ true → (server : ServerState S) → NumbersInOrder server.sessions.table server.store → LeavesSharedBut may acts server (connection_ended server c)
+unfolding connection_ended
+leaves_end may acts c a server o =
+    let table = server.sessions.table in
     let numbers = numbers_on table.sessions c in
     record {
-      order = order_without table (closed_with shared.store numbers) c (order_with table shared.store numbers o);
+      order = order_without table (closed_with server.store numbers) c (order_with table server.store numbers o);
       grown = omega arith;
-      alone = λ n session at other. inl (end_alone shared c n session o at (other_connection acts c session.connection a other));
-      over = λ n given none. (none_kept (λ e. not (e.1.connection == c)) n table.sessions none.0, none_comes table shared.store numbers n o none.1);
+      alone = λ n session at other. inl (end_alone server c n session o at (other_connection acts c session.connection a other));
+      over = λ n given none. (none_kept (λ e. not (e.1.connection == c)) n table.sessions none.0, none_comes table server.store numbers n o none.1);
     }
 
 -- a connection that opens changes no session
@@ -135,5 +135,5 @@ opened_at acts table store c false t o = rw t (record {
   over = λ n given none. none;
 })
 
-pub leaves_start : {S : Type 0} (may : ℕ → SessionState → Type 0) (acts : ℕ → Bool) (shared : SharedState S) (c : ℕ) → NumbersInOrder shared.sessions.table shared.store → LeavesSharedBut may acts shared (shared_opened shared c)
-leaves_start may acts shared c o = opened_at acts shared.sessions.table shared.store c (contains shared.sessions.table.connections c) refl o
+pub leaves_start : {S : Type 0} (may : ℕ → SessionState → Type 0) (acts : ℕ → Bool) (server : ServerState S) (c : ℕ) → NumbersInOrder server.sessions.table server.store → LeavesSharedBut may acts server (connection_added server c)
+leaves_start may acts server c o = opened_at acts server.sessions.table server.store c (contains server.sessions.table.connections c) refl o

@@ -27,7 +27,7 @@ use Rattle.smb_request.specs.declared.status.Status.{Status}
 use Rattle.smb_request.specs.Commands.{command_row, needs_of, needs_session}
 use Rattle.smb_request.specs.Files.{names_open}
 use Rattle.smb_request.specs.Negotiate.{negotiate_answer}
-use Rattle.smb_request.specs.Request.{acts_under, handed_to, body_of, open_refusal, missing_refusal, negotiated, acted, by_body, by_handling, by_command, performed}
+use Rattle.smb_request.specs.Request.{acts_under, inherited_open, body_of, open_refusal, check_session_tree_and_open, negotiated, acted, by_body, by_handling, by_command, performed}
 use Rattle.smb_request.specs.Response.{answered}
 use Rattle.smb_request.specs.State.{hello_of}
 use Rattle.smb_session.specs.Authenticator.{Meaning}
@@ -62,11 +62,11 @@ use Rattle.smb_session.specs.Session.{with_tree, without_tree}
 use Rattle.smb_session.specs.Table.{logoff_refusal, tree_disconnect_refusal, tree_disconnected}
 use Rattle.smb_session.specs.Sessions.{tree_connect_refusal}
 use Rattle.smb_body.specs.Replies.{answers_close, answers_lock}
-use Rattle.smb_request.specs.declared.context.Under.{Under}
+use Rattle.smb_request.specs.declared.context.RequestIds.{RequestIds}
 use Rattle.smb_request.specs.declared.status.Status.TheVariants.{FileClosed, NotSupported, Store}
 use Rattle.smb_request.specs.Response.{success, refused}
 use Rattle.smb_request.specs.Session.{status_of_refusal, session_logged_off, tree_joined, tree_left}
-use Rattle.smb_request.specs.State.{SharedState, with_store}
+use Rattle.smb_request.specs.State.{ServerState, with_store}
 use Rattle.smb_request.specs.Laws.{NumbersInOrder, IsInOrder, IsAsItWas, IsOver, ReplacesSession}
 use Rattle.smb_entry.specs.Bytes.{written_tree}
 use Rattle.smb_access.specs.declared.open_row.Owner.{Owner}
@@ -128,223 +128,223 @@ written_next store k offset buffer moment =
       | Some row ↦ written_by store offset moment buffer row (length buffer == 0)
     ]
 
-module _ {S : Type 0} (may : ℕ → SessionState → Type 0) (acts : ℕ → Bool) (c : ℕ) (a : acts c ≡ true) (shared : SharedState S) (o : NumbersInOrder shared.sessions.table shared.store) where
-  abbrev Left : SharedState S → Type 0
-  Left = LeavesSharedBut may acts shared
+module _ {S : Type 0} (may : ℕ → SessionState → Type 0) (acts : ℕ → Bool) (c : ℕ) (a : acts c ≡ true) (server : ServerState S) (o : NumbersInOrder server.sessions.table server.store) where
+  abbrev Left : ServerState S → Type 0
+  Left = LeavesSharedBut may acts server
 
-  same : Left shared
-  same = leaves_same acts shared.sessions.table shared.store o
+  same : Left server
+  same = leaves_same acts server.sessions.table server.store o
 
   -- the opens are those before
-  opens_kept : (store : StoreState) → store.opens ≡ shared.store.opens → store.next ≡ shared.store.next → Left (with_store shared store)
-  opens_kept store e f = leaves_opens acts shared.sessions.table shared.store o store e f
+  opens_kept : (store : StoreState) → store.opens ≡ server.store.opens → store.next ≡ server.store.next → Left (with_store server store)
+  opens_kept store e f = leaves_opens acts server.sessions.table server.store o store e f
 
   -- opens of one owner are closed, and then its session is another
-  closed_then : (s : ℕ) (owner : Owner) (table : TableState) → IsApart acts shared.sessions.table s →
-      ((n : ℕ) → (n == s) ≡ false → filter (is_held_by (Session n)) (others owner shared.store.opens) ≡ opens_of shared.store n) →
-      (NumbersInOrder shared.sessions.table (closed_all shared.store owner) → LeavesBut may acts shared.sessions.table (closed_all shared.store owner) table (closed_all shared.store owner)) →
-      LeavesBut may acts shared.sessions.table shared.store table (closed_all shared.store owner)
+  closed_then : (s : ℕ) (owner : Owner) (table : TableState) → IsApart acts server.sessions.table s →
+      ((n : ℕ) → (n == s) ≡ false → filter (is_held_by (Session n)) (others owner server.store.opens) ≡ opens_of server.store n) →
+      (NumbersInOrder server.sessions.table (closed_all server.store owner) → LeavesBut may acts server.sessions.table (closed_all server.store owner) table (closed_all server.store owner)) →
+      LeavesBut may acts server.sessions.table server.store table (closed_all server.store owner)
   closed_then s owner table apart held step =
-      let left = others_left shared.store owner o.opens in
-      let one = leaves_some acts shared.sessions.table shared.store o s apart (closed_all shared.store owner) _ left.opens left.next held in
-      leaves_then acts shared.sessions.table shared.sessions.table table shared.store (closed_all shared.store owner) (closed_all shared.store owner) o one (step one.order)
+      let left = others_left server.store owner o.opens in
+      let one = leaves_some acts server.sessions.table server.store o s apart (closed_all server.store owner) _ left.opens left.next held in
+      leaves_then acts server.sessions.table server.sessions.table table server.store (closed_all server.store owner) (closed_all server.store owner) o one (step one.order)
 
   -- a refusal changes nothing
-  by_status : (under : Under) (step : CommandStep S) (status : Option Status) → (status ≡ None → Left step.shared) → Left (option_map_or (λ status. refused shared under status) status step).shared
+  by_status : (under : RequestIds) (step : CommandStep S) (status : Option Status) → (status ≡ None → Left step.server) → Left (option_map_or (λ status. refused server under status) status step).server
   by_status under step (Some status) h = same
   by_status under step None h = h refl
 
-  where_done : (under : Under) (step : CommandStep S) (status : Status) (b : Bool) → Left step.shared → Left (let x : CommandStep S = if b then step else refused shared under status in x).shared
+  where_done : (under : RequestIds) (step : CommandStep S) (status : Status) (b : Bool) → Left step.server → Left (let x : CommandStep S = if b then step else refused server under status in x).server
   where_done under step status true h = h
   where_done under step status false h = same
 
   -- LOGOFF
-  logged_off_left : (under : Under) → Left (session_logged_off c shared under).shared
+  logged_off_left : (under : RequestIds) → Left (session_logged_off c server under).server
   unfolding session_logged_off
-  logged_off_left under = by_status under _ (option_and_then status_of_refusal (logoff_refusal shared.sessions.table c under.session_id)) (λ e.
+  logged_off_left under = by_status under _ (option_and_then status_of_refusal (logoff_refusal server.sessions.table c under.session_id)) (λ e.
       let s = under.session_id in
-      let known : knows_session shared.sessions.table c s ≡ true = grind (arith, e) in
-      let apart = known_apart acts shared.sessions.table c s a known in
-      closed_then s (Session s) (session_ended shared.sessions.table s) apart (λ n d. others_held s n shared.store.opens d)
-      (λ after. leaves_ended acts shared.sessions.table (closed_all shared.store (Session s)) after s apart))
+      let known : knows_session server.sessions.table c s ≡ true = grind (arith, e) in
+      let apart = known_apart acts server.sessions.table c s a known in
+      closed_then s (Session s) (session_ended server.sessions.table s) apart (λ n d. others_held s n server.store.opens d)
+      (λ after. leaves_ended acts server.sessions.table (closed_all server.store (Session s)) after s apart))
 
   -- TREE_CONNECT
-  joined_left : (under : Under) (path : List ℕ) → Left (tree_joined c shared under path).shared
+  joined_left : (under : RequestIds) (path : List ℕ) → Left (tree_joined c server under path).server
   unfolding tree_joined
-  joined_left under path = by_status under _ (option_and_then status_of_refusal (tree_connect_refusal shared.sessions c under.session_id path)) (λ e.
+  joined_left under path = by_status under _ (option_and_then status_of_refusal (tree_connect_refusal server.sessions c under.session_id path)) (λ e.
       let s = under.session_id in
-      let known : knows_session shared.sessions.table c s ≡ true = grind (arith, e) in
-      leaves_changed acts shared.sessions.table shared.store o s (known_apart acts shared.sessions.table c s a known) with_tree)
+      let known : knows_session server.sessions.table c s ≡ true = grind (arith, e) in
+      leaves_changed acts server.sessions.table server.store o s (known_apart acts server.sessions.table c s a known) with_tree)
 
   -- TREE_DISCONNECT
-  disconnected_left : (under : Under) → Left (tree_left c shared under).shared
+  disconnected_left : (under : RequestIds) → Left (tree_left c server under).server
   unfolding tree_left
-  disconnected_left under = by_status under _ (option_and_then status_of_refusal (tree_disconnect_refusal shared.sessions.table c under.session_id under.tree_id)) (λ e.
+  disconnected_left under = by_status under _ (option_and_then status_of_refusal (tree_disconnect_refusal server.sessions.table c under.session_id under.tree_id)) (λ e.
       let s = under.session_id in
-      let known : knows_session shared.sessions.table c s ≡ true = grind (arith, e) in
-      let apart = known_apart acts shared.sessions.table c s a known in
-      closed_then s (Tree s under.tree_id) (tree_disconnected shared.sessions.table s under.tree_id) apart (λ n d. others_of_tree s under.tree_id n shared.store.opens d)
-      (λ after. leaves_changed acts shared.sessions.table (closed_all shared.store (Tree s under.tree_id)) after s apart (without_tree under.tree_id)))
+      let known : knows_session server.sessions.table c s ≡ true = grind (arith, e) in
+      let apart = known_apart acts server.sessions.table c s a known in
+      closed_then s (Tree s under.tree_id) (tree_disconnected server.sessions.table s under.tree_id) apart (λ n d. others_of_tree s under.tree_id n server.store.opens d)
+      (λ after. leaves_changed acts server.sessions.table (closed_all server.store (Tree s under.tree_id)) after s apart (without_tree under.tree_id)))
 
   -- CREATE
-  opened_left : (ask : FileAsked) (moment : ℕ) → knows_session shared.sessions.table c ask.session ≡ true → Left (with_store shared (created shared.store ask moment))
+  opened_left : (ask : FileAsked) (moment : ℕ) → knows_session server.sessions.table c ask.session ≡ true → Left (with_store server (created server.store ask moment))
   opened_left ask moment known =
-      leaves_opened acts shared.sessions.table shared.store o ask.session (known_apart acts shared.sessions.table c ask.session a known) (created shared.store ask moment)
-      (opened_by ask shared.store.next (entry_after shared.store.tree ask moment (entry_asked shared.store ask)).number (access_granted shared.store ask))
-      (known_there shared.sessions.table c ask.session known) refl refl refl refl
+      leaves_opened acts server.sessions.table server.store o ask.session (known_apart acts server.sessions.table c ask.session a known) (created server.store ask moment)
+      (opened_by ask server.store.next (entry_after server.store.tree ask moment (entry_asked server.store ask)).number (access_granted server.store ask))
+      (known_there server.sessions.table c ask.session known) refl refl refl refl
 
-  created_left : (moment : ℕ) (under : Under) (asked : CreateAsked) → knows_session shared.sessions.table c under.session_id ≡ true → Left (file_created moment shared under asked).shared
+  created_left : (moment : ℕ) (under : RequestIds) (asked : CreateAsked) → knows_session server.sessions.table c under.session_id ≡ true → Left (file_created moment server under asked).server
   unfolding file_created
   created_left moment under asked known =
       let ask = file_asked under asked in
-      where_done under _ _ (create_status shared.store ask == STATUS_SUCCESS) (opened_left ask moment known)
+      where_done under _ _ (create_status server.store ask == STATUS_SUCCESS) (opened_left ask moment known)
 
   -- CLOSE
-  closed_open_left : (under : Under) (k : ℕ) (row : Option OpenRow) → open_of shared.store.opens k ≡ row → option_map_or (is_held_by (Tree under.session_id under.tree_id)) row false ≡ true →
-      knows_session shared.sessions.table c under.session_id ≡ true → Left (with_store shared (closed shared.store k))
+  closed_open_left : (under : RequestIds) (k : ℕ) (row : Option OpenRow) → open_of server.store.opens k ≡ row → option_map_or (is_held_by (Tree under.session_id under.tree_id)) row false ≡ true →
+      knows_session server.sessions.table c under.session_id ≡ true → Left (with_store server (closed server.store k))
   closed_open_left under k None e h known = cc
   closed_open_left under k (Some row) e h known =
       let s = under.session_id in
-      leaves_some acts shared.sessions.table shared.store o s (known_apart acts shared.sessions.table c s a known) (closed shared.store k) _
-      (opens_closed shared.store k (ap (λ (o : Option OpenRow). is_some o) e)) (next_closed shared.store k) (λ n d. closed_held shared.store s under.tree_id n k row e h o.opens d)
+      leaves_some acts server.sessions.table server.store o s (known_apart acts server.sessions.table c s a known) (closed server.store k) _
+      (opens_closed server.store k (ap (λ (o : Option OpenRow). is_some o) e)) (next_closed server.store k) (λ n d. closed_held server.store s under.tree_id n k row e h o.opens d)
 
-  closed_at : (under : Under) (k : ℕ) (flags : CloseFlags) (view : Option View) → Left (with_store shared (closed shared.store k)) →
-      Left (option_map_or (λ view. let x : CommandStep S = record { shared = with_store shared (closed shared.store k); response = success under (answers_close (close_response flags view)) } in x) view (refused shared under FileClosed)).shared
+  closed_at : (under : RequestIds) (k : ℕ) (flags : CloseFlags) (view : Option View) → Left (with_store server (closed server.store k)) →
+      Left (option_map_or (λ view. let x : CommandStep S = record { server = with_store server (closed server.store k); response = success under (answers_close (close_response flags view)) } in x) view (refused server under FileClosed)).server
   closed_at under k flags None h = same
   closed_at under k flags (Some view) h = h
 
-  closed_left : (under : Under) (k : ℕ) (flags : CloseFlags) → Left (with_store shared (closed shared.store k)) → Left (file_closed shared under k flags).shared
+  closed_left : (under : RequestIds) (k : ℕ) (flags : CloseFlags) → Left (with_store server (closed server.store k)) → Left (file_closed server under k flags).server
   unfolding file_closed
-  closed_left under k flags h = closed_at under k flags (open_view shared.store k) h
+  closed_left under k flags h = closed_at under k flags (open_view server.store k) h
 
   -- QUERY_DIRECTORY
-  scanned_left : (under : Under) (k : ℕ) (row : Option OpenRow) → open_of shared.store.opens k ≡ row → option_map_or (is_held_by (Tree under.session_id under.tree_id)) row false ≡ true →
-      knows_session shared.sessions.table c under.session_id ≡ true → (scan : Scan) → Left (with_store shared (scan_set shared.store k scan))
+  scanned_left : (under : RequestIds) (k : ℕ) (row : Option OpenRow) → open_of server.store.opens k ≡ row → option_map_or (is_held_by (Tree under.session_id under.tree_id)) row false ≡ true →
+      knows_session server.sessions.table c under.session_id ≡ true → (scan : Scan) → Left (with_store server (scan_set server.store k scan))
   scanned_left under k None e h known scan = cc
   scanned_left under k (Some row) e h known scan =
       let s = under.session_id in
-      let table = shared.sessions.table in
-      let numbers = numbers_scanned k scan shared.store.opens in
-      leaves_own acts table table shared.store (scan_set shared.store k scan) s (known_apart acts table c s a known)
+      let table = server.sessions.table in
+      let numbers = numbers_scanned k scan server.store.opens in
+      leaves_own acts table table server.store (scan_set server.store k scan) s (known_apart acts table c s a known)
       (record { sessions = o.sessions; sessions_given = o.sessions_given; opens = rw numbers o.opens; opens_given = rw numbers o.opens_given })
-      (omega arith) (λ n d. (refl, held_scanned n k scan row shared.store.opens o.opens e (held_by_tree s under.tree_id n row h d))) (λ l none. (none.0, none_scanned s k scan shared.store.opens none.1))
+      (omega arith) (λ n d. (refl, held_scanned n k scan row server.store.opens o.opens e (held_by_tree s under.tree_id n row h d))) (λ l none. (none.0, none_scanned s k scan server.store.opens none.1))
 
   -- LOCK
-  locks_kept : (k : ℕ) (table : ℕ → Table) → Left (with_store shared (with_locks_of table shared.store (open_view shared.store k)))
-  locks_kept k table = opens_kept (with_locks_of table shared.store (open_view shared.store k)) (locks_opens table shared.store (open_view shared.store k)) (locks_next table shared.store (open_view shared.store k))
+  locks_kept : (k : ℕ) (table : ℕ → Table) → Left (with_store server (with_locks_of table server.store (open_view server.store k)))
+  locks_kept k table = opens_kept (with_locks_of table server.store (open_view server.store k)) (locks_opens table server.store (open_view server.store k)) (locks_next table server.store (open_view server.store k))
 
-  locked_left : (under : Under) (k : ℕ) (asks : List LockAsk) → Left (file_locked shared under k asks).shared
+  locked_left : (under : RequestIds) (k : ℕ) (asks : List LockAsk) → Left (file_locked server under k asks).server
   unfolding file_locked
-  locked_left under k asks = where_done under _ _ (lock_status shared.store k asks == STATUS_SUCCESS) (locks_kept k (λ entry. locked shared.store.locks entry k asks))
+  locked_left under k asks = where_done under _ _ (lock_status server.store k asks == STATUS_SUCCESS) (locks_kept k (λ entry. locked server.store.locks entry k asks))
 
-  unlocked_at : (after : SharedState S) (under : Under) (status : ℕ) (b : Bool) → Left after → Left (let x : CommandStep S = if b then record { shared = after; response = success under answers_lock } else refused after under (Store status) in x).shared
+  unlocked_at : (after : ServerState S) (under : RequestIds) (status : ℕ) (b : Bool) → Left after → Left (let x : CommandStep S = if b then record { server = after; response = success under answers_lock } else refused after under (Store status) in x).server
   unlocked_at after under status true h = h
   unlocked_at after under status false h = h
 
-  unlocked_left : (under : Under) (k : ℕ) (asks : List LockAsk) → Left (file_unlocked shared under k asks).shared
+  unlocked_left : (under : RequestIds) (k : ℕ) (asks : List LockAsk) → Left (file_unlocked server under k asks).server
   unfolding file_unlocked
   unlocked_left under k asks =
-      unlocked_at (with_store shared (unlocked_through shared.store k asks)) under (unlock_status shared.store k asks) (unlock_status shared.store k asks == STATUS_SUCCESS) (locks_kept k (λ entry. unlocked shared.store.locks entry k asks))
+      unlocked_at (with_store server (unlocked_through server.store k asks)) under (unlock_status server.store k asks) (unlock_status server.store k asks == STATUS_SUCCESS) (locks_kept k (λ entry. unlocked server.store.locks entry k asks))
 
-  locks_left : (under : Under) (k : ℕ) (asks : List LockAsk) (b : Bool) → Left (let x : CommandStep S = if b then file_unlocked shared under k asks else file_locked shared under k asks in x).shared
+  locks_left : (under : RequestIds) (k : ℕ) (asks : List LockAsk) (b : Bool) → Left (let x : CommandStep S = if b then file_unlocked server under k asks else file_locked server under k asks in x).server
   locks_left under k asks true = unlocked_left under k asks
   locks_left under k asks false = locked_left under k asks
 
   -- READ and WRITE
-  read_left : (under : Under) (k : ℕ) (asked : ReadRequest) → Left (file_read shared under k asked).shared
+  read_left : (under : RequestIds) (k : ℕ) (asked : ReadRequest) → Left (file_read server under k asked).server
   unfolding file_read
-  read_left under k asked = where_done under _ _ (read_status shared.store k asked.offset asked.length asked.minimum_count == STATUS_SUCCESS) same
+  read_left under k asked = where_done under _ _ (read_status server.store k asked.offset asked.length asked.minimum_count == STATUS_SUCCESS) same
 
-  written_left : (moment : ℕ) (under : Under) (k : ℕ) (asked : WriteAsked) → Left (file_written moment shared under k asked).shared
+  written_left : (moment : ℕ) (under : RequestIds) (k : ℕ) (asked : WriteAsked) → Left (file_written moment server under k asked).server
   unfolding file_written
   written_left moment under k asked =
-      where_done under _ _ (write_status shared.store k asked.offset asked.buffer == STATUS_SUCCESS)
-      (opens_kept (written_to shared.store k asked.offset asked.buffer moment) (opens_left shared.store k asked.offset asked.buffer moment) (written_next shared.store k asked.offset asked.buffer moment))
+      where_done under _ _ (write_status server.store k asked.offset asked.buffer == STATUS_SUCCESS)
+      (opens_kept (written_to server.store k asked.offset asked.buffer moment) (opens_left server.store k asked.offset asked.buffer moment) (written_next server.store k asked.offset asked.buffer moment))
 
   -- NEGOTIATE
-  negotiated_at : (m : Meaning S) (moment : ℕ) (dialect : Option Dialect) (under : Under) (best : Option Dialect) →
-      Left (option_map_or (λ best. answered (Some best) (record { shared = shared; response = success under (negotiate_answer shared.settings.guid (hello_of m shared) moment (revision_of best)) })) best (answered dialect (refused shared under NotSupported))).shared
+  negotiated_at : (m : Meaning S) (moment : ℕ) (dialect : Option Dialect) (under : RequestIds) (best : Option Dialect) →
+      Left (option_map_or (λ best. answered (Some best) (record { server = server; response = success under (negotiate_answer server.settings.guid (hello_of m server) moment (revision_of best)) })) best (answered dialect (refused server under NotSupported))).server
   negotiated_at m moment dialect under None = same
   negotiated_at m moment dialect under (Some best) = same
 
-  negotiated_left : (m : Meaning S) (moment : ℕ) (dialect : Option Dialect) (under : Under) (dialects : List ℕ) → Left (negotiated m moment shared dialect under dialects).shared
+  negotiated_left : (m : Meaning S) (moment : ℕ) (dialect : Option Dialect) (under : RequestIds) (dialects : List ℕ) → Left (negotiated m moment server dialect under dialects).server
   unfolding negotiated
   negotiated_left m moment dialect under dialects = negotiated_at m moment dialect under (best_of dialects)
 
   -- each command: a request that needs a session acts under one of this connection
-  acts_known : (under : Under) (asked : RequestValue) (named : Option ContextOpen) → needs_session (needs_of asked) ≡ true → missing_refusal shared c under asked named ≡ None → knows_session shared.sessions.table c under.session_id ≡ true
+  acts_known : (under : RequestIds) (asked : RequestValue) (named : Option ContextOpen) → needs_session (needs_of asked) ≡ true → check_session_tree_and_open server c under asked named ≡ None → knows_session server.sessions.table c under.session_id ≡ true
   acts_known under asked named t e = grind (arith, e, t)
 
-  open_held : (under : Under) (named : ContextOpen) → open_refusal shared.store.opens under named ≡ None → option_map_or (is_held_by (Tree under.session_id under.tree_id)) (open_of shared.store.opens (number_named (Some named))) false ≡ true
+  open_held : (under : RequestIds) (named : ContextOpen) → open_refusal server.store.opens under named ≡ None → option_map_or (is_held_by (Tree under.session_id under.tree_id)) (open_of server.store.opens (number_named (Some named))) false ≡ true
   open_held under Nothing e = cc
   open_held under (Refused status) e = cc
   open_held under (Named id) e =
-      let names : names_open shared.store.opens under id ≡ true = grind (arith, e) in
+      let names : names_open server.store.opens under id ≡ true = grind (arith, e) in
       grind (arith, names)
 
-  named_held : (under : Under) (asked : RequestValue) (named : ContextOpen) → missing_refusal shared c under asked (Some named) ≡ None →
-      option_map_or (is_held_by (Tree under.session_id under.tree_id)) (open_of shared.store.opens (number_named (Some named))) false ≡ true
+  named_held : (under : RequestIds) (asked : RequestValue) (named : ContextOpen) → check_session_tree_and_open server c under asked (Some named) ≡ None →
+      option_map_or (is_held_by (Tree under.session_id under.tree_id)) (open_of server.store.opens (number_named (Some named))) false ≡ true
   named_held under asked named e = open_held under named (grind (arith, e))
 
   -- why the session that a SESSION_SETUP names as the previous one may be over
-  abbrev Causes : Meaning S → Under → RequestValue → Type 0
+  abbrev Causes : Meaning S → RequestIds → RequestValue → Type 0
   Causes m under asked =
-      (setup : SessionSetupAsked) → asked ≡ asks_session_setup setup → MayReplace may setup.previous_session_id (m.answer shared.sessions.authenticator (setup_number shared.sessions.table under.session_id) setup.security_buffer)
+      (setup : SessionSetupAsked) → asked ≡ asks_session_setup setup → MayReplace may setup.previous_session_id (m.answer server.sessions.authenticator (setup_number server.sessions.table under.session_id) setup.security_buffer)
 
-  acted_left : (m : Meaning S) (moment : ℕ) (dialect : Option Dialect) (under : Under) (handed : Option ContextOpen) (asked : RequestValue) → Causes m under asked → missing_refusal shared c under asked (option_map (open_named handed) (file_id_of asked)) ≡ None →
-      Left (acted m c moment shared dialect under (number_named (option_map (open_named handed) (file_id_of asked))) asked).shared
-  acted_left m moment dialect under handed (asks_negotiate x) cause e = negotiated_left m moment dialect under x.dialects
-  acted_left m moment dialect under handed (asks_session_setup x) cause e = set_up_left may m acts c a shared o under x (cause x refl)
-  acted_left m moment dialect under handed (asks_logoff x) cause e = logged_off_left under
-  acted_left m moment dialect under handed (asks_tree_connect x) cause e = joined_left under x.path
-  acted_left m moment dialect under handed (asks_tree_disconnect x) cause e = disconnected_left under
-  acted_left m moment dialect under handed (asks_create x) cause e = created_left moment under x (acts_known under (asks_create x) None refl e)
-  acted_left m moment dialect under handed (asks_close x) cause e =
-      let named = open_named handed x.file_id in
+  acted_left : (m : Meaning S) (moment : ℕ) (dialect : Option Dialect) (under : RequestIds) (inherited : Option ContextOpen) (asked : RequestValue) → Causes m under asked → check_session_tree_and_open server c under asked (option_map (open_named inherited) (file_id_of asked)) ≡ None →
+      Left (acted m c moment server dialect under (number_named (option_map (open_named inherited) (file_id_of asked))) asked).server
+  acted_left m moment dialect under inherited (asks_negotiate x) cause e = negotiated_left m moment dialect under x.dialects
+  acted_left m moment dialect under inherited (asks_session_setup x) cause e = set_up_left may m acts c a server o under x (cause x refl)
+  acted_left m moment dialect under inherited (asks_logoff x) cause e = logged_off_left under
+  acted_left m moment dialect under inherited (asks_tree_connect x) cause e = joined_left under x.path
+  acted_left m moment dialect under inherited (asks_tree_disconnect x) cause e = disconnected_left under
+  acted_left m moment dialect under inherited (asks_create x) cause e = created_left moment under x (acts_known under (asks_create x) None refl e)
+  acted_left m moment dialect under inherited (asks_close x) cause e =
+      let named = open_named inherited x.file_id in
       let k = number_named (Some named) in
-      closed_left under k x.flags (closed_open_left under k (open_of shared.store.opens k) refl (named_held under (asks_close x) named e) (acts_known under (asks_close x) (Some named) refl e))
-  acted_left m moment dialect under handed (asks_flush x) cause e = same
-  acted_left m moment dialect under handed (asks_read x) cause e = read_left under (number_named (Some (open_named handed x.file_id))) x
-  acted_left m moment dialect under handed (asks_write x) cause e = written_left moment under (number_named (Some (open_named handed x.file_id))) x
-  acted_left m moment dialect under handed (asks_lock x) cause e = locks_left under (number_named (Some (open_named handed x.file_id))) (lock_asks x.locks) (asks_unlock (lock_asks x.locks))
-  acted_left m moment dialect under handed (asks_cancel x) cause e = same
-  acted_left m moment dialect under handed (asks_echo x) cause e = same
-  acted_left m moment dialect under handed (asks_query_directory x) cause e =
-      let named = open_named handed x.file_id in
+      closed_left under k x.flags (closed_open_left under k (open_of server.store.opens k) refl (named_held under (asks_close x) named e) (acts_known under (asks_close x) (Some named) refl e))
+  acted_left m moment dialect under inherited (asks_flush x) cause e = same
+  acted_left m moment dialect under inherited (asks_read x) cause e = read_left under (number_named (Some (open_named inherited x.file_id))) x
+  acted_left m moment dialect under inherited (asks_write x) cause e = written_left moment under (number_named (Some (open_named inherited x.file_id))) x
+  acted_left m moment dialect under inherited (asks_lock x) cause e = locks_left under (number_named (Some (open_named inherited x.file_id))) (lock_asks x.locks) (asks_unlock (lock_asks x.locks))
+  acted_left m moment dialect under inherited (asks_cancel x) cause e = same
+  acted_left m moment dialect under inherited (asks_echo x) cause e = same
+  acted_left m moment dialect under inherited (asks_query_directory x) cause e =
+      let named = open_named inherited x.file_id in
       let k = number_named (Some named) in
-      listed_left Left shared same under k
-      (λ scan. scanned_left under k (open_of shared.store.opens k) refl (named_held under (asks_query_directory x) named e) (acts_known under (asks_query_directory x) (Some named) refl e) scan) x
-  acted_left m moment dialect under handed (asks_query_info x) cause e = queried_left Left shared same under (number_named (Some (open_named handed x.file_id))) x
-  acted_left m moment dialect under handed (asks_set_info x) cause e =
-      let k = number_named (Some (open_named handed x.file_id)) in
-      info_set_left Left shared same under k moment (λ ask. opens_kept (set_through shared.store k moment ask) (set_opens shared.store k moment ask) (set_next shared.store k moment ask)) x
+      listed_left Left server same under k
+      (λ scan. scanned_left under k (open_of server.store.opens k) refl (named_held under (asks_query_directory x) named e) (acts_known under (asks_query_directory x) (Some named) refl e) scan) x
+  acted_left m moment dialect under inherited (asks_query_info x) cause e = queried_left Left server same under (number_named (Some (open_named inherited x.file_id))) x
+  acted_left m moment dialect under inherited (asks_set_info x) cause e =
+      let k = number_named (Some (open_named inherited x.file_id)) in
+      info_set_left Left server same under k moment (λ ask. opens_kept (set_through server.store k moment ask) (set_opens server.store k moment ask) (set_next server.store k moment ask)) x
 
-  body_at : (m : Meaning S) (moment : ℕ) (dialect : Option Dialect) (under : Under) (handed : Option ContextOpen) (asked : RequestValue) (missing : Option Status) → Causes m under asked →
-      missing_refusal shared c under asked (option_map (open_named handed) (file_id_of asked)) ≡ missing →
-      Left (option_map_or (λ status. answered dialect (refused shared under status)) missing (acted m c moment shared dialect under (number_named (option_map (open_named handed) (file_id_of asked))) asked)).shared
-  body_at m moment dialect under handed asked (Some status) cause e = same
-  body_at m moment dialect under handed asked None cause e = acted_left m moment dialect under handed asked cause e
+  body_at : (m : Meaning S) (moment : ℕ) (dialect : Option Dialect) (under : RequestIds) (inherited : Option ContextOpen) (asked : RequestValue) (missing : Option Status) → Causes m under asked →
+      check_session_tree_and_open server c under asked (option_map (open_named inherited) (file_id_of asked)) ≡ missing →
+      Left (option_map_or (λ status. answered dialect (refused server under status)) missing (acted m c moment server dialect under (number_named (option_map (open_named inherited) (file_id_of asked))) asked)).server
+  body_at m moment dialect under inherited asked (Some status) cause e = same
+  body_at m moment dialect under inherited asked None cause e = acted_left m moment dialect under inherited asked cause e
 
-  body_left : (m : Meaning S) (moment : ℕ) (dialect : Option Dialect) (under : Under) (handed : Option ContextOpen) (asked : Option RequestValue) → ((value : RequestValue) → asked ≡ Some value → Causes m under value) → Left (by_body m c moment shared dialect under handed asked).shared
+  body_left : (m : Meaning S) (moment : ℕ) (dialect : Option Dialect) (under : RequestIds) (inherited : Option ContextOpen) (asked : Option RequestValue) → ((value : RequestValue) → asked ≡ Some value → Causes m under value) → Left (by_body m c moment server dialect under inherited asked).server
   unfolding by_body
-  body_left m moment dialect under handed None cause = same
-  body_left m moment dialect under handed (Some asked) cause = body_at m moment dialect under handed asked (missing_refusal shared c under asked (option_map (open_named handed) (file_id_of asked))) (cause asked refl) refl
+  body_left m moment dialect under inherited None cause = same
+  body_left m moment dialect under inherited (Some asked) cause = body_at m moment dialect under inherited asked (check_session_tree_and_open server c under asked (option_map (open_named inherited) (file_id_of asked))) (cause asked refl) refl
 
-  handled_left : (m : Meaning S) (moment : ℕ) (dialect : Option Dialect) (under : Under) (handed : Option ContextOpen) (handling : Handling) (asked : Option RequestValue) → ((value : RequestValue) → asked ≡ Some value → Causes m under value) → Left (by_handling m c moment shared dialect under handed handling asked).shared
-  handled_left m moment dialect under handed Handled asked cause = body_left m moment dialect under handed asked cause
-  handled_left m moment dialect under handed Unsupported asked cause = same
-  handled_left m moment dialect under handed Passed asked cause = same
+  handled_left : (m : Meaning S) (moment : ℕ) (dialect : Option Dialect) (under : RequestIds) (inherited : Option ContextOpen) (handling : Handling) (asked : Option RequestValue) → ((value : RequestValue) → asked ≡ Some value → Causes m under value) → Left (by_handling m c moment server dialect under inherited handling asked).server
+  handled_left m moment dialect under inherited Handled asked cause = body_left m moment dialect under inherited asked cause
+  handled_left m moment dialect under inherited Unsupported asked cause = same
+  handled_left m moment dialect under inherited Passed asked cause = same
 
-  command_left : (m : Meaning S) (moment : ℕ) (dialect : Option Dialect) (under : Under) (handed : Option ContextOpen) (command : Option Command) (asked : Option RequestValue) → ((value : RequestValue) → asked ≡ Some value → Causes m under value) → Left (by_command m c moment shared dialect under handed command asked).shared
-  command_left m moment dialect under handed None asked cause = same
-  command_left m moment dialect under handed (Some command) asked cause = handled_left m moment dialect under handed (command_row command).handling asked cause
+  command_left : (m : Meaning S) (moment : ℕ) (dialect : Option Dialect) (under : RequestIds) (inherited : Option ContextOpen) (command : Option Command) (asked : Option RequestValue) → ((value : RequestValue) → asked ≡ Some value → Causes m under value) → Left (by_command m c moment server dialect under inherited command asked).server
+  command_left m moment dialect under inherited None asked cause = same
+  command_left m moment dialect under inherited (Some command) asked cause = handled_left m moment dialect under inherited (command_row command).handling asked cause
 
   request_left_but : (m : Meaning S) (moment : ℕ) (dialect : Option Dialect) (context : Context) (request : List ℕ) →
-      ((n : ℕ) (session : SessionState) → ReplacesSession m shared context request n session → may n session) → Left (performed m c moment shared dialect context request).shared
+      ((n : ℕ) (session : SessionState) → ReplacesSession m server context request n session → may n session) → Left (performed m c moment server dialect context request).server
   unfolding performed
   request_left_but m moment dialect context request replaces =
       let command = known_command (header_of request).command.0 in
-      command_left m moment dialect (acts_under context request) (handed_to context request) command (body_of command request)
+      command_left m moment dialect (acts_under context request) (inherited_open context request) command (body_of command request)
       (λ value says setup is user flags token session accepted same_user. replaces setup.previous_session_id session (record {
         asked = setup;
         user = user;
@@ -357,20 +357,20 @@ module _ {S : Type 0} (may : ℕ → SessionState → Type 0) (acts : ℕ → Bo
       }))
 
 -- the session that it replaces may be over
-pub request_left : {S : Type 0} (acts : ℕ → Bool) (c : ℕ) → acts c ≡ true → (shared : SharedState S) → NumbersInOrder shared.sessions.table shared.store → (m : Meaning S) (moment : ℕ) (dialect : Option Dialect) (context : Context) (request : List ℕ) →
-    LeavesSharedBut (ReplacesSession m shared context request) acts shared (performed m c moment shared dialect context request).shared
-request_left acts c a shared o m moment dialect context request = request_left_but (ReplacesSession m shared context request) acts c a shared o m moment dialect context request (λ n session replaces. replaces)
+pub request_left : {S : Type 0} (acts : ℕ → Bool) (c : ℕ) → acts c ≡ true → (server : ServerState S) → NumbersInOrder server.sessions.table server.store → (m : Meaning S) (moment : ℕ) (dialect : Option Dialect) (context : Context) (request : List ℕ) →
+    LeavesSharedBut (ReplacesSession m server context request) acts server (performed m c moment server dialect context request).server
+request_left acts c a server o m moment dialect context request = request_left_but (ReplacesSession m server context request) acts c a server o m moment dialect context request (λ n session replaces. replaces)
 
 -- all connections but one
 same_connection : (c : ℕ) → (c == c) ≡ true
 same_connection c = grind (arith, nat_tests)
 
-pub request_alone : {S : Type 0} (m : Meaning S) (c moment : ℕ) (shared : SharedState S) (dialect : Option Dialect) (context : Context) (request : List ℕ) (n : ℕ) (session : SessionState) → NumbersInOrder shared.sessions.table shared.store →
-    session_at shared.sessions.table n ≡ Some session → session.connection == c ≡ false →
-    IsAsItWas shared (performed m c moment shared dialect context request).shared n ⊎ (IsOver (performed m c moment shared dialect context request).shared n × ReplacesSession m shared context request n session)
-request_alone m c moment shared dialect context request n session o at other =
-    (request_left (λ x. x == c) c (same_connection c) shared o m moment dialect context request).alone n session at other
+pub request_alone : {S : Type 0} (m : Meaning S) (c moment : ℕ) (server : ServerState S) (dialect : Option Dialect) (context : Context) (request : List ℕ) (n : ℕ) (session : SessionState) → NumbersInOrder server.sessions.table server.store →
+    session_at server.sessions.table n ≡ Some session → session.connection == c ≡ false →
+    IsAsItWas server (performed m c moment server dialect context request).server n ⊎ (IsOver (performed m c moment server dialect context request).server n × ReplacesSession m server context request n session)
+request_alone m c moment server dialect context request n session o at other =
+    (request_left (λ x. x == c) c (same_connection c) server o m moment dialect context request).alone n session at other
 
-pub request_order : {S : Type 0} (m : Meaning S) (c moment : ℕ) (shared : SharedState S) (dialect : Option Dialect) (context : Context) (request : List ℕ) → NumbersInOrder shared.sessions.table shared.store →
-    IsInOrder (performed m c moment shared dialect context request).shared
-request_order m c moment shared dialect context request o = (request_left (λ x. true) c refl shared o m moment dialect context request).order
+pub request_order : {S : Type 0} (m : Meaning S) (c moment : ℕ) (server : ServerState S) (dialect : Option Dialect) (context : Context) (request : List ℕ) → NumbersInOrder server.sessions.table server.store →
+    IsInOrder (performed m c moment server dialect context request).server
+request_order m c moment server dialect context request o = (request_left (λ x. true) c refl server o m moment dialect context request).order

@@ -16,7 +16,7 @@ use Rattle.smb_request.specs.Settings.{Settings}
 use Rattle.smb_access.specs.declared.open_row.Owner.TheVariants.{Session}
 use Rattle.smb_opens.specs.Close.{closed_all}
 use Rattle.smb_opens.specs.State.{StoreState}
-use Rattle.smb_request.specs.State.{SharedState, closed_with, without_connection, shared_ended}
+use Rattle.smb_request.specs.State.{ServerState, closed_with, without_connection, connection_ended}
 use Rattle.smb_request.proofs.Numbered.{at_same, at_above}
 
 abbrev others : ℕ → List (ℕ × SessionState) → List (ℕ × SessionState)
@@ -119,22 +119,22 @@ pub ended_first : (table table' : TableState) (c n : ℕ) → record { table = t
 ended_first table table' c n h = (some_at table table' c n (slice_get (numbers_on table.sessions c) 0) h).1
 
 module _ {S : Type 0} (settings : Settings) (sessions sessions' : SessionsState S) (store : StoreState) (c : ℕ) where
-  abbrev shared_by : SessionsState S → StoreState → SharedState S
-  shared_by s f = record { settings = settings; sessions = s; store = f }
+  abbrev server_by : SessionsState S → StoreState → ServerState S
+  server_by s f = record { settings = settings; sessions = s; store = f }
 
-  pub shared_one : (store' : StoreState) (n : ℕ) → sessions' ≡ record sessions { table = sessions'.table } → store' ≡ closed_all store (Session n) →
+  pub server_one : (store' : StoreState) (n : ℕ) → sessions' ≡ record sessions { table = sessions'.table } → store' ≡ closed_all store (Session n) →
       without_connection sessions'.table c ≡ without_connection sessions.table c → numbers_on sessions.table.sessions c ≡ n ∷ numbers_on sessions'.table.sessions c →
-      shared_ended (shared_by sessions' store') c ≡ shared_ended (shared_by sessions store) c
-  unfolding shared_ended
-  shared_one store' n k f e l =
-      ap (λ s. shared_by (record s { table = without_connection sessions'.table c }) (closed_with store' (numbers_on sessions'.table.sessions c))) k
-      ∙ ap (λ t. shared_by (record sessions { table = t }) (closed_with store' (numbers_on sessions'.table.sessions c))) e
-      ∙ ap (λ f. shared_by (record sessions { table = without_connection sessions.table c }) (closed_with f (numbers_on sessions'.table.sessions c))) f
-      ∙ ap (λ ns. shared_by (record sessions { table = without_connection sessions.table c }) (closed_with store ns)) (sym l)
+      connection_ended (server_by sessions' store') c ≡ connection_ended (server_by sessions store) c
+  unfolding connection_ended
+  server_one store' n k f e l =
+      ap (λ s. server_by (record s { table = without_connection sessions'.table c }) (closed_with store' (numbers_on sessions'.table.sessions c))) k
+      ∙ ap (λ t. server_by (record sessions { table = t }) (closed_with store' (numbers_on sessions'.table.sessions c))) e
+      ∙ ap (λ f. server_by (record sessions { table = without_connection sessions.table c }) (closed_with f (numbers_on sessions'.table.sessions c))) f
+      ∙ ap (λ ns. server_by (record sessions { table = without_connection sessions.table c }) (closed_with store ns)) (sym l)
 
-  pub shared_none : sessions' ≡ record sessions { table = sessions'.table } → sessions'.table ≡ without_connection sessions.table c → numbers_on sessions.table.sessions c ≡ [] →
-      shared_by sessions' store ≡ shared_ended (shared_by sessions store) c
-  unfolding shared_ended
-  shared_none k e l =
-      ap (λ s. shared_by s store) k ∙ ap (λ t. shared_by (record sessions { table = t }) store) e
-      ∙ ap (λ ns. shared_by (record sessions { table = without_connection sessions.table c }) (closed_with store ns)) (sym l)
+  pub server_none : sessions' ≡ record sessions { table = sessions'.table } → sessions'.table ≡ without_connection sessions.table c → numbers_on sessions.table.sessions c ≡ [] →
+      server_by sessions' store ≡ connection_ended (server_by sessions store) c
+  unfolding connection_ended
+  server_none k e l =
+      ap (λ s. server_by s store) k ∙ ap (λ t. server_by (record sessions { table = t }) store) e
+      ∙ ap (λ ns. server_by (record sessions { table = without_connection sessions.table c }) (closed_with store ns)) (sym l)

@@ -6,7 +6,7 @@ use Rattle.smb_access.specs.declared.open_row.Owner.TheVariants.{Tree}
 use Rattle.smb_access.specs.Opens.{open_of, is_held_by}
 use Rattle.smb_request.specs.declared.context.ContextOpen.{ContextOpen}
 use Rattle.smb_request.specs.declared.context.ContextOpen.TheVariants.{Nothing, Named, Refused}
-use Rattle.smb_request.specs.declared.context.Under.{Under}
+use Rattle.smb_request.specs.declared.context.RequestIds.{RequestIds}
 use Rattle.smb_request.specs.Context.{number_named}
 use Rattle.smb_request.specs.Files.{names_open}
 use Rattle.smb_request.specs.Request.{open_refusal}
@@ -15,7 +15,7 @@ held_there : (P : OpenRow → Bool) (o : Option OpenRow) → option_map_or P o f
 held_there P None h = h
 held_there P (Some row) h = refl
 
-open_there : (opens : List OpenRow) (under : Under) (named : ContextOpen) → open_refusal opens under named ≡ None → IsSome (open_of opens (number_named (Some named)))
+open_there : (opens : List OpenRow) (under : RequestIds) (named : ContextOpen) → open_refusal opens under named ≡ None → IsSome (open_of opens (number_named (Some named)))
 open_there opens under Nothing e = cc
 open_there opens under (Refused status) e = cc
 open_there opens under (Named id) e =
@@ -23,7 +23,7 @@ open_there opens under (Named id) e =
     let held : option_map_or (is_held_by (Tree under.session_id under.tree_id)) (open_of opens id.persistent) false ≡ true = grind (arith, names) in
     held_there _ (open_of opens id.persistent) held
 
-pub named_there : (opens : List OpenRow) (under : Under) (named : Option ContextOpen) → option_and_then (open_refusal opens under) named ≡ None → is_some named ≡ true → IsSome (open_of opens (number_named named))
+pub named_there : (opens : List OpenRow) (under : RequestIds) (named : Option ContextOpen) → option_and_then (open_refusal opens under) named ≡ None → is_some named ≡ true → IsSome (open_of opens (number_named named))
 named_there opens under None e h = cc
 named_there opens under (Some named) e h = open_there opens under named e
 

@@ -14,13 +14,13 @@ use Rattle.smb_access.specs.Opens.{open_of}
 use Rattle.smb_entry.specs.Rename.{renamed_tree}
 use Rattle.smb_entry.specs.SetInfo.{changed_in, delete_set, size_set, entry_set}
 use Rattle.smb_opens.specs.State.{StoreState}
-use Rattle.smb_request.specs.declared.context.Under.{Under}
+use Rattle.smb_request.specs.declared.context.RequestIds.{RequestIds}
 use Rattle.smb_request.specs.declared.status.Status.TheVariants.{InvalidParameter, InvalidInfoClass, InfoLengthMismatch, NotSupported, Store}
 use Rattle.smb_request.specs.InfoTypes.{FILE, FILESYSTEM, SECURITY, QUOTA}
 use Rattle.smb_request.specs.QueryInfo.{information_queried}
 use Rattle.smb_request.specs.Response.{CommandStep, success, refused}
 use Rattle.smb_request.specs.SetInfo.{set_status, set_through, set_as_asked, class_set, information_set}
-use Rattle.smb_request.specs.State.{SharedState, with_store}
+use Rattle.smb_request.specs.State.{ServerState, with_store}
 
 -- what a store has beside its tree is as it was
 with_tree : {X : Type 0} (part : StoreState → X) → ((state : StoreState) (tree : Content) → part (record state { tree = tree }) ≡ part state) → (tree : OpenRow → Content) (store : StoreState) (found : Option OpenRow) →
@@ -41,33 +41,33 @@ set_opens = set_beside (λ state. state.opens) (λ state tree. refl)
 pub set_next : (store : StoreState) (k moment : ℕ) (ask : SetAsked) → (set_through store k moment ask).next ≡ store.next
 set_next = set_beside (λ state. state.next) (λ state tree. refl)
 
-module _ {S : Type 0} (Left : SharedState S → Type 0) (shared : SharedState S) (same : Left shared) (under : Under) (k : ℕ) where
-  pub queried_left : (asked : QueryInfoRequest) → Left (information_queried shared under k asked).shared
+module _ {S : Type 0} (Left : ServerState S → Type 0) (server : ServerState S) (same : Left server) (under : RequestIds) (k : ℕ) where
+  pub queried_left : (asked : QueryInfoRequest) → Left (information_queried server under k asked).server
   unfolding information_queried
   queried_left asked = same
 
-  module _ (moment : ℕ) (set : (ask : SetAsked) → Left (with_store shared (set_through shared.store k moment ask))) where
+  module _ (moment : ℕ) (set : (ask : SetAsked) → Left (with_store server (set_through server.store k moment ask))) where
     by_status : (ask : SetAsked) (status : ℕ) (b : Bool) →
-        Left (let x : CommandStep S = if b then record { shared = with_store shared (set_through shared.store k moment ask); response = success under answers_set_info } else refused shared under (Store status) in x).shared
+        Left (let x : CommandStep S = if b then record { server = with_store server (set_through server.store k moment ask); response = success under answers_set_info } else refused server under (Store status) in x).server
     by_status ask status true = set ask
     by_status ask status false = same
 
     by_class : (buffer : List ℕ) (class : SetInformationClass) (b c : Bool) →
-        Left (let x : CommandStep S = if b then refused shared under InfoLengthMismatch else if c then refused shared under InvalidParameter else set_as_asked moment shared under k (asked_of buffer class) in x).shared
+        Left (let x : CommandStep S = if b then refused server under InfoLengthMismatch else if c then refused server under InvalidParameter else set_as_asked moment server under k (asked_of buffer class) in x).server
     by_class buffer class true c = same
     by_class buffer class false true = same
     by_class buffer class false false =
-        by_status (asked_of buffer class) (set_status shared.store k (asked_of buffer class)) (set_status shared.store k (asked_of buffer class) == STATUS_SUCCESS)
+        by_status (asked_of buffer class) (set_status server.store k (asked_of buffer class)) (set_status server.store k (asked_of buffer class) == STATUS_SUCCESS)
 
     by_type : (buffer : List ℕ) (class : Option SetInformationClass) (a b : Bool) →
-        Left (let x : CommandStep S = if a then refused shared under NotSupported else if b then refused shared under InvalidParameter else
-        option_map_or (class_set moment shared under k buffer) class (refused shared under InvalidInfoClass) in x).shared
+        Left (let x : CommandStep S = if a then refused server under NotSupported else if b then refused server under InvalidParameter else
+        option_map_or (class_set moment server under k buffer) class (refused server under InvalidInfoClass) in x).server
     by_type buffer class true b = same
     by_type buffer class false true = same
     by_type buffer None false false = same
     by_type buffer (Some class) false false = by_class buffer class (nat_lt (length buffer) (set_length class)) (not (is_readable buffer class))
 
-    pub info_set_left : (asked : SetInfoAsked) → Left (information_set moment shared under k asked).shared
+    pub info_set_left : (asked : SetInfoAsked) → Left (information_set moment server under k asked).server
     unfolding information_set
     info_set_left asked = by_type asked.buffer (set_class asked.file_info_class.0)
         (asked.info_type.0 == FILESYSTEM || asked.info_type.0 == SECURITY || asked.info_type.0 == QUOTA) (not (asked.info_type.0 == FILE))

@@ -17,7 +17,7 @@ use Rattle.smb_opens.specs.State.{StoreState}
 use Rattle.smb_access.proofs.Rows.{others}
 use Rattle.smb_session.proofs.Entries.{changed-none}
 use Rattle.smb_request.specs.Laws.{NumbersInOrder}
-use Rattle.smb_request.specs.State.{SharedState}
+use Rattle.smb_request.specs.State.{ServerState}
 use Rattle.smb_request.proofs.Numbered.{at_is}
 use Rattle.smb_request.proofs.Numbers.{others_left, order_ended, order_changed, order_begun, order_opens, order_some, order_opened, order_closed}
 
@@ -91,8 +91,8 @@ pub record LeavesBut (may : ℕ → SessionState → Type 0) (acts : ℕ → Boo
   pub alone : (n : ℕ) (session : SessionState) → session_at table n ≡ Some session → acts session.connection ≡ false → IsLeft may table store n session table' store'
   pub over : (n : ℕ) → n < table.next → IsNone table store n → IsNone table' store' n
 
--- of all that is shared
-abbrev pub LeavesSharedBut : {S : Type 0} → (ℕ → SessionState → Type 0) → (ℕ → Bool) → SharedState S → SharedState S → Type 0
+-- of the server
+abbrev pub LeavesSharedBut : {S : Type 0} → (ℕ → SessionState → Type 0) → (ℕ → Bool) → ServerState S → ServerState S → Type 0
 LeavesSharedBut may acts before after = LeavesBut may acts before.sessions.table before.store after.sessions.table after.store
 
 -- two steps, one after the other

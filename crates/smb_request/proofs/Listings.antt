@@ -20,12 +20,12 @@ use Rattle.smb_info.specs.declared.fault.InfoFault.{InfoFault}
 use Rattle.smb_info.specs.declared.fault.InfoFault.TheVariants.{BadClass, BadPattern, TooSmall, NoMatch, NoMore, Unreadable, NoMemory}
 use Rattle.smb_request.specs.declared.status.Status.{Status}
 use Rattle.smb_request.specs.declared.status.Status.TheVariants.{InfoLengthMismatch, InvalidParameter, NotSupported}
-use Rattle.smb_request.specs.declared.context.Under.{Under}
+use Rattle.smb_request.specs.declared.context.RequestIds.{RequestIds}
 use Rattle.smb_request.specs.declared.query_directory.ListingRefusal.{ListingRefusal}
 use Rattle.smb_request.specs.Context.{ids_of}
 use Rattle.smb_request.specs.QueryDirectory.{list_asked_by, directory_refusal, listing_refusal, listing_refused, directory_listed, listed_as_asked, directory_queried}
 use Rattle.smb_request.specs.Response.{CommandStep, failure, refused}
-use Rattle.smb_request.specs.State.{SharedState, with_store}
+use Rattle.smb_request.specs.State.{ServerState, with_store}
 use Rattle.smb_session.specs.Table.{TableState}
 use Rattle.smb_access.specs.declared.open_row.OpenRow.{OpenRow}
 use Rattle.smb_access.specs.declared.open_row.Owner.TheVariants.{Session}
@@ -38,38 +38,38 @@ use Rattle.smb_request.specs.InfoTypes.{FILE, FILESYSTEM, SECURITY, QUOTA}
 use Rattle.smb_request.specs.Owners.{AreOwned, is_owned}
 use Rattle.smb_request.specs.QueryInfo.{room_refusal, query_refusal, informed}
 
-module _ {S : Type 0} (Left : SharedState S → Type 0) (shared : SharedState S) (same : Left shared) (under : Under) (k : ℕ)
-    (set : (scan : Scan) → Left (with_store shared (scan_set shared.store k scan))) where
-  refused_at : (scan : Option Scan) → Left (option_map_or (λ scan. with_store shared (scan_set shared.store k scan)) scan shared)
+module _ {S : Type 0} (Left : ServerState S → Type 0) (server : ServerState S) (same : Left server) (under : RequestIds) (k : ℕ)
+    (set : (scan : Scan) → Left (with_store server (scan_set server.store k scan))) where
+  refused_at : (scan : Option Scan) → Left (option_map_or (λ scan. with_store server (scan_set server.store k scan)) scan server)
   refused_at None = same
   refused_at (Some scan) = set scan
 
-  unless_at : (ask : ListAsked) (refusal : Option ListingRefusal) → Left (option_map_or (listing_refused shared under k) refusal (directory_listed shared under k ask)).shared
-  unless_at ask None = set (open_scan_after shared.store k ask)
+  unless_at : (ask : ListAsked) (refusal : Option ListingRefusal) → Left (option_map_or (listing_refused server under k) refusal (directory_listed server under k ask)).server
+  unless_at ask None = set (open_scan_after server.store k ask)
   unless_at ask (Some refusal) = refused_at refusal.scan
 
-  by_refusal : (ask : ListAsked) (status : Option Status) → Left (option_map_or (λ status. refused shared under status) status (listed_as_asked shared under k ask)).shared
-  by_refusal ask None = unless_at ask (option_and_then listing_refusal (open_list_fault shared.store k ask))
+  by_refusal : (ask : ListAsked) (status : Option Status) → Left (option_map_or (λ status. refused server under status) status (listed_as_asked server under k ask)).server
+  by_refusal ask None = unless_at ask (option_and_then listing_refusal (open_list_fault server.store k ask))
   by_refusal ask (Some status) = same
 
-  pub listed_left : (asked : QueryDirectoryAsked) → Left (directory_queried shared under k asked).shared
+  pub listed_left : (asked : QueryDirectoryAsked) → Left (directory_queried server under k asked).server
   unfolding directory_queried
-  listed_left asked = by_refusal (list_asked_by asked) (directory_refusal (open_view shared.store k) asked)
+  listed_left asked = by_refusal (list_asked_by asked) (directory_refusal (open_view server.store k) asked)
 
 -- the response tells the session and the tree that the request acts under
-ids_unless : {S : Type 0} (shared : SharedState S) (under : Under) (k : ℕ) (ask : ListAsked) (refusal : Option ListingRefusal) →
-    (option_map_or (listing_refused shared under k) refusal (directory_listed shared under k ask)).response.ids ≡ ids_of under
-ids_unless shared under k ask None = refl
-ids_unless shared under k ask (Some refusal) = refl
+ids_unless : {S : Type 0} (server : ServerState S) (under : RequestIds) (k : ℕ) (ask : ListAsked) (refusal : Option ListingRefusal) →
+    (option_map_or (listing_refused server under k) refusal (directory_listed server under k ask)).response.ids ≡ ids_of under
+ids_unless server under k ask None = refl
+ids_unless server under k ask (Some refusal) = refl
 
-ids_by_refusal : {S : Type 0} (shared : SharedState S) (under : Under) (k : ℕ) (ask : ListAsked) (status : Option Status) →
-    (option_map_or (λ status. refused shared under status) status (listed_as_asked shared under k ask)).response.ids ≡ ids_of under
-ids_by_refusal shared under k ask None = ids_unless shared under k ask (option_and_then listing_refusal (open_list_fault shared.store k ask))
-ids_by_refusal shared under k ask (Some status) = refl
+ids_by_refusal : {S : Type 0} (server : ServerState S) (under : RequestIds) (k : ℕ) (ask : ListAsked) (status : Option Status) →
+    (option_map_or (λ status. refused server under status) status (listed_as_asked server under k ask)).response.ids ≡ ids_of under
+ids_by_refusal server under k ask None = ids_unless server under k ask (option_and_then listing_refusal (open_list_fault server.store k ask))
+ids_by_refusal server under k ask (Some status) = refl
 
-pub queried_ids : {S : Type 0} (shared : SharedState S) (under : Under) (k : ℕ) (asked : QueryDirectoryAsked) → (directory_queried shared under k asked).response.ids ≡ ids_of under
+pub queried_ids : {S : Type 0} (server : ServerState S) (under : RequestIds) (k : ℕ) (asked : QueryDirectoryAsked) → (directory_queried server under k asked).response.ids ≡ ids_of under
 unfolding directory_queried
-queried_ids shared under k asked = ids_by_refusal shared under k (list_asked_by asked) (directory_refusal (open_view shared.store k) asked)
+queried_ids server under k asked = ids_by_refusal server under k (list_asked_by asked) (directory_refusal (open_view server.store k) asked)
 
 -- each open is owned as before
 owned_by : (table : TableState) (scan : Scan) (row : OpenRow) (b : Bool) → is_owned table (let x : OpenRow = if b then record row { scan = scan } else row in x) ≡ is_owned table row
@@ -175,12 +175,12 @@ room_left false true c room h = cc
 room_left false false true room h = cc
 room_left false false false room h = refl
 
-pub queried_refused : {S : Type 0} (shared : SharedState S) (under : Under) (asked : QueryInfoRequest) (information : Option Information) (status : Status) → request_refusal asked ≡ None → room_refusal information asked.output_buffer_length ≡ Some status →
-    (let x : CommandStep S = record { shared = shared; response = option_map_or (failure under) (query_refusal information asked) (informed under information asked.output_buffer_length) } in x) ≡ refused shared under status
-queried_refused shared under asked information status h e =
+pub queried_refused : {S : Type 0} (server : ServerState S) (under : RequestIds) (asked : QueryInfoRequest) (information : Option Information) (status : Status) → request_refusal asked ≡ None → room_refusal information asked.output_buffer_length ≡ Some status →
+    (let x : CommandStep S = record { server = server; response = option_map_or (failure under) (query_refusal information asked) (informed under information asked.output_buffer_length) } in x) ≡ refused server under status
+queried_refused server under asked information status h e =
     let refusal : query_refusal information asked ≡ Some status =
     room_left (asked.info_type.0 == SECURITY || asked.info_type.0 == QUOTA) (not (asked.info_type.0 == FILE || asked.info_type.0 == FILESYSTEM)) (nat_lt 65536 asked.output_buffer_length) (room_refusal information asked.output_buffer_length) h ∙ e in
-    ap (λ (r : Option Status). let x : CommandStep _ = record { shared = shared; response = option_map_or (failure under) r (informed under information asked.output_buffer_length) } in x) refusal
+    ap (λ (r : Option Status). let x : CommandStep _ = record { server = server; response = option_map_or (failure under) r (informed under information asked.output_buffer_length) } in x) refusal
 
 -- no listing is unreadable
 unmatched_readable : (b : Bool) (scan : Scan) → (let x : Option InfoFault = Some (if b then NoMatch scan else NoMore) in x) ≡ Some Unreadable → ⊥

@@ -23,11 +23,11 @@ use Rattle.smb_body.specs.SessionSetup.{SessionSetupAsked}
 use Rattle.smb_opens.specs.Close.{closed_all}
 use Rattle.smb_request.specs.Session.{closed_for, setup_answered, session_set_up}
 use Rattle.smb_opens.specs.State.{StoreState}
-use Rattle.smb_request.specs.declared.context.Under.{Under}
+use Rattle.smb_request.specs.declared.context.RequestIds.{RequestIds}
 use Rattle.smb_request.specs.declared.status.Status.{Status}
 use Rattle.smb_request.specs.Response.{refused}
 use Rattle.smb_request.specs.Session.{status_of_refusal}
-use Rattle.smb_request.specs.State.{SharedState}
+use Rattle.smb_request.specs.State.{ServerState}
 use Rattle.smb_request.specs.Laws.{NumbersInOrder}
 use Rattle.smb_request.proofs.Leaving.{LeavesBut, LeavesSharedBut, IsApart, leaves_then, leaves_same, leaves_begun, leaves_changed, leaves_ended, leaves_whole, other_connection, look_removed, gone}
 
@@ -117,16 +117,16 @@ module _ (may : ℕ → SessionState → Type 0) (acts : ℕ → Bool) (c : ℕ)
 unrefused : (table : TableState) (c s flags : ℕ) → option_and_then status_of_refusal (setup_refusal table c s flags) ≡ None → setup_refusal table c s flags ≡ None
 unrefused table c s flags e = grind (arith, e)
 
-module _ {S : Type 0} (may : ℕ → SessionState → Type 0) (m : Meaning S) (acts : ℕ → Bool) (c : ℕ) (a : acts c ≡ true) (shared : SharedState S) (o : NumbersInOrder shared.sessions.table shared.store) where
-  set_up_at : (under : Under) (asked : SessionSetupAsked) (status : Option Status) →
-      MayReplace may asked.previous_session_id (m.answer shared.sessions.authenticator (setup_number shared.sessions.table under.session_id) asked.security_buffer) → option_and_then status_of_refusal (setup_refusal shared.sessions.table c under.session_id asked.flags.0) ≡ status →
-      LeavesSharedBut may acts shared (option_map_or (λ status. refused shared under status) status (setup_answered shared under (setup_step m shared.sessions c under.session_id asked.previous_session_id asked.security_buffer))).shared
-  set_up_at under asked (Some status) cause e = leaves_same acts shared.sessions.table shared.store o
+module _ {S : Type 0} (may : ℕ → SessionState → Type 0) (m : Meaning S) (acts : ℕ → Bool) (c : ℕ) (a : acts c ≡ true) (server : ServerState S) (o : NumbersInOrder server.sessions.table server.store) where
+  set_up_at : (under : RequestIds) (asked : SessionSetupAsked) (status : Option Status) →
+      MayReplace may asked.previous_session_id (m.answer server.sessions.authenticator (setup_number server.sessions.table under.session_id) asked.security_buffer) → option_and_then status_of_refusal (setup_refusal server.sessions.table c under.session_id asked.flags.0) ≡ status →
+      LeavesSharedBut may acts server (option_map_or (λ status. refused server under status) status (setup_answered server under (setup_step m server.sessions c under.session_id asked.previous_session_id asked.security_buffer))).server
+  set_up_at under asked (Some status) cause e = leaves_same acts server.sessions.table server.store o
   set_up_at under asked None cause e =
       let s = under.session_id in
-      step_left may acts c a shared.sessions.table shared.store o s asked.flags.0 asked.previous_session_id (m.answer shared.sessions.authenticator (setup_number shared.sessions.table s) asked.security_buffer) (s == 0) cause refl
-      (unrefused shared.sessions.table c s asked.flags.0 e)
+      step_left may acts c a server.sessions.table server.store o s asked.flags.0 asked.previous_session_id (m.answer server.sessions.authenticator (setup_number server.sessions.table s) asked.security_buffer) (s == 0) cause refl
+      (unrefused server.sessions.table c s asked.flags.0 e)
 
-  pub set_up_left : (under : Under) (asked : SessionSetupAsked) → MayReplace may asked.previous_session_id (m.answer shared.sessions.authenticator (setup_number shared.sessions.table under.session_id) asked.security_buffer) → LeavesSharedBut may acts shared (session_set_up m c shared under asked).shared
+  pub set_up_left : (under : RequestIds) (asked : SessionSetupAsked) → MayReplace may asked.previous_session_id (m.answer server.sessions.authenticator (setup_number server.sessions.table under.session_id) asked.security_buffer) → LeavesSharedBut may acts server (session_set_up m c server under asked).server
   unfolding session_set_up
-  set_up_left under asked cause = set_up_at under asked (option_and_then status_of_refusal (setup_refusal shared.sessions.table c under.session_id asked.flags.0)) cause refl
+  set_up_left under asked cause = set_up_at under asked (option_and_then status_of_refusal (setup_refusal server.sessions.table c under.session_id asked.flags.0)) cause refl

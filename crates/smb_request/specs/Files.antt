@@ -18,12 +18,12 @@ use Rattle.smb_opens.specs.Effect.{created, create_result}
 use Rattle.smb_opens.specs.Views.{open_view}
 use Rattle.smb_opens.specs.Close.{closed}
 use Rattle.smb_request.specs.declared.status.Status.TheVariants.{FileClosed}
-use Rattle.smb_request.specs.declared.context.Under.{Under}
-use Rattle.smb_request.specs.State.{SharedState, with_store}
+use Rattle.smb_request.specs.declared.context.RequestIds.{RequestIds}
+use Rattle.smb_request.specs.State.{ServerState, with_store}
 use Rattle.smb_request.specs.Response.{CommandStep, success, refused, by_status}
 
 -- what a CREATE asks of the files, under a session and a tree
-abbrev pub file_asked : Under → CreateAsked → FileAsked
+abbrev pub file_asked : RequestIds → CreateAsked → FileAsked
 file_asked under asked = record {
   name = asked.name;
   access = asked.desired_access.0;
@@ -52,16 +52,16 @@ create_response done = record {
 }
 
 -- CREATE (3.3.5.9)
-unfoldable pub file_created : {S : Type 0} → ℕ → SharedState S → Under → CreateAsked → CommandStep S
-file_created moment shared under asked =
+unfoldable pub file_created : {S : Type 0} → ℕ → ServerState S → RequestIds → CreateAsked → CommandStep S
+file_created moment server under asked =
     let ask = file_asked under asked in
-    by_status shared under (create_status shared.store ask) (record {
-      shared = with_store shared (created shared.store ask moment);
-      response = success under (answers_create (create_response (create_result shared.store ask moment)));
+    by_status server under (create_status server.store ask) (record {
+      server = with_store server (created server.store ask moment);
+      response = success under (answers_create (create_response (create_result server.store ask moment)));
     })
 
 -- a FileId names an open of this session and tree: both its halves are the open's number (3.3.5.10)
-abbrev pub names_open : List OpenRow → Under → FileId → Bool
+abbrev pub names_open : List OpenRow → RequestIds → FileId → Bool
 names_open opens under id =
     id.persistent == id.volatile
     && option_map_or (is_held_by (Tree under.session_id under.tree_id)) (open_of opens id.persistent) false
@@ -92,11 +92,11 @@ close_response flags view =
     }
 
 -- CLOSE (3.3.5.10) of the open of a number; where there is none it is refused
-unfoldable pub file_closed : {S : Type 0} → SharedState S → Under → ℕ → CloseFlags → CommandStep S
-file_closed shared under open_number flags = option_map_or
+unfoldable pub file_closed : {S : Type 0} → ServerState S → RequestIds → ℕ → CloseFlags → CommandStep S
+file_closed server under open_number flags = option_map_or
     (λ view. record {
-      shared = with_store shared (closed shared.store open_number);
+      server = with_store server (closed server.store open_number);
       response = success under (answers_close (close_response flags view));
     })
-    (open_view shared.store open_number)
-    (refused shared under FileClosed)
+    (open_view server.store open_number)
+    (refused server under FileClosed)

@@ -4,8 +4,8 @@ use Rattle.std.specs.Prelude.{Option, None, Some, not, filter}
 use Rattle.smb_session.specs.declared.setup.SetupDone.{SetupDone}
 use Rattle.smb_session.specs.declared.setup.SetupStatus.{SetupStatus}
 use Rattle.smb_session.specs.declared.setup.SetupStatus.TheVariants.{Success, MoreProcessingRequired, LogonFailure}
-use Rattle.smb_request.specs.declared.response.Unanswered.{Unanswered}
-use Rattle.smb_request.specs.declared.response.Unanswered.TheVariants.{NotPerformed, Performed}
+use Rattle.smb_request.specs.declared.response.NoReply.{NoReply}
+use Rattle.smb_request.specs.declared.response.NoReply.TheVariants.{NotPerformed, Performed}
 use Rattle.smb_request.specs.declared.outcome.SetupTold.{SetupTold}
 use Rattle.smb_request.specs.declared.outcome.Success.TheVariants.{SessionSetup}
 use Rattle.smb_request.specs.declared.outcome.Outcome.{Outcome}
@@ -18,9 +18,9 @@ use Rattle.smb_access.specs.Opens.{is_held_by}
 use Rattle.smb_request.specs.Settings.{Settings, is_lawful}
 use Rattle.smb_request.specs.Owners.{AreOwned}
 
--- what is held of what is shared between calls: the configuration keeps its rules, the share is named and has room as it
+-- what holds of a server between calls: the configuration keeps its rules, the share is named and has room as it
 -- says, and each open is owned
-pub record IsSharedKept (settings : Settings) (share : List ℕ) (table : TableState) (capacity : ℕ) (opens : List OpenRow) : Type 0 where
+pub record IsServerKept (settings : Settings) (share : List ℕ) (table : TableState) (capacity : ℕ) (opens : List OpenRow) : Type 0 where
   pub lawful : is_lawful settings ≡ true
   pub named : share ≡ settings.share
   pub room : capacity ≡ settings.capacity
@@ -32,7 +32,7 @@ opens_left None rows = rows
 opens_left (Some session) rows = filter (λ row. not (is_held_by (Session session) row)) rows
 
 -- whether a request was performed that found no memory for its answer
-abbrev pub is_performed : Unanswered → Bool
+abbrev pub is_performed : NoReply → Bool
 is_performed NotPerformed = false
 is_performed Performed = true
 

@@ -6,7 +6,7 @@ use Rattle.smb_request.specs.declared.status.Status.{Status}
 use Rattle.smb_request.specs.declared.context.ResponseIds.{ResponseIds}
 use Rattle.smb_request.specs.declared.context.Context.{Context}
 use Rattle.smb_request.specs.declared.response.Answered.{Answered}
-use Rattle.smb_request.specs.State.{SharedState}
+use Rattle.smb_request.specs.State.{ServerState}
 use Rattle.smb_request.specs.Response.{ResponseState, Performed}
 
 -- a response, with all that stands where its body was added
@@ -24,14 +24,14 @@ answer_behind front response = record { status = response.status; ids = response
 
 -- a request's step, with its body behind a front
 pub record PerformedHeld (S : Type 0) : Type 0 where
-  pub shared : SharedState S
+  pub server : ServerState S
   pub dialect : Option Dialect
   pub context : Context
   pub response : Option AnswerHeld
 
 abbrev pub performed_behind : {S : Type 0} → List ℕ → Performed S → PerformedHeld S
 performed_behind front step = record {
-  shared = step.shared;
+  server = step.server;
   dialect = step.dialect;
   context = step.context;
   response = option_map (answer_behind front) step.response;

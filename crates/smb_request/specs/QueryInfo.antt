@@ -15,11 +15,11 @@ use Rattle.smb_access.specs.Opens.{open_of}
 use Rattle.smb_opens.specs.State.{StoreState}
 use Rattle.smb_request.specs.declared.status.Status.{Status}
 use Rattle.smb_request.specs.declared.status.Status.TheVariants.{Success, BufferOverflow, InvalidParameter, InvalidInfoClass, InfoLengthMismatch, NotSupported}
-use Rattle.smb_request.specs.declared.context.Under.{Under}
+use Rattle.smb_request.specs.declared.context.RequestIds.{RequestIds}
 use Rattle.smb_request.specs.Context.{ids_of}
 use Rattle.smb_request.specs.InfoTypes.{FILE, FILESYSTEM, SECURITY, QUOTA}
 use Rattle.smb_request.specs.Response.{ResponseState, CommandStep, with_body, failure}
-use Rattle.smb_request.specs.State.{SharedState}
+use Rattle.smb_request.specs.State.{ServerState}
 
 -- what the class of a number tells of the entry of an open, if there is such a class ([MS-FSCC] 2.4)
 abbrev pub open_information : StoreState → ℕ → ℕ → Option Information
@@ -28,19 +28,19 @@ open_information store open_number class = option_and_then
     (open_of store.opens open_number)
 
 -- the share as a volume ([MS-FSCC] 2.5)
-abbrev pub volume_of : {S : Type 0} → SharedState S → VolumeFacts
-volume_of shared = record {
-  created = shared.settings.created;
-  label = shared.settings.label;
-  capacity = shared.store.tree.capacity;
-  used = used_space shared.store.tree.rows;
+abbrev pub volume_of : {S : Type 0} → ServerState S → VolumeFacts
+volume_of server = record {
+  created = server.settings.created;
+  label = server.settings.label;
+  capacity = server.store.tree.capacity;
+  used = used_space server.store.tree.rows;
 }
 
 -- what is asked for: what a class tells of the entry of the open (3.3.5.20.1), or of the share as a volume (3.3.5.20.2)
-abbrev pub information_asked : {S : Type 0} → SharedState S → ℕ → QueryInfoRequest → Option Information
-information_asked shared open_number asked =
-    if asked.info_type.0 == FILE then open_information shared.store open_number asked.file_info_class.0
-    else fs_information asked.file_info_class.0 (volume_of shared)
+abbrev pub information_asked : {S : Type 0} → ServerState S → ℕ → QueryInfoRequest → Option Information
+information_asked server open_number asked =
+    if asked.info_type.0 == FILE then open_information server.store open_number asked.file_info_class.0
+    else fs_information asked.file_info_class.0 (volume_of server)
 
 -- why information is not told: there is no such class, or no room for its fixed part ([MS-FSCC] 2.4, 2.5)
 abbrev pub room_refusal : Option Information → ℕ → Option Status
@@ -64,15 +64,15 @@ written_status Whole = Success
 written_status Cut = BufferOverflow
 
 -- information that is told: its first bytes, as many as there is room for (2.2.38)
-abbrev pub informed : Under → Option Information → ℕ → ResponseState
+abbrev pub informed : RequestIds → Option Information → ℕ → ResponseState
 informed under information room =
     with_body (ids_of under) (written_status (information_written information room)) (answers_query_info (told information room))
 
 -- QUERY_INFO (3.3.5.20) of the open of a number: it changes nothing
-unfoldable pub information_queried : {S : Type 0} → SharedState S → Under → ℕ → QueryInfoRequest → CommandStep S
-information_queried shared under open_number asked =
-    let information = information_asked shared open_number asked in
+unfoldable pub information_queried : {S : Type 0} → ServerState S → RequestIds → ℕ → QueryInfoRequest → CommandStep S
+information_queried server under open_number asked =
+    let information = information_asked server open_number asked in
     record {
-      shared = shared;
+      server = server;
       response = option_map_or (failure under) (query_refusal information asked) (informed under information asked.output_buffer_length);
     }

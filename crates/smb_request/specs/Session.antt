@@ -19,10 +19,10 @@ use Rattle.smb_opens.specs.Close.{closed_all}
 use Rattle.smb_opens.specs.State.{StoreState}
 use Rattle.smb_request.specs.declared.status.Status.{Status}
 use Rattle.smb_request.specs.declared.status.Status.TheVariants.{NotSupported, NetworkNameDeleted, BadNetworkName, RequestNotAccepted, UserSessionDeleted}
-use Rattle.smb_request.specs.declared.context.Under.{Under}
+use Rattle.smb_request.specs.declared.context.RequestIds.{RequestIds}
 use Rattle.smb_request.specs.declared.context.ResponseIds.{ResponseIds}
 use Rattle.smb_request.specs.Context.{ids_of}
-use Rattle.smb_request.specs.State.{SharedState, with_table, with_store}
+use Rattle.smb_request.specs.State.{ServerState, with_table, with_store}
 use Rattle.smb_request.specs.Response.{ResponseState, CommandStep, with_body, success, refused}
 
 -- the status of a refusal (no definition refuses for being out of memory)
@@ -35,9 +35,9 @@ status_of_refusal NoDialect = Some NotSupported
 status_of_refusal NoMemory = None
 
 -- a request that the sessions refuse, or else what is done
-abbrev pub unless_refused : {S : Type 0} → SharedState S → Under → Option SessionFault → CommandStep S → CommandStep S
-unless_refused shared under refusal step =
-    option_map_or (λ status. refused shared under status) (option_and_then status_of_refusal refusal) step
+abbrev pub unless_refused : {S : Type 0} → ServerState S → RequestIds → Option SessionFault → CommandStep S → CommandStep S
+unless_refused server under refusal step =
+    option_map_or (λ status. refused server under status) (option_and_then status_of_refusal refusal) step
 
 -- what a SESSION_SETUP is answered: flags and a token where the client goes on or is in, else a failure; either tells the
 -- session's number (2.2.6)
@@ -55,27 +55,27 @@ closed_for store None = store
 closed_for store (Some session) = closed_all store (Session session)
 
 -- SESSION_SETUP (3.3.5.5): the previous session ends with its opens
-abbrev pub setup_answered : {S : Type 0} → SharedState S → Under → SetupStep S → CommandStep S
-setup_answered shared under step = record {
-  shared = record shared { sessions = step.state; store = closed_for shared.store step.told.ended };
+abbrev pub setup_answered : {S : Type 0} → ServerState S → RequestIds → SetupStep S → CommandStep S
+setup_answered server under step = record {
+  server = record server { sessions = step.state; store = closed_for server.store step.told.ended };
   response = setup_response (record (ids_of under) { session_id = step.told.session }) step.told step.told.status;
 }
 
-unfoldable pub session_set_up : {S : Type 0} → Meaning S → ℕ → SharedState S → Under → SessionSetupAsked → CommandStep S
-session_set_up authenticator connection shared under asked = unless_refused shared under
-    (setup_refusal shared.sessions.table connection under.session_id asked.flags.0)
-    (setup_answered shared under (setup_step authenticator shared.sessions connection under.session_id asked.previous_session_id asked.security_buffer))
+unfoldable pub session_set_up : {S : Type 0} → Meaning S → ℕ → ServerState S → RequestIds → SessionSetupAsked → CommandStep S
+session_set_up authenticator connection server under asked = unless_refused server under
+    (setup_refusal server.sessions.table connection under.session_id asked.flags.0)
+    (setup_answered server under (setup_step authenticator server.sessions connection under.session_id asked.previous_session_id asked.security_buffer))
 
--- what is shared where the opens of an owner are closed
-abbrev pub with_closed : {S : Type 0} → SharedState S → Owner → SharedState S
-with_closed shared owner = with_store shared (closed_all shared.store owner)
+-- the server's state with the opens of an owner closed
+abbrev pub with_closed : {S : Type 0} → ServerState S → Owner → ServerState S
+with_closed server owner = with_store server (closed_all server.store owner)
 
 -- LOGOFF (3.3.5.6): the session ends with its trees, and their opens
-unfoldable pub session_logged_off : {S : Type 0} → ℕ → SharedState S → Under → CommandStep S
-session_logged_off connection shared under = unless_refused shared under
-    (logoff_refusal shared.sessions.table connection under.session_id)
+unfoldable pub session_logged_off : {S : Type 0} → ℕ → ServerState S → RequestIds → CommandStep S
+session_logged_off connection server under = unless_refused server under
+    (logoff_refusal server.sessions.table connection under.session_id)
     (record {
-      shared = with_closed (with_table shared (session_ended shared.sessions.table under.session_id)) (Session under.session_id);
+      server = with_closed (with_table server (session_ended server.sessions.table under.session_id)) (Session under.session_id);
       response = success under answers_logoff;
     })
 
@@ -89,23 +89,23 @@ tree_response = record {
 }
 
 -- TREE_CONNECT (3.3.5.7): the answer tells the new tree's number
-unfoldable pub tree_joined : {S : Type 0} → ℕ → SharedState S → Under → List ℕ → CommandStep S
-tree_joined connection shared under path = unless_refused shared under
-    (tree_connect_refusal shared.sessions connection under.session_id path)
+unfoldable pub tree_joined : {S : Type 0} → ℕ → ServerState S → RequestIds → List ℕ → CommandStep S
+tree_joined connection server under path = unless_refused server under
+    (tree_connect_refusal server.sessions connection under.session_id path)
     (record {
-      shared = with_table shared (tree_connected shared.sessions.table under.session_id);
+      server = with_table server (tree_connected server.sessions.table under.session_id);
       response = with_body
-          (record (ids_of under) { tree_id = next_tree_of shared.sessions.table under.session_id })
+          (record (ids_of under) { tree_id = next_tree_of server.sessions.table under.session_id })
           Status.Success (answers_tree_connect tree_response);
     })
 
 -- TREE_DISCONNECT (3.3.5.8): the tree is gone, with its opens
-unfoldable pub tree_left : {S : Type 0} → ℕ → SharedState S → Under → CommandStep S
-tree_left connection shared under = unless_refused shared under
-    (tree_disconnect_refusal shared.sessions.table connection under.session_id under.tree_id)
+unfoldable pub tree_left : {S : Type 0} → ℕ → ServerState S → RequestIds → CommandStep S
+tree_left connection server under = unless_refused server under
+    (tree_disconnect_refusal server.sessions.table connection under.session_id under.tree_id)
     (record {
-      shared = with_closed
-          (with_table shared (tree_disconnected shared.sessions.table under.session_id under.tree_id))
+      server = with_closed
+          (with_table server (tree_disconnected server.sessions.table under.session_id under.tree_id))
           (Tree under.session_id under.tree_id);
       response = success under answers_tree_disconnect;
     })

@@ -9,10 +9,10 @@ use Rattle.smb_opens.specs.Renames.{rename_status, renamed_through}
 use Rattle.smb_opens.specs.SetInfo.{delete_status, delete_set_through, size_status, size_set_through, basic_status, basic_set_through}
 use Rattle.smb_opens.specs.State.{StoreState}
 use Rattle.smb_request.specs.declared.status.Status.TheVariants.{InvalidParameter, InvalidInfoClass, InfoLengthMismatch, NotSupported}
-use Rattle.smb_request.specs.declared.context.Under.{Under}
+use Rattle.smb_request.specs.declared.context.RequestIds.{RequestIds}
 use Rattle.smb_request.specs.InfoTypes.{FILE, FILESYSTEM, SECURITY, QUOTA}
 use Rattle.smb_request.specs.Response.{CommandStep, success, refused, by_status}
-use Rattle.smb_request.specs.State.{SharedState, with_store}
+use Rattle.smb_request.specs.State.{ServerState, with_store}
 
 -- the status that the store gives what is asked of the entry of an open (3.3.5.21.1)
 abbrev pub set_status : StoreState → ℕ → SetAsked → ℕ
@@ -31,31 +31,31 @@ set_through store open_number moment (asks_allocation size) = size_set_through s
 set_through store open_number moment (asks_end size) = size_set_through store open_number size false moment
 
 -- what is asked: a refusal changes nothing
-abbrev pub set_as_asked : {S : Type 0} → ℕ → SharedState S → Under → ℕ → SetAsked → CommandStep S
-set_as_asked moment shared under open_number ask = by_status shared under
-    (set_status shared.store open_number ask)
+abbrev pub set_as_asked : {S : Type 0} → ℕ → ServerState S → RequestIds → ℕ → SetAsked → CommandStep S
+set_as_asked moment server under open_number ask = by_status server under
+    (set_status server.store open_number ask)
     (record {
-      shared = with_store shared (set_through shared.store open_number moment ask);
+      server = with_store server (set_through server.store open_number moment ask);
       response = success under answers_set_info;
     })
 
 -- a class that can be set, as its buffer asks ([MS-FSCC] 2.4)
-abbrev pub class_set : {S : Type 0} → ℕ → SharedState S → Under → ℕ → List ℕ → SetInformationClass → CommandStep S
-class_set moment shared under open_number buffer class =
+abbrev pub class_set : {S : Type 0} → ℕ → ServerState S → RequestIds → ℕ → List ℕ → SetInformationClass → CommandStep S
+class_set moment server under open_number buffer class =
     -- the buffer is shorter than the fixed part (3.3.5.21.1)
-    if nat_lt (length buffer) (set_length class) then refused shared under InfoLengthMismatch else
+    if nat_lt (length buffer) (set_length class) then refused server under InfoLengthMismatch else
     -- a rename says no name ([MS-FSCC] 2.4.42)
-    if not (is_readable buffer class) then refused shared under InvalidParameter else
-    set_as_asked moment shared under open_number (asked_of buffer class)
+    if not (is_readable buffer class) then refused server under InvalidParameter else
+    set_as_asked moment server under open_number (asked_of buffer class)
 
 -- SET_INFO (3.3.5.21) of the open of a number
-unfoldable pub information_set : {S : Type 0} → ℕ → SharedState S → Under → ℕ → SetInfoAsked → CommandStep S
-information_set moment shared under open_number asked =
+unfoldable pub information_set : {S : Type 0} → ℕ → ServerState S → RequestIds → ℕ → SetInfoAsked → CommandStep S
+information_set moment server under open_number asked =
     -- the share as a file system, a security descriptor, or quotas (3.3.5.21.2 to 3.3.5.21.4)
     if asked.info_type.0 == FILESYSTEM || asked.info_type.0 == SECURITY || asked.info_type.0 == QUOTA
-    then refused shared under NotSupported else
+    then refused server under NotSupported else
     -- no InfoType (2.2.39)
-    if not (asked.info_type.0 == FILE) then refused shared under InvalidParameter else
+    if not (asked.info_type.0 == FILE) then refused server under InvalidParameter else
     -- no class that can be set has the number (3.3.5.21.1)
-    option_map_or (class_set moment shared under open_number asked.buffer) (set_class asked.file_info_class.0)
-    (refused shared under InvalidInfoClass)
+    option_map_or (class_set moment server under open_number asked.buffer) (set_class asked.file_info_class.0)
+    (refused server under InvalidInfoClass)

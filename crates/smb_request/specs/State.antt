@@ -12,32 +12,32 @@ use Rattle.smb_request.specs.Settings.{Settings}
 
 -- what all connections share: the configuration, the sessions with their authenticator, and the files with their
 -- opens and locks (3.3.1.5)
-pub record SharedState (S : Type 0) : Type 0 where
+pub record ServerState (S : Type 0) : Type 0 where
   pub settings : Settings
   pub sessions : SessionsState S
   pub store : StoreState
 
--- what is shared at first: no session, and of files the root alone; the first open will be 1
-abbrev pub new_shared : {S : Type 0} → Settings → S → SharedState S
-new_shared settings authenticator = record {
+-- a new server: no session, and of files the root alone; the first open will be 1
+abbrev pub new_server : {S : Type 0} → Settings → S → ServerState S
+new_server settings authenticator = record {
   settings = settings;
   sessions = new_sessions authenticator settings.share;
   store = record { tree = new_content settings.created settings.capacity; opens = []; locks = []; next = 1 };
 }
 
 -- the token that the authenticator offers first
-abbrev pub hello_of : {S : Type 0} → Meaning S → SharedState S → List ℕ
-hello_of authenticator shared = authenticator.hello shared.sessions.authenticator
+abbrev pub hello_of : {S : Type 0} → Meaning S → ServerState S → List ℕ
+hello_of authenticator server = authenticator.hello server.sessions.authenticator
 
-abbrev pub with_table : {S : Type 0} → SharedState S → TableState → SharedState S
-with_table shared table = record shared { sessions = record shared.sessions { table = table } }
+abbrev pub with_table : {S : Type 0} → ServerState S → TableState → ServerState S
+with_table server table = record server { sessions = record server.sessions { table = table } }
 
-abbrev pub with_store : {S : Type 0} → SharedState S → StoreState → SharedState S
-with_store shared store = record shared { store = store }
+abbrev pub with_store : {S : Type 0} → ServerState S → StoreState → ServerState S
+with_store server store = record server { store = store }
 
 -- a connection may begin sessions from now on
-abbrev pub shared_opened : {S : Type 0} → SharedState S → ℕ → SharedState S
-shared_opened shared connection = with_table shared (connected shared.sessions.table connection)
+abbrev pub connection_added : {S : Type 0} → ServerState S → ℕ → ServerState S
+connection_added server connection = with_table server (connected server.sessions.table connection)
 
 -- sessions end one after the other: each one's opens are closed (3.3.7.1)
 abbrev pub closed_with : StoreState → List ℕ → StoreState
@@ -52,7 +52,7 @@ without_connection table connection = record table {
 }
 
 -- and with them their opens, session by session in rising number
-unfoldable pub shared_ended : {S : Type 0} → SharedState S → ℕ → SharedState S
-shared_ended shared connection = record (with_table shared (without_connection shared.sessions.table connection)) {
-  store = closed_with shared.store (numbers_on shared.sessions.table.sessions connection);
+unfoldable pub connection_ended : {S : Type 0} → ServerState S → ℕ → ServerState S
+connection_ended server connection = record (with_table server (without_connection server.sessions.table connection)) {
+  store = closed_with server.store (numbers_on server.sessions.table.sessions connection);
 }

@@ -10,10 +10,10 @@ ghost use Rattle.smb_request.specs.InPlace.{answer_held, answer_behind};
 ghost use Rattle.smb_request.specs.Outcome.{told_response, IsReadable, CanBeSpelled};
 ghost use Rattle.smb_request.specs.Response.{with_body};
 
-use super::context::{ResponseIds, Under};
+use super::context::{RequestIds, ResponseIds};
 use super::outcome::{Outcome, ReadAsk, Success, Told};
 use super::response::Answered;
-use super::shared::Shared;
+use super::server::Server;
 use super::status::Status;
 use smb_body::{ReadRequest, WriteRequest, WriteResponse, put_read_head};
 use smb_opens::{Opens, StoreFault};
@@ -21,12 +21,17 @@ use smb_session::Authenticator;
 use smb_tree::Tree;
 use std::alloc::AllocError;
 
-impl<A: Authenticator + Drop, T: Tree + Drop, O: Opens + Drop> Shared<A, T, O> {
+impl<A: Authenticator + Drop, T: Tree + Drop, O: Opens + Drop> Server<A, T, O> {
     /// READ ([MS-SMB2] 3.3.5.12) of the open of a number. Its bytes are read by [`put_read`](Self::put_read), where they
     /// are sent from.
     #[tactic(auto, unfolding(crate::specs::Bytes::file_read))]
-    pub(crate) fn read_file(&self, under: Under, open_number: u64, request: &ReadRequest) -> Told
-        ensures read { record { shared = self.now; response = told_response A.meaning self.now result } ≡ file_read self.now under open_number request.now }
+    pub(crate) fn read_file(
+        &self,
+        under: RequestIds,
+        open_number: u64,
+        request: &ReadRequest,
+    ) -> Told
+        ensures read { record { server = self.now; response = told_response A.meaning self.now result } ≡ file_read self.now under open_number request.now }
         ensures spelled { CanBeSpelled self.now result.outcome }
     {
         match self.store.read_length(
@@ -54,11 +59,11 @@ impl<A: Authenticator + Drop, T: Tree + Drop, O: Opens + Drop> Shared<A, T, O> {
     pub(crate) fn write_file(
         &mut self,
         moment: u64,
-        under: Under,
+        under: RequestIds,
         open_number: u64,
         request: &WriteRequest<'_>,
     ) -> Result<Told, AllocError>
-        ensures ok { IfOk result (λ told. record { shared = self.new; response = told_response A.meaning self.new told }
+        ensures ok { IfOk result (λ told. record { server = self.new; response = told_response A.meaning self.new told }
             ≡ file_written moment self.old under open_number (write_asked request.now)) }
         ensures spelled { IfOk result (λ told. CanBeSpelled self.new told.outcome) }
         ensures err { OnErr result (self.new ≡ self.old) }

@@ -2,14 +2,14 @@
 
 ghost use Rattle.std.specs.Prelude.{◌≡◌};
 ghost use Rattle.std.specs.Option.{option_map};
-ghost use Rattle.smb_request.specs.Context.{ids_of, first_context, context_after, is_all_ones, open_named, number_named, named_on, created_open, handed_on};
+ghost use Rattle.smb_request.specs.Context.{ids_of, first_context, context_after, is_all_ones, open_named, number_named, named_on, created_open, open_for_next_related};
 
 use super::status::Status;
 use smb_wire::{Command, FileId};
 
 /// The session and the tree connect that a request acts under.
 #[derive(Clone, Copy, Debug, PartialEq, Eq)]
-pub struct Under {
+pub struct RequestIds {
     pub session_id: u64,
     pub tree_id: u32,
 }
@@ -23,7 +23,7 @@ pub struct ResponseIds {
 
 impl ResponseIds {
     /// Those that the request acted under.
-    pub(crate) fn of(under: Under) -> ResponseIds
+    pub(crate) fn of(under: RequestIds) -> ResponseIds
         ensures { result ≡ ids_of under }
     {
         ResponseIds {
@@ -47,7 +47,7 @@ pub enum ContextOpen {
 /// What one request of a chain hands on to the next one, which takes it if it is related.
 #[derive(Clone, Copy, Debug, PartialEq, Eq)]
 pub struct Context {
-    pub under: Under,
+    pub under: RequestIds,
     pub last_open: ContextOpen,
 }
 
@@ -57,7 +57,7 @@ impl Context {
         ensures { result ≡ first_context }
     {
         Context {
-            under: Under {
+            under: RequestIds {
                 session_id: 0,
                 tree_id: 0,
             },
@@ -66,13 +66,17 @@ impl Context {
     }
 
     /// What a request hands on that acted under this, by what its response tells, if it has one.
-    pub(crate) fn after(under: Under, told: Option<ResponseIds>, last_open: ContextOpen) -> Context
+    pub(crate) fn after(
+        under: RequestIds,
+        told: Option<ResponseIds>,
+        last_open: ContextOpen,
+    ) -> Context
         ensures { result ≡ context_after under told last_open }
     {
         match told {
             None => Context { under, last_open },
             Some(ids) => Context {
-                under: Under {
+                under: RequestIds {
                     session_id: ids.session_id,
                     tree_id: ids.tree_id,
                 },
@@ -82,28 +86,28 @@ impl Context {
     }
 }
 
-/// Whether a FileId asks for the open that is handed on.
+/// Whether a FileId asks for the open that is inherited on.
 fn is_all_ones(id: FileId) -> bool
     ensures { result ≡ is_all_ones id }
 {
     id.persistent == u64::MAX && id.volatile == u64::MAX
 }
 
-/// The open that a request names by its FileId, by what is handed to it; None is handed to one that is not related.
-fn open_named(handed: Option<ContextOpen>, id: FileId) -> ContextOpen
-    ensures { result ≡ open_named handed id }
+/// The open that a request names by its FileId, by what is inherited to it; None is inherited to one that is not related.
+fn open_named(inherited: Option<ContextOpen>, id: FileId) -> ContextOpen
+    ensures { result ≡ open_named inherited id }
 {
-    match handed {
+    match inherited {
         Some(open) if is_all_ones(id) => open,
         _ => ContextOpen::Named(id),
     }
 }
 
-/// The open that a request names, by its FileId, if it has one, and by what is handed to it.
-pub(crate) fn named_by(handed: Option<ContextOpen>, id: Option<FileId>) -> Option<ContextOpen>
-    ensures { result ≡ option_map (open_named handed) id }
+/// The open that a request names, by its FileId, if it has one, and by what is inherited to it.
+pub(crate) fn named_by(inherited: Option<ContextOpen>, id: Option<FileId>) -> Option<ContextOpen>
+    ensures { result ≡ option_map (open_named inherited) id }
 {
-    Some(open_named(handed, id?))
+    Some(open_named(inherited, id?))
 }
 
 /// The number of the open that a request names.
@@ -117,12 +121,12 @@ pub(crate) fn number_named(named: Option<ContextOpen>) -> u64
 }
 
 /// The open that a request hands on that is no CREATE, by the FileId that it names, if it names one.
-fn named_on(handed: Option<ContextOpen>, id: Option<FileId>) -> ContextOpen
-    ensures { result ≡ named_on handed id }
+fn named_on(inherited: Option<ContextOpen>, id: Option<FileId>) -> ContextOpen
+    ensures { result ≡ named_on inherited id }
 {
     match id {
         Some(id) if !is_all_ones(id) => ContextOpen::Named(id),
-        _ => match handed {
+        _ => match inherited {
             Some(open) => open,
             None => ContextOpen::Nothing,
         },
@@ -143,17 +147,17 @@ fn created_open(next: u64, status: Status) -> ContextOpen
 }
 
 /// The open that a request hands on, by its command, the FileId that it names and the status that answers it, if one does.
-pub(crate) fn handed_on(
-    handed: Option<ContextOpen>,
+pub(crate) fn open_for_next_related(
+    inherited: Option<ContextOpen>,
     next: u64,
     command: Option<Command>,
     id: Option<FileId>,
     answer: Option<Status>,
 ) -> ContextOpen
-    ensures { result ≡ handed_on handed next command id answer }
+    ensures { result ≡ open_for_next_related inherited next command id answer }
 {
     match (command, answer) {
         (Some(Command::Create), Some(status)) => created_open(next, status),
-        _ => named_on(handed, id),
+        _ => named_on(inherited, id),
     }
 }

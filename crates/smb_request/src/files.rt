@@ -8,9 +8,9 @@ ghost use Rattle.smb_request.specs.Owners.{stands};
 ghost use Rattle.smb_request.specs.Files.{file_asked, create_response, file_created, names_open, close_response, file_closed};
 ghost use Rattle.smb_request.specs.Outcome.{told_response, CanBeSpelled};
 
-use super::context::Under;
+use super::context::RequestIds;
 use super::outcome::{Success, Told};
-use super::shared::Shared;
+use super::server::Server;
 use super::status::Status;
 use smb_body::{CloseFlags, CloseResponse, CreateRequest, CreateResponse, OplockLevel};
 use smb_opens::{CreateAsk, Created, Opens, Owner, StoreFault, View};
@@ -20,7 +20,7 @@ use smb_wire::{FileAttributes, FileId};
 use std::alloc::AllocError;
 
 /// What a CREATE asks of the files, under a session and a tree.
-fn file_asked<'a>(under: Under, request: &CreateRequest<'a>) -> CreateAsk<'a>
+fn file_asked<'a>(under: RequestIds, request: &CreateRequest<'a>) -> CreateAsk<'a>
     ensures { asked result ≡ file_asked under (create_asked request.now) }
 {
     CreateAsk {
@@ -87,9 +87,9 @@ fn close_response(flags: CloseFlags, view: &View) -> CloseResponse
     }
 }
 
-impl<A: Authenticator + Drop, T: Tree + Drop, O: Opens + Drop> Shared<A, T, O> {
+impl<A: Authenticator + Drop, T: Tree + Drop, O: Opens + Drop> Server<A, T, O> {
     /// Whether a FileId names an open of this session and tree.
-    pub(crate) fn names_open(&self, under: Under, id: FileId) -> bool
+    pub(crate) fn names_open(&self, under: RequestIds, id: FileId) -> bool
         ensures { result ≡ names_open self.now.store.opens under id }
     {
         if id.persistent != id.volatile {
@@ -106,11 +106,11 @@ impl<A: Authenticator + Drop, T: Tree + Drop, O: Opens + Drop> Shared<A, T, O> {
     pub(crate) fn create_file(
         &mut self,
         moment: u64,
-        under: Under,
+        under: RequestIds,
         request: &CreateRequest<'_>,
     ) -> Result<Told, AllocError>
         requires { stands self.old.sessions.table under.session_id under.tree_id ≡ true }
-        ensures ok { IfOk result (λ told. record { shared = self.new; response = told_response A.meaning self.new told }
+        ensures ok { IfOk result (λ told. record { server = self.new; response = told_response A.meaning self.new told }
             ≡ file_created moment self.old under (create_asked request.now)) }
         ensures spelled { IfOk result (λ told. CanBeSpelled self.new told.outcome) }
         ensures err { OnErr result (self.new ≡ self.old) }
@@ -128,9 +128,14 @@ impl<A: Authenticator + Drop, T: Tree + Drop, O: Opens + Drop> Shared<A, T, O> {
 
     /// CLOSE ([MS-SMB2] 3.3.5.10) of the open of a number.
     #[tactic(auto, unfolding(crate::specs::Files::file_closed))]
-    pub(crate) fn close_file(&mut self, under: Under, open_number: u64, flags: CloseFlags) -> Told
+    pub(crate) fn close_file(
+        &mut self,
+        under: RequestIds,
+        open_number: u64,
+        flags: CloseFlags,
+    ) -> Told
         requires { IsSome (open_of self.old.store.opens open_number) }
-        ensures closed { record { shared = self.new; response = told_response A.meaning self.new result } ≡ file_closed self.old under open_number flags }
+        ensures closed { record { server = self.new; response = told_response A.meaning self.new result } ≡ file_closed self.old under open_number flags }
         ensures spelled { CanBeSpelled self.new result.outcome }
         ensures known { self.new.sessions.table.connections ≡ self.old.sessions.table.connections }
     {

@@ -6,9 +6,9 @@ ghost use Rattle.smb_body.specs.Lock.{lock_asked};
 ghost use Rattle.smb_request.specs.Locks.{lock_ask, lock_asks, asks_unlock, file_locked, file_unlocked, locks_changed};
 ghost use Rattle.smb_request.specs.Outcome.{told_response, CanBeSpelled};
 
-use super::context::Under;
+use super::context::RequestIds;
 use super::outcome::{Success, Told};
-use super::shared::Shared;
+use super::server::Server;
 use super::status::Status;
 use bitflags::Flags;
 use smb_body::{LockElement, LockList, LockRequest};
@@ -54,16 +54,16 @@ fn asks_unlock(asks: &[LockAsk]) -> bool
     }
 }
 
-impl<A: Authenticator + Drop, T: Tree + Drop, O: Opens + Drop> Shared<A, T, O> {
+impl<A: Authenticator + Drop, T: Tree + Drop, O: Opens + Drop> Server<A, T, O> {
     /// A LOCK that locks ([MS-SMB2] 3.3.5.14.2), of the open of a number.
     #[tactic(auto, unfolding(crate::specs::Locks::file_locked))]
     fn lock_file(
         &mut self,
-        under: Under,
+        under: RequestIds,
         open_number: u64,
         asks: &[LockAsk],
     ) -> Result<Told, AllocError>
-        ensures ok { IfOk result (λ told. record { shared = self.new; response = told_response A.meaning self.new told }
+        ensures ok { IfOk result (λ told. record { server = self.new; response = told_response A.meaning self.new told }
             ≡ file_locked self.old under open_number asks.now) }
         ensures spelled { IfOk result (λ told. CanBeSpelled self.new told.outcome) }
         ensures err { OnErr result (self.new ≡ self.old) }
@@ -78,8 +78,8 @@ impl<A: Authenticator + Drop, T: Tree + Drop, O: Opens + Drop> Shared<A, T, O> {
 
     /// A LOCK that unlocks ([MS-SMB2] 3.3.5.14.1), of the open of a number. It takes no memory.
     #[tactic(auto, unfolding(crate::specs::Locks::file_unlocked))]
-    fn unlock_file(&mut self, under: Under, open_number: u64, asks: &[LockAsk]) -> Told
-        ensures unlocked { record { shared = self.new; response = told_response A.meaning self.new result } ≡ file_unlocked self.old under open_number asks.now }
+    fn unlock_file(&mut self, under: RequestIds, open_number: u64, asks: &[LockAsk]) -> Told
+        ensures unlocked { record { server = self.new; response = told_response A.meaning self.new result } ≡ file_unlocked self.old under open_number asks.now }
         ensures spelled { CanBeSpelled self.new result.outcome }
         ensures known { self.new.sessions.table.connections ≡ self.old.sessions.table.connections }
     {
@@ -92,11 +92,11 @@ impl<A: Authenticator + Drop, T: Tree + Drop, O: Opens + Drop> Shared<A, T, O> {
     /// LOCK ([MS-SMB2] 3.3.5.14) of the open of a number. After an error, for want of memory, all is as it was.
     pub(crate) fn change_locks(
         &mut self,
-        under: Under,
+        under: RequestIds,
         open_number: u64,
         request: &LockRequest<'_>,
     ) -> Result<Told, AllocError>
-        ensures ok { IfOk result (λ told. record { shared = self.new; response = told_response A.meaning self.new told }
+        ensures ok { IfOk result (λ told. record { server = self.new; response = told_response A.meaning self.new told }
             ≡ locks_changed self.old under open_number (lock_asks (lock_asked request.now).locks)) }
         ensures spelled { IfOk result (λ told. CanBeSpelled self.new told.outcome) }
         ensures err { OnErr result (self.new ≡ self.old) }

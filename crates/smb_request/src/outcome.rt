@@ -7,12 +7,12 @@ ghost use Rattle.smb_request.specs.Context.{ids_of};
 ghost use Rattle.smb_request.specs.InPlace.{answer_held, answer_behind};
 ghost use Rattle.smb_request.specs.Outcome.{setup_value, success_value, told_response, IsShortSuccess, CanBeSpelled};
 
-use super::context::{ResponseIds, Under};
+use super::context::{RequestIds, ResponseIds};
 use super::information::InformationTold;
 use super::query_directory::DirectoryQuery;
 use super::response::{Answered, put_response};
+use super::server::Server;
 use super::session::TREE;
-use super::shared::Shared;
 use super::status::Status;
 use smb_body::{
     CloseResponse, CreateResponse, Reply, SessionFlags, SessionSetupResponse, WriteResponse,
@@ -91,7 +91,7 @@ pub(crate) enum Acted<'a> {
 
 impl Told {
     /// A command that succeeded.
-    pub(crate) fn succeeded(under: Under, success: Success) -> Told
+    pub(crate) fn succeeded(under: RequestIds, success: Success) -> Told
         ensures { result ≡ record { ids = ids_of under; outcome = Outcome.Succeeded success } }
     {
         let ids = ResponseIds::of(under);
@@ -100,7 +100,7 @@ impl Told {
     }
 
     /// A command that failed, or a request that is refused.
-    pub(crate) fn failed(under: Under, status: Status) -> Told
+    pub(crate) fn failed(under: RequestIds, status: Status) -> Told
         ensures { result ≡ record { ids = ids_of under; outcome = Outcome.Failed status } }
     {
         let ids = ResponseIds::of(under);
@@ -121,7 +121,7 @@ fn setup_reply(told: &SetupTold) -> Reply<'_>
     })
 }
 
-impl<A: Authenticator + Drop, T: Tree + Drop, O: Opens + Drop> Shared<A, T, O> {
+impl<A: Authenticator + Drop, T: Tree + Drop, O: Opens + Drop> Server<A, T, O> {
     /// The body of a command's success.
     fn success_reply<'a>(&'a self, success: &'a Success) -> Reply<'a>
         requires { IsShortSuccess success.now }

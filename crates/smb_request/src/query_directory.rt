@@ -8,9 +8,9 @@ ghost use Rattle.smb_opens.specs.Views.{open_view};
 ghost use Rattle.smb_request.specs.InPlace.{answer_held, answer_behind};
 ghost use Rattle.smb_request.specs.QueryDirectory.{list_asked_by, directory_refusal, listing_refusal, view_refusal, listed_as_asked, listing_refused, directory_queried};
 
-use super::context::{ResponseIds, Under};
+use super::context::{RequestIds, ResponseIds};
 use super::response::{Answered, put_response};
-use super::shared::Shared;
+use super::server::Server;
 use super::status::Status;
 use bitflags::Flags;
 use smb_body::{QueryDirectoryRequest, Reply, close_query_response, open_query_response};
@@ -27,7 +27,7 @@ const MOST_AT_ONCE: u32 = 65_536;
 /// A query of the directory of an open. It is performed where its response is put, so that what it lists is written once.
 #[derive(Clone, Copy)]
 pub(crate) struct DirectoryQuery<'a> {
-    pub(crate) under: Under,
+    pub(crate) under: RequestIds,
     pub(crate) open_number: u64,
     pub(crate) request: QueryDirectoryRequest<'a>,
 }
@@ -35,7 +35,7 @@ pub(crate) struct DirectoryQuery<'a> {
 impl<'a> DirectoryQuery<'a> {
     /// What a request asks that acts under this, of the open of a number.
     pub(crate) fn of(
-        under: Under,
+        under: RequestIds,
         open_number: u64,
         request: &QueryDirectoryRequest<'a>,
     ) -> DirectoryQuery<'a>
@@ -95,7 +95,7 @@ fn view_refusal(view: &View) -> Option<Status>
     }
 }
 
-impl<A: Authenticator + Drop, T: Tree + Drop, O: Opens + Drop> Shared<A, T, O> {
+impl<A: Authenticator + Drop, T: Tree + Drop, O: Opens + Drop> Server<A, T, O> {
     /// Why a query is refused before its class is looked at, or None.
     fn directory_refusal(
         &self,
@@ -121,7 +121,7 @@ impl<A: Authenticator + Drop, T: Tree + Drop, O: Opens + Drop> Shared<A, T, O> {
         refusal: &ListingRefusal,
         out: &mut Vec<u8>,
     ) -> Result<Answered, AllocError>
-        ensures shared { OnOk result (self.new ≡ (listing_refused self.old query.now.under query.now.open_number refusal.now).shared) }
+        ensures server { OnOk result (self.new ≡ (listing_refused self.old query.now.under query.now.open_number refusal.now).server) }
         ensures ok { IfOk result (λ r. answer_held r out.new.items
             ≡ answer_behind out.old.items (listing_refused self.old query.now.under query.now.open_number refusal.now).response) }
         ensures len { OnOk result (length out.new.items ≤ length out.old.items + 65552) }
@@ -147,7 +147,7 @@ impl<A: Authenticator + Drop, T: Tree + Drop, O: Opens + Drop> Shared<A, T, O> {
     ) -> Result<Answered, AllocError>
         requires open { IsSome (open_of self.old.store.opens query.now.open_number) }
         requires room { (query_directory_asked query.now.request).output_buffer_length ≤ 65536 }
-        ensures shared { OnOk result (self.new ≡ (listed_as_asked self.old query.now.under query.now.open_number (list_asked_by (query_directory_asked query.now.request))).shared) }
+        ensures server { OnOk result (self.new ≡ (listed_as_asked self.old query.now.under query.now.open_number (list_asked_by (query_directory_asked query.now.request))).server) }
         ensures ok { IfOk result (λ r. answer_held r out.new.items ≡ answer_behind out.old.items
             (listed_as_asked self.old query.now.under query.now.open_number (list_asked_by (query_directory_asked query.now.request))).response) }
         ensures len { OnOk result (length out.new.items ≤ length out.old.items + 65552) }
@@ -192,7 +192,7 @@ impl<A: Authenticator + Drop, T: Tree + Drop, O: Opens + Drop> Shared<A, T, O> {
         out: &mut Vec<u8>,
     ) -> Result<Answered, AllocError>
         requires { IsSome (open_of self.old.store.opens query.now.open_number) }
-        ensures shared { OnOk result (self.new ≡ (directory_queried self.old query.now.under query.now.open_number (query_directory_asked query.now.request)).shared) }
+        ensures server { OnOk result (self.new ≡ (directory_queried self.old query.now.under query.now.open_number (query_directory_asked query.now.request)).server) }
         ensures ok { IfOk result (λ r. answer_held r out.new.items ≡ answer_behind out.old.items
             (directory_queried self.old query.now.under query.now.open_number (query_directory_asked query.now.request)).response) }
         ensures len { OnOk result (length out.new.items ≤ length out.old.items + 65552) }

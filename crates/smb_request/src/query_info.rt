@@ -7,10 +7,10 @@ ghost use Rattle.smb_request.specs.Information.{query_type_refusal, request_refu
 ghost use Rattle.smb_request.specs.Outcome.{told_response, CanBeSpelled};
 ghost use Rattle.smb_request.specs.QueryInfo.{open_information, volume_of, information_asked, information_queried};
 
-use super::context::{ResponseIds, Under};
+use super::context::{RequestIds, ResponseIds};
 use super::information::{InformationTold, fault_status};
 use super::outcome::{Outcome, Told};
-use super::shared::Shared;
+use super::server::Server;
 use super::status::Status;
 use smb_body::{InfoType, QueryInfoRequest};
 use smb_info::{InfoFault, file_info, fs_info};
@@ -48,7 +48,7 @@ fn request_refusal(request: &QueryInfoRequest) -> Option<Status>
     None
 }
 
-impl<A: Authenticator + Drop, T: Tree + Drop, O: Opens + Drop> Shared<A, T, O> {
+impl<A: Authenticator + Drop, T: Tree + Drop, O: Opens + Drop> Server<A, T, O> {
     /// What the class of a number tells of the entry of an open, at most `room` bytes of it.
     fn open_information(
         &self,
@@ -109,12 +109,12 @@ impl<A: Authenticator + Drop, T: Tree + Drop, O: Opens + Drop> Shared<A, T, O> {
     #[tactic(auto, unfolding(crate::specs::QueryInfo::information_queried))]
     pub(crate) fn query_info(
         &self,
-        under: Under,
+        under: RequestIds,
         open_number: u64,
         request: &QueryInfoRequest,
     ) -> Result<Told, AllocError>
         requires { IsSome (open_of self.now.store.opens open_number) }
-        ensures ok { IfOk result (λ told. record { shared = self.now; response = told_response A.meaning self.now told }
+        ensures ok { IfOk result (λ told. record { server = self.now; response = told_response A.meaning self.now told }
             ≡ information_queried self.now under open_number request.now) }
         ensures spelled { IfOk result (λ told. CanBeSpelled self.now told.outcome) }
     {

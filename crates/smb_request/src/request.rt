@@ -9,20 +9,22 @@ ghost use Rattle.smb_body.specs.Requests.{request_value, file_id_of};
 ghost use Rattle.smb_session.specs.Negotiate.{best_of};
 ghost use Rattle.smb_request.specs.Response.{answered};
 ghost use Rattle.smb_request.specs.Context.{open_named};
-ghost use Rattle.smb_request.specs.Request.{acts_under, handed_to, open_refusal, missing_refusal, negotiated, acted, by_open, by_body, by_command, body_of, performed};
+ghost use Rattle.smb_request.specs.Request.{acts_under, inherited_open, open_refusal, check_session_tree_and_open, negotiated, acted, by_open, by_body, by_command, body_of, performed};
 ghost use Rattle.smb_request.specs.Held.{is_performed};
 ghost use Rattle.smb_request.specs.InPlace.{answer_held, answer_behind, performed_behind};
-ghost use Rattle.smb_request.specs.Outcome.{told_response, acted_command, acted_step, unanswered_of, IsStill, CanBeSpelled, CanBeAnswered};
+ghost use Rattle.smb_request.specs.Outcome.{told_response, acted_command, acted_step, no_reply_of, IsStill, CanBeSpelled, CanBeAnswered};
 ghost use Rattle.smb_request.specs.Commands.{needs_of, needs_session, needs_tree};
 ghost use Rattle.smb_session.specs.Table.{knows_session, knows_tree};
 ghost use Rattle.smb_access.specs.Opens.{open_of};
 
 use super::command_row::{Handling, Needs, needs_of, row_of};
-use super::context::{Context, ContextOpen, Under, handed_on, named_by, number_named};
+use super::context::{
+    Context, ContextOpen, RequestIds, named_by, number_named, open_for_next_related,
+};
 use super::outcome::{Acted, Success, Told};
 use super::query_directory::DirectoryQuery;
-use super::response::{Answered, Unanswered};
-use super::shared::Shared;
+use super::response::{Answered, NoReply};
+use super::server::Server;
 use super::status::Status;
 use bitflags::Flags;
 use smb_body::{Dialects, Request, read_body};
@@ -41,22 +43,22 @@ fn is_related(header: &Header) -> bool
 }
 
 /// The session and the tree that a request acts under: its own, or for a related one the context's.
-fn acts_under(context: Context, header: &Header) -> Under
+fn acts_under(context: Context, header: &Header) -> RequestIds
     ensures { (request : List ℕ) → header.now ≡ header_of request → result ≡ acts_under context request }
 {
     if is_related(header) {
         context.under
     } else {
-        Under {
+        RequestIds {
             session_id: header.session_id,
             tree_id: header.tree_id,
         }
     }
 }
 
-/// The open that is handed to a request; None where it is not related.
-fn handed_to(context: Context, header: &Header) -> Option<ContextOpen>
-    ensures { (request : List ℕ) → header.now ≡ header_of request → result ≡ handed_to context request }
+/// The open that is inherited to a request; None where it is not related.
+fn inherited_open(context: Context, header: &Header) -> Option<ContextOpen>
+    ensures { (request : List ℕ) → header.now ≡ header_of request → result ≡ inherited_open context request }
 {
     if is_related(header) {
         Some(context.last_open)
@@ -105,9 +107,9 @@ fn needs_tree(needs: Needs) -> bool
     }
 }
 
-impl<A: Authenticator + Drop, T: Tree + Drop, O: Opens + Drop> Shared<A, T, O> {
+impl<A: Authenticator + Drop, T: Tree + Drop, O: Opens + Drop> Server<A, T, O> {
     /// Why a request is refused that names this open.
-    fn open_refusal(&self, under: Under, named: ContextOpen) -> Option<Status>
+    fn open_refusal(&self, under: RequestIds, named: ContextOpen) -> Option<Status>
         ensures { result ≡ open_refusal self.now.store.opens under named }
     {
         match named {
@@ -119,14 +121,14 @@ impl<A: Authenticator + Drop, T: Tree + Drop, O: Opens + Drop> Shared<A, T, O> {
     }
 
     /// Why a request is refused whose session, tree or open does not stand.
-    fn standing_refusal(
+    fn check_session_tree_and_open(
         &self,
         connection: u64,
-        under: Under,
+        under: RequestIds,
         request: &Request<'_>,
         named: Option<ContextOpen>,
     ) -> Option<Status>
-        ensures { result ≡ missing_refusal self.now connection under (request_value request.now) named }
+        ensures { result ≡ check_session_tree_and_open self.now connection under (request_value request.now) named }
     {
         let needs = needs_of(request);
         if needs_session(needs) && !self.sessions.knows(connection, under.session_id, None) {
@@ -159,10 +161,10 @@ impl<A: Authenticator + Drop, T: Tree + Drop, O: Opens + Drop> Shared<A, T, O> {
         connection: u64,
         moment: u64,
         dialect: &mut Option<Dialect>,
-        under: Under,
+        under: RequestIds,
         dialects: Dialects<'_>,
     ) -> Told
-        ensures told { answered dialect.new (record { shared = self.now; response = told_response A.meaning self.now result })
+        ensures told { answered dialect.new (record { server = self.now; response = told_response A.meaning self.now result })
             ≡ negotiated A.meaning moment self.now dialect.old under (dialects_of dialects.entry) }
         ensures spelled { CanBeSpelled self.now result.outcome }
     {
@@ -184,7 +186,7 @@ impl<A: Authenticator + Drop, T: Tree + Drop, O: Opens + Drop> Shared<A, T, O> {
         connection: u64,
         moment: u64,
         dialect: &mut Option<Dialect>,
-        under: Under,
+        under: RequestIds,
         open_number: u64,
         request: &Request<'a>,
     ) -> Result<Acted<'a>, AllocError>
@@ -233,12 +235,12 @@ impl<A: Authenticator + Drop, T: Tree + Drop, O: Opens + Drop> Shared<A, T, O> {
         connection: u64,
         moment: u64,
         dialect: &mut Option<Dialect>,
-        under: Under,
+        under: RequestIds,
         request: &Request<'a>,
-        handed: Option<ContextOpen>,
+        inherited: Option<ContextOpen>,
     ) -> Result<Acted<'a>, AllocError>
         ensures ok { IfOk result (λ it. answered dialect.new (acted_command A.meaning self.new it)
-            ≡ by_open A.meaning connection moment self.old dialect.old under (request_value request.now) (option_map (open_named handed) (file_id_of (request_value request.now)))) }
+            ≡ by_open A.meaning connection moment self.old dialect.old under (request_value request.now) (option_map (open_named inherited) (file_id_of (request_value request.now)))) }
         ensures answered { IfOk result (CanBeAnswered self.new) }
         ensures still { IfOk result (IsStill self.old dialect.old self.new dialect.new) }
         ensures err { OnErr result (self.new ≡ self.old) }
@@ -246,8 +248,8 @@ impl<A: Authenticator + Drop, T: Tree + Drop, O: Opens + Drop> Shared<A, T, O> {
         ensures known { self.new.sessions.table.connections ≡ self.old.sessions.table.connections }
     {
         let _ = &self.sessions;
-        let named = named_by(handed, request.file_id());
-        match self.standing_refusal(connection, under, request, named) {
+        let named = named_by(inherited, request.file_id());
+        match self.check_session_tree_and_open(connection, under, request, named) {
             Some(status) => Ok(Acted::Told(Told::failed(under, status))),
             None => self.act(
                 connection,
@@ -268,12 +270,12 @@ impl<A: Authenticator + Drop, T: Tree + Drop, O: Opens + Drop> Shared<A, T, O> {
         connection: u64,
         moment: u64,
         dialect: &mut Option<Dialect>,
-        under: Under,
-        handed: Option<ContextOpen>,
+        under: RequestIds,
+        inherited: Option<ContextOpen>,
         asked: &Option<Request<'a>>,
     ) -> Result<Acted<'a>, AllocError>
         ensures ok { IfOk result (λ it. answered dialect.new (acted_command A.meaning self.new it)
-            ≡ by_body A.meaning connection moment self.old dialect.old under handed (option_map request_value asked.now)) }
+            ≡ by_body A.meaning connection moment self.old dialect.old under inherited (option_map request_value asked.now)) }
         ensures answered { IfOk result (CanBeAnswered self.new) }
         ensures still { IfOk result (IsStill self.old dialect.old self.new dialect.new) }
         ensures err { OnErr result (self.new ≡ self.old) }
@@ -282,7 +284,7 @@ impl<A: Authenticator + Drop, T: Tree + Drop, O: Opens + Drop> Shared<A, T, O> {
     {
         let _ = &self.sessions;
         match asked {
-            Some(request) => self.by_open(connection, moment, dialect, under, request, handed),
+            Some(request) => self.by_open(connection, moment, dialect, under, request, inherited),
             None => {
                 let told = Told::failed(under, Status::InvalidParameter);
                 Ok(Acted::Told(told))
@@ -297,13 +299,13 @@ impl<A: Authenticator + Drop, T: Tree + Drop, O: Opens + Drop> Shared<A, T, O> {
         connection: u64,
         moment: u64,
         dialect: &mut Option<Dialect>,
-        under: Under,
-        handed: Option<ContextOpen>,
+        under: RequestIds,
+        inherited: Option<ContextOpen>,
         command: Option<Command>,
         asked: &Option<Request<'a>>,
     ) -> Result<Option<Acted<'a>>, AllocError>
         ensures ok { IfOk result (λ it. acted_step A.meaning self.new dialect.new it
-            ≡ by_command A.meaning connection moment self.old dialect.old under handed command (option_map request_value asked.now)) }
+            ≡ by_command A.meaning connection moment self.old dialect.old under inherited command (option_map request_value asked.now)) }
         ensures answered { IfOk result (λ it. IfSome it (CanBeAnswered self.new)) }
         ensures still { IfOk result (λ it. IfSome it (IsStill self.old dialect.old self.new dialect.new)) }
         ensures err { OnErr result (self.new ≡ self.old) }
@@ -317,7 +319,7 @@ impl<A: Authenticator + Drop, T: Tree + Drop, O: Opens + Drop> Shared<A, T, O> {
         };
         match row_of(command).handling {
             Handling::Handled => {
-                let acted = self.by_body(connection, moment, dialect, under, handed, asked)?;
+                let acted = self.by_body(connection, moment, dialect, under, inherited, asked)?;
                 Ok(Some(acted))
             }
             Handling::Unsupported => {
@@ -329,13 +331,13 @@ impl<A: Authenticator + Drop, T: Tree + Drop, O: Opens + Drop> Shared<A, T, O> {
     }
 
     /// Adds the body of what comes of a request to `out`. After an error `out` is as it was.
-    fn answer(&mut self, acted: &Acted<'_>, out: &mut Vec<u8>) -> Result<Answered, Unanswered>
+    fn answer(&mut self, acted: &Acted<'_>, out: &mut Vec<u8>) -> Result<Answered, NoReply>
         requires { CanBeAnswered self.old acted.now }
-        ensures shared { OnOk result (self.new ≡ (acted_command A.meaning self.old acted.now).shared) }
+        ensures server { OnOk result (self.new ≡ (acted_command A.meaning self.old acted.now).server) }
         ensures ok { IfOk result (λ r. answer_held r out.new.items
             ≡ answer_behind out.old.items (acted_command A.meaning self.old acted.now).response) }
         ensures len { OnOk result (length out.new.items ≤ length out.old.items + 65552) }
-        ensures err { IfErr result (λ unanswered. unanswered ≡ unanswered_of acted.now) }
+        ensures err { IfErr result (λ no_reply. no_reply ≡ no_reply_of acted.now) }
         ensures state { OnErr result (self.new ≡ self.old) }
         ensures out { OnErr result (out.new.items ≡ out.old.items) }
         ensures kept { take (length out.old.items) out.new.items ≡ out.old.items }
@@ -344,11 +346,11 @@ impl<A: Authenticator + Drop, T: Tree + Drop, O: Opens + Drop> Shared<A, T, O> {
         match acted {
             Acted::Told(told) => match self.put_told(told, out) {
                 Ok(answered) => Ok(answered),
-                Err(_) => Err(Unanswered::Performed),
+                Err(_) => Err(NoReply::Performed),
             },
             Acted::Lists(query) => match self.query_directory(query, out) {
                 Ok(answered) => Ok(answered),
-                Err(_) => Err(Unanswered::NotPerformed),
+                Err(_) => Err(NoReply::NotPerformed),
             },
         }
     }
@@ -356,7 +358,7 @@ impl<A: Authenticator + Drop, T: Tree + Drop, O: Opens + Drop> Shared<A, T, O> {
     /// Performs one request of this header, and adds the body of what answers it to `out`. CANCEL has no answer: None,
     /// and `out` is as it was.
     ///
-    /// An error says that memory could not be had, and whether the request was performed, which then changed what is shared
+    /// An error says that memory could not be had, and whether the request was performed, which then changed the server's state
     /// and the dialect. `context` is as it was, and what stood in `out` is kept.
     #[tactic(auto, unfolding(crate::specs::Request::performed))]
     pub fn perform(
@@ -368,36 +370,41 @@ impl<A: Authenticator + Drop, T: Tree + Drop, O: Opens + Drop> Shared<A, T, O> {
         header: &Header,
         request: &[u8],
         out: &mut Vec<u8>,
-    ) -> Result<Option<Answered>, Unanswered>
+    ) -> Result<Option<Answered>, NoReply>
         requires { header.now ≡ header_of request.now }
-        ensures ok { IfOk result (λ r. record { shared = self.new; dialect = dialect.new; context = context.new; response = option_map (λ a. answer_held a out.new.items) r }
+        ensures ok { IfOk result (λ r. record { server = self.new; dialect = dialect.new; context = context.new; response = option_map (λ a. answer_held a out.new.items) r }
             ≡ performed_behind out.old.items (performed A.meaning connection moment self.old dialect.old context.old request.now)) }
         ensures none { IfOk result (λ r. IfNone r (out.new.items ≡ out.old.items)) }
         ensures len { OnOk result (length out.new.items ≤ length out.old.items + 65552) }
-        ensures err { IfErr result (λ unanswered. self.new
-            ≡ (if is_performed unanswered then (performed A.meaning connection moment self.old dialect.old context.old request.now).shared else self.old)) }
-        ensures dialect { IfErr result (λ unanswered. dialect.new
-            ≡ (if is_performed unanswered then (performed A.meaning connection moment self.old dialect.old context.old request.now).dialect else dialect.old)) }
+        ensures err { IfErr result (λ no_reply. self.new
+            ≡ (if is_performed no_reply then (performed A.meaning connection moment self.old dialect.old context.old request.now).server else self.old)) }
+        ensures dialect { IfErr result (λ no_reply. dialect.new
+            ≡ (if is_performed no_reply then (performed A.meaning connection moment self.old dialect.old context.old request.now).dialect else dialect.old)) }
         ensures context { OnErr result (context.new ≡ context.old) }
         ensures kept { take (length out.old.items) out.new.items ≡ out.old.items }
         ensures known { self.new.sessions.table.connections ≡ self.old.sessions.table.connections }
     {
         let under = acts_under(*context, header);
-        let handed = handed_to(*context, header);
+        let inherited = inherited_open(*context, header);
         let command = header.command.known();
         let asked = body_of(command, request);
         let id = file_id_of(&asked);
         let next = self.store.next_number();
-        let Ok(acted) = self.by_command(connection, moment, dialect, under, handed, command, &asked)
-        else {
-            return Err(Unanswered::NotPerformed);
+        let Ok(acted) = self.by_command(
+            connection, moment, dialect, under, inherited, command, &asked,
+        ) else {
+            return Err(NoReply::NotPerformed);
         };
         let Some(acted) = acted else {
-            *context = Context::after(under, None, handed_on(handed, next, command, id, None));
+            *context = Context::after(
+                under,
+                None,
+                open_for_next_related(inherited, next, command, id, None),
+            );
             return Ok(None);
         };
         let answered = self.answer(&acted, out)?;
-        let last_open = handed_on(handed, next, command, id, Some(answered.status));
+        let last_open = open_for_next_related(inherited, next, command, id, Some(answered.status));
         *context = Context::after(under, Some(answered.ids), last_open);
         Ok(Some(answered))
     }

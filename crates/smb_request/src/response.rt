@@ -21,7 +21,7 @@ pub struct Answered {
 
 /// Where memory ran out in a request.
 #[derive(Clone, Copy, Debug, PartialEq, Eq, Error)]
-pub enum Unanswered {
+pub enum NoReply {
     /// Before it was performed: all is as it was.
     #[error("no memory, before the request was performed")]
     NotPerformed,

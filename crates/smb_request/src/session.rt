@@ -10,9 +10,9 @@ ghost use Rattle.smb_request.specs.Context.{ids_of};
 ghost use Rattle.smb_request.specs.Held.{opens_left, setup_outcome};
 ghost use Rattle.smb_request.specs.Outcome.{told_response, CanBeSpelled};
 
-use super::context::{ResponseIds, Under};
+use super::context::{RequestIds, ResponseIds};
 use super::outcome::{Outcome, SetupTold, Success, Told};
-use super::shared::Shared;
+use super::server::Server;
 use super::status::Status;
 use smb_body::{
     Capabilities, SessionFlags, SessionSetupRequest, ShareFlags, ShareType, TreeConnectResponse,
@@ -46,7 +46,7 @@ fn status_of_refusal(fault: SessionFault) -> Option<Status>
 }
 
 /// What comes of a request that the sessions refuse. Out of memory is no refusal: nothing was performed.
-fn refused_by(under: Under, fault: SessionFault) -> Result<Told, AllocError>
+fn refused_by(under: RequestIds, fault: SessionFault) -> Result<Told, AllocError>
     ensures ok { IfOk result (λ told. IsSomeAnd (status_of_refusal fault) (λ status. told ≡ record { ids = ids_of under; outcome = Outcome.Failed status })) }
     ensures memory { IfOk result (λ told. fault ≢ SessionFault.NoMemory) }
     ensures err { OnErr result (fault ≡ SessionFault.NoMemory) }
@@ -82,16 +82,16 @@ fn close_ended<T: Tree + Drop, O: Opens + Drop>(store: &mut Store<T, O>, ended: 
     }
 }
 
-impl<A: Authenticator + Drop, T: Tree + Drop, O: Opens + Drop> Shared<A, T, O> {
+impl<A: Authenticator + Drop, T: Tree + Drop, O: Opens + Drop> Server<A, T, O> {
     /// SESSION_SETUP ([MS-SMB2] 3.3.5.5).
     #[tactic(auto, unfolding(crate::specs::Session::session_set_up))]
     pub(crate) fn set_up(
         &mut self,
         connection: u64,
-        under: Under,
+        under: RequestIds,
         asked: &SessionSetupRequest<'_>,
     ) -> Result<Told, AllocError>
-        ensures ok { IfOk result (λ told. record { shared = self.new; response = told_response A.meaning self.new told }
+        ensures ok { IfOk result (λ told. record { server = self.new; response = told_response A.meaning self.new told }
             ≡ session_set_up A.meaning connection self.old under (session_setup_asked asked.now)) }
         ensures spelled { IfOk result (λ told. CanBeSpelled self.new told.outcome) }
         ensures err { OnErr result (self.new ≡ self.old) }
@@ -118,8 +118,8 @@ impl<A: Authenticator + Drop, T: Tree + Drop, O: Opens + Drop> Shared<A, T, O> {
 
     /// LOGOFF ([MS-SMB2] 3.3.5.6).
     #[tactic(auto, unfolding(crate::specs::Session::session_logged_off))]
-    pub(crate) fn log_off(&mut self, connection: u64, under: Under) -> Result<Told, AllocError>
-        ensures ok { IfOk result (λ told. record { shared = self.new; response = told_response A.meaning self.new told }
+    pub(crate) fn log_off(&mut self, connection: u64, under: RequestIds) -> Result<Told, AllocError>
+        ensures ok { IfOk result (λ told. record { server = self.new; response = told_response A.meaning self.new told }
             ≡ session_logged_off connection self.old under) }
         ensures spelled { IfOk result (λ told. CanBeSpelled self.new told.outcome) }
         ensures err { OnErr result (self.new ≡ self.old) }
@@ -139,10 +139,10 @@ impl<A: Authenticator + Drop, T: Tree + Drop, O: Opens + Drop> Shared<A, T, O> {
     pub(crate) fn connect_tree(
         &mut self,
         connection: u64,
-        under: Under,
+        under: RequestIds,
         path: Units<'_>,
     ) -> Result<Told, AllocError>
-        ensures ok { IfOk result (λ told. record { shared = self.new; response = told_response A.meaning self.new told }
+        ensures ok { IfOk result (λ told. record { server = self.new; response = told_response A.meaning self.new told }
             ≡ tree_joined connection self.old under (units_of path.entry)) }
         ensures spelled { IfOk result (λ told. CanBeSpelled self.new told.outcome) }
         ensures err { OnErr result (self.new ≡ self.old) }
@@ -168,9 +168,9 @@ impl<A: Authenticator + Drop, T: Tree + Drop, O: Opens + Drop> Shared<A, T, O> {
     pub(crate) fn disconnect_tree(
         &mut self,
         connection: u64,
-        under: Under,
+        under: RequestIds,
     ) -> Result<Told, AllocError>
-        ensures ok { IfOk result (λ told. record { shared = self.new; response = told_response A.meaning self.new told }
+        ensures ok { IfOk result (λ told. record { server = self.new; response = told_response A.meaning self.new told }
             ≡ tree_left connection self.old under) }
         ensures spelled { IfOk result (λ told. CanBeSpelled self.new told.outcome) }
         ensures err { OnErr result (self.new ≡ self.old) }

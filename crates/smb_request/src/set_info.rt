@@ -9,10 +9,10 @@ ghost use Rattle.smb_request.specs.Outcome.{told_response, CanBeSpelled};
 ghost use Rattle.smb_request.specs.SetInfo.{set_status, set_through, set_as_asked, information_set};
 ghost use Rattle.smb_wire.specs.NtStatus.{STATUS_SUCCESS};
 
-use super::context::Under;
+use super::context::RequestIds;
 use super::information::fault_status;
 use super::outcome::{Success, Told};
-use super::shared::Shared;
+use super::server::Server;
 use super::status::Status;
 use smb_body::{InfoType, SetInfoRequest};
 use smb_info::{SetAsk, read_set_info};
@@ -67,16 +67,16 @@ fn set_through<T: Tree + Drop, O: Opens + Drop>(
     }
 }
 
-impl<A: Authenticator + Drop, T: Tree + Drop, O: Opens + Drop> Shared<A, T, O> {
+impl<A: Authenticator + Drop, T: Tree + Drop, O: Opens + Drop> Server<A, T, O> {
     /// Sets what is asked, of the entry of the open of a number.
     fn set_as_asked(
         &mut self,
         moment: u64,
-        under: Under,
+        under: RequestIds,
         open_number: u64,
         ask: &SetAsk<'_>,
     ) -> Result<Told, AllocError>
-        ensures ok { IfOk result (λ told. record { shared = self.new; response = told_response A.meaning self.new told }
+        ensures ok { IfOk result (λ told. record { server = self.new; response = told_response A.meaning self.new told }
             ≡ set_as_asked moment self.old under open_number (set_asked ask.now)) }
         ensures spelled { IfOk result (λ told. CanBeSpelled self.new told.outcome) }
         ensures err { OnErr result (self.new ≡ self.old) }
@@ -94,11 +94,11 @@ impl<A: Authenticator + Drop, T: Tree + Drop, O: Opens + Drop> Shared<A, T, O> {
     pub(crate) fn set_info(
         &mut self,
         moment: u64,
-        under: Under,
+        under: RequestIds,
         open_number: u64,
         request: &SetInfoRequest<'_>,
     ) -> Result<Told, AllocError>
-        ensures ok { IfOk result (λ told. record { shared = self.new; response = told_response A.meaning self.new told }
+        ensures ok { IfOk result (λ told. record { server = self.new; response = told_response A.meaning self.new told }
             ≡ information_set moment self.old under open_number (set_info_asked request.now)) }
         ensures spelled { IfOk result (λ told. CanBeSpelled self.new told.outcome) }
         ensures err { OnErr result (self.new ≡ self.old) }

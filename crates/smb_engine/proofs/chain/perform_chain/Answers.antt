@@ -16,9 +16,9 @@ loop-i-init g c = record {
 
 pub returns-in-Err-clause-err : goal.returns-in-Err-clause-err
 returns-in-Err-clause-err g c = (
-  omega (arith, c.len-i-end.ensures.len, done_least c.in-Err.unanswered c.loop-i.i c.done_behind-done.result c.done_behind-done.ensures, c.loop-i-test.true),
+  omega (arith, c.len-i-end.ensures.len, done_least c.in-Err.no_reply c.loop-i.i c.done_behind-done.result c.done_behind-done.ensures, c.loop-i-test.true),
   rw c.done_behind-done.ensures
-      (chain_stopped g.A.Authenticator.meaning _ _ _ _ _ _ _ _ _ c.in-Err.unanswered c.loop-i.invariant.so_far c.request_at.ensures.request c.in-Err.ensures.err),
+      (chain_stopped g.A.Authenticator.meaning _ _ _ _ _ _ _ _ _ c.in-Err.no_reply c.loop-i.invariant.so_far c.request_at.ensures.request c.in-Err.ensures.err),
 )
 
 pub loop-i-preserved : goal.loop-i-preserved

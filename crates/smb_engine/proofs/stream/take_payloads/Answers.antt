@@ -1,5 +1,5 @@
 use Rattle.std.proofs.Common.{sym, ap, ◌∙◌, arith, rules}
-use Rattle.smb_engine.proofs.Turns.{refused-shared, count_few, within_few}
+use Rattle.smb_engine.proofs.Turns.{refused-server, count_few, within_few}
 use Rattle.smb_engine.proofs.Placing.{went_on, ended_here, front_kept}
 use Rattle.smb_engine.proofs.Steps.{steps_more, steps_over, steps_all, held_all, steps_stopped, steps_stopped_in, steps_within, kept_more, at_limit}
 use Rattle.smb_engine.proofs.stream.take_payloads.Goals as goal
@@ -23,7 +23,7 @@ returns-in-Ok-None-clause-ok g c =
 
 pub returns-in-Ok-None-clause-done : goal.returns-in-Ok-None-clause-done
 returns-in-Ok-None-clause-done g c =
-    refused-shared g.A.Authenticator.meaning _ _ _ _ _ _ _ (ended_here _ _ g.K.Sink.hears _ _ _ _ (rw c.in-Ok-None.field-0-is at c.in-Ok-None.ensures.ok)).0
+    refused-server g.A.Authenticator.meaning _ _ _ _ _ _ _ (ended_here _ _ g.K.Sink.hears _ _ _ _ (rw c.in-Ok-None.field-0-is at c.in-Ok-None.ensures.ok)).0
     ∙ steps_stopped g.A.Authenticator.meaning g.K.Sink.hears _ _ _ _ _ _ _ _ _ _ _ c.loop-payload.invariant.so_far
 
 pub loop-payload-preserved : goal.loop-payload-preserved

@@ -7,12 +7,12 @@ use Rattle.smb_request.proofs.laws.laws_of_connections.Goals as goal
 pub returns : goal.returns
 returns g c = record {
   order = (
-    (λ shared table store. order_good shared.sessions.table shared.store table store),
-    (λ shared connection o. (leaves_start (λ n session. ⊥) (λ x. true) shared connection o).order),
-    (λ shared connection o. (leaves_end (λ n session. ⊥) (λ x. true) connection refl shared o).order),
-    (λ connection moment shared dialect context request o. request_order g.A.Authenticator.meaning connection moment shared dialect context request o),
+    (λ server table store. order_good server.sessions.table server.store table store),
+    (λ server connection o. (leaves_start (λ n session. ⊥) (λ x. true) server connection o).order),
+    (λ server connection o. (leaves_end (λ n session. ⊥) (λ x. true) connection refl server o).order),
+    (λ connection moment server dialect context request o. request_order g.A.Authenticator.meaning connection moment server dialect context request o),
   );
-  end = λ shared connection number session o at other. end_alone shared connection number session o at other;
-  request = λ connection moment shared dialect context request number session o at other.
-      request_alone g.A.Authenticator.meaning connection moment shared dialect context request number session o at other;
+  end = λ server connection number session o at other. end_alone server connection number session o at other;
+  request = λ connection moment server dialect context request number session o at other.
+      request_alone g.A.Authenticator.meaning connection moment server dialect context request number session o at other;
 }

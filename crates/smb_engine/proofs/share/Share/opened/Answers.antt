@@ -5,5 +5,5 @@ use Rattle.smb_engine.proofs.share.Share.opened.Goals as goal
 pub invariant_of-self-2 : goal.invariant_of-self-2
 invariant_of-self-2 g c =
     let room : length c.self.inside.links.entries < 64 = omega (arith, c.len.ensures.len, c.if-len-ge-CONNECTION_LIMIT.false) in
-    rw (c.in-Ok.ensures.links, c.in-Ok.ensures.shared, c.fresh_link-link.ensures)
-    (kept_insert c.self.inside.shared.sessions.table c.self.inside.links.entries _ c.self.inside.next new_waits room c.self.invariant)
+    rw (c.in-Ok.ensures.links, c.in-Ok.ensures.server, c.fresh_link-link.ensures)
+    (kept_insert c.self.inside.server.sessions.table c.self.inside.links.entries _ c.self.inside.next new_waits room c.self.invariant)

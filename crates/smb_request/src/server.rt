@@ -1,0 +1,220 @@
+//! What all connections share ([MS-SMB2] 3.3.1.5).
+
+ghost use Rattle.std.specs.Prelude.{◌≡◌, ◌<◌, ◌≤◌, ◌+◌, [], ◌++◌, true, OnOk, OnErr, IfOk, length, take};
+ghost use Rattle.std.specs.Bool.{OnTrue, OnFalse};
+ghost use Rattle.smb_wire.specs.Number.{spelling};
+ghost use Rattle.smb_wire.specs.Pairs.{unit_bytes, AreUnits};
+ghost use Rattle.smb_session.specs.Table.{numbers_on};
+ghost use Rattle.smb_body.specs.Replies.{reply_value, reply_spelling};
+ghost use Rattle.smb_session.specs.Good.{GoodTable};
+ghost use Rattle.smb_session.specs.Sessions.{new_sessions};
+ghost use Rattle.smb_tree.specs.Content.{new_content};
+ghost use Rattle.smb_info.specs.FileSystemInformation.{is_volume_label};
+ghost use Rattle.smb_info.specs.Volumes.{volume_facts};
+ghost use Rattle.smb_opens.specs.Good.{GoodStore};
+ghost use Rattle.smb_request.specs.Settings.{settings_of, is_lawful};
+ghost use Rattle.smb_request.specs.Negotiate.{negotiate_answer};
+ghost use Rattle.smb_request.specs.QueryInfo.{volume_of};
+ghost use Rattle.smb_request.specs.State.{new_server, hello_of, connection_added, connection_ended};
+ghost use Rattle.smb_request.specs.Owners.{AreOwned};
+
+use super::config::Config;
+use super::negotiate;
+use smb_body::{Reply, write_reply};
+use smb_info::Volume;
+use smb_opens::{Opens, Owner, Store};
+use smb_session::{Authenticator, Sessions};
+use smb_tree::Tree;
+use smb_wire::{Units, put_u16};
+use std::alloc::{AllocError, Global};
+use std::marker::Model;
+
+/// The configuration, the sessions with their authenticator, and the files with their opens.
+#[derive(Drop)]
+pub struct Server<A: Authenticator + Drop, T: Tree + Drop, O: Opens + Drop> {
+    config: Config,
+    pub(crate) sessions: Sessions<A>,
+    pub(crate) store: Store<T, O>,
+    alloc: Global,
+}
+
+impl<A: Authenticator + Drop, T: Tree + Drop, O: Opens + Drop> Model for Server<A, T, O> {
+    ghost use Rattle.smb_request.specs.Settings.{settings_of};
+    ghost use Rattle.smb_request.specs.State.{ServerState};
+    ghost use Rattle.smb_request.specs.Held.{IsServerKept};
+
+    ghost Value = { ServerState A };
+
+    ghost view = { λ s. record { settings = settings_of s.config; sessions = s.sessions; store = s.store } };
+
+    ghost invariant = { λ s. IsServerKept (settings_of s.config) s.sessions.share s.sessions.table s.store.tree.capacity s.store.opens };
+}
+
+/// Adds the bytes of a unit.
+fn put_unit(bytes: &mut Vec<u8>, unit: u16) -> Result<(), AllocError>
+    ensures { OnOk result (bytes.new.items ≡ bytes.old.items ++ spelling 2 unit) }
+{
+    match put_u16(bytes, unit) {
+        Ok(()) => Ok(()),
+        Err(_) => Err(AllocError),
+    }
+}
+
+/// The bytes of units, each of which is a character of ASCII.
+fn wide(alloc: Global, characters: &[u8]) -> Result<Vec<u8>, AllocError>
+    ensures bytes { IfOk result (λ bytes. bytes.items ≡ unit_bytes characters.now) }
+    ensures fits { AreUnits characters.now }
+{
+    let mut bytes = Vec::new(alloc);
+    for character in characters {
+        put_unit(&mut bytes, u16::from(*character))?;
+    }
+    Ok(bytes)
+}
+
+/// No session, for the share of a name in ASCII.
+fn sessions_of<A: Authenticator + Drop>(
+    alloc: Global,
+    authenticator: A,
+    name: &[u8],
+) -> Result<Sessions<A>, AllocError>
+    ensures { IfOk result (λ sessions. sessions ≡ new_sessions authenticator name.now) }
+{
+    let bytes = wide(alloc, name)?;
+    let Some(share) = Units::of(&bytes) else {
+        return Err(AllocError);
+    };
+    match Sessions::new(alloc, authenticator, share) {
+        Ok(sessions) => Ok(sessions),
+        Err(_) => Err(AllocError),
+    }
+}
+
+impl<A: Authenticator + Drop, T: Tree + Drop, O: Opens + Drop> Server<A, T, O> {
+    /// What connections share at first: no session, and the root alone.
+    #[tactic(auto, using(smb_opens::proofs::OnePath::new_tree))]
+    pub fn new(
+        alloc: Global,
+        config: Config,
+        authenticator: A,
+        tree: T,
+        opens: O,
+    ) -> Result<Self, AllocError>
+        requires lawful { is_lawful (settings_of config) ≡ true }
+        requires tree { T.content tree ≡ new_content config.created config.capacity }
+        requires opens { O.content opens ≡ [] }
+        ensures { IfOk result (λ server. server ≡ new_server (settings_of config) authenticator) }
+    {
+        let sessions = sessions_of(alloc, authenticator, config.share.as_bytes())?;
+        Ok(Server {
+            config,
+            sessions,
+            store: Store::new(alloc, tree, opens),
+            alloc,
+        })
+    }
+
+    /// The allocator of what the share makes.
+    pub fn allocator(&self) -> Global {
+        self.alloc
+    }
+
+    /// A NEGOTIATE response that tells a dialect's revision.
+    pub(crate) fn negotiate_response(&self, moment: u64, dialect_revision: u16) -> Reply<'_>
+        ensures response { reply_value result ≡ negotiate_answer self.now.settings.guid (hello_of A.meaning self.now) moment dialect_revision }
+        ensures short { length (hello_of A.meaning self.now) ≤ 4096 }
+    {
+        negotiate::response(
+            self.config.guid,
+            self.sessions.hello(),
+            moment,
+            dialect_revision,
+        )
+    }
+
+    /// The share as a volume.
+    pub(crate) fn volume(&self) -> Volume<'_>
+        ensures facts { volume_facts result ≡ volume_of self.now }
+        ensures label { is_volume_label (volume_of self.now).label ≡ true }
+        ensures used { (volume_of self.now).used ≤ (volume_of self.now).capacity }
+    {
+        self.good();
+        Volume {
+            created: self.config.created,
+            label: self.config.label.as_str(),
+            capacity: self.store.tree().capacity(),
+            used: self.store.tree().used(),
+        }
+    }
+
+    /// Lets a connection begin sessions from now on. An error changes nothing.
+    pub fn connect(&mut self, connection: u64) -> Result<(), AllocError>
+        ensures ok { OnOk result (self.new ≡ connection_added self.old connection) }
+        ensures err { OnErr result (self.new ≡ self.old) }
+    {
+        match self.sessions.connect(connection) {
+            Ok(()) => {}
+            Err(_) => return Err(AllocError),
+        }
+        Ok(())
+    }
+
+    /// Ends the least session of a connection, with its opens; false where it has none and is forgotten.
+    #[tactic(auto, unfolding(crate::specs::State::connection_ended))]
+    fn end_one(&mut self, connection: u64) -> bool
+        ensures ended { OnTrue result (connection_ended self.new connection ≡ connection_ended self.old connection) }
+        ensures fewer { OnTrue result (length (numbers_on self.new.sessions.table.sessions connection) < length (numbers_on self.old.sessions.table.sessions connection)) }
+        ensures none { OnFalse result (self.new ≡ connection_ended self.old connection) }
+    {
+        self.sessions.good();
+        let Some(session) = self.sessions.end_connection(connection) else {
+            return false;
+        };
+        self.store.close_all(Owner::Session(session));
+        true
+    }
+
+    /// Ends a connection's sessions in rising number, and forgets it. It takes no memory.
+    pub fn disconnect(&mut self, connection: u64)
+        ensures ended { self.new ≡ connection_ended self.old connection }
+    {
+        self.sessions.good();
+        while self.end_one(connection) {}
+    }
+
+    /// Adds the body of the response to an SMB_COM_NEGOTIATE to `out`: an SMB2 NEGOTIATE response. After an error `out`
+    /// is as it was.
+    pub fn put_smb1_body(
+        &self,
+        moment: u64,
+        dialect_revision: u16,
+        out: &mut Vec<u8>,
+    ) -> Result<(), AllocError>
+        ensures ok { OnOk result (out.new.items
+            ≡ out.old.items ++ reply_spelling (negotiate_answer self.now.settings.guid (hello_of A.meaning self.now) moment dialect_revision)) }
+        ensures len { OnOk result (length out.new.items ≤ length out.old.items + 65552) }
+        ensures err { OnErr result (out.new.items ≡ out.old.items) }
+        ensures kept { take (length out.old.items) out.new.items ≡ out.old.items }
+    {
+        let reply = self.negotiate_response(moment, dialect_revision);
+        match write_reply(&reply, out) {
+            Ok(()) => Ok(()),
+            Err(_) => Err(AllocError),
+        }
+    }
+
+    /// The configuration keeps its rules, the share has its name and its capacity, the sessions and the files are good,
+    /// and each open is owned. (The body does nothing.)
+    pub fn good(&self)
+        ensures lawful { is_lawful self.now.settings ≡ true }
+        ensures named { self.now.sessions.share ≡ self.now.settings.share }
+        ensures room { self.now.store.tree.capacity ≡ self.now.settings.capacity }
+        ensures sessions { GoodTable self.now.sessions.table }
+        ensures store { GoodStore self.now.store }
+        ensures owned { AreOwned self.now.sessions.table self.now.store.opens }
+    {
+        let _ = &self.config;
+        self.sessions.good();
+        self.store.good();
+    }
+}
