@@ -1,4 +1,3 @@
 pub mod Decimals
 pub mod Lines
 pub mod Shows
-pub mod Users

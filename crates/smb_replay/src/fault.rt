@@ -1,9 +1,7 @@
 //! What ends a command, and what is printed of it.
 
-use crate::config::ConfigFault;
-use crate::key_place::write_place;
-use crate::rule::ConfigRule;
 use crate::script::Expected;
+use smb_config::{ConfigFault, ConfigRule, write_place};
 use std::alloc::{AllocError, Global};
 use std::io;
 use std::io::{ErrorKind, Write};
@@ -88,14 +86,6 @@ pub enum Detail<'a> {
 }
 
 impl CommandFault {
-    /// Why a configuration's file was not opened or read.
-    pub fn unread(reason: ErrorKind) -> CommandFault {
-        match reason {
-            ErrorKind::OutOfMemory => CommandFault::NoMemory,
-            _ => CommandFault::ConfigUnread(reason),
-        }
-    }
-
     /// The exit status: 3 for want of memory, else 1.
     pub fn status(self) -> u8 {
         match self {
@@ -150,6 +140,7 @@ impl From<AllocError> for CommandFault {
 impl From<ConfigFault> for CommandFault {
     fn from(fault: ConfigFault) -> CommandFault {
         match fault {
+            ConfigFault::Unread(reason) => CommandFault::ConfigUnread(reason),
             ConfigFault::Refused(rule) => CommandFault::ConfigRefused(Some(rule)),
             ConfigFault::NoMemory => CommandFault::NoMemory,
         }

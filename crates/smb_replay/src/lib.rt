@@ -3,31 +3,25 @@
 //!
 //! [`replay_text`] reads a configuration and a script, runs the script's events on a [`Share`](smb_engine::Share) and
 //! writes a line for each answer. [`show_text`] lists the requests of a stream, [`show_fields`] with their fields. All are
-//! over any reader and writers, and return an exit status. [`Configuration::read`] reads a configuration file's text;
-//! [`BUILT_IN`] is one. [`Detail`] is how much is written of a fault: with [`Detail::Explained`] why it came.
+//! over any reader and writers, and return an exit status. [`Detail`] is how much is written of a fault: with
+//! [`Detail::Explained`] why it came. The configuration is of the crate smb_config.
 //!
-//! Of the public calls [`Configuration::read`] has a clause: the share's part of what it takes keeps its rules. Inside
-//! the crate the listing of a stream and the events of a part of a text have clauses (`list_stream`, `Part::read`). All
-//! else that the public calls print and return is tested.
+//! Inside the crate the listing of a stream and the events of a part of a text have clauses (`list_stream`,
+//! `Part::read`). All else that the public calls print and return is tested.
 #![tactic(auto)]
 
-mod config;
 mod ending;
 mod fault;
 mod fields;
 mod input;
-mod key_place;
 mod listing;
 mod replay;
-mod rule;
 mod script;
 mod show;
 
-pub use config::{BUILT_IN, ConfigFault, Configuration};
 pub use fault::{CommandFault, Detail, Given, ListenFault};
-pub use input::{CONFIG_LIMIT, INPUT_LIMIT, read_config};
+pub use input::INPUT_LIMIT;
 pub use listing::show_fields;
 pub use replay::{new_plain_share, new_share, replay_in_detail, replay_plain_text, replay_text};
-pub use rule::ConfigRule;
 pub use script::Expected;
 pub use show::show_text;

@@ -3,11 +3,11 @@
 ghost use Rattle.std.specs.Prelude.{◌≡◌, [], IfOk};
 ghost use Rattle.smb_tree.specs.Content.{new_content};
 
-use crate::config::Configuration;
 use crate::ending::Streams;
 use crate::fault::{CommandFault, Detail};
 use crate::input::read_input;
 use crate::script::{Part, Script, Unread};
+use smb_config::Configuration;
 use smb_engine::{Answer, Event, RunFault, ServeFault, Share};
 use smb_handles::HandleTable;
 use smb_nodes::NodeTree;

@@ -1,5 +1,5 @@
 -- One request, seen from the sessions of other connections.
-use Rattle.std.proofs.Common.{◌≡◌, ◌==◌, ℕ, Bool, true, false, if◌then◌else◌, List, [], ◌∷◌, length, filter, ◌⊎◌, Option, None, Some, is_some, refl, ap, arith, ◌∙◌}
+use Rattle.std.proofs.Common.{◌≡◌, ◌==◌, ℕ, Bool, true, false, if◌then◌else◌, List, [], ◌∷◌, length, filter, ◌⊎◌, Option, None, Some, is_some, refl, sym, ap, subst, arith, ◌∙◌}
 use Rattle.std.proofs.lemmas.Bool.Decides.{nat_tests}
 use Rattle.std.specs.Option.{option_map, option_map_or, option_and_then}
 use Rattle.smb_session.specs.Session.{SessionState}
@@ -17,22 +17,21 @@ use Rattle.smb_wire.specs.declared.command.Command.{Command}
 use Rattle.smb_wire.specs.declared.dialect.Dialect.{Dialect}
 use Rattle.smb_session.specs.Negotiate.{best_of}
 use Rattle.smb_body.specs.Requests.{RequestValue, asks_negotiate, asks_session_setup, asks_logoff, asks_tree_connect, asks_tree_disconnect, asks_create, asks_close, asks_flush, asks_read, asks_write, asks_lock, asks_cancel, asks_echo, asks_query_directory, asks_query_info, asks_set_info, file_id_of}
-use Rattle.smb_request.specs.declared.command_row.Handling.{Handling}
-use Rattle.smb_request.specs.declared.command_row.Handling.TheVariants.{Handled, Unsupported, Passed}
 use Rattle.smb_request.specs.declared.context.Context.{Context}
 use Rattle.smb_request.specs.declared.context.ContextOpen.{ContextOpen}
 use Rattle.smb_request.specs.declared.context.ContextOpen.TheVariants.{Nothing, Named, Refused}
-use Rattle.smb_request.specs.Context.{open_named, number_named}
+use Rattle.smb_request.specs.Context.{open_named, number_named, named_on, open_for_next_related}
 use Rattle.smb_request.specs.declared.status.Status.{Status}
-use Rattle.smb_request.specs.Commands.{command_row, needs_of, needs_session}
+use Rattle.smb_request.specs.Needs.{needs_of, needs_session, is_unsupported, is_cancel_command}
 use Rattle.smb_request.specs.Files.{names_open}
 use Rattle.smb_request.specs.Negotiate.{negotiate_answer}
-use Rattle.smb_request.specs.Request.{acts_under, inherited_open, body_of, open_refusal, check_session_tree_and_open, negotiated, acted, by_body, by_handling, by_command, performed}
-use Rattle.smb_request.specs.Response.{answered}
+use Rattle.smb_request.specs.Call.{body_of, named_open, call_of}
+use Rattle.smb_request.specs.Request.{open_refusal, check_session_tree_and_open, negotiated, dialect_after, acted, performed_by, performed}
+use Rattle.smb_request.specs.Held.{IsCallOf}
 use Rattle.smb_request.specs.State.{hello_of}
 use Rattle.smb_session.specs.Authenticator.{Meaning}
 use Rattle.smb_opens.specs.Close.{closed_all}
-use Rattle.smb_request.specs.Response.{CommandStep}
+use Rattle.smb_request.specs.Response.{CommandStep, Performed}
 use Rattle.smb_tree.specs.Entries.{is_folder_kind}
 use Rattle.smb_wire.specs.NtStatus.{STATUS_SUCCESS}
 use Rattle.smb_body.specs.Create.{CreateAsked}
@@ -62,8 +61,8 @@ use Rattle.smb_session.specs.Session.{with_tree, without_tree}
 use Rattle.smb_session.specs.Table.{logoff_refusal, tree_disconnect_refusal, tree_disconnected}
 use Rattle.smb_session.specs.Sessions.{tree_connect_refusal}
 use Rattle.smb_body.specs.Replies.{answers_close, answers_lock}
-use Rattle.smb_request.specs.declared.context.RequestIds.{RequestIds}
-use Rattle.smb_request.specs.declared.status.Status.TheVariants.{FileClosed, NotSupported, Store}
+use Rattle.smb_request.specs.declared.call.Call.{Call}
+use Rattle.smb_request.specs.declared.status.Status.TheVariants.{InvalidParameter, FileClosed, NotSupported, Store}
 use Rattle.smb_request.specs.Response.{success, refused}
 use Rattle.smb_request.specs.Session.{status_of_refusal, session_logged_off, tree_joined, tree_left}
 use Rattle.smb_request.specs.State.{ServerState, with_store}
@@ -71,6 +70,8 @@ use Rattle.smb_request.specs.Laws.{NumbersInOrder, IsInOrder, IsAsItWas, IsOver,
 use Rattle.smb_entry.specs.Bytes.{written_tree}
 use Rattle.smb_access.specs.declared.open_row.Owner.{Owner}
 use Rattle.smb_request.specs.SetInfo.{set_through}
+use Rattle.smb_request.proofs.Handed.{mapped_there}
+use Rattle.smb_request.proofs.Performed.{call_read}
 use Rattle.smb_request.proofs.InfoApart.{set_opens, set_next, queried_left, info_set_left}
 use Rattle.smb_access.specs.declared.scan.Scan.{Scan}
 use Rattle.smb_opens.specs.Scans.{scan_set}
@@ -128,9 +129,26 @@ written_next store k offset buffer moment =
       | Some row ↦ written_by store offset moment buffer row (length buffer == 0)
     ]
 
-module _ {S : Type 0} (may : ℕ → SessionState → Type 0) (acts : ℕ → Bool) (c : ℕ) (a : acts c ≡ true) (server : ServerState S) (o : NumbersInOrder server.sessions.table server.store) where
+module _ {S : Type 0} (may : ℕ → SessionState → Type 0) (acts : ℕ → Bool) (call : Call) (a : acts call.connection ≡ true) (server : ServerState S) (o : NumbersInOrder server.sessions.table server.store) where
+  abbrev c : ℕ
+  c = call.connection
+
+  abbrev s : ℕ
+  s = call.ids.session_id
+
+  abbrev k : ℕ
+  k = call.open_number
+
   abbrev Left : ServerState S → Type 0
   Left = LeavesSharedBut may acts server
+
+  -- a session of this connection
+  abbrev IsKnown : Type 0
+  IsKnown = knows_session server.sessions.table c s ≡ true
+
+  -- the named open is of this session and tree connect
+  abbrev IsHeld : Option OpenRow → Type 0
+  IsHeld row = option_map_or (is_held_by (Tree s call.ids.tree_id)) row false ≡ true
 
   same : Left server
   same = leaves_same acts server.sessions.table server.store o
@@ -140,51 +158,48 @@ module _ {S : Type 0} (may : ℕ → SessionState → Type 0) (acts : ℕ → Bo
   opens_kept store e f = leaves_opens acts server.sessions.table server.store o store e f
 
   -- opens of one owner are closed, and then its session is another
-  closed_then : (s : ℕ) (owner : Owner) (table : TableState) → IsApart acts server.sessions.table s →
+  closed_then : (owner : Owner) (table : TableState) → IsApart acts server.sessions.table s →
       ((n : ℕ) → (n == s) ≡ false → filter (is_held_by (Session n)) (others owner server.store.opens) ≡ opens_of server.store n) →
       (NumbersInOrder server.sessions.table (closed_all server.store owner) → LeavesBut may acts server.sessions.table (closed_all server.store owner) table (closed_all server.store owner)) →
       LeavesBut may acts server.sessions.table server.store table (closed_all server.store owner)
-  closed_then s owner table apart held step =
+  closed_then owner table apart held step =
       let left = others_left server.store owner o.opens in
       let one = leaves_some acts server.sessions.table server.store o s apart (closed_all server.store owner) _ left.opens left.next held in
       leaves_then acts server.sessions.table server.sessions.table table server.store (closed_all server.store owner) (closed_all server.store owner) o one (step one.order)
 
   -- a refusal changes nothing
-  by_status : (under : RequestIds) (step : CommandStep S) (status : Option Status) → (status ≡ None → Left step.server) → Left (option_map_or (λ status. refused server under status) status step).server
-  by_status under step (Some status) h = same
-  by_status under step None h = h refl
+  by_status : (step : CommandStep S) (status : Option Status) → (status ≡ None → Left step.server) → Left (option_map_or (refused server call.ids) status step).server
+  by_status step (Some status) h = same
+  by_status step None h = h refl
 
-  where_done : (under : RequestIds) (step : CommandStep S) (status : Status) (b : Bool) → Left step.server → Left (let x : CommandStep S = if b then step else refused server under status in x).server
-  where_done under step status true h = h
-  where_done under step status false h = same
+  where_done : (step : CommandStep S) (status : Status) (b : Bool) → Left step.server → Left (let x : CommandStep S = if b then step else refused server call.ids status in x).server
+  where_done step status true h = h
+  where_done step status false h = same
 
   -- LOGOFF
-  logged_off_left : (under : RequestIds) → Left (session_logged_off c server under).server
+  logged_off_left : Left (session_logged_off server call).server
   unfolding session_logged_off
-  logged_off_left under = by_status under _ (option_and_then status_of_refusal (logoff_refusal server.sessions.table c under.session_id)) (λ e.
-      let s = under.session_id in
-      let known : knows_session server.sessions.table c s ≡ true = grind (arith, e) in
+  logged_off_left = by_status _ (option_and_then status_of_refusal (logoff_refusal server.sessions.table c s)) (λ e.
+      let known : IsKnown = grind (arith, e) in
       let apart = known_apart acts server.sessions.table c s a known in
-      closed_then s (Session s) (session_ended server.sessions.table s) apart (λ n d. others_held s n server.store.opens d)
+      closed_then (Session s) (session_ended server.sessions.table s) apart (λ n d. others_held s n server.store.opens d)
       (λ after. leaves_ended acts server.sessions.table (closed_all server.store (Session s)) after s apart))
 
   -- TREE_CONNECT
-  joined_left : (under : RequestIds) (path : List ℕ) → Left (tree_joined c server under path).server
+  joined_left : (path : List ℕ) → Left (tree_joined server call path).server
   unfolding tree_joined
-  joined_left under path = by_status under _ (option_and_then status_of_refusal (tree_connect_refusal server.sessions c under.session_id path)) (λ e.
-      let s = under.session_id in
-      let known : knows_session server.sessions.table c s ≡ true = grind (arith, e) in
+  joined_left path = by_status _ (option_and_then status_of_refusal (tree_connect_refusal server.sessions c s path)) (λ e.
+      let known : IsKnown = grind (arith, e) in
       leaves_changed acts server.sessions.table server.store o s (known_apart acts server.sessions.table c s a known) with_tree)
 
   -- TREE_DISCONNECT
-  disconnected_left : (under : RequestIds) → Left (tree_left c server under).server
+  disconnected_left : Left (tree_left server call).server
   unfolding tree_left
-  disconnected_left under = by_status under _ (option_and_then status_of_refusal (tree_disconnect_refusal server.sessions.table c under.session_id under.tree_id)) (λ e.
-      let s = under.session_id in
-      let known : knows_session server.sessions.table c s ≡ true = grind (arith, e) in
+  disconnected_left = by_status _ (option_and_then status_of_refusal (tree_disconnect_refusal server.sessions.table c s call.ids.tree_id)) (λ e.
+      let known : IsKnown = grind (arith, e) in
       let apart = known_apart acts server.sessions.table c s a known in
-      closed_then s (Tree s under.tree_id) (tree_disconnected server.sessions.table s under.tree_id) apart (λ n d. others_of_tree s under.tree_id n server.store.opens d)
-      (λ after. leaves_changed acts server.sessions.table (closed_all server.store (Tree s under.tree_id)) after s apart (without_tree under.tree_id)))
+      closed_then (Tree s call.ids.tree_id) (tree_disconnected server.sessions.table s call.ids.tree_id) apart (λ n d. others_of_tree s call.ids.tree_id n server.store.opens d)
+      (λ after. leaves_changed acts server.sessions.table (closed_all server.store (Tree s call.ids.tree_id)) after s apart (without_tree call.ids.tree_id)))
 
   -- CREATE
   opened_left : (ask : FileAsked) (moment : ℕ) → knows_session server.sessions.table c ask.session ≡ true → Left (with_store server (created server.store ask moment))
@@ -193,158 +208,151 @@ module _ {S : Type 0} (may : ℕ → SessionState → Type 0) (acts : ℕ → Bo
       (opened_by ask server.store.next (entry_after server.store.tree ask moment (entry_asked server.store ask)).number (access_granted server.store ask))
       (known_there server.sessions.table c ask.session known) refl refl refl refl
 
-  created_left : (moment : ℕ) (under : RequestIds) (asked : CreateAsked) → knows_session server.sessions.table c under.session_id ≡ true → Left (file_created moment server under asked).server
+  created_left : (asked : CreateAsked) → IsKnown → Left (file_created server call asked).server
   unfolding file_created
-  created_left moment under asked known =
-      let ask = file_asked under asked in
-      where_done under _ _ (create_status server.store ask == STATUS_SUCCESS) (opened_left ask moment known)
+  created_left asked known =
+      let ask = file_asked call.ids asked in
+      where_done _ _ (create_status server.store ask == STATUS_SUCCESS) (opened_left ask call.moment known)
 
   -- CLOSE
-  closed_open_left : (under : RequestIds) (k : ℕ) (row : Option OpenRow) → open_of server.store.opens k ≡ row → option_map_or (is_held_by (Tree under.session_id under.tree_id)) row false ≡ true →
-      knows_session server.sessions.table c under.session_id ≡ true → Left (with_store server (closed server.store k))
-  closed_open_left under k None e h known = cc
-  closed_open_left under k (Some row) e h known =
-      let s = under.session_id in
+  closed_open_left : (row : Option OpenRow) → open_of server.store.opens k ≡ row → IsHeld row → IsKnown → Left (with_store server (closed server.store k))
+  closed_open_left None e h known = cc
+  closed_open_left (Some row) e h known =
       leaves_some acts server.sessions.table server.store o s (known_apart acts server.sessions.table c s a known) (closed server.store k) _
-      (opens_closed server.store k (ap (λ (o : Option OpenRow). is_some o) e)) (next_closed server.store k) (λ n d. closed_held server.store s under.tree_id n k row e h o.opens d)
+      (opens_closed server.store k (ap (λ (o : Option OpenRow). is_some o) e)) (next_closed server.store k) (λ n d. closed_held server.store s call.ids.tree_id n k row e h o.opens d)
 
-  closed_at : (under : RequestIds) (k : ℕ) (flags : CloseFlags) (view : Option View) → Left (with_store server (closed server.store k)) →
-      Left (option_map_or (λ view. let x : CommandStep S = record { server = with_store server (closed server.store k); response = success under (answers_close (close_response flags view)) } in x) view (refused server under FileClosed)).server
-  closed_at under k flags None h = same
-  closed_at under k flags (Some view) h = h
+  closed_at : (flags : CloseFlags) (view : Option View) → Left (with_store server (closed server.store k)) →
+      Left (option_map_or (λ view. let x : CommandStep S = record { server = with_store server (closed server.store k); response = success call.ids (answers_close (close_response flags view)) } in x) view (refused server call.ids FileClosed)).server
+  closed_at flags None h = same
+  closed_at flags (Some view) h = h
 
-  closed_left : (under : RequestIds) (k : ℕ) (flags : CloseFlags) → Left (with_store server (closed server.store k)) → Left (file_closed server under k flags).server
+  closed_left : (flags : CloseFlags) → Left (with_store server (closed server.store k)) → Left (file_closed server call flags).server
   unfolding file_closed
-  closed_left under k flags h = closed_at under k flags (open_view server.store k) h
+  closed_left flags h = closed_at flags (open_view server.store k) h
 
   -- QUERY_DIRECTORY
-  scanned_left : (under : RequestIds) (k : ℕ) (row : Option OpenRow) → open_of server.store.opens k ≡ row → option_map_or (is_held_by (Tree under.session_id under.tree_id)) row false ≡ true →
-      knows_session server.sessions.table c under.session_id ≡ true → (scan : Scan) → Left (with_store server (scan_set server.store k scan))
-  scanned_left under k None e h known scan = cc
-  scanned_left under k (Some row) e h known scan =
-      let s = under.session_id in
+  scanned_left : (row : Option OpenRow) → open_of server.store.opens k ≡ row → IsHeld row → IsKnown → (scan : Scan) → Left (with_store server (scan_set server.store k scan))
+  scanned_left None e h known scan = cc
+  scanned_left (Some row) e h known scan =
       let table = server.sessions.table in
       let numbers = numbers_scanned k scan server.store.opens in
       leaves_own acts table table server.store (scan_set server.store k scan) s (known_apart acts table c s a known)
       (record { sessions = o.sessions; sessions_given = o.sessions_given; opens = rw numbers o.opens; opens_given = rw numbers o.opens_given })
-      (omega arith) (λ n d. (refl, held_scanned n k scan row server.store.opens o.opens e (held_by_tree s under.tree_id n row h d))) (λ l none. (none.0, none_scanned s k scan server.store.opens none.1))
+      (omega arith) (λ n d. (refl, held_scanned n k scan row server.store.opens o.opens e (held_by_tree s call.ids.tree_id n row h d))) (λ l none. (none.0, none_scanned s k scan server.store.opens none.1))
 
   -- LOCK
-  locks_kept : (k : ℕ) (table : ℕ → Table) → Left (with_store server (with_locks_of table server.store (open_view server.store k)))
-  locks_kept k table = opens_kept (with_locks_of table server.store (open_view server.store k)) (locks_opens table server.store (open_view server.store k)) (locks_next table server.store (open_view server.store k))
+  locks_kept : (table : ℕ → Table) → Left (with_store server (with_locks_of table server.store (open_view server.store k)))
+  locks_kept table = opens_kept (with_locks_of table server.store (open_view server.store k)) (locks_opens table server.store (open_view server.store k)) (locks_next table server.store (open_view server.store k))
 
-  locked_left : (under : RequestIds) (k : ℕ) (asks : List LockAsk) → Left (file_locked server under k asks).server
+  locked_left : (asks : List LockAsk) → Left (file_locked server call asks).server
   unfolding file_locked
-  locked_left under k asks = where_done under _ _ (lock_status server.store k asks == STATUS_SUCCESS) (locks_kept k (λ entry. locked server.store.locks entry k asks))
+  locked_left asks = where_done _ _ (lock_status server.store k asks == STATUS_SUCCESS) (locks_kept (λ entry. locked server.store.locks entry k asks))
 
-  unlocked_at : (after : ServerState S) (under : RequestIds) (status : ℕ) (b : Bool) → Left after → Left (let x : CommandStep S = if b then record { server = after; response = success under answers_lock } else refused after under (Store status) in x).server
-  unlocked_at after under status true h = h
-  unlocked_at after under status false h = h
+  unlocked_at : (after : ServerState S) (status : ℕ) (b : Bool) → Left after → Left (let x : CommandStep S = if b then record { server = after; response = success call.ids answers_lock } else refused after call.ids (Store status) in x).server
+  unlocked_at after status true h = h
+  unlocked_at after status false h = h
 
-  unlocked_left : (under : RequestIds) (k : ℕ) (asks : List LockAsk) → Left (file_unlocked server under k asks).server
+  unlocked_left : (asks : List LockAsk) → Left (file_unlocked server call asks).server
   unfolding file_unlocked
-  unlocked_left under k asks =
-      unlocked_at (with_store server (unlocked_through server.store k asks)) under (unlock_status server.store k asks) (unlock_status server.store k asks == STATUS_SUCCESS) (locks_kept k (λ entry. unlocked server.store.locks entry k asks))
+  unlocked_left asks =
+      unlocked_at (with_store server (unlocked_through server.store k asks)) (unlock_status server.store k asks) (unlock_status server.store k asks == STATUS_SUCCESS) (locks_kept (λ entry. unlocked server.store.locks entry k asks))
 
-  locks_left : (under : RequestIds) (k : ℕ) (asks : List LockAsk) (b : Bool) → Left (let x : CommandStep S = if b then file_unlocked server under k asks else file_locked server under k asks in x).server
-  locks_left under k asks true = unlocked_left under k asks
-  locks_left under k asks false = locked_left under k asks
+  locks_left : (asks : List LockAsk) (b : Bool) → Left (let x : CommandStep S = if b then file_unlocked server call asks else file_locked server call asks in x).server
+  locks_left asks true = unlocked_left asks
+  locks_left asks false = locked_left asks
 
   -- READ and WRITE
-  read_left : (under : RequestIds) (k : ℕ) (asked : ReadRequest) → Left (file_read server under k asked).server
+  read_left : (asked : ReadRequest) → Left (file_read server call asked).server
   unfolding file_read
-  read_left under k asked = where_done under _ _ (read_status server.store k asked.offset asked.length asked.minimum_count == STATUS_SUCCESS) same
+  read_left asked = where_done _ _ (read_status server.store k asked.offset asked.length asked.minimum_count == STATUS_SUCCESS) same
 
-  written_left : (moment : ℕ) (under : RequestIds) (k : ℕ) (asked : WriteAsked) → Left (file_written moment server under k asked).server
+  written_left : (asked : WriteAsked) → Left (file_written server call asked).server
   unfolding file_written
-  written_left moment under k asked =
-      where_done under _ _ (write_status server.store k asked.offset asked.buffer == STATUS_SUCCESS)
-      (opens_kept (written_to server.store k asked.offset asked.buffer moment) (opens_left server.store k asked.offset asked.buffer moment) (written_next server.store k asked.offset asked.buffer moment))
+  written_left asked =
+      where_done _ _ (write_status server.store k asked.offset asked.buffer == STATUS_SUCCESS)
+      (opens_kept (written_to server.store k asked.offset asked.buffer call.moment) (opens_left server.store k asked.offset asked.buffer call.moment) (written_next server.store k asked.offset asked.buffer call.moment))
 
   -- NEGOTIATE
-  negotiated_at : (m : Meaning S) (moment : ℕ) (dialect : Option Dialect) (under : RequestIds) (best : Option Dialect) →
-      Left (option_map_or (λ best. answered (Some best) (record { server = server; response = success under (negotiate_answer server.settings.guid (hello_of m server) moment (revision_of best)) })) best (answered dialect (refused server under NotSupported))).server
-  negotiated_at m moment dialect under None = same
-  negotiated_at m moment dialect under (Some best) = same
+  negotiated_at : (m : Meaning S) (best : Option Dialect) →
+      Left (option_map_or (λ best. let x : CommandStep S = record { server = server; response = success call.ids (negotiate_answer server.settings.guid (hello_of m server) call.moment (revision_of best)) } in x) best (refused server call.ids NotSupported)).server
+  negotiated_at m None = same
+  negotiated_at m (Some best) = same
 
-  negotiated_left : (m : Meaning S) (moment : ℕ) (dialect : Option Dialect) (under : RequestIds) (dialects : List ℕ) → Left (negotiated m moment server dialect under dialects).server
+  negotiated_left : (m : Meaning S) (dialects : List ℕ) → Left (negotiated m server call dialects).server
   unfolding negotiated
-  negotiated_left m moment dialect under dialects = negotiated_at m moment dialect under (best_of dialects)
+  negotiated_left m dialects = negotiated_at m (best_of dialects)
 
-  -- each command: a request that needs a session acts under one of this connection
-  acts_known : (under : RequestIds) (asked : RequestValue) (named : Option ContextOpen) → needs_session (needs_of asked) ≡ true → check_session_tree_and_open server c under asked named ≡ None → knows_session server.sessions.table c under.session_id ≡ true
-  acts_known under asked named t e = grind (arith, e, t)
+  -- each command: a request that needs a session acts under one of this connection, and the open that it names exists
+  acts_known : (asked : RequestValue) → needs_session (needs_of asked) ≡ true → check_session_tree_and_open server call asked ≡ None → IsKnown
+  acts_known asked t e = grind (arith, e, t)
 
-  open_held : (under : RequestIds) (named : ContextOpen) → open_refusal server.store.opens under named ≡ None → option_map_or (is_held_by (Tree under.session_id under.tree_id)) (open_of server.store.opens (number_named (Some named))) false ≡ true
-  open_held under Nothing e = cc
-  open_held under (Refused status) e = cc
-  open_held under (Named id) e =
-      let names : names_open server.store.opens under id ≡ true = grind (arith, e) in
+  open_held : (named : ContextOpen) → open_refusal server.store.opens call.ids named ≡ None → IsHeld (open_of server.store.opens (number_named (Some named)))
+  open_held Nothing e = cc
+  open_held (Refused status) e = cc
+  open_held (Named id) e =
+      let names : names_open server.store.opens call.ids id ≡ true = grind (arith, e) in
       grind (arith, names)
 
-  named_held : (under : RequestIds) (asked : RequestValue) (named : ContextOpen) → check_session_tree_and_open server c under asked (Some named) ≡ None →
-      option_map_or (is_held_by (Tree under.session_id under.tree_id)) (open_of server.store.opens (number_named (Some named))) false ≡ true
-  named_held under asked named e = open_held under named (grind (arith, e))
+  named_held : (named : Option ContextOpen) → named ≡ named_open call → is_some named ≡ true → option_and_then (open_refusal server.store.opens call.ids) named ≡ None → IsHeld (open_of server.store.opens (number_named named))
+  named_held None is there e = cc
+  named_held (Some named) is there e = open_held named e
+
+  -- the open of a request that has a FileId
+  id_held : (asked : RequestValue) → IsCallOf call (Some asked) → is_some (file_id_of asked) ≡ true → check_session_tree_and_open server call asked ≡ None → IsHeld (open_of server.store.opens k)
+  id_held asked read there e =
+      let some : is_some (named_open call) ≡ true = mapped_there (open_named call.inherited) call.file_id (ap is_some read.file_id ∙ there) in
+      let unrefused : option_and_then (open_refusal server.store.opens call.ids) (named_open call) ≡ None = grind (arith, e) in
+      subst (λ n. IsHeld (open_of server.store.opens n)) (sym read.open_number) (named_held (named_open call) refl some unrefused)
 
   -- why the session that a SESSION_SETUP names as the previous one may be over
-  abbrev Causes : Meaning S → RequestIds → RequestValue → Type 0
-  Causes m under asked =
-      (setup : SessionSetupAsked) → asked ≡ asks_session_setup setup → MayReplace may setup.previous_session_id (m.answer server.sessions.authenticator (setup_number server.sessions.table under.session_id) setup.security_buffer)
+  abbrev Causes : Meaning S → RequestValue → Type 0
+  Causes m asked =
+      (setup : SessionSetupAsked) → asked ≡ asks_session_setup setup → MayReplace may setup.previous_session_id (m.answer server.sessions.authenticator (setup_number server.sessions.table s) setup.security_buffer)
 
-  acted_left : (m : Meaning S) (moment : ℕ) (dialect : Option Dialect) (under : RequestIds) (inherited : Option ContextOpen) (asked : RequestValue) → Causes m under asked → check_session_tree_and_open server c under asked (option_map (open_named inherited) (file_id_of asked)) ≡ None →
-      Left (acted m c moment server dialect under (number_named (option_map (open_named inherited) (file_id_of asked))) asked).server
-  acted_left m moment dialect under inherited (asks_negotiate x) cause e = negotiated_left m moment dialect under x.dialects
-  acted_left m moment dialect under inherited (asks_session_setup x) cause e = set_up_left may m acts c a server o under x (cause x refl)
-  acted_left m moment dialect under inherited (asks_logoff x) cause e = logged_off_left under
-  acted_left m moment dialect under inherited (asks_tree_connect x) cause e = joined_left under x.path
-  acted_left m moment dialect under inherited (asks_tree_disconnect x) cause e = disconnected_left under
-  acted_left m moment dialect under inherited (asks_create x) cause e = created_left moment under x (acts_known under (asks_create x) None refl e)
-  acted_left m moment dialect under inherited (asks_close x) cause e =
-      let named = open_named inherited x.file_id in
-      let k = number_named (Some named) in
-      closed_left under k x.flags (closed_open_left under k (open_of server.store.opens k) refl (named_held under (asks_close x) named e) (acts_known under (asks_close x) (Some named) refl e))
-  acted_left m moment dialect under inherited (asks_flush x) cause e = same
-  acted_left m moment dialect under inherited (asks_read x) cause e = read_left under (number_named (Some (open_named inherited x.file_id))) x
-  acted_left m moment dialect under inherited (asks_write x) cause e = written_left moment under (number_named (Some (open_named inherited x.file_id))) x
-  acted_left m moment dialect under inherited (asks_lock x) cause e = locks_left under (number_named (Some (open_named inherited x.file_id))) (lock_asks x.locks) (asks_unlock (lock_asks x.locks))
-  acted_left m moment dialect under inherited (asks_cancel x) cause e = same
-  acted_left m moment dialect under inherited (asks_echo x) cause e = same
-  acted_left m moment dialect under inherited (asks_query_directory x) cause e =
-      let named = open_named inherited x.file_id in
-      let k = number_named (Some named) in
-      listed_left Left server same under k
-      (λ scan. scanned_left under k (open_of server.store.opens k) refl (named_held under (asks_query_directory x) named e) (acts_known under (asks_query_directory x) (Some named) refl e) scan) x
-  acted_left m moment dialect under inherited (asks_query_info x) cause e = queried_left Left server same under (number_named (Some (open_named inherited x.file_id))) x
-  acted_left m moment dialect under inherited (asks_set_info x) cause e =
-      let k = number_named (Some (open_named inherited x.file_id)) in
-      info_set_left Left server same under k moment (λ ask. opens_kept (set_through server.store k moment ask) (set_opens server.store k moment ask) (set_next server.store k moment ask)) x
+  acted_left : (m : Meaning S) (asked : RequestValue) → IsCallOf call (Some asked) → Causes m asked → check_session_tree_and_open server call asked ≡ None → Left (acted m server call asked).server
+  acted_left m (asks_negotiate x) read cause e = negotiated_left m x.dialects
+  acted_left m (asks_session_setup x) read cause e = set_up_left may m acts call a server o x (cause x refl)
+  acted_left m (asks_logoff x) read cause e = logged_off_left
+  acted_left m (asks_tree_connect x) read cause e = joined_left x.path
+  acted_left m (asks_tree_disconnect x) read cause e = disconnected_left
+  acted_left m (asks_create x) read cause e = created_left x (acts_known (asks_create x) refl e)
+  acted_left m (asks_close x) read cause e =
+      closed_left x.flags (closed_open_left (open_of server.store.opens k) refl (id_held (asks_close x) read refl e) (acts_known (asks_close x) refl e))
+  acted_left m (asks_flush x) read cause e = same
+  acted_left m (asks_read x) read cause e = read_left x
+  acted_left m (asks_write x) read cause e = written_left x
+  acted_left m (asks_lock x) read cause e = locks_left (lock_asks x.locks) (asks_unlock (lock_asks x.locks))
+  acted_left m (asks_cancel x) read cause e = same
+  acted_left m (asks_echo x) read cause e = same
+  acted_left m (asks_query_directory x) read cause e =
+      listed_left Left server same call
+      (λ scan. scanned_left (open_of server.store.opens k) refl (id_held (asks_query_directory x) read refl e) (acts_known (asks_query_directory x) refl e) scan) x
+  acted_left m (asks_query_info x) read cause e = queried_left Left server same call x
+  acted_left m (asks_set_info x) read cause e =
+      info_set_left Left server same call (λ ask. opens_kept (set_through server.store k call.moment ask) (set_opens server.store k call.moment ask) (set_next server.store k call.moment ask)) x
 
-  body_at : (m : Meaning S) (moment : ℕ) (dialect : Option Dialect) (under : RequestIds) (inherited : Option ContextOpen) (asked : RequestValue) (missing : Option Status) → Causes m under asked →
-      check_session_tree_and_open server c under asked (option_map (open_named inherited) (file_id_of asked)) ≡ missing →
-      Left (option_map_or (λ status. answered dialect (refused server under status)) missing (acted m c moment server dialect under (number_named (option_map (open_named inherited) (file_id_of asked))) asked)).server
-  body_at m moment dialect under inherited asked (Some status) cause e = same
-  body_at m moment dialect under inherited asked None cause e = acted_left m moment dialect under inherited asked cause e
+  checked_left : (m : Meaning S) (asked : RequestValue) (refusal : Option Status) → IsCallOf call (Some asked) → Causes m asked → check_session_tree_and_open server call asked ≡ refusal →
+      Left (option_map_or (refused server call.ids) refusal (acted m server call asked)).server
+  checked_left m asked (Some status) read cause e = same
+  checked_left m asked None read cause e = acted_left m asked read cause e
 
-  body_left : (m : Meaning S) (moment : ℕ) (dialect : Option Dialect) (under : RequestIds) (inherited : Option ContextOpen) (asked : Option RequestValue) → ((value : RequestValue) → asked ≡ Some value → Causes m under value) → Left (by_body m c moment server dialect under inherited asked).server
-  unfolding by_body
-  body_left m moment dialect under inherited None cause = same
-  body_left m moment dialect under inherited (Some asked) cause = body_at m moment dialect under inherited asked (check_session_tree_and_open server c under asked (option_map (open_named inherited) (file_id_of asked))) (cause asked refl) refl
+  body_left : (m : Meaning S) (unsupported : Bool) (body : Option RequestValue) → IsCallOf call body → ((value : RequestValue) → body ≡ Some value → Causes m value) →
+      Left (let x : CommandStep S = if unsupported then refused server call.ids NotSupported else
+      option_map_or (λ asked. option_map_or (refused server call.ids) (check_session_tree_and_open server call asked) (acted m server call asked)) body (refused server call.ids InvalidParameter) in x).server
+  body_left m true body read cause = same
+  body_left m false None read cause = same
+  body_left m false (Some asked) read cause = checked_left m asked (check_session_tree_and_open server call asked) read (cause asked refl) refl
 
-  handled_left : (m : Meaning S) (moment : ℕ) (dialect : Option Dialect) (under : RequestIds) (inherited : Option ContextOpen) (handling : Handling) (asked : Option RequestValue) → ((value : RequestValue) → asked ≡ Some value → Causes m under value) → Left (by_handling m c moment server dialect under inherited handling asked).server
-  handled_left m moment dialect under inherited Handled asked cause = body_left m moment dialect under inherited asked cause
-  handled_left m moment dialect under inherited Unsupported asked cause = same
-  handled_left m moment dialect under inherited Passed asked cause = same
+  performed_left : (m : Meaning S) (body : Option RequestValue) → IsCallOf call body → ((value : RequestValue) → body ≡ Some value → Causes m value) → Left (performed_by m server call body).server
+  performed_left m body read cause = body_left m (option_map_or is_unsupported call.command false) body read cause
 
-  command_left : (m : Meaning S) (moment : ℕ) (dialect : Option Dialect) (under : RequestIds) (inherited : Option ContextOpen) (command : Option Command) (asked : Option RequestValue) → ((value : RequestValue) → asked ≡ Some value → Causes m under value) → Left (by_command m c moment server dialect under inherited command asked).server
-  command_left m moment dialect under inherited None asked cause = same
-  command_left m moment dialect under inherited (Some command) asked cause = handled_left m moment dialect under inherited (command_row command).handling asked cause
-
+module _ {S : Type 0} (may : ℕ → SessionState → Type 0) (acts : ℕ → Bool) (c : ℕ) (a : acts c ≡ true) (server : ServerState S) (o : NumbersInOrder server.sessions.table server.store) where
   request_left_but : (m : Meaning S) (moment : ℕ) (dialect : Option Dialect) (context : Context) (request : List ℕ) →
-      ((n : ℕ) (session : SessionState) → ReplacesSession m server context request n session → may n session) → Left (performed m c moment server dialect context request).server
+      ((n : ℕ) (session : SessionState) → ReplacesSession m server context request n session → may n session) → LeavesSharedBut may acts server (performed m c moment server dialect context request).server
   unfolding performed
   request_left_but m moment dialect context request replaces =
-      let command = known_command (header_of request).command.0 in
-      command_left m moment dialect (acts_under context request) (inherited_open context request) command (body_of command request)
+      let call = call_of c moment context request in
+      let left = performed_left may acts call a server o m (body_of call.command request) (call_read c moment context request)
       (λ value says setup is user flags token session accepted same_user. replaces setup.previous_session_id session (record {
         asked = setup;
         user = user;
@@ -354,7 +362,21 @@ module _ {S : Type 0} (may : ℕ → SessionState → Type 0) (acts : ℕ → Bo
         accepted = accepted;
         same_user = same_user;
         previous = refl;
-      }))
+      })) in
+      elim (is_cancel_command call.command) as (λ b. LeavesSharedBut may acts server (let x : Performed S = if b then record {
+        server = server;
+        dialect = dialect;
+        context = record { ids = call.ids; last_open = named_on call.inherited call.file_id };
+        response = None;
+      } else record {
+        server = (performed_by m server call (body_of call.command request)).server;
+        dialect = option_map_or (dialect_after dialect) (body_of call.command request) dialect;
+        context = record {
+          ids = (performed_by m server call (body_of call.command request)).response.ids;
+          last_open = open_for_next_related call.inherited server.store.next call.command call.file_id (performed_by m server call (body_of call.command request)).response.status;
+        };
+        response = Some (performed_by m server call (body_of call.command request)).response;
+      } in x).server) [ true ↦ leaves_same acts server.sessions.table server.store o | false ↦ left ]
 
 -- the session that it replaces may be over
 pub request_left : {S : Type 0} (acts : ℕ → Bool) (c : ℕ) → acts c ≡ true → (server : ServerState S) → NumbersInOrder server.sessions.table server.store → (m : Meaning S) (moment : ℕ) (dialect : Option Dialect) (context : Context) (request : List ℕ) →

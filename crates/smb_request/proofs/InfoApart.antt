@@ -14,12 +14,12 @@ use Rattle.smb_access.specs.Opens.{open_of}
 use Rattle.smb_entry.specs.Rename.{renamed_tree}
 use Rattle.smb_entry.specs.SetInfo.{changed_in, delete_set, size_set, entry_set}
 use Rattle.smb_opens.specs.State.{StoreState}
-use Rattle.smb_request.specs.declared.context.RequestIds.{RequestIds}
-use Rattle.smb_request.specs.declared.status.Status.TheVariants.{InvalidParameter, InvalidInfoClass, InfoLengthMismatch, NotSupported, Store}
-use Rattle.smb_request.specs.InfoTypes.{FILE, FILESYSTEM, SECURITY, QUOTA}
+use Rattle.smb_request.specs.declared.call.Call.{Call}
+use Rattle.smb_request.specs.declared.status.Status.{Status}
+use Rattle.smb_request.specs.declared.status.Status.TheVariants.{InvalidParameter, InvalidInfoClass, InfoLengthMismatch, Store}
 use Rattle.smb_request.specs.QueryInfo.{information_queried}
 use Rattle.smb_request.specs.Response.{CommandStep, success, refused}
-use Rattle.smb_request.specs.SetInfo.{set_status, set_through, set_as_asked, class_set, information_set}
+use Rattle.smb_request.specs.SetInfo.{set_type_refusal, set_status, set_through, set_as_asked, class_set, information_set}
 use Rattle.smb_request.specs.State.{ServerState, with_store}
 
 -- what a store has beside its tree is as it was
@@ -41,33 +41,30 @@ set_opens = set_beside (λ state. state.opens) (λ state tree. refl)
 pub set_next : (store : StoreState) (k moment : ℕ) (ask : SetAsked) → (set_through store k moment ask).next ≡ store.next
 set_next = set_beside (λ state. state.next) (λ state tree. refl)
 
-module _ {S : Type 0} (Left : ServerState S → Type 0) (server : ServerState S) (same : Left server) (under : RequestIds) (k : ℕ) where
-  pub queried_left : (asked : QueryInfoRequest) → Left (information_queried server under k asked).server
+module _ {S : Type 0} (Left : ServerState S → Type 0) (server : ServerState S) (same : Left server) (call : Call) where
+  pub queried_left : (asked : QueryInfoRequest) → Left (information_queried server call asked).server
   unfolding information_queried
   queried_left asked = same
 
-  module _ (moment : ℕ) (set : (ask : SetAsked) → Left (with_store server (set_through server.store k moment ask))) where
+  module _ (set : (ask : SetAsked) → Left (with_store server (set_through server.store call.open_number call.moment ask))) where
     by_status : (ask : SetAsked) (status : ℕ) (b : Bool) →
-        Left (let x : CommandStep S = if b then record { server = with_store server (set_through server.store k moment ask); response = success under answers_set_info } else refused server under (Store status) in x).server
+        Left (let x : CommandStep S = if b then record { server = with_store server (set_through server.store call.open_number call.moment ask); response = success call.ids answers_set_info } else refused server call.ids (Store status) in x).server
     by_status ask status true = set ask
     by_status ask status false = same
 
     by_class : (buffer : List ℕ) (class : SetInformationClass) (b c : Bool) →
-        Left (let x : CommandStep S = if b then refused server under InfoLengthMismatch else if c then refused server under InvalidParameter else set_as_asked moment server under k (asked_of buffer class) in x).server
+        Left (let x : CommandStep S = if b then refused server call.ids InfoLengthMismatch else if c then refused server call.ids InvalidParameter else set_as_asked server call (asked_of buffer class) in x).server
     by_class buffer class true c = same
     by_class buffer class false true = same
     by_class buffer class false false =
-        by_status (asked_of buffer class) (set_status server.store k (asked_of buffer class)) (set_status server.store k (asked_of buffer class) == STATUS_SUCCESS)
+        by_status (asked_of buffer class) (set_status server.store call.open_number (asked_of buffer class)) (set_status server.store call.open_number (asked_of buffer class) == STATUS_SUCCESS)
 
-    by_type : (buffer : List ℕ) (class : Option SetInformationClass) (a b : Bool) →
-        Left (let x : CommandStep S = if a then refused server under NotSupported else if b then refused server under InvalidParameter else
-        option_map_or (class_set moment server under k buffer) class (refused server under InvalidInfoClass) in x).server
-    by_type buffer class true b = same
-    by_type buffer class false true = same
-    by_type buffer None false false = same
-    by_type buffer (Some class) false false = by_class buffer class (nat_lt (length buffer) (set_length class)) (not (is_readable buffer class))
+    by_type : (buffer : List ℕ) (class : Option SetInformationClass) (refusal : Option Status) →
+        Left (option_map_or (refused server call.ids) refusal (option_map_or (class_set server call buffer) class (refused server call.ids InvalidInfoClass))).server
+    by_type buffer class (Some status) = same
+    by_type buffer None None = same
+    by_type buffer (Some class) None = by_class buffer class (nat_lt (length buffer) (set_length class)) (not (is_readable buffer class))
 
-    pub info_set_left : (asked : SetInfoAsked) → Left (information_set moment server under k asked).server
+    pub info_set_left : (asked : SetInfoAsked) → Left (information_set server call asked).server
     unfolding information_set
-    info_set_left asked = by_type asked.buffer (set_class asked.file_info_class.0)
-        (asked.info_type.0 == FILESYSTEM || asked.info_type.0 == SECURITY || asked.info_type.0 == QUOTA) (not (asked.info_type.0 == FILE))
+    info_set_left asked = by_type asked.buffer (set_class asked.file_info_class.0) (set_type_refusal asked.info_type.0)

@@ -12,3 +12,5 @@ pub mod InfoApart
 pub mod Listings
 pub mod Apart
 pub mod Handed
+pub mod Refused
+pub mod Performed

@@ -1,6 +1,7 @@
 -- QUERY_DIRECTORY: what holds of the state that it leaves, where it holds with the scan of an open set.
-use Rattle.std.proofs.Common.{◌≡◌, ◌≢◌, ◌==◌, ◌||◌, not, ◌<◌, ◌≤◌, ◌+◌, ◌^◌, ℕ, zero, suc, Bool, true, false, cond, filter, length, take, replicate, length-append, nat_le, List, [], ◌∷◌, ◌++◌, if◌then◌else◌, nat_lt, Option, None, Some, refl, sym, ap, arith, ◌∙◌}
+use Rattle.std.proofs.Common.{◌≡◌, ◌≢◌, ◌==◌, ◌||◌, not, ◌<◌, ◌≤◌, ◌+◌, ◌^◌, ℕ, zero, suc, Bool, true, false, cond, filter, length, take, replicate, length-append, length-take, nat_le, List, [], ◌∷◌, ◌++◌, if◌then◌else◌, nat_lt, Option, None, Some, IfSome, Result, Ok, Err, IsErrAnd, refl, sym, ap, arith, ◌∙◌}
 use Rattle.std.proofs.lemmas.Bool.Decides.{nat_tests}
+use Rattle.std.proofs.Math.Nat.{min-le_left}
 use Rattle.std.specs.Prelude.{option_and_then}
 use Rattle.std.specs.List.{AllByRecursion}
 use Rattle.std.specs.Option.{option_map_or}
@@ -20,9 +21,8 @@ use Rattle.smb_info.specs.declared.fault.InfoFault.{InfoFault}
 use Rattle.smb_info.specs.declared.fault.InfoFault.TheVariants.{BadClass, BadPattern, TooSmall, NoMatch, NoMore, Unreadable, NoMemory}
 use Rattle.smb_request.specs.declared.status.Status.{Status}
 use Rattle.smb_request.specs.declared.status.Status.TheVariants.{InfoLengthMismatch, InvalidParameter, NotSupported}
-use Rattle.smb_request.specs.declared.context.RequestIds.{RequestIds}
+use Rattle.smb_request.specs.declared.call.Call.{Call}
 use Rattle.smb_request.specs.declared.query_directory.ListingRefusal.{ListingRefusal}
-use Rattle.smb_request.specs.Context.{ids_of}
 use Rattle.smb_request.specs.QueryDirectory.{list_asked_by, directory_refusal, listing_refusal, listing_refused, directory_listed, listed_as_asked, directory_queried}
 use Rattle.smb_request.specs.Response.{CommandStep, failure, refused}
 use Rattle.smb_request.specs.State.{ServerState, with_store}
@@ -31,45 +31,34 @@ use Rattle.smb_access.specs.declared.open_row.OpenRow.{OpenRow}
 use Rattle.smb_access.specs.declared.open_row.Owner.TheVariants.{Session}
 use Rattle.smb_access.specs.Numbers.{AreRising}
 use Rattle.smb_access.specs.Opens.{open_of, open_numbers, has_number, with_scan, is_held_by}
-use Rattle.smb_info.specs.Information.{Information, fixed_length, info_fault}
-use Rattle.smb_request.specs.Information.{fault_status, request_refusal}
-use Rattle.smb_body.specs.declared.query_info.QueryInfoRequest.{QueryInfoRequest}
-use Rattle.smb_request.specs.InfoTypes.{FILE, FILESYSTEM, SECURITY, QUOTA}
+use Rattle.smb_info.specs.Information.{Information, fixed_length, info_fault, told, whole}
+use Rattle.smb_request.specs.Information.{fault_status, IsWhy}
 use Rattle.smb_request.specs.Owners.{AreOwned, is_owned}
-use Rattle.smb_request.specs.QueryInfo.{room_refusal, query_refusal, informed}
+use Rattle.smb_request.specs.QueryInfo.{room_refusal, request_refusal, information_asked, information_queried}
+use Rattle.smb_body.specs.declared.query_info.QueryInfoRequest.{QueryInfoRequest}
+use Rattle.smb_session.specs.Authenticator.{Meaning}
+use Rattle.smb_request.specs.declared.refusal.Refusal.{Refusal}
+use Rattle.smb_request.specs.declared.response.Response.{Response}
+use Rattle.smb_request.specs.Bodies.{result_step}
+use Rattle.smb_request.specs.Refusals.{info_refusal}
 
-module _ {S : Type 0} (Left : ServerState S → Type 0) (server : ServerState S) (same : Left server) (under : RequestIds) (k : ℕ)
-    (set : (scan : Scan) → Left (with_store server (scan_set server.store k scan))) where
-  refused_at : (scan : Option Scan) → Left (option_map_or (λ scan. with_store server (scan_set server.store k scan)) scan server)
+module _ {S : Type 0} (Left : ServerState S → Type 0) (server : ServerState S) (same : Left server) (call : Call)
+    (set : (scan : Scan) → Left (with_store server (scan_set server.store call.open_number scan))) where
+  refused_at : (scan : Option Scan) → Left (option_map_or (λ scan. with_store server (scan_set server.store call.open_number scan)) scan server)
   refused_at None = same
   refused_at (Some scan) = set scan
 
-  unless_at : (ask : ListAsked) (refusal : Option ListingRefusal) → Left (option_map_or (listing_refused server under k) refusal (directory_listed server under k ask)).server
-  unless_at ask None = set (open_scan_after server.store k ask)
+  unless_at : (ask : ListAsked) (refusal : Option ListingRefusal) → Left (option_map_or (listing_refused server call) refusal (directory_listed server call ask)).server
+  unless_at ask None = set (open_scan_after server.store call.open_number ask)
   unless_at ask (Some refusal) = refused_at refusal.scan
 
-  by_refusal : (ask : ListAsked) (status : Option Status) → Left (option_map_or (λ status. refused server under status) status (listed_as_asked server under k ask)).server
-  by_refusal ask None = unless_at ask (option_and_then listing_refusal (open_list_fault server.store k ask))
+  by_refusal : (ask : ListAsked) (status : Option Status) → Left (option_map_or (λ status. refused server call.ids status) status (listed_as_asked server call ask)).server
+  by_refusal ask None = unless_at ask (option_and_then listing_refusal (open_list_fault server.store call.open_number ask))
   by_refusal ask (Some status) = same
 
-  pub listed_left : (asked : QueryDirectoryAsked) → Left (directory_queried server under k asked).server
+  pub listed_left : (asked : QueryDirectoryAsked) → Left (directory_queried server call asked).server
   unfolding directory_queried
-  listed_left asked = by_refusal (list_asked_by asked) (directory_refusal (open_view server.store k) asked)
-
--- the response tells the session and the tree that the request acts under
-ids_unless : {S : Type 0} (server : ServerState S) (under : RequestIds) (k : ℕ) (ask : ListAsked) (refusal : Option ListingRefusal) →
-    (option_map_or (listing_refused server under k) refusal (directory_listed server under k ask)).response.ids ≡ ids_of under
-ids_unless server under k ask None = refl
-ids_unless server under k ask (Some refusal) = refl
-
-ids_by_refusal : {S : Type 0} (server : ServerState S) (under : RequestIds) (k : ℕ) (ask : ListAsked) (status : Option Status) →
-    (option_map_or (λ status. refused server under status) status (listed_as_asked server under k ask)).response.ids ≡ ids_of under
-ids_by_refusal server under k ask None = ids_unless server under k ask (option_and_then listing_refusal (open_list_fault server.store k ask))
-ids_by_refusal server under k ask (Some status) = refl
-
-pub queried_ids : {S : Type 0} (server : ServerState S) (under : RequestIds) (k : ℕ) (asked : QueryDirectoryAsked) → (directory_queried server under k asked).response.ids ≡ ids_of under
-unfolding directory_queried
-queried_ids server under k asked = ids_by_refusal server under k (list_asked_by asked) (directory_refusal (open_view server.store k) asked)
+  listed_left asked = by_refusal (list_asked_by asked) (directory_refusal (open_view server.store call.open_number) asked)
 
 -- each open is owned as before
 owned_by : (table : TableState) (scan : Scan) (row : OpenRow) (b : Bool) → is_owned table (let x : OpenRow = if b then record row { scan = scan } else row in x) ≡ is_owned table row
@@ -135,6 +124,42 @@ why_status information room fault status why e =
     let there : fault ≢ NoMemory = λ q. (let none : fault_status fault ≡ None = ap fault_status q in let no : None ≡ Some status = sym none ∙ e in cc) in
     same_refusal information room ∙ ap (option_and_then fault_status) (why there) ∙ e
 
+-- where a QUERY_INFO is refused by what its class says
+refused_for : {S : Type 0} (server : ServerState S) (call : Call) (asked : QueryInfoRequest) (status : Status) → request_refusal asked ≡ None →
+    room_refusal (information_asked server call.open_number asked) asked.output_buffer_length ≡ Some status → refused server call.ids status ≡ information_queried server call asked
+unfolding information_queried
+refused_for server call asked status h e = rw (h, e) refl
+
+query_refused : {S : Type 0} (m : Meaning S) (server : ServerState S) (call : Call) (asked : QueryInfoRequest) (fault : InfoFault) (refusal : Refusal) → request_refusal asked ≡ None →
+    IsWhy (information_asked server call.open_number asked) asked.output_buffer_length fault → refusal ≡ info_refusal fault →
+    IfSome (result_step m server call (Err refusal)) (λ step. step ≡ information_queried server call asked)
+query_refused m server call asked BadClass refusal h why e = rw e (refused_for server call asked _ h (why_status _ asked.output_buffer_length BadClass _ why refl))
+query_refused m server call asked BadPattern refusal h why e = rw e (refused_for server call asked _ h (why_status _ asked.output_buffer_length BadPattern _ why refl))
+query_refused m server call asked TooSmall refusal h why e = rw e (refused_for server call asked _ h (why_status _ asked.output_buffer_length TooSmall _ why refl))
+query_refused m server call asked (NoMatch scan) refusal h why e = rw e (refused_for server call asked _ h (why_status _ asked.output_buffer_length (NoMatch scan) _ why refl))
+query_refused m server call asked NoMore refusal h why e = rw e (refused_for server call asked _ h (why_status _ asked.output_buffer_length NoMore _ why refl))
+query_refused m server call asked Unreadable refusal h why e = rw e (refused_for server call asked _ h (why_status _ asked.output_buffer_length Unreadable _ why refl))
+query_refused m server call asked NoMemory refusal h why e = rw e tt
+
+pub query_failed : {S : Type 0} (m : Meaning S) (server : ServerState S) (call : Call) (asked : QueryInfoRequest) (fault : InfoFault) (result : Result Response Refusal) → request_refusal asked ≡ None →
+    IsWhy (information_asked server call.open_number asked) asked.output_buffer_length fault → IsErrAnd result (λ refusal. refusal ≡ info_refusal fault) →
+    IfSome (result_step m server call result) (λ step. step ≡ information_queried server call asked)
+query_failed m server call asked fault (Ok response) h why e = absurd e
+query_failed m server call asked fault (Err refusal) h why e = query_refused m server call asked fault refusal h why e
+
+-- what a QUERY_INFO returns is short enough
+pub told_short : (information : Option Information) (asked : QueryInfoRequest) (bytes : List ℕ) → request_refusal asked ≡ None → bytes ≡ told information asked.output_buffer_length → length bytes ≤ 65536
+told_short information asked bytes h e =
+    let small : nat_lt 65536 asked.output_buffer_length ≡ false = grind (arith, h) in
+    let room : asked.output_buffer_length ≤ 65536 = grind (arith, nat_tests, small) in
+    let short = told_within information asked.output_buffer_length in
+    let same = ap length e in
+    omega (arith, room, short, same)
+  where
+    told_within : (information : Option Information) (room : ℕ) → length (told information room) ≤ room
+    told_within None room = omega arith
+    told_within (Some information) room = rw (length-take room (whole information)) (min-le_left room (length (whole information)))
+
 -- what is listed is no longer than there is room for
 fits_room : (class : DirectoryInformationClass) (room : ℕ) (cs : List Candidate) (n : ℕ) → length (laid class (fitting class room cs n)) ≤ room
 unfolding fitting laid
@@ -165,22 +190,6 @@ fits_behind before opened listed after start room o s a l r =
     let one : length opened ≡ length before + 8 = ap length o ∙ length-append before (replicate 8 0) in
     let two : length after ≡ length opened + length listed = ap length a ∙ length-append opened listed in
     (omega (arith, one, two, s, l, r), omega (arith, one, two, s, l, r))
-
--- a query that is refused by its class or by its room
-room_left : (a b c : Bool) (room : Option Status) →
-    option_map_or (λ (status : Status). Some status) (let x : Option Status = if a then Some NotSupported else if b then Some InvalidParameter else None in x) (let y : Option Status = if c then Some InvalidParameter else None in y) ≡ None →
-    (let z : Option Status = if a then Some NotSupported else if b then Some InvalidParameter else if c then Some InvalidParameter else room in z) ≡ room
-room_left true b c room h = cc
-room_left false true c room h = cc
-room_left false false true room h = cc
-room_left false false false room h = refl
-
-pub queried_refused : {S : Type 0} (server : ServerState S) (under : RequestIds) (asked : QueryInfoRequest) (information : Option Information) (status : Status) → request_refusal asked ≡ None → room_refusal information asked.output_buffer_length ≡ Some status →
-    (let x : CommandStep S = record { server = server; response = option_map_or (failure under) (query_refusal information asked) (informed under information asked.output_buffer_length) } in x) ≡ refused server under status
-queried_refused server under asked information status h e =
-    let refusal : query_refusal information asked ≡ Some status =
-    room_left (asked.info_type.0 == SECURITY || asked.info_type.0 == QUOTA) (not (asked.info_type.0 == FILE || asked.info_type.0 == FILESYSTEM)) (nat_lt 65536 asked.output_buffer_length) (room_refusal information asked.output_buffer_length) h ∙ e in
-    ap (λ (r : Option Status). let x : CommandStep _ = record { server = server; response = option_map_or (failure under) r (informed under information asked.output_buffer_length) } in x) refusal
 
 -- no listing is unreadable
 unmatched_readable : (b : Bool) (scan : Scan) → (let x : Option InfoFault = Some (if b then NoMatch scan else NoMore) in x) ≡ Some Unreadable → ⊥

@@ -23,7 +23,8 @@ use Rattle.smb_body.specs.SessionSetup.{SessionSetupAsked}
 use Rattle.smb_opens.specs.Close.{closed_all}
 use Rattle.smb_request.specs.Session.{closed_for, setup_answered, session_set_up}
 use Rattle.smb_opens.specs.State.{StoreState}
-use Rattle.smb_request.specs.declared.context.RequestIds.{RequestIds}
+use Rattle.smb_request.specs.declared.call.Call.{Call}
+use Rattle.smb_request.specs.declared.context.HeaderIds.{HeaderIds}
 use Rattle.smb_request.specs.declared.status.Status.{Status}
 use Rattle.smb_request.specs.Response.{refused}
 use Rattle.smb_request.specs.Session.{status_of_refusal}
@@ -118,15 +119,16 @@ unrefused : (table : TableState) (c s flags : ℕ) → option_and_then status_of
 unrefused table c s flags e = grind (arith, e)
 
 module _ {S : Type 0} (may : ℕ → SessionState → Type 0) (m : Meaning S) (acts : ℕ → Bool) (c : ℕ) (a : acts c ≡ true) (server : ServerState S) (o : NumbersInOrder server.sessions.table server.store) where
-  set_up_at : (under : RequestIds) (asked : SessionSetupAsked) (status : Option Status) →
-      MayReplace may asked.previous_session_id (m.answer server.sessions.authenticator (setup_number server.sessions.table under.session_id) asked.security_buffer) → option_and_then status_of_refusal (setup_refusal server.sessions.table c under.session_id asked.flags.0) ≡ status →
-      LeavesSharedBut may acts server (option_map_or (λ status. refused server under status) status (setup_answered server under (setup_step m server.sessions c under.session_id asked.previous_session_id asked.security_buffer))).server
-  set_up_at under asked (Some status) cause e = leaves_same acts server.sessions.table server.store o
-  set_up_at under asked None cause e =
-      let s = under.session_id in
+  set_up_at : (ids : HeaderIds) (asked : SessionSetupAsked) (status : Option Status) →
+      MayReplace may asked.previous_session_id (m.answer server.sessions.authenticator (setup_number server.sessions.table ids.session_id) asked.security_buffer) → option_and_then status_of_refusal (setup_refusal server.sessions.table c ids.session_id asked.flags.0) ≡ status →
+      LeavesSharedBut may acts server (option_map_or (refused server ids) status (setup_answered server ids (setup_step m server.sessions c ids.session_id asked.previous_session_id asked.security_buffer))).server
+  set_up_at ids asked (Some status) cause e = leaves_same acts server.sessions.table server.store o
+  set_up_at ids asked None cause e =
+      let s = ids.session_id in
       step_left may acts c a server.sessions.table server.store o s asked.flags.0 asked.previous_session_id (m.answer server.sessions.authenticator (setup_number server.sessions.table s) asked.security_buffer) (s == 0) cause refl
       (unrefused server.sessions.table c s asked.flags.0 e)
 
-  pub set_up_left : (under : RequestIds) (asked : SessionSetupAsked) → MayReplace may asked.previous_session_id (m.answer server.sessions.authenticator (setup_number server.sessions.table under.session_id) asked.security_buffer) → LeavesSharedBut may acts server (session_set_up m c server under asked).server
+module _ {S : Type 0} (may : ℕ → SessionState → Type 0) (m : Meaning S) (acts : ℕ → Bool) (call : Call) (a : acts call.connection ≡ true) (server : ServerState S) (o : NumbersInOrder server.sessions.table server.store) where
+  pub set_up_left : (asked : SessionSetupAsked) → MayReplace may asked.previous_session_id (m.answer server.sessions.authenticator (setup_number server.sessions.table call.ids.session_id) asked.security_buffer) → LeavesSharedBut may acts server (session_set_up m server call asked).server
   unfolding session_set_up
-  set_up_left under asked cause = set_up_at under asked (option_and_then status_of_refusal (setup_refusal server.sessions.table c under.session_id asked.flags.0)) cause refl
+  set_up_left asked cause = set_up_at may m acts call.connection a server o call.ids asked (option_and_then status_of_refusal (setup_refusal server.sessions.table call.connection call.ids.session_id asked.flags.0)) cause refl

@@ -4,24 +4,24 @@ use Rattle.smb_body.specs.declared.read.ReadRequest.{ReadRequest}
 use Rattle.smb_body.specs.Write.{WriteAsked}
 use Rattle.smb_body.specs.Replies.{answers_read, answers_write}
 use Rattle.smb_opens.specs.Bytes.{read_status, file_bytes, write_status, written_to}
-use Rattle.smb_request.specs.declared.context.RequestIds.{RequestIds}
+use Rattle.smb_request.specs.declared.call.Call.{Call}
 use Rattle.smb_request.specs.State.{ServerState, with_store}
 use Rattle.smb_request.specs.Response.{CommandStep, success, by_status}
 
 -- READ (3.3.5.12) of the open of a number: it is answered by the bytes of its file
-unfoldable pub file_read : {S : Type 0} → ServerState S → RequestIds → ℕ → ReadRequest → CommandStep S
-file_read server under open_number asked = by_status server under
-    (read_status server.store open_number asked.offset asked.length asked.minimum_count)
+unfoldable pub file_read : {S : Type 0} → ServerState S → Call → ReadRequest → CommandStep S
+file_read server call asked = by_status server call.ids
+    (read_status server.store call.open_number asked.offset asked.length asked.minimum_count)
     (record {
       server = server;
-      response = success under (answers_read (file_bytes server.store open_number asked.offset asked.length));
+      response = success call.ids (answers_read (file_bytes server.store call.open_number asked.offset asked.length));
     })
 
 -- WRITE (3.3.5.13) of the open of a number: it is answered by how many bytes were written
-unfoldable pub file_written : {S : Type 0} → ℕ → ServerState S → RequestIds → ℕ → WriteAsked → CommandStep S
-file_written moment server under open_number asked = by_status server under
-    (write_status server.store open_number asked.offset asked.buffer)
+unfoldable pub file_written : {S : Type 0} → ServerState S → Call → WriteAsked → CommandStep S
+file_written server call asked = by_status server call.ids
+    (write_status server.store call.open_number asked.offset asked.buffer)
     (record {
-      server = with_store server (written_to server.store open_number asked.offset asked.buffer moment);
-      response = success under (answers_write (record { count = length asked.buffer }));
+      server = with_store server (written_to server.store call.open_number asked.offset asked.buffer call.moment);
+      response = success call.ids (answers_write (record { count = length asked.buffer }));
     })

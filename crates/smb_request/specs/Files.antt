@@ -18,21 +18,22 @@ use Rattle.smb_opens.specs.Effect.{created, create_result}
 use Rattle.smb_opens.specs.Views.{open_view}
 use Rattle.smb_opens.specs.Close.{closed}
 use Rattle.smb_request.specs.declared.status.Status.TheVariants.{FileClosed}
-use Rattle.smb_request.specs.declared.context.RequestIds.{RequestIds}
+use Rattle.smb_request.specs.declared.call.Call.{Call}
+use Rattle.smb_request.specs.declared.context.HeaderIds.{HeaderIds}
 use Rattle.smb_request.specs.State.{ServerState, with_store}
 use Rattle.smb_request.specs.Response.{CommandStep, success, refused, by_status}
 
 -- what a CREATE asks of the files, under a session and a tree
-abbrev pub file_asked : RequestIds → CreateAsked → FileAsked
-file_asked under asked = record {
+abbrev pub file_asked : HeaderIds → CreateAsked → FileAsked
+file_asked ids asked = record {
   name = asked.name;
   access = asked.desired_access.0;
   attributes = asked.file_attributes.0;
   share = asked.share_access.0;
   disposition = asked.create_disposition.0;
   options = asked.create_options.0;
-  session = under.session_id;
-  tree = under.tree_id;
+  session = ids.session_id;
+  tree = ids.tree_id;
 }
 
 -- what a CREATE that succeeds is answered: no oplock, what was done, the entry as it stands afterwards, and as FileId
@@ -52,19 +53,19 @@ create_response done = record {
 }
 
 -- CREATE (3.3.5.9)
-unfoldable pub file_created : {S : Type 0} → ℕ → ServerState S → RequestIds → CreateAsked → CommandStep S
-file_created moment server under asked =
-    let ask = file_asked under asked in
-    by_status server under (create_status server.store ask) (record {
-      server = with_store server (created server.store ask moment);
-      response = success under (answers_create (create_response (create_result server.store ask moment)));
+unfoldable pub file_created : {S : Type 0} → ServerState S → Call → CreateAsked → CommandStep S
+file_created server call asked =
+    let ask = file_asked call.ids asked in
+    by_status server call.ids (create_status server.store ask) (record {
+      server = with_store server (created server.store ask call.moment);
+      response = success call.ids (answers_create (create_response (create_result server.store ask call.moment)));
     })
 
 -- a FileId names an open of this session and tree: both its halves are the open's number (3.3.5.10)
-abbrev pub names_open : List OpenRow → RequestIds → FileId → Bool
-names_open opens under id =
+abbrev pub names_open : List OpenRow → HeaderIds → FileId → Bool
+names_open opens ids id =
     id.persistent == id.volatile
-    && option_map_or (is_held_by (Tree under.session_id under.tree_id)) (open_of opens id.persistent) false
+    && option_map_or (is_held_by (Tree ids.session_id ids.tree_id)) (open_of opens id.persistent) false
 
 -- what a CLOSE is answered: with POSTQUERY_ATTRIB (1) set, what the open showed before, else zeros (2.2.16)
 abbrev pub close_response : CloseFlags → View → CloseResponse
@@ -92,11 +93,11 @@ close_response flags view =
     }
 
 -- CLOSE (3.3.5.10) of the open of a number; where there is none it is refused
-unfoldable pub file_closed : {S : Type 0} → ServerState S → RequestIds → ℕ → CloseFlags → CommandStep S
-file_closed server under open_number flags = option_map_or
+unfoldable pub file_closed : {S : Type 0} → ServerState S → Call → CloseFlags → CommandStep S
+file_closed server call flags = option_map_or
     (λ view. record {
-      server = with_store server (closed server.store open_number);
-      response = success under (answers_close (close_response flags view));
+      server = with_store server (closed server.store call.open_number);
+      response = success call.ids (answers_close (close_response flags view));
     })
-    (open_view server.store open_number)
-    (refused server under FileClosed)
+    (open_view server.store call.open_number)
+    (refused server call.ids FileClosed)

@@ -6,10 +6,17 @@ use Rattle.smb_session.specs.declared.setup.SetupStatus.{SetupStatus}
 use Rattle.smb_session.specs.declared.setup.SetupStatus.TheVariants.{Success, MoreProcessingRequired, LogonFailure}
 use Rattle.smb_request.specs.declared.response.NoReply.{NoReply}
 use Rattle.smb_request.specs.declared.response.NoReply.TheVariants.{NotPerformed, Performed}
-use Rattle.smb_request.specs.declared.outcome.SetupTold.{SetupTold}
-use Rattle.smb_request.specs.declared.outcome.Success.TheVariants.{SessionSetup}
-use Rattle.smb_request.specs.declared.outcome.Outcome.{Outcome}
-use Rattle.smb_request.specs.declared.outcome.Outcome.TheVariants.{Succeeded, GoesOn, Failed}
+use Rattle.std.specs.Option.{option_map_or, option_and_then}
+use Rattle.smb_body.specs.Requests.{RequestValue, file_id_of}
+use Rattle.smb_request.specs.declared.call.Call.{Call}
+use Rattle.smb_request.specs.declared.context.HeaderIds.{HeaderIds}
+use Rattle.smb_request.specs.declared.response.Body.{Body}
+use Rattle.smb_request.specs.declared.response.Body.TheVariants.{Error, SessionSetup}
+use Rattle.smb_request.specs.declared.response.Response.{Response}
+use Rattle.smb_request.specs.declared.response.Response.TheVariants.{Ready}
+use Rattle.smb_request.specs.Call.{named_open}
+use Rattle.smb_request.specs.Context.{number_named}
+use Rattle.smb_request.specs.Needs.{is_unsupported}
 use Rattle.smb_request.specs.declared.status.Status.{Status}
 use Rattle.smb_session.specs.Table.{TableState}
 use Rattle.smb_access.specs.declared.open_row.OpenRow.{OpenRow}
@@ -36,11 +43,17 @@ abbrev pub is_performed : NoReply → Bool
 is_performed NotPerformed = false
 is_performed Performed = true
 
--- what comes of a SESSION_SETUP that was not refused
-abbrev pub setup_by : SetupStatus → SetupTold → Outcome
-setup_by Success told = Succeeded (SessionSetup told)
-setup_by MoreProcessingRequired told = GoesOn told
-setup_by LogonFailure told = Failed Status.LogonFailure
+-- a call and its body were read from one request
+pub record IsCallOf (call : Call) (body : Option RequestValue) : Type 0 where
+  pub file_id : call.file_id ≡ option_and_then file_id_of body
+  pub open_number : call.open_number ≡ number_named (named_open call)
+  pub unsupported : option_map_or is_unsupported call.command false ≡ true → body ≡ None
 
-abbrev pub setup_outcome : SetupDone → Outcome
-setup_outcome done = setup_by done.status (record { session_flags = record { 0 = done.flags }; token = done.token })
+-- the response to a SESSION_SETUP that was not refused
+abbrev pub setup_by : HeaderIds → SetupStatus → Body → Response
+setup_by ids Success body = Ready (record { status = Status.Success; ids = ids }) body
+setup_by ids MoreProcessingRequired body = Ready (record { status = Status.MoreProcessingRequired; ids = ids }) body
+setup_by ids LogonFailure body = Ready (record { status = Status.LogonFailure; ids = ids }) Error
+
+abbrev pub setup_response_of : HeaderIds → SetupDone → Response
+setup_response_of ids done = setup_by (record ids { session_id = done.session }) done.status (SessionSetup (record { 0 = done.flags }) done.token)

@@ -6,7 +6,7 @@ use Rattle.smb_body.specs.declared.query_info.QueryInfoRequest.{QueryInfoRequest
 use Rattle.smb_info.specs.declared.fault.InfoFault.{InfoFault}
 use Rattle.smb_info.specs.declared.fault.InfoFault.TheVariants.{Unreadable, NoMemory}
 use Rattle.smb_info.specs.Information.{Information, told, information_written, info_fault}
-use Rattle.smb_request.specs.declared.information.InformationTold.{InformationTold}
+use Rattle.smb_request.specs.declared.query_info.InformationBytes.{InformationBytes}
 use Rattle.smb_request.specs.declared.status.Status.{Status}
 use Rattle.smb_request.specs.declared.status.Status.TheVariants.{InvalidParameter, NotSupported}
 use Rattle.smb_request.specs.QueryDirectory.{listing_refusal}
@@ -17,26 +17,8 @@ abbrev pub fault_status : InfoFault → Option Status
 fault_status Unreadable = Some InvalidParameter
 fault_status fault = option_map (λ refusal. refusal.status) (listing_refusal fault)
 
--- why a QUERY_INFO is refused by its InfoType, and why whatever its class tells
-abbrev pub query_type_refusal : ℕ → Option Status
-query_type_refusal info_type =
-    if info_type == SECURITY || info_type == QUOTA then Some NotSupported else
-    if not (info_type == FILE || info_type == FILESYSTEM) then Some InvalidParameter else None
-
-abbrev pub request_refusal : QueryInfoRequest → Option Status
-request_refusal asked = option_map_or
-    (λ status. Some status)
-    (query_type_refusal asked.info_type.0)
-    (if nat_lt 65536 asked.output_buffer_length then Some InvalidParameter else None)
-
--- why a SET_INFO is refused by its InfoType
-abbrev pub set_type_refusal : ℕ → Option Status
-set_type_refusal info_type =
-    if info_type == FILESYSTEM || info_type == SECURITY || info_type == QUOTA then Some NotSupported else
-    if not (info_type == FILE) then Some InvalidParameter else None
-
 -- what is told of information
-pub record IsToldOf (information : Option Information) (room : ℕ) (it : InformationTold) : Type 0 where
+pub record IsToldOf (information : Option Information) (room : ℕ) (it : InformationBytes) : Type 0 where
   pub bytes : it.bytes.items ≡ told information room
   pub written : it.written ≡ information_written information room
   pub lawful : info_fault information room ≡ None

@@ -18,7 +18,8 @@ use Rattle.smb_access.specs.Opens.{is_held_by, open_numbers, AreAllBelow}
 use Rattle.smb_opens.specs.State.{StoreState}
 use Rattle.smb_wire.specs.declared.dialect.Dialect.{Dialect}
 use Rattle.smb_request.specs.declared.context.Context.{Context}
-use Rattle.smb_request.specs.Request.{acts_under, body_of, performed}
+use Rattle.smb_request.specs.Call.{request_ids, body_of}
+use Rattle.smb_request.specs.Request.{performed}
 use Rattle.smb_request.specs.State.{ServerState, connection_added, connection_ended}
 
 -- the sessions and the opens stand in rising number, and each number was given
@@ -66,7 +67,7 @@ pub record ReplacesSession {S : Type 0} (authenticator : Meaning S) (server : Se
   pub token : List ℕ
   pub says : body_of (known_command (header_of request).command.0) request ≡ Some (asks_session_setup asked)
   pub accepted :
-      authenticator.answer server.sessions.authenticator (setup_number server.sessions.table (acts_under context request).session_id) asked.security_buffer
+      authenticator.answer server.sessions.authenticator (setup_number server.sessions.table (request_ids context request).session_id) asked.security_buffer
       ≡ accepts user flags token
   pub same_user : session.user ≡ Some user
   pub previous : asked.previous_session_id ≡ number

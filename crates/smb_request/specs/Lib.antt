@@ -4,6 +4,7 @@ pub mod Negotiate
 pub mod State
 pub mod Owners
 pub mod Context
+pub mod Call
 pub mod Response
 pub mod Smb1
 pub mod Session
@@ -14,10 +15,11 @@ pub mod QueryInfo
 pub mod SetInfo
 pub mod QueryDirectory
 pub mod Files
+pub mod Needs
 pub mod Request
 pub mod Held
 pub mod Information
 pub mod InPlace
-pub mod Outcome
-pub mod Commands
+pub mod Bodies
+pub mod Refusals
 pub mod Laws

@@ -14,7 +14,7 @@ use Rattle.smb_info.specs.declared.fault.InfoFault.{InfoFault}
 use Rattle.smb_info.specs.declared.fault.InfoFault.TheVariants.{BadClass, BadPattern, TooSmall, NoMatch, NoMore, Unreadable, NoMemory}
 use Rattle.smb_request.specs.declared.status.Status.{Status}
 use Rattle.smb_request.specs.declared.status.Status.TheVariants.{InvalidParameter, AccessDenied, InvalidInfoClass, ObjectNameInvalid, InfoLengthMismatch, NoSuchFile, NoMoreFiles}
-use Rattle.smb_request.specs.declared.context.RequestIds.{RequestIds}
+use Rattle.smb_request.specs.declared.call.Call.{Call}
 use Rattle.smb_request.specs.declared.query_directory.ListingRefusal.{ListingRefusal}
 use Rattle.smb_request.specs.Response.{CommandStep, success, failure, refused}
 use Rattle.smb_request.specs.State.{ServerState, with_store}
@@ -53,29 +53,29 @@ listing_refusal Unreadable = None
 listing_refusal NoMemory = None
 
 -- a listing that is not refused: the entries, and the open's scan goes on behind them
-abbrev pub directory_listed : {S : Type 0} → ServerState S → RequestIds → ℕ → ListAsked → CommandStep S
-directory_listed server under open_number ask = record {
-  server = with_store server (scan_set server.store open_number (open_scan_after server.store open_number ask));
-  response = success under (answers_query_directory (open_bytes_listed server.store open_number ask));
+abbrev pub directory_listed : {S : Type 0} → ServerState S → Call → ListAsked → CommandStep S
+directory_listed server call ask = record {
+  server = with_store server (scan_set server.store call.open_number (open_scan_after server.store call.open_number ask));
+  response = success call.ids (answers_query_directory (open_bytes_listed server.store call.open_number ask));
 }
 
 -- one that is refused: but for the scan, all is as it was
-abbrev pub listing_refused : {S : Type 0} → ServerState S → RequestIds → ℕ → ListingRefusal → CommandStep S
-listing_refused server under open_number refusal = record {
-  server = option_map_or (λ scan. with_store server (scan_set server.store open_number scan)) refusal.scan server;
-  response = failure under refusal.status;
+abbrev pub listing_refused : {S : Type 0} → ServerState S → Call → ListingRefusal → CommandStep S
+listing_refused server call refusal = record {
+  server = option_map_or (λ scan. with_store server (scan_set server.store call.open_number scan)) refusal.scan server;
+  response = failure call.ids refusal.status;
 }
 
 -- what is listed, or why nothing is
-abbrev pub listed_as_asked : {S : Type 0} → ServerState S → RequestIds → ℕ → ListAsked → CommandStep S
-listed_as_asked server under open_number ask = option_map_or
-    (listing_refused server under open_number)
-    (option_and_then listing_refusal (open_list_fault server.store open_number ask))
-    (directory_listed server under open_number ask)
+abbrev pub listed_as_asked : {S : Type 0} → ServerState S → Call → ListAsked → CommandStep S
+listed_as_asked server call ask = option_map_or
+    (listing_refused server call)
+    (option_and_then listing_refusal (open_list_fault server.store call.open_number ask))
+    (directory_listed server call ask)
 
 -- QUERY_DIRECTORY (3.3.5.18) of the open of a number
-unfoldable pub directory_queried : {S : Type 0} → ServerState S → RequestIds → ℕ → QueryDirectoryAsked → CommandStep S
-directory_queried server under open_number asked = option_map_or
-    (λ status. refused server under status)
-    (directory_refusal (open_view server.store open_number) asked)
-    (listed_as_asked server under open_number (list_asked_by asked))
+unfoldable pub directory_queried : {S : Type 0} → ServerState S → Call → QueryDirectoryAsked → CommandStep S
+directory_queried server call asked = option_map_or
+    (λ status. refused server call.ids status)
+    (directory_refusal (open_view server.store call.open_number) asked)
+    (listed_as_asked server call (list_asked_by asked))

@@ -15,8 +15,8 @@ use Rattle.smb_access.specs.Opens.{open_of}
 use Rattle.smb_opens.specs.State.{StoreState}
 use Rattle.smb_request.specs.declared.status.Status.{Status}
 use Rattle.smb_request.specs.declared.status.Status.TheVariants.{Success, BufferOverflow, InvalidParameter, InvalidInfoClass, InfoLengthMismatch, NotSupported}
-use Rattle.smb_request.specs.declared.context.RequestIds.{RequestIds}
-use Rattle.smb_request.specs.Context.{ids_of}
+use Rattle.smb_request.specs.declared.call.Call.{Call}
+use Rattle.smb_request.specs.declared.context.HeaderIds.{HeaderIds}
 use Rattle.smb_request.specs.InfoTypes.{FILE, FILESYSTEM, SECURITY, QUOTA}
 use Rattle.smb_request.specs.Response.{ResponseState, CommandStep, with_body, failure}
 use Rattle.smb_request.specs.State.{ServerState}
@@ -47,32 +47,34 @@ abbrev pub room_refusal : Option Information → ℕ → Option Status
 room_refusal None room = Some InvalidInfoClass
 room_refusal (Some information) room = if nat_lt room (fixed_length information) then Some InfoLengthMismatch else None
 
--- why a request is refused, by the information that it asks for: the first that holds
-abbrev pub query_refusal : Option Information → QueryInfoRequest → Option Status
-query_refusal information asked =
+-- why a request is refused whatever information it asks for: the first row that holds
+abbrev pub request_refusal : QueryInfoRequest → Option Status
+request_refusal asked =
     -- a security descriptor, or quotas (3.3.5.20.3, 3.3.5.20.4)
     if asked.info_type.0 == SECURITY || asked.info_type.0 == QUOTA then Some NotSupported else
     -- no InfoType (2.2.37)
     if not (asked.info_type.0 == FILE || asked.info_type.0 == FILESYSTEM) then Some InvalidParameter else
     -- room for more than MaxTransactSize (3.3.5.20)
-    if nat_lt 65536 asked.output_buffer_length then Some InvalidParameter else
-    room_refusal information asked.output_buffer_length
+    if nat_lt 65536 asked.output_buffer_length then Some InvalidParameter else None
 
--- the status of what is told: where it is cut, BUFFER_OVERFLOW, which is no failure (3.3.4.4)
+-- the status of information that is returned: where it is cut, BUFFER_OVERFLOW, which is no failure (3.3.4.4)
 abbrev pub written_status : Written → Status
 written_status Whole = Success
 written_status Cut = BufferOverflow
 
--- information that is told: its first bytes, as many as there is room for (2.2.38)
-abbrev pub informed : RequestIds → Option Information → ℕ → ResponseState
-informed under information room =
-    with_body (ids_of under) (written_status (information_written information room)) (answers_query_info (told information room))
+-- the response with information: its first bytes, as many as there is room for (2.2.38)
+abbrev pub informed : HeaderIds → Option Information → ℕ → ResponseState
+informed ids information room = option_map_or
+    (failure ids)
+    (room_refusal information room)
+    (with_body ids (written_status (information_written information room)) (answers_query_info (told information room)))
 
--- QUERY_INFO (3.3.5.20) of the open of a number: it changes nothing
-unfoldable pub information_queried : {S : Type 0} → ServerState S → RequestIds → ℕ → QueryInfoRequest → CommandStep S
-information_queried server under open_number asked =
-    let information = information_asked server open_number asked in
-    record {
-      server = server;
-      response = option_map_or (failure under) (query_refusal information asked) (informed under information asked.output_buffer_length);
-    }
+-- QUERY_INFO (3.3.5.20): it changes nothing
+unfoldable pub information_queried : {S : Type 0} → ServerState S → Call → QueryInfoRequest → CommandStep S
+information_queried server call asked = record {
+  server = server;
+  response = option_map_or
+      (failure call.ids)
+      (request_refusal asked)
+      (informed call.ids (information_asked server call.open_number asked) asked.output_buffer_length);
+}

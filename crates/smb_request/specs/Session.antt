@@ -19,9 +19,8 @@ use Rattle.smb_opens.specs.Close.{closed_all}
 use Rattle.smb_opens.specs.State.{StoreState}
 use Rattle.smb_request.specs.declared.status.Status.{Status}
 use Rattle.smb_request.specs.declared.status.Status.TheVariants.{NotSupported, NetworkNameDeleted, BadNetworkName, RequestNotAccepted, UserSessionDeleted}
-use Rattle.smb_request.specs.declared.context.RequestIds.{RequestIds}
-use Rattle.smb_request.specs.declared.context.ResponseIds.{ResponseIds}
-use Rattle.smb_request.specs.Context.{ids_of}
+use Rattle.smb_request.specs.declared.call.Call.{Call}
+use Rattle.smb_request.specs.declared.context.HeaderIds.{HeaderIds}
 use Rattle.smb_request.specs.State.{ServerState, with_table, with_store}
 use Rattle.smb_request.specs.Response.{ResponseState, CommandStep, with_body, success, refused}
 
@@ -35,16 +34,16 @@ status_of_refusal NoDialect = Some NotSupported
 status_of_refusal NoMemory = None
 
 -- a request that the sessions refuse, or else what is done
-abbrev pub unless_refused : {S : Type 0} → ServerState S → RequestIds → Option SessionFault → CommandStep S → CommandStep S
-unless_refused server under refusal step =
-    option_map_or (λ status. refused server under status) (option_and_then status_of_refusal refusal) step
+abbrev pub unless_refused : {S : Type 0} → ServerState S → HeaderIds → Option SessionFault → CommandStep S → CommandStep S
+unless_refused server ids refusal step =
+    option_map_or (refused server ids) (option_and_then status_of_refusal refusal) step
 
 -- what a SESSION_SETUP is answered: flags and a token where the client goes on or is in, else a failure; either tells the
 -- session's number (2.2.6)
 abbrev pub setup_body : SetupResult → ReplyValue
 setup_body told = answers_session_setup (record { session_flags = record { 0 = told.flags }; security_buffer = told.token })
 
-abbrev pub setup_response : ResponseIds → SetupResult → SetupStatus → ResponseState
+abbrev pub setup_response : HeaderIds → SetupResult → SetupStatus → ResponseState
 setup_response ids told Success = with_body ids Status.Success (setup_body told)
 setup_response ids told MoreProcessingRequired = with_body ids Status.MoreProcessingRequired (setup_body told)
 setup_response ids told LogonFailure = with_body ids Status.LogonFailure answers_error
@@ -55,28 +54,29 @@ closed_for store None = store
 closed_for store (Some session) = closed_all store (Session session)
 
 -- SESSION_SETUP (3.3.5.5): the previous session ends with its opens
-abbrev pub setup_answered : {S : Type 0} → ServerState S → RequestIds → SetupStep S → CommandStep S
-setup_answered server under step = record {
+abbrev pub setup_answered : {S : Type 0} → ServerState S → HeaderIds → SetupStep S → CommandStep S
+setup_answered server ids step = record {
   server = record server { sessions = step.state; store = closed_for server.store step.told.ended };
-  response = setup_response (record (ids_of under) { session_id = step.told.session }) step.told step.told.status;
+  response = setup_response (record ids { session_id = step.told.session }) step.told step.told.status;
 }
 
-unfoldable pub session_set_up : {S : Type 0} → Meaning S → ℕ → ServerState S → RequestIds → SessionSetupAsked → CommandStep S
-session_set_up authenticator connection server under asked = unless_refused server under
-    (setup_refusal server.sessions.table connection under.session_id asked.flags.0)
-    (setup_answered server under (setup_step authenticator server.sessions connection under.session_id asked.previous_session_id asked.security_buffer))
+unfoldable pub session_set_up : {S : Type 0} → Meaning S → ServerState S → Call → SessionSetupAsked → CommandStep S
+session_set_up authenticator server call asked = unless_refused server call.ids
+    (setup_refusal server.sessions.table call.connection call.ids.session_id asked.flags.0)
+    (setup_answered server call.ids
+    (setup_step authenticator server.sessions call.connection call.ids.session_id asked.previous_session_id asked.security_buffer))
 
 -- the server's state with the opens of an owner closed
 abbrev pub with_closed : {S : Type 0} → ServerState S → Owner → ServerState S
 with_closed server owner = with_store server (closed_all server.store owner)
 
 -- LOGOFF (3.3.5.6): the session ends with its trees, and their opens
-unfoldable pub session_logged_off : {S : Type 0} → ℕ → ServerState S → RequestIds → CommandStep S
-session_logged_off connection server under = unless_refused server under
-    (logoff_refusal server.sessions.table connection under.session_id)
+unfoldable pub session_logged_off : {S : Type 0} → ServerState S → Call → CommandStep S
+session_logged_off server call = unless_refused server call.ids
+    (logoff_refusal server.sessions.table call.connection call.ids.session_id)
     (record {
-      server = with_closed (with_table server (session_ended server.sessions.table under.session_id)) (Session under.session_id);
-      response = success under answers_logoff;
+      server = with_closed (with_table server (session_ended server.sessions.table call.ids.session_id)) (Session call.ids.session_id);
+      response = success call.ids answers_logoff;
     })
 
 -- what a tree is: a disk, without flags and capabilities, and with all access (2.2.10)
@@ -89,23 +89,23 @@ tree_response = record {
 }
 
 -- TREE_CONNECT (3.3.5.7): the answer tells the new tree's number
-unfoldable pub tree_joined : {S : Type 0} → ℕ → ServerState S → RequestIds → List ℕ → CommandStep S
-tree_joined connection server under path = unless_refused server under
-    (tree_connect_refusal server.sessions connection under.session_id path)
+unfoldable pub tree_joined : {S : Type 0} → ServerState S → Call → List ℕ → CommandStep S
+tree_joined server call path = unless_refused server call.ids
+    (tree_connect_refusal server.sessions call.connection call.ids.session_id path)
     (record {
-      server = with_table server (tree_connected server.sessions.table under.session_id);
+      server = with_table server (tree_connected server.sessions.table call.ids.session_id);
       response = with_body
-          (record (ids_of under) { tree_id = next_tree_of server.sessions.table under.session_id })
+          (record call.ids { tree_id = next_tree_of server.sessions.table call.ids.session_id })
           Status.Success (answers_tree_connect tree_response);
     })
 
 -- TREE_DISCONNECT (3.3.5.8): the tree is gone, with its opens
-unfoldable pub tree_left : {S : Type 0} → ℕ → ServerState S → RequestIds → CommandStep S
-tree_left connection server under = unless_refused server under
-    (tree_disconnect_refusal server.sessions.table connection under.session_id under.tree_id)
+unfoldable pub tree_left : {S : Type 0} → ServerState S → Call → CommandStep S
+tree_left server call = unless_refused server call.ids
+    (tree_disconnect_refusal server.sessions.table call.connection call.ids.session_id call.ids.tree_id)
     (record {
       server = with_closed
-          (with_table server (tree_disconnected server.sessions.table under.session_id under.tree_id))
-          (Tree under.session_id under.tree_id);
-      response = success under answers_tree_disconnect;
+          (with_table server (tree_disconnected server.sessions.table call.ids.session_id call.ids.tree_id))
+          (Tree call.ids.session_id call.ids.tree_id);
+      response = success call.ids answers_tree_disconnect;
     })

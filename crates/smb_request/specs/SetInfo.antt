@@ -1,5 +1,5 @@
 -- SET_INFO ([MS-SMB2] 3.3.5.21).
-use Rattle.std.specs.Prelude.{ℕ, ◌==◌, ◌||◌, true, false, not, nat_lt, List, length, if◌then◌else◌}
+use Rattle.std.specs.Prelude.{ℕ, ◌==◌, ◌||◌, true, false, not, nat_lt, List, length, Option, Some, None, if◌then◌else◌}
 use Rattle.std.specs.Option.{option_map_or}
 use Rattle.smb_body.specs.SetInfo.{SetInfoAsked}
 use Rattle.smb_body.specs.Replies.{answers_set_info}
@@ -8,8 +8,9 @@ use Rattle.smb_info.specs.SetInformation.{SetAsked, asks_basic, asks_rename, ask
 use Rattle.smb_opens.specs.Renames.{rename_status, renamed_through}
 use Rattle.smb_opens.specs.SetInfo.{delete_status, delete_set_through, size_status, size_set_through, basic_status, basic_set_through}
 use Rattle.smb_opens.specs.State.{StoreState}
+use Rattle.smb_request.specs.declared.status.Status.{Status}
 use Rattle.smb_request.specs.declared.status.Status.TheVariants.{InvalidParameter, InvalidInfoClass, InfoLengthMismatch, NotSupported}
-use Rattle.smb_request.specs.declared.context.RequestIds.{RequestIds}
+use Rattle.smb_request.specs.declared.call.Call.{Call}
 use Rattle.smb_request.specs.InfoTypes.{FILE, FILESYSTEM, SECURITY, QUOTA}
 use Rattle.smb_request.specs.Response.{CommandStep, success, refused, by_status}
 use Rattle.smb_request.specs.State.{ServerState, with_store}
@@ -31,31 +32,38 @@ set_through store open_number moment (asks_allocation size) = size_set_through s
 set_through store open_number moment (asks_end size) = size_set_through store open_number size false moment
 
 -- what is asked: a refusal changes nothing
-abbrev pub set_as_asked : {S : Type 0} → ℕ → ServerState S → RequestIds → ℕ → SetAsked → CommandStep S
-set_as_asked moment server under open_number ask = by_status server under
-    (set_status server.store open_number ask)
+abbrev pub set_as_asked : {S : Type 0} → ServerState S → Call → SetAsked → CommandStep S
+set_as_asked server call ask = by_status server call.ids
+    (set_status server.store call.open_number ask)
     (record {
-      server = with_store server (set_through server.store open_number moment ask);
-      response = success under answers_set_info;
+      server = with_store server (set_through server.store call.open_number call.moment ask);
+      response = success call.ids answers_set_info;
     })
 
 -- a class that can be set, as its buffer asks ([MS-FSCC] 2.4)
-abbrev pub class_set : {S : Type 0} → ℕ → ServerState S → RequestIds → ℕ → List ℕ → SetInformationClass → CommandStep S
-class_set moment server under open_number buffer class =
+abbrev pub class_set : {S : Type 0} → ServerState S → Call → List ℕ → SetInformationClass → CommandStep S
+class_set server call buffer class =
     -- the buffer is shorter than the fixed part (3.3.5.21.1)
-    if nat_lt (length buffer) (set_length class) then refused server under InfoLengthMismatch else
+    if nat_lt (length buffer) (set_length class) then refused server call.ids InfoLengthMismatch else
     -- a rename says no name ([MS-FSCC] 2.4.42)
-    if not (is_readable buffer class) then refused server under InvalidParameter else
-    set_as_asked moment server under open_number (asked_of buffer class)
+    if not (is_readable buffer class) then refused server call.ids InvalidParameter else
+    set_as_asked server call (asked_of buffer class)
 
--- SET_INFO (3.3.5.21) of the open of a number
-unfoldable pub information_set : {S : Type 0} → ℕ → ServerState S → RequestIds → ℕ → SetInfoAsked → CommandStep S
-information_set moment server under open_number asked =
+-- why nothing is set of an InfoType, or None for that of a file or a directory
+abbrev pub set_type_refusal : ℕ → Option Status
+set_type_refusal info_type =
     -- the share as a file system, a security descriptor, or quotas (3.3.5.21.2 to 3.3.5.21.4)
-    if asked.info_type.0 == FILESYSTEM || asked.info_type.0 == SECURITY || asked.info_type.0 == QUOTA
-    then refused server under NotSupported else
+    if info_type == FILESYSTEM || info_type == SECURITY || info_type == QUOTA then Some NotSupported else
     -- no InfoType (2.2.39)
-    if not (asked.info_type.0 == FILE) then refused server under InvalidParameter else
+    if not (info_type == FILE) then Some InvalidParameter else None
+
+-- SET_INFO (3.3.5.21)
+unfoldable pub information_set : {S : Type 0} → ServerState S → Call → SetInfoAsked → CommandStep S
+information_set server call asked = option_map_or
+    (refused server call.ids)
+    (set_type_refusal asked.info_type.0)
     -- no class that can be set has the number (3.3.5.21.1)
-    option_map_or (class_set moment server under open_number asked.buffer) (set_class asked.file_info_class.0)
-    (refused server under InvalidInfoClass)
+    (option_map_or
+    (class_set server call asked.buffer)
+    (set_class asked.file_info_class.0)
+    (refused server call.ids InvalidInfoClass))

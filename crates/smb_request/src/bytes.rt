@@ -1,115 +1,98 @@
 //! READ and WRITE ([MS-SMB2] 3.3.5.12, 3.3.5.13).
 
-ghost use Rattle.std.specs.Prelude.{◌≡◌, ◌≢◌, ◌≤◌, ◌+◌, ◌++◌, IfOk, OnOk, OnErr, length, take};
+ghost use Rattle.std.specs.Prelude.{◌≡◌, ◌≤◌, ◌+◌, ◌++◌, IfOk, IfErr, IfSome, OnOk, OnErr, length, take};
 ghost use Rattle.smb_body.specs.Replies.{answers_read};
 ghost use Rattle.smb_body.specs.Write.{write_asked};
 ghost use Rattle.smb_opens.specs.Bytes.{file_bytes};
+ghost use Rattle.smb_request.specs.Bodies.{result_step, IsReadable, IsReadyAfter};
 ghost use Rattle.smb_request.specs.Bytes.{file_read, file_written};
-ghost use Rattle.smb_request.specs.Context.{ids_of};
 ghost use Rattle.smb_request.specs.InPlace.{answer_held, answer_behind};
-ghost use Rattle.smb_request.specs.Outcome.{told_response, IsReadable, CanBeSpelled};
-ghost use Rattle.smb_request.specs.Response.{with_body};
+ghost use Rattle.smb_request.specs.Response.{success};
 
-use super::context::{RequestIds, ResponseIds};
-use super::outcome::{Outcome, ReadAsk, Success, Told};
-use super::response::Answered;
+use super::call::Call;
+use super::refusal::Refusal;
+use super::response::{Answered, Body, FileRange, Response};
 use super::server::Server;
 use super::status::Status;
 use smb_body::{ReadRequest, WriteRequest, WriteResponse, put_read_head};
-use smb_opens::{Opens, StoreFault};
+use smb_opens::Opens;
 use smb_session::Authenticator;
 use smb_tree::Tree;
 use std::alloc::AllocError;
 
 impl<A: Authenticator + Drop, T: Tree + Drop, O: Opens + Drop> Server<A, T, O> {
-    /// READ ([MS-SMB2] 3.3.5.12) of the open of a number. Its bytes are read by [`put_read`](Self::put_read), where they
-    /// are sent from.
-    #[tactic(auto, unfolding(crate::specs::Bytes::file_read))]
-    pub(crate) fn read_file(
+    /// READ ([MS-SMB2] 3.3.5.12). Its bytes are read by [`put_bytes`](Self::put_bytes), where they are sent from.
+    #[tactic(auto, unfolding(crate::specs::Bytes::file_read), using(crate::proofs::Refused::by_code))]
+    pub(crate) fn read_file<'a>(
         &self,
-        under: RequestIds,
-        open_number: u64,
+        call: Call,
         request: &ReadRequest,
-    ) -> Told
-        ensures read { record { server = self.now; response = told_response A.meaning self.now result } ≡ file_read self.now under open_number request.now }
-        ensures spelled { CanBeSpelled self.now result.outcome }
+    ) -> Result<Response<'a>, Refusal>
+        ensures ok { IfSome (result_step A.meaning self.now call result) (λ step. step ≡ file_read self.now call request.now) }
+        ensures put { IfOk result (IsReadyAfter self.now self.now call) }
     {
-        match self.store.read_length(
-            open_number,
+        let (offset, length, minimum_count) = (
             request.offset,
             request.length,
             request.minimum_count,
-        ) {
-            Ok(there) => Told {
-                ids: ResponseIds::of(under),
-                outcome: Outcome::Reads(ReadAsk {
-                    open_number,
-                    offset: request.offset,
-                    length: request.length,
-                    minimum_count: request.minimum_count,
-                    there,
-                }),
-            },
-            Err(status) => Told::failed(under, Status::Store(status)),
-        }
+        );
+        let there = self
+            .store
+            .read_length(call.open_number, offset, length, minimum_count)?;
+        Ok(Response::Bytes(FileRange {
+            offset,
+            length,
+            minimum_count,
+            there,
+        }))
     }
 
-    /// WRITE ([MS-SMB2] 3.3.5.13) of the open of a number. The bytes go from the request straight into the file.
-    #[tactic(auto, unfolding(crate::specs::Bytes::file_written))]
-    pub(crate) fn write_file(
+    /// WRITE ([MS-SMB2] 3.3.5.13). The bytes go from the request straight into the file.
+    #[tactic(auto, unfolding(crate::specs::Bytes::file_written), using(crate::proofs::Refused::by_store))]
+    pub(crate) fn write_file<'a>(
         &mut self,
-        moment: u64,
-        under: RequestIds,
-        open_number: u64,
+        call: Call,
         request: &WriteRequest<'_>,
-    ) -> Result<Told, AllocError>
-        ensures ok { IfOk result (λ told. record { server = self.new; response = told_response A.meaning self.new told }
-            ≡ file_written moment self.old under open_number (write_asked request.now)) }
-        ensures spelled { IfOk result (λ told. CanBeSpelled self.new told.outcome) }
-        ensures err { OnErr result (self.new ≡ self.old) }
+    ) -> Result<Response<'a>, Refusal>
+        ensures ok { IfSome (result_step A.meaning self.new call result) (λ step. step ≡ file_written self.old call (write_asked request.now)) }
+        ensures put { IfOk result (IsReadyAfter self.old self.new call) }
+        ensures err { IfErr result (λ refusal. self.new ≡ self.old) }
         ensures known { self.new.sessions.table.connections ≡ self.old.sessions.table.connections }
     {
-        match self
-            .store
-            .write(open_number, request.offset, request.buffer, moment)
-        {
-            Ok(()) => {
-                let count = request.buffer.len() as u32;
-                let response = WriteResponse { count };
-                Ok(Told::succeeded(under, Success::Write(response)))
-            }
-            Err(StoreFault::Status(status)) => Ok(Told::failed(under, Status::Store(status))),
-            Err(StoreFault::NoMemory) => Err(AllocError),
-        }
+        let (offset, buffer) = (request.offset, request.buffer);
+        self.store
+            .write(call.open_number, offset, buffer, call.moment)?;
+        let count = buffer.len() as u32;
+        Ok(Response::success(call.ids, Body::Write(WriteResponse { count })))
     }
 
     /// Adds the body of a READ response to `out`: its fixed part, and behind it the bytes of the file, which are copied
     /// once. After an error `out` is as it was.
-    pub(crate) fn put_read(
+    pub(crate) fn put_bytes(
         &self,
-        ids: ResponseIds,
-        ask: &ReadAsk,
+        call: Call,
+        range: &FileRange,
         out: &mut Vec<u8>,
     ) -> Result<Answered, AllocError>
-        requires { IsReadable self.now ask.now }
+        requires { IsReadable self.now call range.now }
         ensures ok { IfOk result (λ r. answer_held r out.new.items ≡ answer_behind out.old.items
-            (with_body ids Status.Success (answers_read (file_bytes self.now.store ask.now.open_number ask.now.offset ask.now.length)))) }
+            (success call.ids (answers_read (file_bytes self.now.store call.open_number range.now.offset range.now.length)))) }
         ensures len { OnOk result (length out.new.items ≤ length out.old.items + 65552) }
         ensures err { OnErr result (out.new.items ≡ out.old.items) }
         ensures kept { take (length out.old.items) out.new.items ≡ out.old.items }
     {
         let start = out.len();
-        put_read_head(ask.there, out)?;
+        put_read_head(range.there, out)?;
         match self.store.read(
-            ask.open_number,
-            ask.offset,
-            ask.length,
-            ask.minimum_count,
+            call.open_number,
+            range.offset,
+            range.length,
+            range.minimum_count,
             out,
         ) {
             Ok(()) => Ok(Answered {
                 status: Status::Success,
-                ids,
+                ids: call.ids,
             }),
             Err(_) => {
                 out.truncate(start);

@@ -1,39 +1,20 @@
-//! What a request acts under, what its response tells, and what a chain hands on ([MS-SMB2] 3.3.5.2.7.2).
+//! What one request of a chain hands on to the next ([MS-SMB2] 3.3.5.2.7.2).
 
 ghost use Rattle.std.specs.Prelude.{◌≡◌};
 ghost use Rattle.std.specs.Option.{option_map};
-ghost use Rattle.smb_request.specs.Context.{ids_of, first_context, context_after, is_all_ones, open_named, number_named, named_on, created_open, open_for_next_related};
+ghost use Rattle.smb_request.specs.Context.{first_context, is_all_ones, open_named, number_named, named_on, created_open, open_for_next_related};
 
 use super::status::Status;
 use smb_wire::{Command, FileId};
 
-/// The session and the tree connect that a request acts under.
+/// The SessionId and the TreeId of a request's or a response's header.
 #[derive(Clone, Copy, Debug, PartialEq, Eq)]
-pub struct RequestIds {
+pub struct HeaderIds {
     pub session_id: u64,
     pub tree_id: u32,
 }
 
-/// The SessionId and the TreeId that a response tells in its header.
-#[derive(Clone, Copy, Debug, PartialEq, Eq)]
-pub struct ResponseIds {
-    pub session_id: u64,
-    pub tree_id: u32,
-}
-
-impl ResponseIds {
-    /// Those that the request acted under.
-    pub(crate) fn of(under: RequestIds) -> ResponseIds
-        ensures { result ≡ ids_of under }
-    {
-        ResponseIds {
-            session_id: under.session_id,
-            tree_id: under.tree_id,
-        }
-    }
-}
-
-/// The open that one request of a chain hands on to the next one. A related request takes it by a FileId of all ones.
+/// The open that one request of a chain hands on to the next. A related request takes it by a FileId of all ones.
 #[derive(Clone, Copy, Debug, PartialEq, Eq)]
 pub enum ContextOpen {
     /// No request named one.
@@ -44,56 +25,37 @@ pub enum ContextOpen {
     Refused(Status),
 }
 
-/// What one request of a chain hands on to the next one, which takes it if it is related.
+/// What one request of a chain hands on to the next, which takes it where it is related.
 #[derive(Clone, Copy, Debug, PartialEq, Eq)]
 pub struct Context {
-    pub under: RequestIds,
+    /// The session and the tree connect to act under.
+    pub ids: HeaderIds,
     pub last_open: ContextOpen,
 }
 
 impl Context {
-    /// What a chain begins with: no session, no tree and no open.
+    /// What a chain begins with: no session, no tree connect and no open.
     pub fn first() -> Context
         ensures { result ≡ first_context }
     {
         Context {
-            under: RequestIds {
+            ids: HeaderIds {
                 session_id: 0,
                 tree_id: 0,
             },
             last_open: ContextOpen::Nothing,
         }
     }
-
-    /// What a request hands on that acted under this, by what its response tells, if it has one.
-    pub(crate) fn after(
-        under: RequestIds,
-        told: Option<ResponseIds>,
-        last_open: ContextOpen,
-    ) -> Context
-        ensures { result ≡ context_after under told last_open }
-    {
-        match told {
-            None => Context { under, last_open },
-            Some(ids) => Context {
-                under: RequestIds {
-                    session_id: ids.session_id,
-                    tree_id: ids.tree_id,
-                },
-                last_open,
-            },
-        }
-    }
 }
 
-/// Whether a FileId asks for the open that is inherited on.
+/// Whether a FileId stands for the inherited open.
 fn is_all_ones(id: FileId) -> bool
     ensures { result ≡ is_all_ones id }
 {
     id.persistent == u64::MAX && id.volatile == u64::MAX
 }
 
-/// The open that a request names by its FileId, by what is inherited to it; None is inherited to one that is not related.
+/// The open that a FileId names, by the open that its request inherits.
 fn open_named(inherited: Option<ContextOpen>, id: FileId) -> ContextOpen
     ensures { result ≡ open_named inherited id }
 {
@@ -103,14 +65,14 @@ fn open_named(inherited: Option<ContextOpen>, id: FileId) -> ContextOpen
     }
 }
 
-/// The open that a request names, by its FileId, if it has one, and by what is inherited to it.
+/// The open that a request names by its FileId, if it has one.
 pub(crate) fn named_by(inherited: Option<ContextOpen>, id: Option<FileId>) -> Option<ContextOpen>
     ensures { result ≡ option_map (open_named inherited) id }
 {
     Some(open_named(inherited, id?))
 }
 
-/// The number of the open that a request names.
+/// The number of a named open; 0, which no open has, where none is named.
 pub(crate) fn number_named(named: Option<ContextOpen>) -> u64
     ensures { result ≡ number_named named }
 {
@@ -120,8 +82,8 @@ pub(crate) fn number_named(named: Option<ContextOpen>) -> u64
     }
 }
 
-/// The open that a request hands on that is no CREATE, by the FileId that it names, if it names one.
-fn named_on(inherited: Option<ContextOpen>, id: Option<FileId>) -> ContextOpen
+/// The open that a request other than CREATE hands on, by its FileId, if it has one.
+pub(crate) fn named_on(inherited: Option<ContextOpen>, id: Option<FileId>) -> ContextOpen
     ensures { result ≡ named_on inherited id }
 {
     match id {
@@ -133,7 +95,7 @@ fn named_on(inherited: Option<ContextOpen>, id: Option<FileId>) -> ContextOpen
     }
 }
 
-/// The open that a CREATE hands on which was answered by this status, by the number that the next open was to have.
+/// The open that a CREATE of this status hands on, by the number that the next open was to have.
 fn created_open(next: u64, status: Status) -> ContextOpen
     ensures { result ≡ created_open next status }
 {
@@ -146,18 +108,18 @@ fn created_open(next: u64, status: Status) -> ContextOpen
     }
 }
 
-/// The open that a request hands on, by its command, the FileId that it names and the status that answers it, if one does.
+/// The open that a request hands on, by its command, its FileId and its status.
 pub(crate) fn open_for_next_related(
     inherited: Option<ContextOpen>,
     next: u64,
     command: Option<Command>,
     id: Option<FileId>,
-    answer: Option<Status>,
+    status: Status,
 ) -> ContextOpen
-    ensures { result ≡ open_for_next_related inherited next command id answer }
+    ensures { result ≡ open_for_next_related inherited next command id status }
 {
-    match (command, answer) {
-        (Some(Command::Create), Some(status)) => created_open(next, status),
+    match command {
+        Some(Command::Create) => created_open(next, status),
         _ => named_on(inherited, id),
     }
 }

@@ -1,27 +1,27 @@
 //! CREATE and CLOSE ([MS-SMB2] 3.3.5.9, 3.3.5.10).
 
-ghost use Rattle.std.specs.Prelude.{◌≡◌, true, IsSome, IfOk, OnErr};
+ghost use Rattle.std.specs.Prelude.{◌≡◌, true, IsSome, IfOk, IfErr, IfSome};
 ghost use Rattle.smb_access.specs.Opens.{open_of};
 ghost use Rattle.smb_body.specs.Create.{create_asked};
 ghost use Rattle.smb_access.specs.Asked.{asked};
 ghost use Rattle.smb_request.specs.Owners.{stands};
 ghost use Rattle.smb_request.specs.Files.{file_asked, create_response, file_created, names_open, close_response, file_closed};
-ghost use Rattle.smb_request.specs.Outcome.{told_response, CanBeSpelled};
+ghost use Rattle.smb_request.specs.Bodies.{response_step, result_step, IsReadyAfter};
 
-use super::context::RequestIds;
-use super::outcome::{Success, Told};
+use super::call::Call;
+use super::context::HeaderIds;
+use super::refusal::Refusal;
+use super::response::{Body, Response};
 use super::server::Server;
-use super::status::Status;
 use smb_body::{CloseFlags, CloseResponse, CreateRequest, CreateResponse, OplockLevel};
-use smb_opens::{CreateAsk, Created, Opens, Owner, StoreFault, View};
+use smb_opens::{CreateAsk, Created, Opens, Owner, View};
 use smb_session::Authenticator;
 use smb_tree::Tree;
 use smb_wire::{FileAttributes, FileId};
-use std::alloc::AllocError;
 
 /// What a CREATE asks of the files, under a session and a tree.
-fn file_asked<'a>(under: RequestIds, request: &CreateRequest<'a>) -> CreateAsk<'a>
-    ensures { asked result ≡ file_asked under (create_asked request.now) }
+fn file_asked<'a>(ids: HeaderIds, request: &CreateRequest<'a>) -> CreateAsk<'a>
+    ensures { asked result ≡ file_asked ids (create_asked request.now) }
 {
     CreateAsk {
         name: request.name,
@@ -30,8 +30,8 @@ fn file_asked<'a>(under: RequestIds, request: &CreateRequest<'a>) -> CreateAsk<'
         share: request.share_access,
         disposition: request.create_disposition,
         options: request.create_options,
-        session: under.session_id,
-        tree: under.tree_id,
+        session: ids.session_id,
+        tree: ids.tree_id,
     }
 }
 
@@ -88,59 +88,47 @@ fn close_response(flags: CloseFlags, view: &View) -> CloseResponse
 }
 
 impl<A: Authenticator + Drop, T: Tree + Drop, O: Opens + Drop> Server<A, T, O> {
-    /// Whether a FileId names an open of this session and tree.
-    pub(crate) fn names_open(&self, under: RequestIds, id: FileId) -> bool
-        ensures { result ≡ names_open self.now.store.opens under id }
+    /// Whether a FileId names an open of this session and tree connect.
+    pub(crate) fn names_open(&self, ids: HeaderIds, id: FileId) -> bool
+        ensures { result ≡ names_open self.now.store.opens ids id }
     {
         if id.persistent != id.volatile {
             return false;
         }
         match self.store.opens().get(id.persistent) {
-            Some(row) => Owner::Tree(under.session_id, under.tree_id).holds(row),
+            Some(row) => Owner::Tree(ids.session_id, ids.tree_id).holds(row),
             None => false,
         }
     }
 
-    /// CREATE ([MS-SMB2] 3.3.5.9), under a session and a tree that stand.
-    #[tactic(auto, unfolding(crate::specs::Files::file_created))]
-    pub(crate) fn create_file(
+    /// CREATE ([MS-SMB2] 3.3.5.9), under a session and a tree connect that exist.
+    #[tactic(auto, unfolding(crate::specs::Files::file_created), using(crate::proofs::Refused::by_store))]
+    pub(crate) fn create_file<'a>(
         &mut self,
-        moment: u64,
-        under: RequestIds,
+        call: Call,
         request: &CreateRequest<'_>,
-    ) -> Result<Told, AllocError>
-        requires { stands self.old.sessions.table under.session_id under.tree_id ≡ true }
-        ensures ok { IfOk result (λ told. record { server = self.new; response = told_response A.meaning self.new told }
-            ≡ file_created moment self.old under (create_asked request.now)) }
-        ensures spelled { IfOk result (λ told. CanBeSpelled self.new told.outcome) }
-        ensures err { OnErr result (self.new ≡ self.old) }
+    ) -> Result<Response<'a>, Refusal>
+        requires { stands self.old.sessions.table call.ids.session_id call.ids.tree_id ≡ true }
+        ensures ok { IfSome (result_step A.meaning self.new call result) (λ step. step ≡ file_created self.old call (create_asked request.now)) }
+        ensures put { IfOk result (IsReadyAfter self.old self.new call) }
+        ensures err { IfErr result (λ refusal. self.new ≡ self.old) }
         ensures known { self.new.sessions.table.connections ≡ self.old.sessions.table.connections }
     {
-        let done = match self.store.create(&file_asked(under, request), moment) {
-            Ok(done) => done,
-            Err(StoreFault::Status(status)) => {
-                return Ok(Told::failed(under, Status::Store(status)));
-            }
-            Err(StoreFault::NoMemory) => return Err(AllocError),
-        };
-        Ok(Told::succeeded(under, Success::Create(create_response(&done))))
+        let ask = file_asked(call.ids, request);
+        let done = self.store.create(&ask, call.moment)?;
+        Ok(Response::success(call.ids, Body::Create(create_response(&done))))
     }
 
-    /// CLOSE ([MS-SMB2] 3.3.5.10) of the open of a number.
+    /// CLOSE ([MS-SMB2] 3.3.5.10).
     #[tactic(auto, unfolding(crate::specs::Files::file_closed))]
-    pub(crate) fn close_file(
-        &mut self,
-        under: RequestIds,
-        open_number: u64,
-        flags: CloseFlags,
-    ) -> Told
-        requires { IsSome (open_of self.old.store.opens open_number) }
-        ensures closed { record { server = self.new; response = told_response A.meaning self.new result } ≡ file_closed self.old under open_number flags }
-        ensures spelled { CanBeSpelled self.new result.outcome }
+    pub(crate) fn close_file<'a>(&mut self, call: Call, flags: CloseFlags) -> Response<'a>
+        requires { IsSome (open_of self.old.store.opens call.open_number) }
+        ensures closed { response_step A.meaning self.new call result ≡ file_closed self.old call flags }
+        ensures put { IsReadyAfter self.old self.new call result }
         ensures known { self.new.sessions.table.connections ≡ self.old.sessions.table.connections }
     {
-        let closed = self.store.close(open_number);
+        let closed = self.store.close(call.open_number);
         let response = close_response(flags, &closed.view);
-        Told::succeeded(under, Success::Close(response))
+        Response::success(call.ids, Body::Close(response))
     }
 }

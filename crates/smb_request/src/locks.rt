@@ -1,19 +1,20 @@
 //! LOCK ([MS-SMB2] 3.3.5.14).
 
-ghost use Rattle.std.specs.Prelude.{◌≡◌, take, IfOk, OnErr};
+ghost use Rattle.std.specs.Prelude.{◌≡◌, take, IfOk, IfErr, IfSome};
 ghost use Rattle.smb_body.specs.LockLists.{locks_of};
 ghost use Rattle.smb_body.specs.Lock.{lock_asked};
 ghost use Rattle.smb_request.specs.Locks.{lock_ask, lock_asks, asks_unlock, file_locked, file_unlocked, locks_changed};
-ghost use Rattle.smb_request.specs.Outcome.{told_response, CanBeSpelled};
+ghost use Rattle.smb_request.specs.Bodies.{result_step, IsReadyAfter};
+ghost use Rattle.smb_request.specs.declared.refusal.Refusal.TheVariants.{NoMemory};
 
-use super::context::RequestIds;
-use super::outcome::{Success, Told};
+use super::call::Call;
+use super::refusal::Refusal;
+use super::response::{Body, Response};
 use super::server::Server;
-use super::status::Status;
 use bitflags::Flags;
 use smb_body::{LockElement, LockList, LockRequest};
 use smb_locks::LockAsk;
-use smb_opens::{Opens, StoreFault};
+use smb_opens::Opens;
 use smb_session::Authenticator;
 use smb_tree::Tree;
 use smb_wire::LockFlags;
@@ -55,58 +56,47 @@ fn asks_unlock(asks: &[LockAsk]) -> bool
 }
 
 impl<A: Authenticator + Drop, T: Tree + Drop, O: Opens + Drop> Server<A, T, O> {
-    /// A LOCK that locks ([MS-SMB2] 3.3.5.14.2), of the open of a number.
-    #[tactic(auto, unfolding(crate::specs::Locks::file_locked))]
-    fn lock_file(
-        &mut self,
-        under: RequestIds,
-        open_number: u64,
-        asks: &[LockAsk],
-    ) -> Result<Told, AllocError>
-        ensures ok { IfOk result (λ told. record { server = self.new; response = told_response A.meaning self.new told }
-            ≡ file_locked self.old under open_number asks.now) }
-        ensures spelled { IfOk result (λ told. CanBeSpelled self.new told.outcome) }
-        ensures err { OnErr result (self.new ≡ self.old) }
+    /// A LOCK that locks ([MS-SMB2] 3.3.5.14.2).
+    #[tactic(auto, unfolding(crate::specs::Locks::file_locked), using(crate::proofs::Refused::by_lock))]
+    fn lock_file<'a>(&mut self, call: Call, asks: &[LockAsk]) -> Result<Response<'a>, Refusal>
+        ensures ok { IfSome (result_step A.meaning self.new call result) (λ step. step ≡ file_locked self.old call asks.now) }
+        ensures put { IfOk result (IsReadyAfter self.old self.new call) }
+        ensures err { IfErr result (λ refusal. self.new ≡ self.old) }
         ensures known { self.new.sessions.table.connections ≡ self.old.sessions.table.connections }
     {
-        match self.store.lock(open_number, asks) {
-            Ok(()) => Ok(Told::succeeded(under, Success::Lock)),
-            Err(StoreFault::Status(status)) => Ok(Told::failed(under, Status::Store(status))),
-            Err(StoreFault::NoMemory) => Err(AllocError),
-        }
+        self.store.lock(call.open_number, asks)?;
+        Ok(Response::success(call.ids, Body::Lock))
     }
 
-    /// A LOCK that unlocks ([MS-SMB2] 3.3.5.14.1), of the open of a number. It takes no memory.
-    #[tactic(auto, unfolding(crate::specs::Locks::file_unlocked))]
-    fn unlock_file(&mut self, under: RequestIds, open_number: u64, asks: &[LockAsk]) -> Told
-        ensures unlocked { record { server = self.new; response = told_response A.meaning self.new result } ≡ file_unlocked self.old under open_number asks.now }
-        ensures spelled { CanBeSpelled self.new result.outcome }
+    /// A LOCK that unlocks ([MS-SMB2] 3.3.5.14.1). It takes no memory.
+    #[tactic(auto, unfolding(crate::specs::Locks::file_unlocked), using(crate::proofs::Refused::by_code))]
+    fn unlock_file<'a>(&mut self, call: Call, asks: &[LockAsk]) -> Result<Response<'a>, Refusal>
+        ensures ok { IfSome (result_step A.meaning self.new call result) (λ step. step ≡ file_unlocked self.old call asks.now) }
+        ensures put { IfOk result (IsReadyAfter self.old self.new call) }
+        ensures err { IfErr result (λ refusal. refusal ≡ NoMemory → self.new ≡ self.old) }
         ensures known { self.new.sessions.table.connections ≡ self.old.sessions.table.connections }
     {
-        match self.store.unlock(open_number, asks) {
-            Ok(()) => Told::succeeded(under, Success::Lock),
-            Err(status) => Told::failed(under, Status::Store(status)),
-        }
+        self.store.unlock(call.open_number, asks)?;
+        Ok(Response::success(call.ids, Body::Lock))
     }
 
-    /// LOCK ([MS-SMB2] 3.3.5.14) of the open of a number. After an error, for want of memory, all is as it was.
-    pub(crate) fn change_locks(
+    /// LOCK ([MS-SMB2] 3.3.5.14). After a refusal by a status, the elements before that which was refused stay unlocked.
+    pub(crate) fn change_locks<'a>(
         &mut self,
-        under: RequestIds,
-        open_number: u64,
+        call: Call,
         request: &LockRequest<'_>,
-    ) -> Result<Told, AllocError>
-        ensures ok { IfOk result (λ told. record { server = self.new; response = told_response A.meaning self.new told }
-            ≡ locks_changed self.old under open_number (lock_asks (lock_asked request.now).locks)) }
-        ensures spelled { IfOk result (λ told. CanBeSpelled self.new told.outcome) }
-        ensures err { OnErr result (self.new ≡ self.old) }
+    ) -> Result<Response<'a>, Refusal>
+        ensures ok { IfSome (result_step A.meaning self.new call result) (λ step. step
+            ≡ locks_changed self.old call (lock_asks (lock_asked request.now).locks)) }
+        ensures put { IfOk result (IsReadyAfter self.old self.new call) }
+        ensures err { IfErr result (λ refusal. refusal ≡ NoMemory → self.new ≡ self.old) }
         ensures known { self.new.sessions.table.connections ≡ self.old.sessions.table.connections }
     {
         let asks = lock_asks(self.allocator(), request.locks)?;
         if asks_unlock(&asks) {
-            Ok(self.unlock_file(under, open_number, &asks))
+            self.unlock_file(call, &asks)
         } else {
-            self.lock_file(under, open_number, &asks)
+            self.lock_file(call, &asks)
         }
     }
 }

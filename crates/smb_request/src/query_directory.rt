@@ -8,7 +8,7 @@ ghost use Rattle.smb_opens.specs.Views.{open_view};
 ghost use Rattle.smb_request.specs.InPlace.{answer_held, answer_behind};
 ghost use Rattle.smb_request.specs.QueryDirectory.{list_asked_by, directory_refusal, listing_refusal, view_refusal, listed_as_asked, listing_refused, directory_queried};
 
-use super::context::{RequestIds, ResponseIds};
+use super::call::Call;
 use super::response::{Answered, put_response};
 use super::server::Server;
 use super::status::Status;
@@ -23,31 +23,6 @@ use std::alloc::AllocError;
 
 /// The most bytes that one request is answered by.
 const MOST_AT_ONCE: u32 = 65_536;
-
-/// A query of the directory of an open. It is performed where its response is put, so that what it lists is written once.
-#[derive(Clone, Copy)]
-pub(crate) struct DirectoryQuery<'a> {
-    pub(crate) under: RequestIds,
-    pub(crate) open_number: u64,
-    pub(crate) request: QueryDirectoryRequest<'a>,
-}
-
-impl<'a> DirectoryQuery<'a> {
-    /// What a request asks that acts under this, of the open of a number.
-    pub(crate) fn of(
-        under: RequestIds,
-        open_number: u64,
-        request: &QueryDirectoryRequest<'a>,
-    ) -> DirectoryQuery<'a>
-        ensures { result ≡ record { under = under; open_number = open_number; request = request.now } }
-    {
-        DirectoryQuery {
-            under,
-            open_number,
-            request: *request,
-        }
-    }
-}
 
 /// What a refusal of a listing comes to.
 #[derive(Clone, Copy)]
@@ -117,23 +92,22 @@ impl<A: Authenticator + Drop, T: Tree + Drop, O: Opens + Drop> Server<A, T, O> {
     /// was.
     fn refuse_listing(
         &mut self,
-        query: &DirectoryQuery<'_>,
+        call: Call,
         refusal: &ListingRefusal,
         out: &mut Vec<u8>,
     ) -> Result<Answered, AllocError>
-        ensures server { OnOk result (self.new ≡ (listing_refused self.old query.now.under query.now.open_number refusal.now).server) }
+        ensures server { OnOk result (self.new ≡ (listing_refused self.old call refusal.now).server) }
         ensures ok { IfOk result (λ r. answer_held r out.new.items
-            ≡ answer_behind out.old.items (listing_refused self.old query.now.under query.now.open_number refusal.now).response) }
+            ≡ answer_behind out.old.items (listing_refused self.old call refusal.now).response) }
         ensures len { OnOk result (length out.new.items ≤ length out.old.items + 65552) }
         ensures err { OnErr result (self.new ≡ self.old) }
         ensures out { OnErr result (out.new.items ≡ out.old.items) }
         ensures kept { take (length out.old.items) out.new.items ≡ out.old.items }
         ensures known { self.new.sessions.table.connections ≡ self.old.sessions.table.connections }
     {
-        let ids = ResponseIds::of(query.under);
-        let answered = put_response(refusal.status, ids, &Reply::Error, out)?;
+        let answered = put_response(refusal.status, call.ids, &Reply::Error, out)?;
         if let Some(scan) = refusal.scan {
-            self.store.set_scan(query.open_number, scan);
+            self.store.set_scan(call.open_number, scan);
         }
         Ok(answered)
     }
@@ -142,14 +116,15 @@ impl<A: Authenticator + Drop, T: Tree + Drop, O: Opens + Drop> Server<A, T, O> {
     /// it was.
     fn list_directory(
         &mut self,
-        query: &DirectoryQuery<'_>,
+        call: Call,
+        asked: &QueryDirectoryRequest<'_>,
         out: &mut Vec<u8>,
     ) -> Result<Answered, AllocError>
-        requires open { IsSome (open_of self.old.store.opens query.now.open_number) }
-        requires room { (query_directory_asked query.now.request).output_buffer_length ≤ 65536 }
-        ensures server { OnOk result (self.new ≡ (listed_as_asked self.old query.now.under query.now.open_number (list_asked_by (query_directory_asked query.now.request))).server) }
+        requires open { IsSome (open_of self.old.store.opens call.open_number) }
+        requires room { (query_directory_asked asked.now).output_buffer_length ≤ 65536 }
+        ensures server { OnOk result (self.new ≡ (listed_as_asked self.old call (list_asked_by (query_directory_asked asked.now))).server) }
         ensures ok { IfOk result (λ r. answer_held r out.new.items ≡ answer_behind out.old.items
-            (listed_as_asked self.old query.now.under query.now.open_number (list_asked_by (query_directory_asked query.now.request))).response) }
+            (listed_as_asked self.old call (list_asked_by (query_directory_asked asked.now))).response) }
         ensures len { OnOk result (length out.new.items ≤ length out.old.items + 65552) }
         ensures err { OnErr result (self.new ≡ self.old) }
         ensures out { OnErr result (out.new.items ≡ out.old.items) }
@@ -157,14 +132,14 @@ impl<A: Authenticator + Drop, T: Tree + Drop, O: Opens + Drop> Server<A, T, O> {
         ensures known { self.new.sessions.table.connections ≡ self.old.sessions.table.connections }
     {
         let start = open_query_response(out)?;
-        let ask = list_ask(&query.request);
-        match list(&self.store, query.open_number, &ask, out) {
+        let ask = list_ask(asked);
+        match list(&self.store, call.open_number, &ask, out) {
             Ok(scan) => {
                 close_query_response(start, out);
-                self.store.set_scan(query.open_number, scan);
+                self.store.set_scan(call.open_number, scan);
                 Ok(Answered {
                     status: Status::Success,
-                    ids: ResponseIds::of(query.under),
+                    ids: call.ids,
                 })
             }
             Err(fault) => {
@@ -175,7 +150,7 @@ impl<A: Authenticator + Drop, T: Tree + Drop, O: Opens + Drop> Server<A, T, O> {
                         let Some(refusal) = listing_refusal(fault) else {
                             unreachable!();
                         };
-                        let answered = self.refuse_listing(query, &refusal, out)?;
+                        let answered = self.refuse_listing(call, &refusal, out)?;
                         Ok(answered)
                     }
                 }
@@ -188,13 +163,14 @@ impl<A: Authenticator + Drop, T: Tree + Drop, O: Opens + Drop> Server<A, T, O> {
     #[tactic(auto, unfolding(crate::specs::QueryDirectory::directory_queried))]
     pub(crate) fn query_directory(
         &mut self,
-        query: &DirectoryQuery<'_>,
+        call: Call,
+        asked: &QueryDirectoryRequest<'_>,
         out: &mut Vec<u8>,
     ) -> Result<Answered, AllocError>
-        requires { IsSome (open_of self.old.store.opens query.now.open_number) }
-        ensures server { OnOk result (self.new ≡ (directory_queried self.old query.now.under query.now.open_number (query_directory_asked query.now.request)).server) }
+        requires { IsSome (open_of self.old.store.opens call.open_number) }
+        ensures server { OnOk result (self.new ≡ (directory_queried self.old call (query_directory_asked asked.now)).server) }
         ensures ok { IfOk result (λ r. answer_held r out.new.items ≡ answer_behind out.old.items
-            (directory_queried self.old query.now.under query.now.open_number (query_directory_asked query.now.request)).response) }
+            (directory_queried self.old call (query_directory_asked asked.now)).response) }
         ensures len { OnOk result (length out.new.items ≤ length out.old.items + 65552) }
         ensures err { OnErr result (self.new ≡ self.old) }
         ensures out { OnErr result (out.new.items ≡ out.old.items) }
@@ -202,9 +178,9 @@ impl<A: Authenticator + Drop, T: Tree + Drop, O: Opens + Drop> Server<A, T, O> {
         ensures known { self.new.sessions.table.connections ≡ self.old.sessions.table.connections }
     {
         let _ = &self.sessions;
-        if let Some(status) = self.directory_refusal(query.open_number, &query.request) {
-            return put_response(status, ResponseIds::of(query.under), &Reply::Error, out);
+        if let Some(status) = self.directory_refusal(call.open_number, asked) {
+            return put_response(status, call.ids, &Reply::Error, out);
         }
-        self.list_directory(query, out)
+        self.list_directory(call, asked, out)
     }
 }

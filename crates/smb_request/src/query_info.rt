@@ -1,61 +1,60 @@
 //! QUERY_INFO ([MS-SMB2] 3.3.5.20).
 
-ghost use Rattle.std.specs.Prelude.{◌≡◌, IsSome, IfOk, IfErr};
+ghost use Rattle.std.specs.Prelude.{◌≡◌, IsSome, IfOk, IfErr, IfSome, OnOk, Some, None};
 ghost use Rattle.smb_info.specs.FileSystemInformation.{fs_information};
 ghost use Rattle.smb_access.specs.Opens.{open_of};
-ghost use Rattle.smb_request.specs.Information.{query_type_refusal, request_refusal, IsToldOf, IsWhy};
-ghost use Rattle.smb_request.specs.Outcome.{told_response, CanBeSpelled};
-ghost use Rattle.smb_request.specs.QueryInfo.{open_information, volume_of, information_asked, information_queried};
+ghost use Rattle.smb_request.specs.Bodies.{result_step, IsReadyAfter};
+ghost use Rattle.smb_request.specs.Information.{IsToldOf, IsWhy};
+ghost use Rattle.smb_request.specs.QueryInfo.{open_information, volume_of, information_asked, request_refusal, information_queried};
 
-use super::context::{RequestIds, ResponseIds};
-use super::information::{InformationTold, fault_status};
-use super::outcome::{Outcome, Told};
+use super::call::Call;
+use super::information::written_status;
+use super::refusal::Refusal;
+use super::response::{Answered, Body, Response};
 use super::server::Server;
 use super::status::Status;
 use smb_body::{InfoType, QueryInfoRequest};
-use smb_info::{InfoFault, file_info, fs_info};
+use smb_info::{InfoFault, Written, file_info, fs_info};
 use smb_opens::Opens;
 use smb_session::Authenticator;
 use smb_tree::{Tree, TreeFault};
-use std::alloc::AllocError;
 
 /// The most bytes that one request is answered by.
 const MOST_AT_ONCE: u32 = 65_536;
 
-/// Why nothing is told of this type of information, or None for that of a file, a folder or the share as a file system.
-fn type_refusal(info_type: InfoType) -> Option<Status>
-    ensures { result ≡ query_type_refusal info_type.0 }
-{
-    if info_type == InfoType::SECURITY || info_type == InfoType::QUOTA {
-        return Some(Status::NotSupported);
-    }
-    if info_type != InfoType::FILE && info_type != InfoType::FILESYSTEM {
-        return Some(Status::InvalidParameter);
-    }
-    None
+/// Information of a class: whether that is all, and its bytes, as many as there is room for.
+#[derive(Debug, Drop)]
+pub(crate) struct InformationBytes {
+    pub(crate) written: Written,
+    pub(crate) bytes: Vec<u8>,
 }
 
-/// Why a request is refused whatever its class tells, or None.
-fn request_refusal(request: &QueryInfoRequest) -> Option<Status>
-    ensures { result ≡ request_refusal request.now }
+/// Checks what does not depend on the information that is asked for.
+fn check_request(request: &QueryInfoRequest) -> Result<(), Status>
+    ensures ok { OnOk result (request_refusal request.now ≡ None) }
+    ensures err { IfErr result (λ status. request_refusal request.now ≡ Some status) }
 {
-    if let Some(status) = type_refusal(request.info_type) {
-        return Some(status);
+    let info_type = request.info_type;
+    if info_type == InfoType::SECURITY || info_type == InfoType::QUOTA {
+        return Err(Status::NotSupported);
+    }
+    if info_type != InfoType::FILE && info_type != InfoType::FILESYSTEM {
+        return Err(Status::InvalidParameter);
     }
     if request.output_buffer_length > MOST_AT_ONCE {
-        return Some(Status::InvalidParameter);
+        return Err(Status::InvalidParameter);
     }
-    None
+    Ok(())
 }
 
 impl<A: Authenticator + Drop, T: Tree + Drop, O: Opens + Drop> Server<A, T, O> {
-    /// What the class of a number tells of the entry of an open, at most `room` bytes of it.
+    /// Information of the class of a number on the entry of an open, at most `room` bytes of it.
     fn open_information(
         &self,
         open_number: u64,
         class: u8,
         room: usize,
-    ) -> Result<InformationTold, InfoFault>
+    ) -> Result<InformationBytes, InfoFault>
         requires { IsSome (open_of self.now.store.opens open_number) }
         ensures ok { IfOk result (IsToldOf (open_information self.now.store open_number class) room) }
         ensures why { IfErr result (IsWhy (open_information self.now.store open_number class) room) }
@@ -73,25 +72,25 @@ impl<A: Authenticator + Drop, T: Tree + Drop, O: Opens + Drop> Server<A, T, O> {
         };
         let mut bytes = Vec::new(self.allocator());
         let written = file_info(class, &entry, row.access, room, &mut bytes)?;
-        Ok(InformationTold { written, bytes })
+        Ok(InformationBytes { written, bytes })
     }
 
-    /// What the class of a number tells of the share as a file system, at most `room` bytes of it.
-    fn volume_information(&self, class: u8, room: usize) -> Result<InformationTold, InfoFault>
+    /// Information of the class of a number on the share as a file system, at most `room` bytes of it.
+    fn volume_information(&self, class: u8, room: usize) -> Result<InformationBytes, InfoFault>
         ensures ok { IfOk result (IsToldOf (fs_information class (volume_of self.now)) room) }
         ensures why { IfErr result (IsWhy (fs_information class (volume_of self.now)) room) }
     {
         let mut bytes = Vec::new(self.allocator());
         let written = fs_info(class, &self.volume(), room, &mut bytes)?;
-        Ok(InformationTold { written, bytes })
+        Ok(InformationBytes { written, bytes })
     }
 
-    /// What a request asks for, of the open of a number or of the share as a file system.
+    /// The information that a request asks for, on the entry of an open or on the share as a file system.
     fn information_asked(
         &self,
         open_number: u64,
         request: &QueryInfoRequest,
-    ) -> Result<InformationTold, InfoFault>
+    ) -> Result<InformationBytes, InfoFault>
         requires { IsSome (open_of self.now.store.opens open_number) }
         ensures ok { IfOk result (IsToldOf (information_asked self.now open_number request.now) request.now.output_buffer_length) }
         ensures why { IfErr result (IsWhy (information_asked self.now open_number request.now) request.now.output_buffer_length) }
@@ -105,28 +104,23 @@ impl<A: Authenticator + Drop, T: Tree + Drop, O: Opens + Drop> Server<A, T, O> {
         }
     }
 
-    /// QUERY_INFO ([MS-SMB2] 3.3.5.20) of the open of a number. An error says that memory could not be had.
+    /// QUERY_INFO ([MS-SMB2] 3.3.5.20).
     #[tactic(auto, unfolding(crate::specs::QueryInfo::information_queried))]
-    pub(crate) fn query_info(
+    pub(crate) fn query_info<'a>(
         &self,
-        under: RequestIds,
-        open_number: u64,
+        call: Call,
         request: &QueryInfoRequest,
-    ) -> Result<Told, AllocError>
-        requires { IsSome (open_of self.now.store.opens open_number) }
-        ensures ok { IfOk result (λ told. record { server = self.now; response = told_response A.meaning self.now told }
-            ≡ information_queried self.now under open_number request.now) }
-        ensures spelled { IfOk result (λ told. CanBeSpelled self.now told.outcome) }
+    ) -> Result<Response<'a>, Refusal>
+        requires { IsSome (open_of self.now.store.opens call.open_number) }
+        ensures ok { IfSome (result_step A.meaning self.now call result) (λ step. step ≡ information_queried self.now call request.now) }
+        ensures put { IfOk result (IsReadyAfter self.now self.now call) }
     {
-        if let Some(status) = request_refusal(request) {
-            return Ok(Told::failed(under, status));
-        }
-        match self.information_asked(open_number, request) {
-            Ok(told) => Ok(Told {
-                ids: ResponseIds::of(under),
-                outcome: Outcome::Informs(told),
-            }),
-            Err(fault) => Ok(Told::failed(under, fault_status(fault)?)),
-        }
+        check_request(request)?;
+        let information = self.information_asked(call.open_number, request)?;
+        let answered = Answered {
+            status: written_status(information.written),
+            ids: call.ids,
+        };
+        Ok(Response::Ready(answered, Body::QueryInfo(information.bytes)))
     }
 }

@@ -1,22 +1,32 @@
-//! What answers a request.
+//! The response to a request, before and behind the writing of its body.
 
-ghost use Rattle.std.specs.Prelude.{◌≡◌, ◌≤◌, ◌+◌, IfOk, OnOk, OnErr, length, take};
-ghost use Rattle.smb_body.specs.Replies.{reply_value, reply_length};
-ghost use Rattle.smb_request.specs.Response.{with_body};
+ghost use Rattle.std.specs.Prelude.{◌≡◌, ◌≤◌, ◌+◌, ◌++◌, OnOk, OnErr, IfOk, IfErr, length, take};
+ghost use Rattle.smb_body.specs.Replies.{reply_value, reply_length, reply_spelling};
+ghost use Rattle.smb_request.specs.Bodies.{body_value, response_step, IsShort, CanBePut, no_reply_of};
 ghost use Rattle.smb_request.specs.InPlace.{answer_held, answer_behind};
+ghost use Rattle.smb_request.specs.Response.{with_body};
 
-use super::context::ResponseIds;
+use super::call::Call;
+use super::context::HeaderIds;
+use super::server::Server;
+use super::session::TREE;
 use super::status::Status;
-use smb_body::{Reply, write_reply};
+use smb_body::{
+    CloseResponse, CreateResponse, QueryDirectoryRequest, QueryResponse, Reply, SessionFlags,
+    SessionSetupResponse, WriteResponse, write_reply,
+};
+use smb_opens::Opens;
+use smb_session::Authenticator;
+use smb_tree::Tree;
+use smb_wire::Dialect;
 use std::alloc::AllocError;
 use thiserror::Error;
 
-/// What answers a request, but for its body, which stands where it is sent from: its status, and the session and the
-/// tree that it tells.
+/// A response but for its body, which is where it is sent from: its status, and the ids of its header.
 #[derive(Clone, Copy, Debug, PartialEq, Eq)]
 pub struct Answered {
     pub status: Status,
-    pub ids: ResponseIds,
+    pub ids: HeaderIds,
 }
 
 /// Where memory ran out in a request.
@@ -25,15 +35,66 @@ pub enum NoReply {
     /// Before it was performed: all is as it was.
     #[error("no memory, before the request was performed")]
     NotPerformed,
-    /// When it was answered: what it does is done.
+    /// As its response was written: what it does is done.
     #[error("no memory for the response to a request that was performed")]
     Performed,
 }
 
-/// Adds the body of this reply to `out`, for a response of this status. After an error `out` is as it was.
+/// Bytes of a file by which a READ is answered.
+#[derive(Clone, Copy, Debug)]
+pub(crate) struct FileRange {
+    pub(crate) offset: u64,
+    pub(crate) length: u32,
+    pub(crate) minimum_count: u32,
+    /// How many bytes there are.
+    pub(crate) there: u32,
+}
+
+/// What the body of a response is made of.
+#[derive(Debug, Drop)]
+pub(crate) enum Body {
+    Error,
+    Negotiate(Dialect),
+    SessionSetup { flags: SessionFlags, token: Vec<u8> },
+    Logoff,
+    TreeConnect,
+    TreeDisconnect,
+    Create(CreateResponse),
+    Close(CloseResponse),
+    Flush,
+    Write(WriteResponse),
+    Lock,
+    Echo,
+    /// As many bytes of an information class as there is room for.
+    QueryInfo(Vec<u8>),
+    SetInfo,
+}
+
+/// The response to a request, whose body is still to be written.
+#[derive(Drop)]
+pub(crate) enum Response<'a> {
+    /// A status and ids, with a body.
+    Ready(Answered, Body),
+    /// Success with bytes of a file, which go from the file tree straight into the response.
+    Bytes(FileRange),
+    /// A query of a directory, which is performed where its listing is written.
+    Listing(QueryDirectoryRequest<'a>),
+}
+
+impl<'a> Response<'a> {
+    /// A success under these ids.
+    pub(crate) fn success(ids: HeaderIds, body: Body) -> Response<'a>
+        ensures { result ≡ Response.Ready (record { status = Status.Success; ids = ids }) body }
+    {
+        let status = Status::Success;
+        Response::Ready(Answered { status, ids }, body)
+    }
+}
+
+/// Adds the body of a reply to `out`, for a response of this status. After an error `out` is as it was.
 pub(crate) fn put_response(
     status: Status,
-    ids: ResponseIds,
+    ids: HeaderIds,
     reply: &Reply<'_>,
     out: &mut Vec<u8>,
 ) -> Result<Answered, AllocError>
@@ -46,5 +107,73 @@ pub(crate) fn put_response(
     match write_reply(reply, out) {
         Ok(()) => Ok(Answered { status, ids }),
         Err(_) => Err(AllocError),
+    }
+}
+
+impl<A: Authenticator + Drop, T: Tree + Drop, O: Opens + Drop> Server<A, T, O> {
+    /// The reply that a body is.
+    fn reply_of<'a>(&'a self, call: Call, body: &'a Body) -> Reply<'a>
+        requires { IsShort body.now }
+        ensures value { reply_value result ≡ body_value A.meaning self.now call body.now }
+        ensures short { reply_length (reply_value result) ≤ 65552 }
+    {
+        match body {
+            Body::Error => Reply::Error,
+            Body::Negotiate(dialect) => self.negotiate_response(call.moment, dialect.revision()),
+            Body::SessionSetup { flags, token } => Reply::SessionSetup(SessionSetupResponse {
+                session_flags: *flags,
+                security_buffer: token,
+            }),
+            Body::Logoff => Reply::Logoff,
+            Body::TreeConnect => Reply::TreeConnect(TREE),
+            Body::TreeDisconnect => Reply::TreeDisconnect,
+            Body::Create(response) => Reply::Create(*response),
+            Body::Close(response) => Reply::Close(*response),
+            Body::Flush => Reply::Flush,
+            Body::Write(response) => Reply::Write(*response),
+            Body::Lock => Reply::Lock,
+            Body::Echo => Reply::Echo,
+            Body::QueryInfo(bytes) => Reply::QueryInfo(QueryResponse {
+                output_buffer: bytes,
+            }),
+            Body::SetInfo => Reply::SetInfo,
+        }
+    }
+
+    /// Adds the body of a response to `out`. After an error `out` is as it was, and so is the server.
+    pub(crate) fn put(
+        &mut self,
+        call: Call,
+        response: &Response<'_>,
+        out: &mut Vec<u8>,
+    ) -> Result<Answered, NoReply>
+        requires { CanBePut self.old call response.now }
+        ensures server { OnOk result (self.new ≡ (response_step A.meaning self.old call response.now).server) }
+        ensures ok { IfOk result (λ r. answer_held r out.new.items
+            ≡ answer_behind out.old.items (response_step A.meaning self.old call response.now).response) }
+        ensures len { OnOk result (length out.new.items ≤ length out.old.items + 65552) }
+        ensures err { IfErr result (λ no_reply. no_reply ≡ no_reply_of response.now) }
+        ensures state { OnErr result (self.new ≡ self.old) }
+        ensures out { OnErr result (out.new.items ≡ out.old.items) }
+        ensures kept { take (length out.old.items) out.new.items ≡ out.old.items }
+        ensures known { self.new.sessions.table.connections ≡ self.old.sessions.table.connections }
+    {
+        match response {
+            Response::Ready(answered, body) => {
+                let reply = self.reply_of(call, body);
+                match put_response(answered.status, answered.ids, &reply, out) {
+                    Ok(answered) => Ok(answered),
+                    Err(_) => Err(NoReply::Performed),
+                }
+            }
+            Response::Bytes(range) => match self.put_bytes(call, range, out) {
+                Ok(answered) => Ok(answered),
+                Err(_) => Err(NoReply::Performed),
+            },
+            Response::Listing(asked) => match self.query_directory(call, asked, out) {
+                Ok(answered) => Ok(answered),
+                Err(_) => Err(NoReply::NotPerformed),
+            },
+        }
     }
 }

@@ -2,16 +2,18 @@
 //!
 //! Where a session or a tree ends, the opens beneath are closed; that takes no memory.
 
-ghost use Rattle.std.specs.Prelude.{◌≡◌, ◌≢◌, ◌≤◌, IfOk, OnErr, IsSomeAnd, length};
+ghost use Rattle.std.specs.Prelude.{◌≡◌, IfOk, IfErr, IfSome};
 ghost use Rattle.smb_wire.specs.Units.{units_of};
 ghost use Rattle.smb_body.specs.SessionSetup.{session_setup_asked};
 ghost use Rattle.smb_request.specs.Session.{closed_for, status_of_refusal, session_set_up, session_logged_off, tree_response, tree_joined, tree_left};
-ghost use Rattle.smb_request.specs.Context.{ids_of};
-ghost use Rattle.smb_request.specs.Held.{opens_left, setup_outcome};
-ghost use Rattle.smb_request.specs.Outcome.{told_response, CanBeSpelled};
+ghost use Rattle.smb_request.specs.Held.{opens_left, setup_response_of};
+ghost use Rattle.smb_request.specs.Bodies.{result_step, IsReadyAfter};
+ghost use Rattle.smb_request.specs.declared.refusal.Refusal.TheVariants.{NoMemory};
 
-use super::context::{RequestIds, ResponseIds};
-use super::outcome::{Outcome, SetupTold, Success, Told};
+use super::call::Call;
+use super::context::HeaderIds;
+use super::refusal::Refusal;
+use super::response::{Answered, Body, Response};
 use super::server::Server;
 use super::status::Status;
 use smb_body::{
@@ -32,7 +34,7 @@ pub(crate) const TREE: TreeConnectResponse = TreeConnectResponse {
 };
 
 /// The status of a refusal. Out of memory has none.
-fn status_of_refusal(fault: SessionFault) -> Option<Status>
+pub(crate) fn status_of_refusal(fault: SessionFault) -> Option<Status>
     ensures { result ≡ status_of_refusal fault }
 {
     match fault {
@@ -45,31 +47,35 @@ fn status_of_refusal(fault: SessionFault) -> Option<Status>
     }
 }
 
-/// What comes of a request that the sessions refuse. Out of memory is no refusal: nothing was performed.
-fn refused_by(under: RequestIds, fault: SessionFault) -> Result<Told, AllocError>
-    ensures ok { IfOk result (λ told. IsSomeAnd (status_of_refusal fault) (λ status. told ≡ record { ids = ids_of under; outcome = Outcome.Failed status })) }
-    ensures memory { IfOk result (λ told. fault ≢ SessionFault.NoMemory) }
-    ensures err { OnErr result (fault ≡ SessionFault.NoMemory) }
+/// The body of a SESSION_SETUP's response that is no failure.
+fn setup_body(flags: u16, token: Vec<u8>) -> Body
+    ensures { result ≡ Body.SessionSetup (record { 0 = flags }) token }
 {
-    match status_of_refusal(fault) {
-        Some(status) => Ok(Told::failed(under, status)),
-        None => Err(AllocError),
+    Body::SessionSetup {
+        flags: SessionFlags(flags),
+        token,
     }
 }
 
-/// What comes of a SESSION_SETUP that was not refused ([MS-SMB2] 2.2.6).
-fn setup_outcome(done: SetupDone) -> Outcome
-    ensures { result ≡ setup_outcome done }
+/// The response to a SESSION_SETUP that was not refused ([MS-SMB2] 2.2.6).
+fn setup_response_of<'a>(ids: HeaderIds, done: SetupDone) -> Response<'a>
+    ensures { result ≡ setup_response_of ids done }
 {
-    let told = SetupTold {
-        session_flags: SessionFlags(done.flags),
-        token: done.token,
+    let ids = HeaderIds {
+        session_id: done.session,
+        ..ids
     };
-    match done.status {
-        SetupStatus::Success => Outcome::Succeeded(Success::SessionSetup(told)),
-        SetupStatus::MoreProcessingRequired => Outcome::GoesOn(told),
-        SetupStatus::LogonFailure => Outcome::Failed(Status::LogonFailure),
-    }
+    let (status, body) = match done.status {
+        SetupStatus::LogonFailure => (Status::LogonFailure, Body::Error),
+        SetupStatus::Success => (Status::Success, setup_body(done.flags, done.token)),
+        SetupStatus::MoreProcessingRequired => {
+            (
+                Status::MoreProcessingRequired,
+                setup_body(done.flags, done.token),
+            )
+        }
+    };
+    Response::Ready(Answered { status, ids }, body)
 }
 
 /// Closes the opens of a session that ended, where one did.
@@ -84,17 +90,16 @@ fn close_ended<T: Tree + Drop, O: Opens + Drop>(store: &mut Store<T, O>, ended: 
 
 impl<A: Authenticator + Drop, T: Tree + Drop, O: Opens + Drop> Server<A, T, O> {
     /// SESSION_SETUP ([MS-SMB2] 3.3.5.5).
-    #[tactic(auto, unfolding(crate::specs::Session::session_set_up))]
-    pub(crate) fn set_up(
+    #[tactic(auto, unfolding(crate::specs::Session::session_set_up), using(crate::proofs::Refused::unless_session))]
+    pub(crate) fn set_up<'a>(
         &mut self,
-        connection: u64,
-        under: RequestIds,
+        call: Call,
         asked: &SessionSetupRequest<'_>,
-    ) -> Result<Told, AllocError>
-        ensures ok { IfOk result (λ told. record { server = self.new; response = told_response A.meaning self.new told }
-            ≡ session_set_up A.meaning connection self.old under (session_setup_asked asked.now)) }
-        ensures spelled { IfOk result (λ told. CanBeSpelled self.new told.outcome) }
-        ensures err { OnErr result (self.new ≡ self.old) }
+    ) -> Result<Response<'a>, Refusal>
+        ensures ok { IfSome (result_step A.meaning self.new call result) (λ step. step
+            ≡ session_set_up A.meaning self.old call (session_setup_asked asked.now)) }
+        ensures put { IfOk result (IsReadyAfter self.old self.new call) }
+        ensures err { IfErr result (λ refusal. self.new ≡ self.old) }
         ensures known { self.new.sessions.table.connections ≡ self.old.sessions.table.connections }
     {
         self.sessions.good();
@@ -103,89 +108,64 @@ impl<A: Authenticator + Drop, T: Tree + Drop, O: Opens + Drop> Server<A, T, O> {
             previous_session: asked.previous_session_id,
             token: asked.security_buffer,
         };
-        let done = match self.sessions.setup(connection, under.session_id, &ask) {
-            Ok(done) => done,
-            Err(fault) => return refused_by(under, fault),
-        };
+        let done = self
+            .sessions
+            .setup(call.connection, call.ids.session_id, &ask)?;
         close_ended(&mut self.store, done.ended);
-        let ids = ResponseIds {
-            session_id: done.session,
-            ..ResponseIds::of(under)
-        };
-        let outcome = setup_outcome(done);
-        Ok(Told { ids, outcome })
+        Ok(setup_response_of(call.ids, done))
     }
 
     /// LOGOFF ([MS-SMB2] 3.3.5.6).
-    #[tactic(auto, unfolding(crate::specs::Session::session_logged_off))]
-    pub(crate) fn log_off(&mut self, connection: u64, under: RequestIds) -> Result<Told, AllocError>
-        ensures ok { IfOk result (λ told. record { server = self.new; response = told_response A.meaning self.new told }
-            ≡ session_logged_off connection self.old under) }
-        ensures spelled { IfOk result (λ told. CanBeSpelled self.new told.outcome) }
-        ensures err { OnErr result (self.new ≡ self.old) }
+    #[tactic(auto, unfolding(crate::specs::Session::session_logged_off), using(crate::proofs::Refused::unless_session))]
+    pub(crate) fn log_off<'a>(&mut self, call: Call) -> Result<Response<'a>, Refusal>
+        ensures ok { IfSome (result_step A.meaning self.new call result) (λ step. step ≡ session_logged_off self.old call) }
+        ensures put { IfOk result (IsReadyAfter self.old self.new call) }
+        ensures err { IfErr result (λ refusal. self.new ≡ self.old) }
         ensures known { self.new.sessions.table.connections ≡ self.old.sessions.table.connections }
     {
-        match self.sessions.logoff(connection, under.session_id) {
-            Ok(()) => {
-                self.store.close_all(Owner::Session(under.session_id));
-                Ok(Told::succeeded(under, Success::Logoff))
-            }
-            Err(fault) => refused_by(under, fault),
-        }
+        self.sessions.logoff(call.connection, call.ids.session_id)?;
+        self.store.close_all(Owner::Session(call.ids.session_id));
+        Ok(Response::success(call.ids, Body::Logoff))
     }
 
     /// TREE_CONNECT ([MS-SMB2] 3.3.5.7).
-    #[tactic(auto, unfolding(crate::specs::Session::tree_joined))]
-    pub(crate) fn connect_tree(
+    #[tactic(auto, unfolding(crate::specs::Session::tree_joined), using(crate::proofs::Refused::unless_session))]
+    pub(crate) fn connect_tree<'a>(
         &mut self,
-        connection: u64,
-        under: RequestIds,
+        call: Call,
         path: Units<'_>,
-    ) -> Result<Told, AllocError>
-        ensures ok { IfOk result (λ told. record { server = self.new; response = told_response A.meaning self.new told }
-            ≡ tree_joined connection self.old under (units_of path.entry)) }
-        ensures spelled { IfOk result (λ told. CanBeSpelled self.new told.outcome) }
-        ensures err { OnErr result (self.new ≡ self.old) }
+    ) -> Result<Response<'a>, Refusal>
+        ensures ok { IfSome (result_step A.meaning self.new call result) (λ step. step ≡ tree_joined self.old call (units_of path.entry)) }
+        ensures put { IfOk result (IsReadyAfter self.old self.new call) }
+        ensures err { IfErr result (λ refusal. self.new ≡ self.old) }
         ensures known { self.new.sessions.table.connections ≡ self.old.sessions.table.connections }
     {
-        let tree_id = match self
+        let session_id = call.ids.session_id;
+        let tree_id = self
             .sessions
-            .tree_connect(connection, under.session_id, path)
-        {
-            Ok(tree_id) => tree_id,
-            Err(fault) => return refused_by(under, fault),
-        };
-        let ids = ResponseIds {
+            .tree_connect(call.connection, session_id, path)?;
+        let ids = HeaderIds {
+            session_id,
             tree_id,
-            ..ResponseIds::of(under)
         };
-        let outcome = Outcome::Succeeded(Success::TreeConnect);
-        Ok(Told { ids, outcome })
+        Ok(Response::success(ids, Body::TreeConnect))
     }
 
     /// TREE_DISCONNECT ([MS-SMB2] 3.3.5.8).
-    #[tactic(auto, unfolding(crate::specs::Session::tree_left))]
-    pub(crate) fn disconnect_tree(
-        &mut self,
-        connection: u64,
-        under: RequestIds,
-    ) -> Result<Told, AllocError>
-        ensures ok { IfOk result (λ told. record { server = self.new; response = told_response A.meaning self.new told }
-            ≡ tree_left connection self.old under) }
-        ensures spelled { IfOk result (λ told. CanBeSpelled self.new told.outcome) }
-        ensures err { OnErr result (self.new ≡ self.old) }
+    #[tactic(auto, unfolding(crate::specs::Session::tree_left), using(crate::proofs::Refused::unless_session))]
+    pub(crate) fn disconnect_tree<'a>(&mut self, call: Call) -> Result<Response<'a>, Refusal>
+        ensures ok { IfSome (result_step A.meaning self.new call result) (λ step. step ≡ tree_left self.old call) }
+        ensures put { IfOk result (IsReadyAfter self.old self.new call) }
+        ensures err { IfErr result (λ refusal. self.new ≡ self.old) }
         ensures known { self.new.sessions.table.connections ≡ self.old.sessions.table.connections }
     {
-        match self
-            .sessions
-            .tree_disconnect(connection, under.session_id, under.tree_id)
-        {
-            Ok(()) => {
-                self.store
-                    .close_all(Owner::Tree(under.session_id, under.tree_id));
-                Ok(Told::succeeded(under, Success::TreeDisconnect))
-            }
-            Err(fault) => refused_by(under, fault),
-        }
+        let HeaderIds {
+            session_id,
+            tree_id,
+        } = call.ids;
+        self.sessions
+            .tree_disconnect(call.connection, session_id, tree_id)?;
+        self.store.close_all(Owner::Tree(session_id, tree_id));
+        Ok(Response::success(call.ids, Body::TreeDisconnect))
     }
 }

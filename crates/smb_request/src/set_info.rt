@@ -1,17 +1,16 @@
 //! SET_INFO ([MS-SMB2] 3.3.5.21).
 
-ghost use Rattle.std.specs.Prelude.{◌≡◌, IfOk, IfErr, OnOk, OnErr};
+ghost use Rattle.std.specs.Prelude.{◌≡◌, Some, None, IfOk, IfErr, IfSome, OnOk, OnErr};
 ghost use Rattle.smb_body.specs.SetInfo.{set_info_asked};
 ghost use Rattle.smb_info.specs.SetAsks.{set_asked};
 ghost use Rattle.smb_access.specs.Faults.{IsRefusal};
-ghost use Rattle.smb_request.specs.Information.{set_type_refusal};
-ghost use Rattle.smb_request.specs.Outcome.{told_response, CanBeSpelled};
-ghost use Rattle.smb_request.specs.SetInfo.{set_status, set_through, set_as_asked, information_set};
+ghost use Rattle.smb_request.specs.Bodies.{result_step, IsReadyAfter};
+ghost use Rattle.smb_request.specs.SetInfo.{set_type_refusal, set_status, set_through, set_as_asked, information_set};
 ghost use Rattle.smb_wire.specs.NtStatus.{STATUS_SUCCESS};
 
-use super::context::RequestIds;
-use super::information::fault_status;
-use super::outcome::{Success, Told};
+use super::call::Call;
+use super::refusal::Refusal;
+use super::response::{Body, Response};
 use super::server::Server;
 use super::status::Status;
 use smb_body::{InfoType, SetInfoRequest};
@@ -19,22 +18,22 @@ use smb_info::{SetAsk, read_set_info};
 use smb_opens::{Opens, Store, StoreFault};
 use smb_session::Authenticator;
 use smb_tree::Tree;
-use std::alloc::AllocError;
 
-/// Why nothing is set of this type of information, or None for that of a file or a folder.
-fn type_refusal(info_type: InfoType) -> Option<Status>
-    ensures { result ≡ set_type_refusal info_type.0 }
+/// Checks the type of information that is to be set.
+fn check_type(info_type: InfoType) -> Result<(), Status>
+    ensures ok { OnOk result (set_type_refusal info_type.0 ≡ None) }
+    ensures err { IfErr result (λ status. set_type_refusal info_type.0 ≡ Some status) }
 {
     if info_type == InfoType::FILE {
-        return None;
+        return Ok(());
     }
     if info_type == InfoType::FILESYSTEM
         || info_type == InfoType::SECURITY
         || info_type == InfoType::QUOTA
     {
-        return Some(Status::NotSupported);
+        return Err(Status::NotSupported);
     }
-    Some(Status::InvalidParameter)
+    Err(Status::InvalidParameter)
 }
 
 /// Sets what is asked, of the entry of the open of a number, at a moment in units of 100 ns since 1601.
@@ -68,49 +67,35 @@ fn set_through<T: Tree + Drop, O: Opens + Drop>(
 }
 
 impl<A: Authenticator + Drop, T: Tree + Drop, O: Opens + Drop> Server<A, T, O> {
-    /// Sets what is asked, of the entry of the open of a number.
-    fn set_as_asked(
-        &mut self,
-        moment: u64,
-        under: RequestIds,
-        open_number: u64,
-        ask: &SetAsk<'_>,
-    ) -> Result<Told, AllocError>
-        ensures ok { IfOk result (λ told. record { server = self.new; response = told_response A.meaning self.new told }
-            ≡ set_as_asked moment self.old under open_number (set_asked ask.now)) }
-        ensures spelled { IfOk result (λ told. CanBeSpelled self.new told.outcome) }
-        ensures err { OnErr result (self.new ≡ self.old) }
+    /// Sets what is asked, of the entry of the open of a request.
+    #[tactic(auto, using(crate::proofs::Refused::by_store))]
+    fn set_as_asked<'a>(&mut self, call: Call, ask: &SetAsk<'_>) -> Result<Response<'a>, Refusal>
+        ensures ok { IfSome (result_step A.meaning self.new call result) (λ step. step ≡ set_as_asked self.old call (set_asked ask.now)) }
+        ensures put { IfOk result (IsReadyAfter self.old self.new call) }
+        ensures err { IfErr result (λ refusal. self.new ≡ self.old) }
         ensures known { self.new.sessions.table.connections ≡ self.old.sessions.table.connections }
     {
-        match set_through(&mut self.store, open_number, moment, ask) {
-            Ok(()) => Ok(Told::succeeded(under, Success::SetInfo)),
-            Err(StoreFault::Status(status)) => Ok(Told::failed(under, Status::Store(status))),
-            Err(StoreFault::NoMemory) => Err(AllocError),
-        }
+        set_through(&mut self.store, call.open_number, call.moment, ask)?;
+        Ok(Response::success(call.ids, Body::SetInfo))
     }
 
-    /// SET_INFO ([MS-SMB2] 3.3.5.21) of the open of a number. After an error, for want of memory, all is as it was.
+    /// SET_INFO ([MS-SMB2] 3.3.5.21).
     #[tactic(auto, unfolding(crate::specs::SetInfo::information_set))]
-    pub(crate) fn set_info(
+    pub(crate) fn set_info<'a>(
         &mut self,
-        moment: u64,
-        under: RequestIds,
-        open_number: u64,
+        call: Call,
         request: &SetInfoRequest<'_>,
-    ) -> Result<Told, AllocError>
-        ensures ok { IfOk result (λ told. record { server = self.new; response = told_response A.meaning self.new told }
-            ≡ information_set moment self.old under open_number (set_info_asked request.now)) }
-        ensures spelled { IfOk result (λ told. CanBeSpelled self.new told.outcome) }
-        ensures err { OnErr result (self.new ≡ self.old) }
+    ) -> Result<Response<'a>, Refusal>
+        ensures ok { IfSome (result_step A.meaning self.new call result) (λ step. step ≡ information_set self.old call (set_info_asked request.now)) }
+        ensures put { IfOk result (IsReadyAfter self.old self.new call) }
+        ensures err { IfErr result (λ refusal. self.new ≡ self.old) }
         ensures known { self.new.sessions.table.connections ≡ self.old.sessions.table.connections }
     {
         let _ = &self.sessions;
-        if let Some(status) = type_refusal(request.info_type) {
-            return Ok(Told::failed(under, status));
-        }
+        check_type(request.info_type)?;
         match read_set_info(request.file_info_class.0, request.buffer) {
-            Ok(ask) => self.set_as_asked(moment, under, open_number, &ask),
-            Err(fault) => Ok(Told::failed(under, fault_status(fault)?)),
+            Ok(ask) => self.set_as_asked(call, &ask),
+            Err(fault) => Err(Refusal::from(fault)),
         }
     }
 }

@@ -1,7 +1,7 @@
 //! A row: what happens, and what answers it.
 
 use crate::words::{Words, put_unescaped};
-use smb_replay::BUILT_IN;
+use smb_config::BUILT_IN;
 use std::alloc::{AllocError, AllocFailed, Global};
 use std::fmt;
 

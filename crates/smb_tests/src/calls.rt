@@ -1,10 +1,11 @@
 //! The calls of a share, each in a small function of its own.
 
+use smb_config::{BUILT_IN, Configuration};
 use smb_engine::{Answer, Event, Fate, RunFault, ServeFault, Share, laws_of_shares};
 use smb_handles::HandleTable;
 use smb_layer_tests::words::{ECHO, ECHOED, LONG_ECHO, MOMENT, NEGOTIATE, NEGOTIATED, frames};
 use smb_nodes::NodeTree;
-use smb_replay::{BUILT_IN, Configuration, new_share};
+use smb_replay::new_share;
 use smb_session::{Authenticator, Tokens};
 use std::alloc::Global;
 

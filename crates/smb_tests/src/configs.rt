@@ -1,6 +1,6 @@
 //! What a configuration says, and how long a hello may be.
 
-use smb_replay::{BUILT_IN, ConfigFault, ConfigRule, Configuration};
+use smb_config::{BUILT_IN, ConfigFault, ConfigRule, Configuration};
 use smb_session::{Answer, Authenticator, Tokens};
 use std::alloc::{AllocError, Global};
 

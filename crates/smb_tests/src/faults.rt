@@ -1,6 +1,7 @@
 //! Readers and writers over memory that fail at a given call or never end, under both commands.
 
-use smb_replay::{BUILT_IN, replay_text, show_text};
+use smb_config::BUILT_IN;
+use smb_replay::{replay_text, show_text};
 use std::alloc::Global;
 use std::io;
 use std::io::{ErrorKind, Read, Write};

@@ -6,11 +6,11 @@ ghost use Rattle.smb_session.specs.Authenticator.{IsLawful};
 ghost use Rattle.smb_session.specs.Answers.{answered_by};
 
 use super::calls::{opens, takes};
+use smb_config::{BUILT_IN, Configuration};
 use smb_engine::{Fate, Share};
 use smb_handles::HandleTable;
 use smb_layer_tests::words::{NEGOTIATE, NEGOTIATED, frames};
 use smb_nodes::NodeTree;
-use smb_replay::{BUILT_IN, Configuration};
 use smb_session::{Answer, Scripted};
 use std::alloc::Global;
 

@@ -1,8 +1,9 @@
 //! What a log shows of a fault, of a tree and of a list of opens.
 
 use smb_client::Status;
+use smb_config::{ConfigFault, ConfigRule};
 use smb_engine::{HandleTable, NodeTree, PlainOpens, PlainTree, RunFault, ServeFault};
-use smb_replay::{CommandFault, ConfigFault, ConfigRule, Expected};
+use smb_replay::{CommandFault, Expected};
 use std::alloc::Global;
 use std::error::Error;
 use std::fmt::Debug;

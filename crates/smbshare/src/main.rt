@@ -11,9 +11,8 @@ use clap::{Arg, ArgAction, ArgMatches, Command};
 use command_line::CommandLine;
 use named_file::NamedFile;
 use serve::{ServeWords, serve_share};
-use smb_replay::{
-    BUILT_IN, CommandFault, Detail, Given, read_config, replay_in_detail, show_fields, show_text,
-};
+use smb_config::{BUILT_IN, ConfigFault, read_config};
+use smb_replay::{CommandFault, Detail, Given, replay_in_detail, show_fields, show_text};
 use std::alloc::{AllocError, Global};
 use std::io::{BufWriter, ErrorKind, IsTerminal};
 use std::process::ExitCode;
@@ -134,7 +133,7 @@ fn config_text(
     rt: &HostRuntime,
     line: &CommandLine,
     words: &ArgMatches<'_>,
-) -> Result<String, CommandFault> {
+) -> Result<String, ConfigFault> {
     if let Some(name) = &line.file_name {
         return read_config(rt.alloc(), NamedFile::open(name)?);
     }
@@ -237,7 +236,7 @@ fn run_with_config(
 ) -> ExitCode {
     let config = match config_text(rt, line, words) {
         Ok(config) => config,
-        Err(fault) => return report(rt, fault, detail_of(rt, words, "")),
+        Err(fault) => return report(rt, CommandFault::from(fault), detail_of(rt, words, "")),
     };
     let config = config.as_str();
     match name {

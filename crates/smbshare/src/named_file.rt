@@ -1,6 +1,6 @@
 //! A file under a name that need not be text.
 
-use smb_replay::CommandFault;
+use smb_config::ConfigFault;
 use std::io;
 use std::io::Read;
 
@@ -16,12 +16,12 @@ fn last_error() -> io::Error {
 
 impl NamedFile {
     /// Opens the file of a configuration.
-    pub fn open(name: &[u8]) -> Result<Self, CommandFault> {
+    pub fn open(name: &[u8]) -> Result<Self, ConfigFault> {
         let descriptor = os::open_read(name);
         if descriptor >= 0 {
             return Ok(NamedFile { descriptor });
         }
-        Err(CommandFault::unread(last_error().kind()))
+        Err(ConfigFault::from(last_error().kind()))
     }
 }
 

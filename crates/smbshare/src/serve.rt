@@ -1,8 +1,9 @@
 //! The command `serve`: a share to clients over TCP.
 
 use mio::net::TcpListener;
+use smb_config::Configuration;
 use smb_engine::serve;
-use smb_replay::{CommandFault, Configuration, ListenFault, new_share};
+use smb_replay::{CommandFault, ListenFault, new_share};
 use smb_tcp::{SystemClock, TcpPeers};
 use std::io::ErrorKind;
 use std::net::SocketAddr;

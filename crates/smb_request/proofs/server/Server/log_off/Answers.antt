@@ -5,12 +5,12 @@ use Rattle.smb_request.proofs.Configured.{all_kept}
 use Rattle.smb_request.proofs.Owners.{owned_ended}
 use Rattle.smb_request.proofs.server.Server.log_off.Goals as goal
 
-pub invariant_of-self : goal.invariant_of-self
-invariant_of-self g c =
-    rw (c.close_all.ensures.left, c.in-Ok.ensures.state)
+pub invariant_of-self-2 : goal.invariant_of-self-2
+invariant_of-self-2 g c =
+    rw (c.close_all.ensures.left, c.in_ok-logoff.ensures.state)
     (record {
       lawful = c.self.invariant.lawful;
       named = c.self.invariant.named;
-      room = ap (λ (s : StoreState). s.tree.capacity) c.close_all.ensures.store ∙ all_kept c.self.inside.store (Session c.args.under.session_id) ∙ c.self.invariant.room;
-      owned = owned_ended c.self.inside.sessions.table c.args.under.session_id c.self.inside.store.opens c.self.invariant.owned;
+      room = ap (λ (s : StoreState). s.tree.capacity) c.close_all.ensures.store ∙ all_kept c.self.inside.store (Session c.args.call.ids.session_id) ∙ c.self.invariant.room;
+      owned = owned_ended c.self.inside.sessions.table c.args.call.ids.session_id c.self.inside.store.opens c.self.invariant.owned;
     })

@@ -7,5 +7,5 @@ invariant_of-self g c = rw c.set_scan.ensures
       lawful = c.self.invariant.lawful;
       named = c.self.invariant.named;
       room = c.self.invariant.room;
-      owned = owned_scanned c.self.inside.sessions.table c.args.query.now.open_number c.in-Some.scan c.self.inside.store.opens c.self.invariant.owned;
+      owned = owned_scanned c.self.inside.sessions.table c.args.call.open_number c.in-Some.scan c.self.inside.store.opens c.self.invariant.owned;
     })

@@ -1,4 +1,4 @@
-//! The configuration file: TOML.
+//! A configuration's text: TOML.
 
 ghost use Rattle.std.specs.Prelude.{◌≡◌, ◌≤◌, ◌++◌, ◌∷◌, [], true, false, OnOk, IfOk, length, map};
 ghost use Rattle.std.specs.List.{AllByRecursion, list_any};
@@ -12,6 +12,7 @@ use hex::{FromHex, FromHexError};
 use smb_request::Config;
 use smb_session::{Tokens, User};
 use std::alloc::{AllocError, Global};
+use std::io::ErrorKind;
 use thiserror::Error;
 use toml::{Table, Value};
 
@@ -49,6 +50,9 @@ const LEAST_CAPACITY: u64 = 4_096;
 /// Why a configuration is not taken.
 #[derive(Clone, Copy, Debug, PartialEq, Eq, Error)]
 pub enum ConfigFault {
+    /// The file cannot be read, for a reason of this kind.
+    #[error("the configuration cannot be read: {0}")]
+    Unread(ErrorKind),
     /// It breaks this rule, the first that it breaks.
     #[error("the configuration is refused: {0}")]
     Refused(ConfigRule),

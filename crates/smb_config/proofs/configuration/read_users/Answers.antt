@@ -1,8 +1,8 @@
 use Rattle.std.proofs.Common.{◌≡◌, ◌≤◌, false, length, rules}
 use Rattle.std.specs.List.{list_any}
 use Rattle.std.specs.Str.{bytes_eq}
-use Rattle.smb_replay.proofs.Users.{all_push, own_push}
-use Rattle.smb_replay.proofs.config.read_users.Goals as goal
+use Rattle.smb_config.proofs.Users.{all_push, own_push}
+use Rattle.smb_config.proofs.configuration.read_users.Goals as goal
 
 pub loop-value-preserved : goal.loop-value-preserved
 loop-value-preserved c =

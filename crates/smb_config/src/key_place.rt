@@ -1,6 +1,6 @@
 //! Where a configuration breaks a rule: the line of the key, and what is there.
 
-use crate::config::{BUILT_IN, KEYS, USER_KEYS, is_known};
+use crate::configuration::{BUILT_IN, KEYS, USER_KEYS, is_known};
 use crate::rule::ConfigRule;
 use std::alloc::Global;
 use std::io;
@@ -220,7 +220,7 @@ fn subject_of(rule: ConfigRule) -> Option<(Section, Option<&'static str>)> {
 
 /// Writes, behind a rule, where a configuration breaks it, and the value that was found; of a token the place alone. Nothing
 /// where the place cannot be found. Each line that may have the key is looked at by a reading of all before it, at most 16.
-pub(crate) fn write_place<W: Write>(
+pub fn write_place<W: Write>(
     alloc: Global,
     document: &str,
     rule: ConfigRule,

@@ -1,0 +1,87 @@
+-- One request as the code performs it: what its call and its body say.
+use Rattle.std.proofs.Common.{◌≡◌, ℕ, Bool, true, false, if◌then◌else◌, List, Option, None, Some, Result, Ok, Err, IfErr, refl, sym, ap, arith, ◌∙◌}
+use Rattle.std.specs.Option.{option_map_or}
+use Rattle.smb_wire.specs.Commands.{code_of}
+use Rattle.smb_wire.specs.declared.command.Command.{Command}
+use Rattle.smb_wire.specs.declared.command.Command.TheVariants.{Ioctl, ChangeNotify, OplockBreak}
+use Rattle.smb_wire.specs.declared.dialect.Dialect.{Dialect}
+use Rattle.smb_body.specs.Requests.{RequestValue, request_of}
+use Rattle.smb_session.specs.Authenticator.{Meaning}
+use Rattle.smb_request.specs.declared.call.Call.{Call}
+use Rattle.smb_request.specs.declared.context.Context.{Context}
+use Rattle.smb_request.specs.declared.response.NoReply.{NoReply}
+use Rattle.smb_request.specs.declared.response.Response.{Response}
+use Rattle.smb_request.specs.declared.response.Response.TheVariants.{Ready, Bytes, Listing}
+use Rattle.smb_request.specs.Bodies.{is_listing, no_reply_of}
+use Rattle.smb_request.specs.Call.{body_of, call_of}
+use Rattle.smb_request.specs.Context.{named_on, open_for_next_related}
+use Rattle.smb_request.specs.Held.{is_performed, IsCallOf}
+use Rattle.smb_request.specs.InPlace.{AnswerHeld, answer_behind, PerformedHeld, performed_behind}
+use Rattle.smb_request.specs.Needs.{is_unsupported, is_cancel_command}
+use Rattle.smb_request.specs.Request.{dialect_after, performed_by, performed}
+use Rattle.smb_request.specs.Response.{Performed}
+use Rattle.smb_request.specs.State.{ServerState}
+
+-- a command that is not performed has no body
+unread : (command : Command) (request : List ℕ) → is_unsupported command ≡ true → request_of (code_of command) request ≡ None
+unfolding request_of
+unread Ioctl request e = refl
+unread ChangeNotify request e = refl
+unread OplockBreak request e = refl
+unread other request e = cc
+
+unsupported_unread : (command : Option Command) (request : List ℕ) → option_map_or is_unsupported command false ≡ true → body_of command request ≡ None
+unsupported_unread None request e = cc
+unsupported_unread (Some command) request e = unread command request e
+
+-- what was read of a request
+pub call_read : (connection moment : ℕ) (context : Context) (request : List ℕ) → IsCallOf (call_of connection moment context request) (body_of (call_of connection moment context request).command request)
+call_read connection moment context request = record {
+  file_id = refl;
+  open_number = refl;
+  unsupported = λ e. unsupported_unread (call_of connection moment context request).command request e;
+}
+
+-- where no response could be written: a listing was not performed, and left the dialect
+dialect_unwritten : (response : Response) (no_reply : NoReply) (before after is : Option Dialect) → no_reply ≡ no_reply_of response → is ≡ after → (is_listing response ≡ true → is ≡ before) →
+    is ≡ (if is_performed no_reply then after else before)
+dialect_unwritten (Ready answered body) no_reply before after is e f g = rw e f
+dialect_unwritten (Bytes range) no_reply before after is e f g = rw e f
+dialect_unwritten (Listing asked) no_reply before after is e f g = rw e (g refl)
+
+pub reply_dialect : {X : Type 0} (result : Result X NoReply) (response : Response) (before after is : Option Dialect) → IfErr result (λ no_reply. no_reply ≡ no_reply_of response) → is ≡ after →
+    (is_listing response ≡ true → is ≡ before) → IfErr result (λ no_reply. is ≡ (if is_performed no_reply then after else before))
+reply_dialect (Ok x) response before after is e f g = tt
+reply_dialect (Err no_reply) response before after is e f g = dialect_unwritten response no_reply before after is e f g
+
+module _ {S : Type 0} (m : Meaning S) (connection moment : ℕ) (server : ServerState S) (dialect : Option Dialect) (context : Context) (request : List ℕ) (call : Call) (is : call ≡ call_of connection moment context request) where
+  pub cancelled : is_cancel_command call.command ≡ true → performed m connection moment server dialect context request
+      ≡ record { server = server; dialect = dialect; context = record { ids = call.ids; last_open = named_on call.inherited call.file_id }; response = None }
+  unfolding performed
+  cancelled e =
+      let cancel : is_cancel_command (call_of connection moment context request).command ≡ true = ap (λ (c : Call). is_cancel_command c.command) (sym is) ∙ e in
+      rw (cancel, is) refl
+
+  answered : is_cancel_command call.command ≡ false → performed m connection moment server dialect context request
+      ≡ (let step = performed_by m server call (body_of call.command request) in let x : Performed S = record {
+        server = step.server;
+        dialect = option_map_or (dialect_after dialect) (body_of call.command request) dialect;
+        context = record {
+          ids = step.response.ids;
+          last_open = open_for_next_related call.inherited server.store.next call.command call.file_id step.response.status;
+        };
+        response = Some step.response;
+      } in x)
+  unfolding performed
+  answered e =
+      let cancel : is_cancel_command (call_of connection moment context request).command ≡ false = ap (λ (c : Call). is_cancel_command c.command) (sym is) ∙ e in
+      rw (cancel, is) refl
+
+  -- a request with its response, whose body is behind what was in the vector
+  pub performed_put : (body : Option RequestValue) → body ≡ body_of call.command request → is_cancel_command call.command ≡ false →
+      (front : List ℕ) (server' : ServerState S) (dialect' : Option Dialect) (context' : Context) (held : AnswerHeld) → server' ≡ (performed_by m server call body).server →
+      dialect' ≡ option_map_or (dialect_after dialect) body dialect → held ≡ answer_behind front (performed_by m server call body).response →
+      context' ≡ record { ids = held.ids; last_open = open_for_next_related call.inherited server.store.next call.command call.file_id held.status } →
+      (let x : PerformedHeld S = record { server = server'; dialect = dialect'; context = context'; response = Some held } in x)
+      ≡ performed_behind front (performed m connection moment server dialect context request)
+  performed_put body b e front server' dialect' context' held s d h c = rw (answered e, c, s, d, h, b) refl

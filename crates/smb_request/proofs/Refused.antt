@@ -1,0 +1,55 @@
+-- What a refusal of the store or of the sessions comes to is what the definitions say of it.
+use Rattle.std.proofs.Common.{◌≡◌, ◌≢◌, ℕ, ◌==◌, Bool, true, false, if◌then◌else◌, Option, None, Some, IfSome, Result, Ok, Err, IsErrAnd, refl, sym, ap, arith, ◌∙◌}
+use Rattle.std.proofs.lemmas.Bool.Decides.{nat_tests}
+use Rattle.std.specs.Option.{option_map_or, option_and_then}
+use Rattle.smb_wire.specs.NtStatus.{STATUS_SUCCESS}
+use Rattle.smb_access.specs.Faults.{IsRefusal}
+use Rattle.smb_access.specs.declared.fault.StoreFault.{StoreFault}
+use Rattle.smb_access.specs.declared.fault.StoreFault.TheVariants.{Status as Stored, NoMemory as NoRoom}
+use Rattle.smb_session.specs.declared.fault.SessionFault.{SessionFault}
+use Rattle.smb_session.specs.declared.fault.SessionFault.TheVariants.{UnknownSession, UnknownTree, NoShare, NotAccepted, NoDialect, NoMemory as NoFree}
+use Rattle.smb_session.specs.Sessions.{IsRefused}
+use Rattle.smb_session.specs.Authenticator.{Meaning}
+use Rattle.smb_request.specs.declared.call.Call.{Call}
+use Rattle.smb_request.specs.declared.refusal.Refusal.{Refusal}
+use Rattle.smb_request.specs.declared.refusal.Refusal.TheVariants.{Status as ByStatus, NoMemory}
+use Rattle.smb_request.specs.declared.response.Response.{Response}
+use Rattle.smb_request.specs.declared.status.Status.TheVariants.{Store}
+use Rattle.smb_request.specs.Bodies.{result_step}
+use Rattle.smb_request.specs.Refusals.{store_refusal, stored_refusal, session_refusal}
+use Rattle.smb_request.specs.Response.{CommandStep, refused, by_status}
+use Rattle.smb_request.specs.Session.{status_of_refusal, unless_refused}
+use Rattle.smb_request.specs.State.{ServerState}
+
+module _ {S : Type 0} (m : Meaning S) (server : ServerState S) (call : Call) (done : CommandStep S) where
+  -- a status that is not SUCCESS
+  refused_by : (code : ℕ) → code ≢ STATUS_SUCCESS → refused server call.ids (Store code) ≡ by_status server call.ids code done
+  refused_by code h = let no : (code == STATUS_SUCCESS) ≡ false = grind (arith, nat_tests, h) in rw no refl
+
+  pub by_code : (status code : ℕ) (refusal : Refusal) → status ≡ code → code ≢ STATUS_SUCCESS → refusal ≡ stored_refusal code →
+      IfSome (result_step m server call (Err refusal)) (λ step. step ≡ by_status server call.ids status done)
+  by_code status code refusal is h e = rw (e, is) (refused_by code h)
+
+  pub by_store : (status : ℕ) (fault : StoreFault) (refusal : Refusal) → IsRefusal status fault → refusal ≡ store_refusal fault →
+      IfSome (result_step m server call (Err refusal)) (λ step. step ≡ by_status server call.ids status done)
+  by_store status (Stored code) refusal why e = rw (e, ← why.0) (refused_by code why.1)
+  by_store status NoRoom refusal why e = rw e tt
+
+  pub by_lock : (status : ℕ) (fault : StoreFault) (refusal : Refusal) → (fault ≢ NoRoom → IsRefusal status fault) → refusal ≡ store_refusal fault →
+      IfSome (result_step m server call (Err refusal)) (λ step. step ≡ by_status server call.ids status done)
+  by_lock status (Stored code) refusal why e = by_store status (Stored code) refusal (why (λ q. cc)) e
+  by_lock status NoRoom refusal why e = rw e tt
+
+  pub unless_session : (refusal : Option SessionFault) (fault : SessionFault) (found : Refusal) → IsRefused refusal fault → found ≡ session_refusal fault →
+      IfSome (result_step m server call (Err found)) (λ step. step ≡ unless_refused server call.ids refusal done)
+  unless_session refusal UnknownSession found why e = rw (e, why) refl
+  unless_session refusal UnknownTree found why e = rw (e, why) refl
+  unless_session refusal NoShare found why e = rw (e, why) refl
+  unless_session refusal NotAccepted found why e = rw (e, why) refl
+  unless_session refusal NoDialect found why e = rw (e, why) refl
+  unless_session refusal NoFree found why e = rw e tt
+
+  pub store_failed : (status : ℕ) (fault : StoreFault) (result : Result Response Refusal) → IsRefusal status fault → IsErrAnd result (λ refusal. refusal ≡ store_refusal fault) →
+      IfSome (result_step m server call result) (λ step. step ≡ by_status server call.ids status done)
+  store_failed status fault (Ok response) why e = absurd e
+  store_failed status fault (Err refusal) why e = by_store status fault refusal why e

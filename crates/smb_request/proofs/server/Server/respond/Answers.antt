@@ -1,0 +1,26 @@
+use Rattle.std.proofs.Common.{◌≡◌, ◌∙◌, Option, None, Some, is_some, IsSome, true, false, sym, ap, subst, arith}
+use Rattle.std.specs.Option.{option_map, option_map_or, option_and_then}
+use Rattle.smb_access.specs.Opens.{open_of}
+use Rattle.smb_body.specs.Requests.{RequestValue, request_value, file_id_of}
+use Rattle.smb_request.specs.Call.{named_open}
+use Rattle.smb_request.specs.Context.{open_named}
+use Rattle.smb_request.specs.Needs.{is_unsupported}
+use Rattle.smb_request.specs.Request.{open_refusal, dialect_after}
+use Rattle.smb_request.proofs.Handed.{named_there, mapped_there, refused_dialect}
+use Rattle.smb_request.proofs.server.Server.respond.Goals as goal
+
+-- the open of a request that passed its checks exists
+pub act-requires-clause-open : goal.act-requires-clause-open
+act-requires-clause-open g c f =
+    let opens = c.args.self.now.store.opens in
+    let unrefused : option_and_then (open_refusal opens c.args.call.ids) (named_open c.args.call) ≡ None = grind (arith, c.in_ok-check_session_tree_and_open.ensures.ok) in
+    let body : option_map request_value c.args.body.now ≡ Some (request_value c.in-Some-body.request) = ap (option_map request_value) c.in-Some-body.is in
+    let file : c.args.call.file_id ≡ file_id_of (request_value c.in-Some-body.request) = c.requires.file_id ∙ ap (option_and_then file_id_of) body in
+    let some = mapped_there (open_named c.args.call.inherited) c.args.call.file_id (ap is_some file ∙ f) in
+    subst (λ n. IsSome (open_of opens n)) (sym c.requires.open_number) (named_there opens c.args.call.ids (named_open c.args.call) unrefused some)
+
+-- a command that is not performed has no body
+pub returns-in-Some-clause-dialect : goal.returns-in-Some-clause-dialect
+returns-in-Some-clause-dialect g c =
+    let unsupported : option_map_or is_unsupported c.args.call.command false ≡ true = ap (λ o. option_map_or is_unsupported o false) c.in-Some.is ∙ sym c.is_unsupported.ensures ∙ c.if-is_unsupported.true in
+    ap (λ (o : Option RequestValue). option_map_or (dialect_after c.args.dialect.now) o c.args.dialect.now) (sym (c.requires.unsupported unsupported))

@@ -1,0 +1,92 @@
+-- For the proofs; nothing here need be believed.
+-- What the code's responses and refusals come to.
+use Rattle.std.specs.Prelude.{◌≡◌, ◌≤◌, Bool, true, false, length, Option, None, Some, IsSome, Result, Ok, Err}
+use Rattle.smb_body.specs.Replies.{ReplyValue, answers_error, answers_session_setup, answers_logoff, answers_tree_connect, answers_tree_disconnect, answers_create, answers_close, answers_flush, answers_read, answers_write, answers_lock, answers_echo, answers_query_info, answers_set_info}
+use Rattle.smb_body.specs.QueryDirectory.{query_directory_asked}
+use Rattle.smb_access.specs.Opens.{open_of}
+use Rattle.smb_session.specs.Authenticator.{Meaning}
+use Rattle.smb_wire.specs.NtStatus.{STATUS_SUCCESS}
+use Rattle.smb_wire.specs.Dialects.{revision_of}
+use Rattle.smb_opens.specs.Bytes.{read_status, file_bytes}
+use Rattle.smb_request.specs.declared.call.Call.{Call}
+use Rattle.smb_request.specs.declared.refusal.Refusal.{Refusal}
+use Rattle.smb_request.specs.declared.refusal.Refusal.TheVariants.{Status as ByStatus, NoMemory}
+use Rattle.smb_request.specs.declared.response.FileRange.{FileRange}
+use Rattle.smb_request.specs.declared.response.Body.{Body}
+use Rattle.smb_request.specs.declared.response.Body.TheVariants.{Error, Negotiate, SessionSetup, Logoff, TreeConnect, TreeDisconnect, Create, Close, Flush, Write, Lock, Echo, QueryInfo, SetInfo}
+use Rattle.smb_request.specs.declared.response.Response.{Response}
+use Rattle.smb_request.specs.declared.response.Response.TheVariants.{Ready, Bytes, Listing}
+use Rattle.smb_request.specs.declared.response.NoReply.{NoReply}
+use Rattle.smb_request.specs.declared.response.NoReply.TheVariants.{NotPerformed, Performed}
+use Rattle.smb_request.specs.Negotiate.{negotiate_answer}
+use Rattle.smb_request.specs.Session.{tree_response}
+use Rattle.smb_request.specs.State.{ServerState, hello_of}
+use Rattle.smb_request.specs.QueryDirectory.{directory_queried}
+use Rattle.smb_request.specs.Response.{CommandStep, with_body, success, refused}
+
+-- the value of each body
+abbrev pub body_value : {S : Type 0} → Meaning S → ServerState S → Call → Body → ReplyValue
+body_value authenticator server call Error = answers_error
+body_value authenticator server call (Negotiate dialect) = negotiate_answer server.settings.guid (hello_of authenticator server) call.moment (revision_of dialect)
+body_value authenticator server call (SessionSetup flags token) = answers_session_setup (record { session_flags = flags; security_buffer = token.items })
+body_value authenticator server call Logoff = answers_logoff
+body_value authenticator server call TreeConnect = answers_tree_connect tree_response
+body_value authenticator server call TreeDisconnect = answers_tree_disconnect
+body_value authenticator server call (Create response) = answers_create response
+body_value authenticator server call (Close response) = answers_close response
+body_value authenticator server call Flush = answers_flush
+body_value authenticator server call (Write response) = answers_write response
+body_value authenticator server call Lock = answers_lock
+body_value authenticator server call Echo = answers_echo
+body_value authenticator server call (QueryInfo bytes) = answers_query_info bytes.items
+body_value authenticator server call SetInfo = answers_set_info
+
+-- what a response comes to, from the server after its command: a listing is still to be performed
+abbrev pub response_step : {S : Type 0} → Meaning S → ServerState S → Call → Response → CommandStep S
+response_step authenticator server call (Ready answered body) = record { server = server; response = with_body answered.ids answered.status (body_value authenticator server call body) }
+response_step authenticator server call (Bytes range) = record { server = server; response = success call.ids (answers_read (file_bytes server.store call.open_number range.offset range.length)) }
+response_step authenticator server call (Listing asked) = directory_queried server call (query_directory_asked asked)
+
+-- what a command comes to; None where memory ran out
+abbrev pub result_step : {S : Type 0} → Meaning S → ServerState S → Call → Result Response Refusal → Option (CommandStep S)
+result_step authenticator server call (Ok response) = Some (response_step authenticator server call response)
+result_step authenticator server call (Err (ByStatus status)) = Some (refused server call.ids status)
+result_step authenticator server call (Err NoMemory) = None
+
+-- a body that is short enough for a response
+abbrev pub IsShort : Body → Type 0
+IsShort (SessionSetup flags token) = length token.items ≤ 4096
+IsShort (QueryInfo bytes) = length bytes.items ≤ 65536
+IsShort other = Unit {0}
+
+-- a READ is answered by so many bytes
+pub record IsReadable {S : Type 0} (server : ServerState S) (call : Call) (range : FileRange) : Type 0 where
+  pub lawful : read_status server.store call.open_number range.offset range.length range.minimum_count ≡ STATUS_SUCCESS
+  pub there : range.there ≡ length (file_bytes server.store call.open_number range.offset range.length)
+
+-- a response can be put: its body is short enough, its bytes are there, or the open that is listed exists
+abbrev pub CanBePut : {S : Type 0} → ServerState S → Call → Response → Type 0
+CanBePut server call (Ready answered body) = IsShort body
+CanBePut server call (Bytes range) = IsReadable server call range
+CanBePut server call (Listing asked) = IsSome (open_of server.store.opens call.open_number)
+
+-- where a listing is still to be performed, nothing was changed
+abbrev pub IsStill : {S : Type 0} → ServerState S → ServerState S → Response → Type 0
+IsStill before after (Ready answered body) = Unit {0}
+IsStill before after (Bytes range) = Unit {0}
+IsStill before after (Listing asked) = after ≡ before
+
+abbrev pub IsReadyAfter : {S : Type 0} → ServerState S → ServerState S → Call → Response → Type 0
+IsReadyAfter before after call response = CanBePut after call response × IsStill before after response
+
+-- a listing is still to be performed
+abbrev pub is_listing : Response → Bool
+is_listing (Ready answered body) = false
+is_listing (Bytes range) = false
+is_listing (Listing asked) = true
+
+-- where memory ran out as a response was put: a listing was not performed then
+abbrev pub no_reply_of : Response → NoReply
+no_reply_of (Ready answered body) = Performed
+no_reply_of (Bytes range) = Performed
+no_reply_of (Listing asked) = NotPerformed

@@ -1,0 +1,48 @@
+-- A request as it was read: what its header, the requests before it in its chain and its body say ([MS-SMB2] 3.3.5.2).
+use Rattle.std.specs.Prelude.{ℕ, List, Option, Some, None, if◌then◌else◌}
+use Rattle.std.specs.Option.{option_map, option_and_then}
+use Rattle.smb_head.specs.Headers.{header_of}
+use Rattle.smb_head.specs.Chains.{is_related}
+use Rattle.smb_wire.specs.Commands.{code_of, known_command}
+use Rattle.smb_wire.specs.declared.command.Command.{Command}
+use Rattle.smb_body.specs.Requests.{RequestValue, file_id_of, request_of}
+use Rattle.smb_request.specs.declared.call.Call.{Call}
+use Rattle.smb_request.specs.declared.context.HeaderIds.{HeaderIds}
+use Rattle.smb_request.specs.declared.context.Context.{Context}
+use Rattle.smb_request.specs.declared.context.ContextOpen.{ContextOpen}
+use Rattle.smb_request.specs.Context.{open_named, number_named}
+
+-- the session and the tree connect that a request acts under: its own, or of a related one those of the request before
+-- (3.3.5.2.7.2)
+abbrev pub request_ids : Context → List ℕ → HeaderIds
+request_ids context request =
+    if is_related request then context.ids
+    else record { session_id = (header_of request).session_id; tree_id = (header_of request).tree_id }
+
+-- the open that a request inherits; one that is not related inherits none (3.3.5.2.7.2)
+abbrev pub inherited_open : Context → List ℕ → Option ContextOpen
+inherited_open context request = if is_related request then Some context.last_open else None
+
+-- what the body of a request of a command says; None where it says nothing, or the command is not known
+abbrev pub body_of : Option Command → List ℕ → Option RequestValue
+body_of command request = option_and_then (λ known. request_of (code_of known) request) command
+
+-- the open that a request names, by its FileId and by the open that it inherits
+abbrev pub named_open : Call → Option ContextOpen
+named_open call = option_map (open_named call.inherited) call.file_id
+
+-- a request on a connection at a moment, but for its body
+abbrev pub call_of : ℕ → ℕ → Context → List ℕ → Call
+call_of connection moment context request =
+    let command = known_command (header_of request).command.0 in
+    let inherited = inherited_open context request in
+    let file_id = option_and_then file_id_of (body_of command request) in
+    record {
+      connection = connection;
+      moment = moment;
+      command = command;
+      ids = request_ids context request;
+      inherited = inherited;
+      file_id = file_id;
+      open_number = number_named (option_map (open_named inherited) file_id);
+    }
