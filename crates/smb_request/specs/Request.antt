@@ -88,7 +88,7 @@ check_session_tree_and_open server call asked =
 -- a request other than CANCEL: it is refused by the first row that holds, or performed
 abbrev pub performed_by : {S : Type 0} → Meaning S → ServerState S → Call → Option RequestValue → CommandStep S
 performed_by authenticator server call body =
-    -- P1. a command that this server does not perform
+    -- P2. a command that this server does not perform
     if option_map_or is_unsupported call.command false then refused server call.ids NotSupported else
     option_map_or
     (λ asked. option_map_or
@@ -96,7 +96,7 @@ performed_by authenticator server call body =
     (check_session_tree_and_open server call asked)
     (acted authenticator server call asked))
     body
-    -- P2, P3. no such command, or a body that cannot be read
+    -- P1, P3. no such command, or a body that cannot be read
     (refused server call.ids InvalidParameter)
 
 -- one request: what it leaves, and its response. The next related request acts under the ids of that response
