@@ -70,6 +70,9 @@ impl From<AllocError> for ConfigFault {
 #[derive(Debug, Drop)]
 pub struct Configuration {
     pub config: Config,
+    /// Whether guests may come.
+    pub guest: bool,
+    /// Knows the users by their tokens, and lets guests in where they may come.
     pub authenticator: Tokens,
 }
 
@@ -267,6 +270,7 @@ impl Configuration {
         let authenticator = Tokens::new(alloc, &hello, guest, users)?;
         Ok(Configuration {
             config,
+            guest,
             authenticator,
         })
     }

@@ -7,9 +7,9 @@ use Rattle.std.proofs.lemmas.List.Folds.{list_any-append}
 use Rattle.std.proofs.lemmas.Bool.{eq-eqb, eqb-true, true≢false}
 use Rattle.smb_engine.specs.Event.{EventText, opens, brings, ends, connection_of}
 use Rattle.smb_engine.specs.Output.{Output, output_bytes}
-use Rattle.smb_engine.specs.State.{LinkState}
-use Rattle.smb_engine.specs.Record.{PeerCall, next_opened, next_bytes, next_ended, next_idle, send, close, sent_in, sent_by, taken_by}
+use Rattle.smb_engine.specs.State.{StreamState}
 use Rattle.smb_engine.specs.Laws.{receiver}
+use Rattle.smb_engine.specs.Record.{PeerCall, next_opened, next_bytes, next_ended, next_idle, send, close, sent_in, sent_by, taken_by}
 use Rattle.smb_engine.specs.ServingLaws.{sent_when_open, opens_in, is_opened, OpensEachOnce, brought_in, brought_to, ends_in, is_ended, bytes_for, put_out_to}
 
 heard_at : (n : ℕ) (call : PeerCall) (xs ys : List PeerCall) (b : Bool) → opens_in n call ≡ b → (is_opened n xs ≡ true → sent_when_open n (xs ++ ys) ≡ sent_when_open n xs ++ sent_by n ys) →
@@ -121,32 +121,32 @@ put_own c (output ∷ outputs) h =
 
 -- how far what was put out for a number has come: all of it was taken or is owed; or the rest was dropped, where its connection
 -- was ended, and this was since the number was broken off, or the rest was too long
-pub data Fate (limit : ℕ) (link : Option LinkState) (ended broken : Bool) (owed taken out : List ℕ) : Type 0 where
-  there : ended ≡ false → taken ++ owed ≡ out → Fate limit link ended broken owed taken out
-  gone : (left : List ℕ) → link ≡ None → owed ≡ [] → taken ++ left ≡ out → (broken ≡ true) ⊎ (limit < length left) → Fate limit link ended broken owed taken out
+pub data Fate (limit : ℕ) (stream : Option StreamState) (ended broken : Bool) (owed taken out : List ℕ) : Type 0 where
+  there : ended ≡ false → taken ++ owed ≡ out → Fate limit stream ended broken owed taken out
+  gone : (left : List ℕ) → stream ≡ None → owed ≡ [] → taken ++ left ≡ out → (broken ≡ true) ⊎ (limit < length left) → Fate limit stream ended broken owed taken out
 
 still_broken : (limit : ℕ) (left : List ℕ) (b b' : Bool) → (b ≡ true → b' ≡ true) → (b ≡ true) ⊎ (limit < length left) → (b' ≡ true) ⊎ (limit < length left)
 still_broken limit left b b' h (inl e) = inl (h e)
 still_broken limit left b b' h (inr p) = inr p
 
 -- nothing changes
-pub fate_same : (limit : ℕ) (link link' : Option LinkState) (e e' b b' : Bool) (owed owed' taken taken' out out' : List ℕ) → (link ≡ None → link' ≡ None) → e' ≡ e → (b ≡ true → b' ≡ true) → owed' ≡ owed → taken' ≡ taken → out' ≡ out →
-    Fate limit link e b owed taken out → Fate limit link' e' b' owed' taken' out'
-fate_same limit link link' e e' b b' owed owed' taken taken' out out' l p q r s t (there x y) = there (p ∙ x) (rw (r, s, t) y)
-fate_same limit link link' e e' b b' owed owed' taken taken' out out' l p q r s t (gone left x y z w) = gone left (l x) (r ∙ y) (rw (s, t) z) (still_broken limit left b b' q w)
+pub fate_same : (limit : ℕ) (stream stream' : Option StreamState) (e e' b b' : Bool) (owed owed' taken taken' out out' : List ℕ) → (stream ≡ None → stream' ≡ None) → e' ≡ e → (b ≡ true → b' ≡ true) → owed' ≡ owed → taken' ≡ taken → out' ≡ out →
+    Fate limit stream e b owed taken out → Fate limit stream' e' b' owed' taken' out'
+fate_same limit stream stream' e e' b b' owed owed' taken taken' out out' l p q r s t (there x y) = there (p ∙ x) (rw (r, s, t) y)
+fate_same limit stream stream' e e' b b' owed owed' taken taken' out out' l p q r s t (gone left x y z w) = gone left (l x) (r ∙ y) (rw (s, t) z) (still_broken limit left b b' q w)
 
 -- more is put out
-pub fate_fed : (limit : ℕ) (link link' : Option LinkState) (e e' b b' : Bool) (owed owed' taken taken' out out' new : List ℕ) → is_some link ≡ true → e' ≡ e → owed' ≡ owed ++ new → taken' ≡ taken → out' ≡ out ++ new →
-    Fate limit link e b owed taken out → Fate limit link' e' b' owed' taken' out'
-fate_fed limit link link' e e' b b' owed owed' taken taken' out out' new l p r s t (there x y) =
+pub fate_fed : (limit : ℕ) (stream stream' : Option StreamState) (e e' b b' : Bool) (owed owed' taken taken' out out' new : List ℕ) → is_some stream ≡ true → e' ≡ e → owed' ≡ owed ++ new → taken' ≡ taken → out' ≡ out ++ new →
+    Fate limit stream e b owed taken out → Fate limit stream' e' b' owed' taken' out'
+fate_fed limit stream stream' e e' b b' owed owed' taken taken' out out' new l p r s t (there x y) =
     there (p ∙ x) (rw (r, s, t) (sym (append_assoc taken owed new) ∙ ap (λ z. z ++ new) y))
-fate_fed limit link link' e e' b b' owed owed' taken taken' out out' new l p r s t (gone left x y z w) = absurd (true≢false (sym l ∙ ap is_some x))
+fate_fed limit stream stream' e e' b b' owed owed' taken taken' out out' new l p r s t (gone left x y z w) = absurd (true≢false (sym l ∙ ap is_some x))
 
 -- the connection ends
-pub fate_gone : (limit : ℕ) (link link' : Option LinkState) (e e' b b' : Bool) (owed owed' taken taken' out out' : List ℕ) → link' ≡ None → (b ≡ true → b' ≡ true) → owed' ≡ [] → taken' ≡ taken → out' ≡ out → (b' ≡ true) ⊎ (limit < length owed) →
-    Fate limit link e b owed taken out → Fate limit link' e' b' owed' taken' out'
-fate_gone limit link link' e e' b b' owed owed' taken taken' out out' l q r s t why (there x y) = gone owed l r (rw (s, t) y) why
-fate_gone limit link link' e e' b b' owed owed' taken taken' out out' l q r s t why (gone left x y z w) = gone left l r (rw (s, t) z) (still_broken limit left b b' q w)
+pub fate_gone : (limit : ℕ) (stream stream' : Option StreamState) (e e' b b' : Bool) (owed owed' taken taken' out out' : List ℕ) → stream' ≡ None → (b ≡ true → b' ≡ true) → owed' ≡ [] → taken' ≡ taken → out' ≡ out → (b' ≡ true) ⊎ (limit < length owed) →
+    Fate limit stream e b owed taken out → Fate limit stream' e' b' owed' taken' out'
+fate_gone limit stream stream' e e' b b' owed owed' taken taken' out out' l q r s t why (there x y) = gone owed l r (rw (s, t) y) why
+fate_gone limit stream stream' e e' b b' owed owed' taken taken' out out' l q r s t why (gone left x y z w) = gone left l r (rw (s, t) z) (still_broken limit left b b' q w)
 
 take_nothing : (n : ℕ) (xs : List ℕ) → xs ≡ [] → (take n xs ≡ []) × (drop n xs ≡ [])
 take_nothing zero xs h = (refl, h)
@@ -154,10 +154,10 @@ take_nothing (suc n) [] h = (refl, refl)
 take_nothing (suc n) (x ∷ xs) h = cc
 
 -- a part is taken
-pub fate_taken : (limit n : ℕ) (link link' : Option LinkState) (e e' b b' : Bool) (owed owed' taken taken' out out' : List ℕ) → (link ≡ None → link' ≡ None) → e' ≡ e → (b ≡ true → b' ≡ true) → owed' ≡ drop n owed → taken' ≡ taken ++ take n owed → out' ≡ out →
-    Fate limit link e b owed taken out → Fate limit link' e' b' owed' taken' out'
-fate_taken limit n link link' e e' b b' owed owed' taken taken' out out' l p q r s t (there x y) =
+pub fate_taken : (limit n : ℕ) (stream stream' : Option StreamState) (e e' b b' : Bool) (owed owed' taken taken' out out' : List ℕ) → (stream ≡ None → stream' ≡ None) → e' ≡ e → (b ≡ true → b' ≡ true) → owed' ≡ drop n owed → taken' ≡ taken ++ take n owed → out' ≡ out →
+    Fate limit stream e b owed taken out → Fate limit stream' e' b' owed' taken' out'
+fate_taken limit n stream stream' e e' b b' owed owed' taken taken' out out' l p q r s t (there x y) =
     there (p ∙ x) (rw (r, s, t) (append_assoc taken (take n owed) (drop n owed) ∙ ap (λ z. taken ++ z) (take-append-drop n owed) ∙ y))
-fate_taken limit n link link' e e' b b' owed owed' taken taken' out out' l p q r s t (gone left x y z w) =
+fate_taken limit n stream stream' e e' b b' owed owed' taken taken' out out' l p q r s t (gone left x y z w) =
     let none = take_nothing n owed y in
     gone left (l x) (r ∙ none.1) (rw t (ap (λ a. a ++ left) (s ∙ ap (λ a. taken ++ a) none.0 ∙ append-nil taken) ∙ z)) (still_broken limit left b b' q w)

@@ -9,16 +9,17 @@ use Rattle.std.proofs.lemmas.List.Concat.{flat_map-append}
 use Rattle.std.proofs.lemmas.List.Folds.{list_any-append}
 use Rattle.std.proofs.lemmas.Bool.{eqb-true}
 use Rattle.smb_session.specs.Authenticator.{Meaning}
-use Rattle.smb_engine.specs.State.{LinkState, ShareState}
+use Rattle.smb_engine.specs.State.{StreamState, ShareState, stream_of}
+use Rattle.smb_engine.specs.Stream.{unread, unread_stream}
+use Rattle.smb_engine.specs.Run.{run}
+use Rattle.smb_engine.specs.Refusals.{run_behind}
+use Rattle.smb_engine.specs.Laws.{StreamsInOrder, moved, run_after}
 use Rattle.smb_engine.specs.Event.{EventText}
-use Rattle.smb_engine.specs.Share.{link_of, unread, unread_link}
-use Rattle.smb_engine.specs.Run.{run, run_behind}
 use Rattle.smb_engine.specs.Record.{PeerCall, next_opened, close, sent_by, taken_in, taken_by}
-use Rattle.smb_engine.specs.Clients.{ClientState}
+use Rattle.smb_engine.specs.ServedPeers.{PeerState}
 use Rattle.smb_engine.specs.Serving.{most_owed}
-use Rattle.smb_engine.specs.Laws.{LinksInOrder, moved, run_after}
 use Rattle.smb_engine.specs.ServingLaws.{sent_when_open, opens_in, is_opened, breaks_in, is_broken_off, brought_in, brought_to, ends_in, is_ended, bytes_for, put_out_to, moments_of, IsRefused}
-use Rattle.smb_engine.proofs.Links.{link_of-unread}
+use Rattle.smb_engine.proofs.Streams.{stream_of-unread}
 use Rattle.smb_engine.proofs.Order.{others_left, run_in_order}
 use Rattle.smb_engine.proofs.Cuts.{run_goes_on, unread_is_enough}
 use Rattle.smb_engine.proofs.Runs.{unread-unread}
@@ -26,17 +27,17 @@ use Rattle.smb_engine.proofs.Moments.{moments_more, moments_same, order_unread}
 use Rattle.smb_engine.proofs.Numbers.{found, Apart}
 use Rattle.smb_engine.proofs.Accounts.{heard_more, any_more, IsQuiet, AreElsewhere, brought_none, ended_none, put_none, Fate, fate_same}
 
-abbrev pub owed_of : Option ClientState → List ℕ
-owed_of o = option_map_or (λ client. client.owed) o []
+abbrev pub owed_of : Option PeerState → List ℕ
+owed_of o = option_map_or (λ peer. peer.owed) o []
 
--- the clients have the connections of their numbers, and no two have the same number
-pub record AreListed (connections : ℕ → Option ℕ) (clients : List ClientState) : Type 0 where
-  pub known : AllByRecursion (λ client. connections client.number ≡ Some client.connection) clients
-  pub apart : Apart clients
+-- the served peers have the connections of their numbers, and no two have the same number
+pub record AreListed (connections : ℕ → Option ℕ) (served_peers : List PeerState) : Type 0 where
+  pub known : AllByRecursion (λ peer. connections peer.number ≡ Some peer.connection) served_peers
+  pub apart : Apart served_peers
 
 -- a connection that is closed, seen from what is unread
-closed_unread : (o : Option LinkState) → o ≡ None → option_map unread_link o ≡ None
-closed_unread o e = ap (option_map unread_link) e
+closed_unread : (o : Option StreamState) → o ≡ None → option_map unread_stream o ≡ None
+closed_unread o e = ap (option_map unread_stream) e
 
 pub any_none : {X : Type 0} (test : X → Bool) (xs ys : List X) → list_any test ys ≡ false → list_any test (xs ++ ys) ≡ list_any test xs
 any_none test [] ys h = h
@@ -94,13 +95,13 @@ module _ {S : Type 0} (m : Meaning S) (s0 : ShareState S) (moments0 : List ℕ) 
       }
 
   -- the account of a number that has a connection
-  pub record Account (share : ShareState S) (clients : List ClientState) (calls : List PeerCall) (events : List EventText) (number connection : ℕ) : Type 0 where
+  pub record Account (share : ShareState S) (served_peers : List PeerState) (calls : List PeerCall) (events : List EventText) (number connection : ℕ) : Type 0 where
     pub given : (0 < connection) × (connection < share.next)
     pub opened : is_opened number calls ≡ true
     pub brought : brought_to connection events ≡ sent_when_open number calls
-    pub fate : Fate most_owed (link_of connection share.links) (is_ended connection events) (is_broken_off number calls) (owed_of (found number clients)) (taken_by number calls)
+    pub fate : Fate most_owed (stream_of connection share.streams) (is_ended connection events) (is_broken_off number calls) (owed_of (found number served_peers)) (taken_by number calls)
         (put_out_to connection (run m s0 events).outputs)
-    pub closed : found number clients ≡ None → link_of connection share.links ≡ None
+    pub closed : found number served_peers ≡ None → stream_of connection share.streams ≡ None
 
   -- a connection that was not given yet
   pub record IsUnused (events : List EventText) (connection : ℕ) : Type 0 where
@@ -108,32 +109,32 @@ module _ {S : Type 0} (m : Meaning S) (s0 : ShareState S) (moments0 : List ℕ) 
     pub unended : is_ended connection events ≡ false
     pub says : put_out_to connection (run m s0 events).outputs ≡ []
 
-  pub record Books (share : ShareState S) (clients : List ClientState) (calls : List PeerCall) (moments : List ℕ) (events : List EventText) (connections : ℕ → Option ℕ) : Type 0 where
+  pub record Books (share : ShareState S) (served_peers : List PeerState) (calls : List PeerCall) (moments : List ℕ) (events : List EventText) (connections : ℕ → Option ℕ) : Type 0 where
     pub goes : (run m s0 events).stop ≡ None
     pub state : share ≡ unread (run m s0 events).state
     pub told : moments ≡ moments0 ++ moments_of m s0 events
-    pub order : LinksInOrder share
+    pub order : StreamsInOrder share
     pub from_one : 0 < share.next
-    pub listed : AreListed connections clients
+    pub listed : AreListed connections served_peers
     pub distinct : (number other connection : ℕ) → connections number ≡ Some connection → connections other ≡ Some connection → number ≡ other
-    pub accounts : (number connection : ℕ) → connections number ≡ Some connection → Account share clients calls events number connection
+    pub accounts : (number connection : ℕ) → connections number ≡ Some connection → Account share served_peers calls events number connection
     pub others : (number : ℕ) → connections number ≡ None → IsOut m s0 number calls events
     pub unused : (connection : ℕ) → share.next ≤ connection → IsUnused events connection
 
   -- what calls and events change of the account of their own number
-  pub record Own (share share' : ShareState S) (clients clients' : List ClientState) (calls cs : List PeerCall) (events evs : List EventText) (number connection : ℕ) : Type 0 where
+  pub record Own (share share' : ShareState S) (served_peers served_peers' : List PeerState) (calls cs : List PeerCall) (events evs : List EventText) (number connection : ℕ) : Type 0 where
     pub brought : brought_to connection evs ≡ sent_by number cs
-    pub fate : Fate most_owed (link_of connection share.links) (is_ended connection events) (is_broken_off number calls) (owed_of (found number clients)) (taken_by number calls)
+    pub fate : Fate most_owed (stream_of connection share.streams) (is_ended connection events) (is_broken_off number calls) (owed_of (found number served_peers)) (taken_by number calls)
         (put_out_to connection (run m s0 events).outputs) →
-        Fate most_owed (link_of connection share'.links) (is_ended connection events || is_ended connection evs) (is_broken_off number calls || is_broken_off number cs) (owed_of (found number clients'))
+        Fate most_owed (stream_of connection share'.streams) (is_ended connection events || is_ended connection evs) (is_broken_off number calls || is_broken_off number cs) (owed_of (found number served_peers'))
         (taken_by number calls ++ taken_by number cs) (put_out_to connection (run m s0 events).outputs ++ put_out_to connection (run m share evs).outputs)
-    pub closed : found number clients' ≡ None → link_of connection share'.links ≡ None
+    pub closed : found number served_peers' ≡ None → stream_of connection share'.streams ≡ None
 
-  module _ (share share' : ShareState S) (clients clients' : List ClientState) (calls cs : List PeerCall) (events evs : List EventText) (x : Extended share events evs) (next : share.next ≤ share'.next)
+  module _ (share share' : ShareState S) (served_peers served_peers' : List PeerState) (calls cs : List PeerCall) (events evs : List EventText) (x : Extended share events evs) (next : share.next ≤ share'.next)
       (is : share' ≡ unread (run m share evs).state) where
     -- the account of the number itself
-    own_account : (number connection : ℕ) → Own share share' clients clients' calls cs events evs number connection → Account share clients calls events number connection →
-        Account share' clients' (calls ++ cs) (events ++ evs) number connection
+    own_account : (number connection : ℕ) → Own share share' served_peers served_peers' calls cs events evs number connection → Account share served_peers calls events number connection →
+        Account share' served_peers' (calls ++ cs) (events ++ evs) number connection
     own_account number connection o a = record {
       given = (a.given.0, omega (arith, a.given.1, next));
       opened = any_more (opens_in number) calls cs a.opened;
@@ -150,13 +151,13 @@ module _ {S : Type 0} (m : Meaning S) (s0 : ShareState S) (moments0 : List ℕ) 
     }
 
     -- that of another number
-    pub other_account : (number connection : ℕ) → AreElsewhere connection evs → IsQuiet number cs → found number clients' ≡ found number clients → Account share clients calls events number connection →
-        Account share' clients' (calls ++ cs) (events ++ evs) number connection
+    pub other_account : (number connection : ℕ) → AreElsewhere connection evs → IsQuiet number cs → found number served_peers' ≡ found number served_peers → Account share served_peers calls events number connection →
+        Account share' served_peers' (calls ++ cs) (events ++ evs) number connection
     other_account number connection e q f a =
         let left = others_left m share evs connection e in
-        let link : link_of connection share'.links ≡ option_map unread_link (link_of connection share.links) =
-        ap (λ t. link_of connection t.links) is ∙ link_of-unread (is_at (nat_cmp connection)) (run m share evs).state.links ∙ ap (option_map unread_link) left.0 in
-        let stays : link_of connection share.links ≡ None → link_of connection share'.links ≡ None = λ h. link ∙ closed_unread (link_of connection share.links) h in
+        let stream : stream_of connection share'.streams ≡ option_map unread_stream (stream_of connection share.streams) =
+        ap (λ t. stream_of connection t.streams) is ∙ stream_of-unread (is_at (nat_cmp connection)) (run m share evs).state.streams ∙ ap (option_map unread_stream) left.0 in
+        let stays : stream_of connection share.streams ≡ None → stream_of connection share'.streams ≡ None = λ h. stream ∙ closed_unread (stream_of connection share.streams) h in
         record {
           given = (a.given.0, omega (arith, a.given.1, next));
           opened = any_more (opens_in number) calls cs a.opened;
@@ -179,20 +180,20 @@ module _ {S : Type 0} (m : Meaning S) (s0 : ShareState S) (moments0 : List ℕ) 
         }
 
   -- calls of one number, and events on its connection if it has one
-  module _ (share share' : ShareState S) (clients clients' : List ClientState) (calls cs : List PeerCall) (moments moments' : List ℕ) (events evs : List EventText) (connections : ℕ → Option ℕ)
-      (number : ℕ) (b : Books share clients calls moments events connections) (own : (c : ℕ) → connections number ≡ Some c → Own share share' clients clients' calls cs events evs number c)
+  module _ (share share' : ShareState S) (served_peers served_peers' : List PeerState) (calls cs : List PeerCall) (moments moments' : List ℕ) (events evs : List EventText) (connections : ℕ → Option ℕ)
+      (number : ℕ) (b : Books share served_peers calls moments events connections) (own : (c : ℕ) → connections number ≡ Some c → Own share share' served_peers served_peers' calls cs events evs number c)
       (refused : connections number ≡ None → IsOut m s0 number calls events → IsOut m s0 number (calls ++ cs) (events ++ evs))
       (elsewhere : (j c : ℕ) → connections j ≡ Some c → eqb number j ≡ false → AreElsewhere c evs) (quiet : (j : ℕ) → eqb number j ≡ false → IsQuiet j cs)
-      (same : (j : ℕ) → eqb number j ≡ false → found j clients' ≡ found j clients) where
+      (same : (j : ℕ) → eqb number j ≡ false → found j served_peers' ≡ found j served_peers) where
     account_at : Extended share events evs → share.next ≤ share'.next → share' ≡ unread (run m share evs).state → (j c : ℕ) (x : Bool) → eqb number j ≡ x → connections j ≡ Some c →
-        Account share' clients' (calls ++ cs) (events ++ evs) j c
+        Account share' served_peers' (calls ++ cs) (events ++ evs) j c
     account_at x next is j c true t e =
         let j' : number ≡ j = eqb-true number j t in
-        let P : ℕ → Type 0 = λ k. Account share' clients' (calls ++ cs) (events ++ evs) k c in
+        let P : ℕ → Type 0 = λ k. Account share' served_peers' (calls ++ cs) (events ++ evs) k c in
         let e' : connections number ≡ Some c = ap connections j' ∙ e in
-        subst P j' (own_account share share' clients clients' calls cs events evs x next is number c (own c e') (b.accounts number c e'))
+        subst P j' (own_account share share' served_peers served_peers' calls cs events evs x next is number c (own c e') (b.accounts number c e'))
     account_at x next is j c false t e =
-        other_account share share' clients clients' calls cs events evs x next is j c (elsewhere j c e t) (quiet j t) (same j t) (b.accounts j c e)
+        other_account share share' served_peers served_peers' calls cs events evs x next is j c (elsewhere j c e t) (quiet j t) (same j t) (b.accounts j c e)
 
     refused_at : (j : ℕ) (x : Bool) → eqb number j ≡ x → connections j ≡ None → IsOut m s0 j (calls ++ cs) (events ++ evs)
     refused_at j true t e =
@@ -203,7 +204,7 @@ module _ {S : Type 0} (m : Meaning S) (s0 : ShareState S) (moments0 : List ℕ) 
     refused_at j false t e = still_refused m s0 j calls cs events evs (quiet j t) (b.others j e)
 
     pub move : (run m share evs).stop ≡ None → share' ≡ unread (run m share evs).state → share'.next ≡ share.next → moments' ≡ moments ++ moments_of m share evs →
-        ((c : ℕ) → share.next ≤ c → AreElsewhere c evs) → AreListed connections clients' → Books share' clients' (calls ++ cs) moments' (events ++ evs) connections
+        ((c : ℕ) → share.next ≤ c → AreElsewhere c evs) → AreListed connections served_peers' → Books share' served_peers' (calls ++ cs) moments' (events ++ evs) connections
     move goes is next told beyond listed =
         let x = extend share events evs b.goes b.state goes in
         let above : share.next ≤ share'.next = omega (arith, next) in
@@ -218,5 +219,5 @@ module _ {S : Type 0} (m : Meaning S) (s0 : ShareState S) (moments0 : List ℕ) 
           distinct = b.distinct;
           accounts = λ j c e. account_at x above is j c (eqb number j) refl e;
           others = λ j e. refused_at j (eqb number j) refl e;
-          unused = λ c h. let h' : share.next ≤ c = rw next at h in still_unused share share' clients clients' calls cs events evs x above is c (beyond c h') (b.unused c h');
+          unused = λ c h. let h' : share.next ≤ c = rw next at h in still_unused share share' served_peers served_peers' calls cs events evs x above is c (beyond c h') (b.unused c h');
         }

@@ -14,147 +14,152 @@ use Rattle.smb_engine.specs.declared.connection.Connection.{Connection}
 use Rattle.smb_engine.specs.declared.fault.ServeFault.{ServeFault}
 use Rattle.smb_engine.specs.Event.{EventText, brings}
 use Rattle.smb_request.specs.State.{ServerState}
-use Rattle.smb_engine.specs.State.{LinkState, ShareState}
-use Rattle.smb_engine.specs.Chain.{PayloadStep, payload_step}
-use Rattle.smb_engine.specs.Output.{end_of, reply_frame}
-use Rattle.smb_engine.specs.Stream.{longest_payload, PayloadSteps, after_outputs, and_then, payload_steps, added_payloads}
-use Rattle.smb_engine.specs.Share.{EventStep, settled, bytes_step, ended, unread, link_of, with_link}
-use Rattle.smb_engine.specs.Run.{Stop, Ran, run, run_behind, then_ran, later, refused_at_once, event_refusal, event_step}
-use Rattle.smb_engine.specs.Laws.{LinksInOrder, AreAlike, later_behind, with_one_more_at, moved, run_after, pieces_on, bytes_of_pieces}
-use Rattle.smb_engine.proofs.Links.{bytes_step-none, bytes_step-some, remove-set}
+use Rattle.smb_engine.specs.State.{StreamState, ShareState, ended, stream_of, with_stream}
+use Rattle.smb_engine.specs.Output.{end_of}
+use Rattle.smb_engine.specs.Stream.{longest_payload, added_payloads, unread}
+use Rattle.smb_engine.specs.Run.{Step, payload_step, after_step, and_then, payload_steps, EventStep, settled, bytes_step, event_step, event_refusal, Stop, Ran, run, then_ran, later, refused_at_once}
+use Rattle.smb_engine.specs.Refusals.{run_behind}
+use Rattle.smb_engine.specs.Laws.{StreamsInOrder, AreAlike, later_behind, with_one_more_at, moved, run_after, pieces_on, bytes_of_pieces}
+use Rattle.smb_engine.proofs.Streams.{arrived, bytes_step-none, bytes_step-some, remove-set}
 use Rattle.smb_engine.proofs.Pieces.{added_is, steps_by, step-open, step-over}
-use Rattle.smb_engine.proofs.Order.{lookup-set, set-set, link_of-without, bytes_step-next, order_step}
+use Rattle.smb_engine.proofs.Order.{lookup-set, set-set, stream_of-without, bytes_step-next, order_step}
 use Rattle.smb_engine.proofs.Runs.{unread-unread, unread_step, event_step-unread, refusal-unread}
 
 -- a piece in two adds the payloads of the one and then those of the other
-added-cut : (stream a b : List ℕ) → added_payloads stream (a ++ b) ≡ added_payloads stream a ++ added_payloads (stream ++ a) b
-added-cut stream a b =
-    let held = rest longest_payload stream in
-    let left : rest longest_payload (held ++ a) ≡ rest longest_payload (stream ++ a) = sym (rest-more longest_payload a stream) in
-    added_is stream (a ++ b)
+added-cut : (received a b : List ℕ) → added_payloads received (a ++ b) ≡ added_payloads received a ++ added_payloads (received ++ a) b
+added-cut received a b =
+    let held = rest longest_payload received in
+    let left : rest longest_payload (held ++ a) ≡ rest longest_payload (received ++ a) = sym (rest-more longest_payload a received) in
+    added_is received (a ++ b)
     ∙ ap (payloads longest_payload) (sym (append_assoc held a b))
     ∙ payloads-more longest_payload b (held ++ a)
     ∙ ap (λ t. payloads longest_payload (held ++ a) ++ payloads longest_payload (t ++ b)) left
-    ∙ ap (λ t. t ++ payloads longest_payload (rest longest_payload (stream ++ a) ++ b)) (sym (added_is stream a))
-    ∙ ap (λ t. added_payloads stream a ++ t) (sym (added_is (stream ++ a) b))
+    ∙ ap (λ t. t ++ payloads longest_payload (rest longest_payload (received ++ a) ++ b)) (sym (added_is received a))
+    ∙ ap (λ t. added_payloads received a ++ t) (sym (added_is (received ++ a) b))
 
 -- behind a faulty rest nothing is read, and it stays faulty
 abbrev kind_after : List ℕ → Bool
-kind_after stream = is_none (fault_of longest_payload (rest longest_payload stream))
+kind_after received = is_none (fault_of longest_payload (rest longest_payload received))
 
-record NothingMore (stream b : List ℕ) : Type 0 where
-  pub added : added_payloads stream b ≡ []
-  pub faulty : kind_after (stream ++ b) ≡ false
+record NothingMore (received b : List ℕ) : Type 0 where
+  pub added : added_payloads received b ≡ []
+  pub faulty : kind_after (received ++ b) ≡ false
 
-nothing_at : (stream b : List ℕ) (o : Option FrameFault) → fault_of longest_payload (rest longest_payload stream) ≡ o → is_none o ≡ false → NothingMore stream b
-nothing_at stream b None e h = cc
-nothing_at stream b (Some fault) e h =
-    let held = rest longest_payload stream in
+nothing_at : (received b : List ℕ) (o : Option FrameFault) → fault_of longest_payload (rest longest_payload received) ≡ o → is_none o ≡ false → NothingMore received b
+nothing_at received b None e h = cc
+nothing_at received b (Some fault) e h =
+    let held = rest longest_payload received in
     let both = fault_more longest_payload held b fault e in
-    let same : rest longest_payload (stream ++ b) ≡ held ++ b = rest-more longest_payload b stream ∙ rest-none longest_payload (held ++ b) both.1 in
-    record { added = added_is stream b ∙ payloads-none longest_payload (held ++ b) both.1; faulty = rw (same, both.0) refl }
+    let same : rest longest_payload (received ++ b) ≡ held ++ b = rest-more longest_payload b received ∙ rest-none longest_payload (held ++ b) both.1 in
+    record { added = added_is received b ∙ payloads-none longest_payload (held ++ b) both.1; faulty = rw (same, both.0) refl }
 
-nothing_more : (stream b : List ℕ) → kind_after stream ≡ false → NothingMore stream b
-nothing_more stream b h = nothing_at stream b _ refl h
+nothing_more : (received b : List ℕ) → kind_after received ≡ false → NothingMore received b
+nothing_more received b h = nothing_at received b _ refl h
 
 module _ {S : Type 0} (m : Meaning S) (n moment : ℕ) where
-  abbrev all : ServerState S → Connection → List (List ℕ) → PayloadSteps S
-  all = payload_steps m n moment
+  abbrev all : ServerState S → Connection → List (List ℕ) → Step S
+  all = payload_steps m (arrived n moment)
+
+  -- one step behind two others
+  step-assoc : (a b c : Step S) → after_step a (after_step b c) ≡ after_step (after_step a b) c
+  step-assoc a b c = rw (append_assoc a.outputs b.outputs c.outputs, append_assoc a.requests b.requests c.requests) refl
 
   -- payloads after payloads that leave the connection open
-  on_at : (p : PayloadStep S) (xs ys : List (List ℕ)) (o : Option (List ℕ)) → p.replies ≡ o →
+  on_at : (p : Step S) (xs ys : List (List ℕ)) (o : Bool) → p.stays_open ≡ o →
       ((all p.server p.connection xs).stays_open ≡ true →
-      all p.server p.connection (xs ++ ys) ≡ after_outputs (all p.server p.connection xs).outputs (all (all p.server p.connection xs).server (all p.server p.connection xs).connection ys)) →
-      (and_then n (λ s c. all s c xs) p).stays_open ≡ true →
-      and_then n (λ s c. all s c (xs ++ ys)) p
-      ≡ after_outputs (and_then n (λ s c. all s c xs) p).outputs (all (and_then n (λ s c. all s c xs) p).server (and_then n (λ s c. all s c xs) p).connection ys)
-  on_at p xs ys None e ih h = let h' = rw e at h in cc
-  on_at p xs ys (Some r) e ih h =
+      all p.server p.connection (xs ++ ys) ≡ after_step (all p.server p.connection xs) (all (all p.server p.connection xs).server (all p.server p.connection xs).connection ys)) →
+      (and_then (λ s c. all s c xs) p).stays_open ≡ true →
+      and_then (λ s c. all s c (xs ++ ys)) p
+      ≡ after_step (and_then (λ s c. all s c xs) p) (all (and_then (λ s c. all s c xs) p).server (and_then (λ s c. all s c xs) p).connection ys)
+  on_at p xs ys false e ih h = let h' = rw e at h in cc
+  on_at p xs ys true e ih h =
       let before = all p.server p.connection xs in
       let others = all before.server before.connection ys in
-      rw (e, ih (rw e at h)) (ap (λ t. record others { outputs = t }) (sym (append_assoc (reply_frame n r) before.outputs others.outputs)))
+      rw (e, ih (rw e at h)) (step-assoc p before others)
 
   steps-on : (server : ServerState S) (connection : Connection) (xs ys : List (List ℕ)) → (all server connection xs).stays_open ≡ true →
-      all server connection (xs ++ ys) ≡ after_outputs (all server connection xs).outputs (all (all server connection xs).server (all server connection xs).connection ys)
+      all server connection (xs ++ ys) ≡ after_step (all server connection xs) (all (all server connection xs).server (all server connection xs).connection ys)
   steps-on server connection [] ys h = refl
   steps-on server connection (x ∷ xs) ys h =
-      let p = payload_step m n moment server connection x in
-      on_at p xs ys p.replies refl (steps-on p.server p.connection xs ys) h
+      let p = payload_step m (arrived n moment) server connection x in
+      on_at p xs ys p.stays_open refl (steps-on p.server p.connection xs ys) h
 
   -- payloads after payloads that end it
-  over_at : (p : PayloadStep S) (xs ys : List (List ℕ)) (o : Option (List ℕ)) → p.replies ≡ o →
+  over_at : (p : Step S) (xs ys : List (List ℕ)) (o : Bool) → p.stays_open ≡ o →
       ((all p.server p.connection xs).stays_open ≡ false → all p.server p.connection (xs ++ ys) ≡ all p.server p.connection xs) →
-      (and_then n (λ s c. all s c xs) p).stays_open ≡ false → and_then n (λ s c. all s c (xs ++ ys)) p ≡ and_then n (λ s c. all s c xs) p
-  over_at p xs ys None e ih h = rw e refl
-  over_at p xs ys (Some r) e ih h = rw e (ap (after_outputs (reply_frame n r)) (ih (rw e at h)))
+      (and_then (λ s c. all s c xs) p).stays_open ≡ false → and_then (λ s c. all s c (xs ++ ys)) p ≡ and_then (λ s c. all s c xs) p
+  over_at p xs ys false e ih h = rw e refl
+  over_at p xs ys true e ih h = rw e (ap (after_step p) (ih (rw e at h)))
 
   steps-over : (server : ServerState S) (connection : Connection) (xs ys : List (List ℕ)) → (all server connection xs).stays_open ≡ false → all server connection (xs ++ ys) ≡ all server connection xs
   steps-over server connection [] ys h = cc
   steps-over server connection (x ∷ xs) ys h =
-      let p = payload_step m n moment server connection x in
-      over_at p xs ys p.replies refl (steps-over p.server p.connection xs ys) h
+      let p = payload_step m (arrived n moment) server connection x in
+      over_at p xs ys p.stays_open refl (steps-over p.server p.connection xs ys) h
 
-  abbrev by_piece : ServerState S → LinkState → List ℕ → PayloadSteps S
-  by_piece = steps_by m n moment
+  abbrev by_piece : ServerState S → StreamState → List ℕ → Step S
+  by_piece = steps_by m (arrived n moment)
 
   -- a piece whose payloads come to these steps
-  bytes-open : (s : ShareState S) (link : LinkState) (piece : List ℕ) (steps : PayloadSteps S) → link_of n s.links ≡ Some link → by_piece s.server link piece ≡ steps →
-      (steps.stays_open && kind_after (link.stream ++ piece)) ≡ true →
+  bytes-open : (s : ShareState S) (stream : StreamState) (piece : List ℕ) (steps : Step S) → stream_of n s.streams ≡ Some stream → by_piece s.server stream piece ≡ steps →
+      (steps.stays_open && kind_after (stream.received ++ piece)) ≡ true →
       bytes_step m s n moment piece ≡ record {
-        state = record s { server = steps.server; links = with_link n (record { stream = link.stream ++ piece; connection = steps.connection }) s.links };
+        state = record s { server = steps.server; streams = with_stream n (record { received = stream.received ++ piece; connection = steps.connection }) s.streams };
         outputs = steps.outputs;
+        requests = steps.requests;
       }
-  bytes-open s link piece steps h e t =
-      bytes_step-some m s n moment piece link h ∙ ap (settled s n) (step-open m n moment s.server link piece (rw e t)) ∙ rw e refl
+  bytes-open s stream piece steps h e t =
+      bytes_step-some m s n moment piece stream h ∙ ap (settled s n (stream.received ++ piece)) (step-open m (arrived n moment) s.server stream piece (rw e t)) ∙ rw e refl
 
-  bytes-over : (s : ShareState S) (link : LinkState) (piece : List ℕ) (steps : PayloadSteps S) → link_of n s.links ≡ Some link → by_piece s.server link piece ≡ steps →
-      (steps.stays_open && kind_after (link.stream ++ piece)) ≡ false →
-      bytes_step m s n moment piece ≡ record { state = ended (record s { server = steps.server }) n; outputs = steps.outputs ++ end_of n ∷ [] }
-  bytes-over s link piece steps h e t =
-      bytes_step-some m s n moment piece link h ∙ ap (settled s n) (step-over m n moment s.server link piece (rw e t)) ∙ rw e refl
+  bytes-over : (s : ShareState S) (stream : StreamState) (piece : List ℕ) (steps : Step S) → stream_of n s.streams ≡ Some stream → by_piece s.server stream piece ≡ steps →
+      (steps.stays_open && kind_after (stream.received ++ piece)) ≡ false →
+      bytes_step m s n moment piece ≡ record { state = ended (record s { server = steps.server }) n; outputs = steps.outputs ++ end_of n ∷ []; requests = steps.requests }
+  bytes-over s stream piece steps h e t =
+      bytes_step-some m s n moment piece stream h ∙ ap (settled s n (stream.received ++ piece)) (step-over m (arrived n moment) s.server stream piece (rw e t)) ∙ rw e refl
 
-  by-cut : (server : ServerState S) (link : LinkState) (a b : List ℕ) → by_piece server link (a ++ b) ≡ all server link.connection (added_payloads link.stream a ++ added_payloads (link.stream ++ a) b)
+  by-cut : (server : ServerState S) (stream : StreamState) (a b : List ℕ) → by_piece server stream (a ++ b) ≡ all server stream.connection (added_payloads stream.received a ++ added_payloads (stream.received ++ a) b)
   unfolding steps_by
-  by-cut server link a b = rw added-cut refl
+  by-cut server stream a b = rw added-cut refl
 
-  by-is : (server : ServerState S) (link : LinkState) (a : List ℕ) → by_piece server link a ≡ all server link.connection (added_payloads link.stream a)
+  by-is : (server : ServerState S) (stream : StreamState) (a : List ℕ) → by_piece server stream a ≡ all server stream.connection (added_payloads stream.received a)
   unfolding steps_by
-  by-is server link a = refl
+  by-is server stream a = refl
 
   abbrev two : ShareState S → List ℕ → List ℕ → EventStep S
   two s a b = record {
     state = (bytes_step m (bytes_step m s n moment a).state n moment b).state;
     outputs = (bytes_step m s n moment a).outputs ++ (bytes_step m (bytes_step m s n moment a).state n moment b).outputs;
+    requests = (bytes_step m s n moment a).requests ++ (bytes_step m (bytes_step m s n moment a).state n moment b).requests;
   }
 
   -- the first piece leaves the connection open
-  cut_open_at : (s : ShareState S) (link : LinkState) (a b : List ℕ) (first_steps more : PayloadSteps S) (c : Bool) → link_of n s.links ≡ Some link →
-      by_piece s.server link a ≡ first_steps → (first_steps.stays_open && kind_after (link.stream ++ a)) ≡ true →
-      by_piece first_steps.server (record { stream = link.stream ++ a; connection = first_steps.connection }) b ≡ more →
-      by_piece s.server link (a ++ b) ≡ after_outputs first_steps.outputs more →
-      (more.stays_open && kind_after ((link.stream ++ a) ++ b)) ≡ c →
+  cut_open_at : (s : ShareState S) (stream : StreamState) (a b : List ℕ) (first_steps more : Step S) (c : Bool) → stream_of n s.streams ≡ Some stream →
+      by_piece s.server stream a ≡ first_steps → (first_steps.stays_open && kind_after (stream.received ++ a)) ≡ true →
+      by_piece first_steps.server (record { received = stream.received ++ a; connection = first_steps.connection }) b ≡ more →
+      by_piece s.server stream (a ++ b) ≡ after_step first_steps more →
+      (more.stays_open && kind_after ((stream.received ++ a) ++ b)) ≡ c →
       bytes_step m s n moment (a ++ b) ≡ two s a b
-  cut_open_at s link a b f more true h e t e' e'' t' =
-      let link' : LinkState = record { stream = link.stream ++ a; connection = f.connection } in
-      let s' : ShareState S = record s { server = f.server; links = with_link n link' s.links } in
-      let q : (link.stream ++ a) ++ b ≡ link.stream ++ (a ++ b) = append_assoc link.stream a b in
-      let t'' : (more.stays_open && kind_after (link.stream ++ (a ++ b))) ≡ true = rw (← q) t' in
+  cut_open_at s stream a b f more true h e t e' e'' t' =
+      let stream' : StreamState = record { received = stream.received ++ a; connection = f.connection } in
+      let s' : ShareState S = record s { server = f.server; streams = with_stream n stream' s.streams } in
+      let q : (stream.received ++ a) ++ b ≡ stream.received ++ (a ++ b) = append_assoc stream.received a b in
+      let t'' : (more.stays_open && kind_after (stream.received ++ (a ++ b))) ≡ true = rw (← q) t' in
       rw (
-        bytes-open s link (a ++ b) (after_outputs f.outputs more) h e'' t'',
-        bytes-open s link a f h e t,
-        bytes-open s' link' b more (lookup-set (is_at (nat_cmp n)) s.links link link' h) e' t',
+        bytes-open s stream (a ++ b) (after_step f more) h e'' t'',
+        bytes-open s stream a f h e t,
+        bytes-open s' stream' b more (lookup-set (is_at (nat_cmp n)) s.streams stream stream' h) e' t',
         set-set,
         q,
       ) refl
-  cut_open_at s link a b f more false h e t e' e'' t' =
-      let link' : LinkState = record { stream = link.stream ++ a; connection = f.connection } in
-      let s' : ShareState S = record s { server = f.server; links = with_link n link' s.links } in
-      let q : (link.stream ++ a) ++ b ≡ link.stream ++ (a ++ b) = append_assoc link.stream a b in
-      let t'' : (more.stays_open && kind_after (link.stream ++ (a ++ b))) ≡ false = rw (← q) t' in
+  cut_open_at s stream a b f more false h e t e' e'' t' =
+      let stream' : StreamState = record { received = stream.received ++ a; connection = f.connection } in
+      let s' : ShareState S = record s { server = f.server; streams = with_stream n stream' s.streams } in
+      let q : (stream.received ++ a) ++ b ≡ stream.received ++ (a ++ b) = append_assoc stream.received a b in
+      let t'' : (more.stays_open && kind_after (stream.received ++ (a ++ b))) ≡ false = rw (← q) t' in
       rw (
-        bytes-over s link (a ++ b) (after_outputs f.outputs more) h e'' t'',
-        bytes-open s link a f h e t,
-        bytes-over s' link' b more (lookup-set (is_at (nat_cmp n)) s.links link link' h) e' t',
+        bytes-over s stream (a ++ b) (after_step f more) h e'' t'',
+        bytes-open s stream a f h e t,
+        bytes-over s' stream' b more (lookup-set (is_at (nat_cmp n)) s.streams stream stream' h) e' t',
         remove-set,
         append_assoc,
       ) refl
@@ -163,57 +168,57 @@ module _ {S : Type 0} (m : Meaning S) (n moment : ℕ) where
   open_parts true y h = refl
   open_parts false y h = cc
 
-  cut_open : (s : ShareState S) (link : LinkState) (a b : List ℕ) → link_of n s.links ≡ Some link →
-      ((by_piece s.server link a).stays_open && kind_after (link.stream ++ a)) ≡ true → bytes_step m s n moment (a ++ b) ≡ two s a b
-  cut_open s link a b h t =
-      let f = by_piece s.server link a in
-      let is = by-is s.server link a in
-      let link' : LinkState = record { stream = link.stream ++ a; connection = f.connection } in
+  cut_open : (s : ShareState S) (stream : StreamState) (a b : List ℕ) → stream_of n s.streams ≡ Some stream →
+      ((by_piece s.server stream a).stays_open && kind_after (stream.received ++ a)) ≡ true → bytes_step m s n moment (a ++ b) ≡ two s a b
+  cut_open s stream a b h t =
+      let f = by_piece s.server stream a in
+      let is = by-is s.server stream a in
+      let stream' : StreamState = record { received = stream.received ++ a; connection = f.connection } in
       let open_still = ap (λ d. d.stays_open) (sym is) ∙ open_parts f.stays_open _ t in
-      let on = by-cut s.server link a b ∙ steps-on s.server link.connection (added_payloads link.stream a) (added_payloads (link.stream ++ a) b) open_still in
-      let on' : by_piece s.server link (a ++ b) ≡ after_outputs f.outputs (by_piece f.server link' b) = rw (by-is f.server link' b, is) on in
-      cut_open_at s link a b f (by_piece f.server link' b) _ h refl t refl on' refl
+      let on = by-cut s.server stream a b ∙ steps-on s.server stream.connection (added_payloads stream.received a) (added_payloads (stream.received ++ a) b) open_still in
+      let on' : by_piece s.server stream (a ++ b) ≡ after_step f (by_piece f.server stream' b) = rw (by-is f.server stream' b, is) on in
+      cut_open_at s stream a b f (by_piece f.server stream' b) _ h refl t refl on' refl
 
   -- the first piece ends it
-  cut_over_by : (s : ShareState S) (link : LinkState) (a b : List ℕ) → LinksInOrder s → link_of n s.links ≡ Some link →
-      ((by_piece s.server link a).stays_open && kind_after (link.stream ++ a)) ≡ false →
-      by_piece s.server link (a ++ b) ≡ by_piece s.server link a → ((by_piece s.server link a).stays_open && kind_after (link.stream ++ (a ++ b))) ≡ false →
+  cut_over_by : (s : ShareState S) (stream : StreamState) (a b : List ℕ) → StreamsInOrder s → stream_of n s.streams ≡ Some stream →
+      ((by_piece s.server stream a).stays_open && kind_after (stream.received ++ a)) ≡ false →
+      by_piece s.server stream (a ++ b) ≡ by_piece s.server stream a → ((by_piece s.server stream a).stays_open && kind_after (stream.received ++ (a ++ b))) ≡ false →
       bytes_step m s n moment (a ++ b) ≡ two s a b
-  cut_over_by s link a b r h t e t' =
-      let f = by_piece s.server link a in
+  cut_over_by s stream a b r h t e t' =
+      let f = by_piece s.server stream a in
       let gone : ShareState S = ended (record s { server = f.server }) n in
-      rw (bytes-over s link (a ++ b) f h e t', bytes-over s link a f h refl t, bytes_step-none m gone n moment b (link_of-without n s.links r.rising))
-      (ap (λ t. record { state = gone; outputs = t }) (sym (append-nil (f.outputs ++ end_of n ∷ []))))
+      rw (bytes-over s stream (a ++ b) f h e t', bytes-over s stream a f h refl t, bytes_step-none m gone n moment b (stream_of-without n s.streams r.rising))
+      (rw (append-nil (f.outputs ++ end_of n ∷ []), append-nil f.requests) refl)
 
-  cut_over_at : (s : ShareState S) (link : LinkState) (a b : List ℕ) (x : Bool) → LinksInOrder s → link_of n s.links ≡ Some link → (by_piece s.server link a).stays_open ≡ x →
-      (x && kind_after (link.stream ++ a)) ≡ false → bytes_step m s n moment (a ++ b) ≡ two s a b
-  cut_over_at s link a b true r h e t =
-      let f = by_piece s.server link a in
-      let is = by-is s.server link a in
-      let more = nothing_more (link.stream ++ a) b t in
+  cut_over_at : (s : ShareState S) (stream : StreamState) (a b : List ℕ) (x : Bool) → StreamsInOrder s → stream_of n s.streams ≡ Some stream → (by_piece s.server stream a).stays_open ≡ x →
+      (x && kind_after (stream.received ++ a)) ≡ false → bytes_step m s n moment (a ++ b) ≡ two s a b
+  cut_over_at s stream a b true r h e t =
+      let f = by_piece s.server stream a in
+      let is = by-is s.server stream a in
+      let more = nothing_more (stream.received ++ a) b t in
       let open_still = ap (λ d. d.stays_open) (sym is) ∙ e in
-      let on = by-cut s.server link a b ∙ steps-on s.server link.connection (added_payloads link.stream a) (added_payloads (link.stream ++ a) b) open_still in
-      let none : after_outputs f.outputs (all f.server f.connection []) ≡ f =
-      ap (λ t. record { server = f.server; connection = f.connection; outputs = t; stays_open = true }) (append-nil f.outputs) ∙ ap (λ y. record f { stays_open = y }) (sym e) in
-      let on' : by_piece s.server link (a ++ b) ≡ after_outputs f.outputs (all f.server f.connection []) = rw (more.added, ← is) at on in
-      let t' = rw (append_assoc link.stream a b) at more.faulty in
-      cut_over_by s link a b r h (rw (e, t) refl) (on' ∙ none) (rw (e, t') refl)
-  cut_over_at s link a b false r h e t =
-      let is = by-is s.server link a in
-      let over = steps-over s.server link.connection (added_payloads link.stream a) (added_payloads (link.stream ++ a) b) (ap (λ d. d.stays_open) (sym is) ∙ e) in
-      cut_over_by s link a b r h (rw e refl) (by-cut s.server link a b ∙ over ∙ sym is) (rw e refl)
+      let on = by-cut s.server stream a b ∙ steps-on s.server stream.connection (added_payloads stream.received a) (added_payloads (stream.received ++ a) b) open_still in
+      let none : after_step f (all f.server f.connection []) ≡ f =
+      rw (append-nil f.outputs, append-nil f.requests) (ap (λ y. record f { stays_open = y }) (sym e)) in
+      let on' : by_piece s.server stream (a ++ b) ≡ after_step f (all f.server f.connection []) = rw (more.added, ← is) at on in
+      let t' = rw (append_assoc stream.received a b) at more.faulty in
+      cut_over_by s stream a b r h (rw (e, t) refl) (on' ∙ none) (rw (e, t') refl)
+  cut_over_at s stream a b false r h e t =
+      let is = by-is s.server stream a in
+      let over = steps-over s.server stream.connection (added_payloads stream.received a) (added_payloads (stream.received ++ a) b) (ap (λ d. d.stays_open) (sym is) ∙ e) in
+      cut_over_by s stream a b r h (rw e refl) (by-cut s.server stream a b ∙ over ∙ sym is) (rw e refl)
 
-  cut_link : (s : ShareState S) (link : LinkState) (a b : List ℕ) (c : Bool) → LinksInOrder s → link_of n s.links ≡ Some link →
-      ((by_piece s.server link a).stays_open && kind_after (link.stream ++ a)) ≡ c → bytes_step m s n moment (a ++ b) ≡ two s a b
-  cut_link s link a b true r h t = cut_open s link a b h t
-  cut_link s link a b false r h t = cut_over_at s link a b _ r h refl t
+  cut_stream : (s : ShareState S) (stream : StreamState) (a b : List ℕ) (c : Bool) → StreamsInOrder s → stream_of n s.streams ≡ Some stream →
+      ((by_piece s.server stream a).stays_open && kind_after (stream.received ++ a)) ≡ c → bytes_step m s n moment (a ++ b) ≡ two s a b
+  cut_stream s stream a b true r h t = cut_open s stream a b h t
+  cut_stream s stream a b false r h t = cut_over_at s stream a b _ r h refl t
 
-  cut_at : (s : ShareState S) (a b : List ℕ) (o : Option LinkState) → LinksInOrder s → link_of n s.links ≡ o → bytes_step m s n moment (a ++ b) ≡ two s a b
+  cut_at : (s : ShareState S) (a b : List ℕ) (o : Option StreamState) → StreamsInOrder s → stream_of n s.streams ≡ o → bytes_step m s n moment (a ++ b) ≡ two s a b
   cut_at s a b None r h = rw (bytes_step-none m s n moment (a ++ b) h, bytes_step-none m s n moment a h, bytes_step-none m s n moment b h) refl
-  cut_at s a b (Some link) r h = cut_link s link a b _ r h refl
+  cut_at s a b (Some stream) r h = cut_stream s stream a b _ r h refl
 
   -- one event, in two
-  pub bytes_step-cut : (s : ShareState S) (a b : List ℕ) → LinksInOrder s → bytes_step m s n moment (a ++ b) ≡ two s a b
+  pub bytes_step-cut : (s : ShareState S) (a b : List ℕ) → StreamsInOrder s → bytes_step m s n moment (a ++ b) ≡ two s a b
   bytes_step-cut s a b r = cut_at s a b _ r refl
 
 -- the place of a stop, one event later
@@ -250,10 +255,10 @@ is_none-later None h = h
 is_none-later (Some f) h = refl
 
 module _ {S : Type 0} (m : Meaning S) where
-  one_by_two : (a b : EventStep S) (r : Ran S) → then_ran a (then_ran b r) ≡ with_one_more_at 0 (then_ran (record { state = b.state; outputs = a.outputs ++ b.outputs }) r)
+  one_by_two : (a b : EventStep S) (r : Ran S) → then_ran a (then_ran b r) ≡ with_one_more_at 0 (then_ran (record { state = b.state; outputs = a.outputs ++ b.outputs; requests = a.requests ++ b.requests }) r)
   one_by_two a b r = rw (append_assoc a.outputs b.outputs r.outputs, later_head r.stop) refl
 
-  cut_head_at : (s : ShareState S) (n moment : ℕ) (a b : List ℕ) (after : List EventText) (o : Option ServeFault) → LinksInOrder s → event_refusal s (brings n moment a) ≡ o →
+  cut_head_at : (s : ShareState S) (n moment : ℕ) (a b : List ℕ) (after : List EventText) (o : Option ServeFault) → StreamsInOrder s → event_refusal s (brings n moment a) ≡ o →
       run m s (brings n moment a ∷ brings n moment b ∷ after) ≡ with_one_more_at 0 (run m s (brings n moment (a ++ b) ∷ after))
   cut_head_at s n moment a b after None h e =
       let first_step = bytes_step m s n moment a in
@@ -267,7 +272,7 @@ module _ {S : Type 0} (m : Meaning S) where
   cut_more d k s r r' None e = rw e (ap (λ t. record { state = r'.state; outputs = d.outputs ++ r'.outputs; stop = t }) (later_more k r'.stop))
   cut_more d k s r r' (Some why) e = let t : ltb (suc k) 0 ≡ false = le-ltb _ _ (omega arith) in rw t refl
 
-  pub cuts_do_not_matter : (s : ShareState S) → LinksInOrder s → (before after : List EventText) (n moment : ℕ) (a b : List ℕ) →
+  pub cuts_do_not_matter : (s : ShareState S) → StreamsInOrder s → (before after : List EventText) (n moment : ℕ) (a b : List ℕ) →
       run m s (before ++ brings n moment a ∷ brings n moment b ∷ after) ≡ with_one_more_at (length before) (run m s (before ++ brings n moment (a ++ b) ∷ after))
   cuts_do_not_matter s h [] after n moment a b = cut_head_at s n moment a b after _ h refl
   cuts_do_not_matter s h (x ∷ before) after n moment a b =
@@ -355,7 +360,7 @@ alike_more : {S : Type 0} (k : ℕ) (r r' : Ran S) → r ≡ with_one_more_at k 
 alike_more k r r' e = rw e (record { state = refl; outputs = refl; reason = reason_behind k r'.stop })
 
 module _ {S : Type 0} (m : Meaning S) (n moment : ℕ) where
-  whole : (s : ShareState S) → LinksInOrder s → (before after : List EventText) (piece : List ℕ) (pieces : List (List ℕ)) →
+  whole : (s : ShareState S) → StreamsInOrder s → (before after : List EventText) (piece : List ℕ) (pieces : List (List ℕ)) →
       AreAlike (run m s (before ++ brings n moment piece ∷ (pieces_on n moment pieces ++ after))) (run m s (before ++ brings n moment (piece ++ bytes_of_pieces pieces) ∷ after))
   whole s h before after piece [] = rw append-nil (alike_same (run m s (before ++ brings n moment piece ∷ after)))
   whole s h before after piece (next ∷ pieces) =
@@ -364,7 +369,7 @@ module _ {S : Type 0} (m : Meaning S) (n moment : ℕ) where
       (alike_more (length before) _ one (cuts_do_not_matter m s h before (pieces_on n moment pieces ++ after) n moment piece next)) (whole s h before after (piece ++ next) pieces) in
       rw append_assoc at all
 
-  pub however_cut : (s : ShareState S) → LinksInOrder s → (before after : List EventText) (pieces others : List (List ℕ)) → 0 < length pieces → 0 < length others → bytes_of_pieces pieces ≡ bytes_of_pieces others →
+  pub however_cut : (s : ShareState S) → StreamsInOrder s → (before after : List EventText) (pieces others : List (List ℕ)) → 0 < length pieces → 0 < length others → bytes_of_pieces pieces ≡ bytes_of_pieces others →
       AreAlike (run m s (before ++ (pieces_on n moment pieces ++ after))) (run m s (before ++ (pieces_on n moment others ++ after)))
   however_cut s h before after [] others p q e = absurd (omega (arith, p))
   however_cut s h before after (x ∷ pieces) [] p q e = absurd (omega (arith, q))

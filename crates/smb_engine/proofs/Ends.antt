@@ -13,16 +13,15 @@ use Rattle.smb_engine.specs.declared.connection.Connection.{Connection}
 use Rattle.smb_engine.specs.declared.fault.ServeFault.{ServeFault}
 use Rattle.smb_engine.specs.declared.fault.ServeFault.TheVariants.{BadEvent}
 use Rattle.smb_request.specs.State.{ServerState}
-use Rattle.smb_engine.specs.State.{LinkState, ShareState}
-use Rattle.smb_engine.specs.Event.{EventText, opens, brings, ends, connection_of}
-use Rattle.smb_engine.specs.Chain.{PayloadStep, payload_step}
+use Rattle.smb_engine.specs.Laws.{StreamsInOrder, receiver, IsLastEnd}
+use Rattle.smb_engine.specs.State.{StreamState, ShareState, stream_of}
 use Rattle.smb_engine.specs.Output.{Output, frame_to, end_of, reply_frame}
-use Rattle.smb_engine.specs.Stream.{longest_payload, PayloadSteps, and_then, payload_steps, added_payloads, closed_by, piece_step}
-use Rattle.smb_engine.specs.Share.{EventStep, settled, bytes_step, link_of}
-use Rattle.smb_engine.specs.Run.{Ran, run, then_ran, refused_at_once, event_refusal, event_step}
-use Rattle.smb_engine.specs.Laws.{LinksInOrder, receiver, IsLastEnd}
-use Rattle.smb_engine.proofs.Links.{bytes_step-none, bytes_step-some}
-use Rattle.smb_engine.proofs.Order.{link_of-without, bytes_step-next, order_step, other_left, not_for}
+use Rattle.smb_engine.specs.Stream.{longest_payload, added_payloads}
+use Rattle.smb_engine.specs.Run.{Step, payload_step, payload_steps, and_then, closed_by, piece_step, EventStep, settled, bytes_step, event_step, event_refusal, Ran, run, then_ran, refused_at_once}
+use Rattle.smb_engine.specs.Event.{EventText, opens, brings, ends, connection_of}
+use Rattle.smb_engine.proofs.Chains.{payload_whole}
+use Rattle.smb_engine.proofs.Streams.{arrived, bytes_step-none, bytes_step-some}
+use Rattle.smb_engine.proofs.Order.{stream_of-without, bytes_step-next, order_step, other_left, not_for}
 
 module _ (n : ℕ) where
   abbrev IsNotFor : Output → Type 0
@@ -55,15 +54,15 @@ module _ (n : ℕ) where
 
 -- a connection that was and is no more
 record IsGone {S : Type 0} (n : ℕ) (s : ShareState S) : Type 0 where
-  pub gone : link_of n s.links ≡ None
+  pub gone : stream_of n s.streams ≡ None
   pub before : n < s.next
 
-without_at : (n : ℕ) (e : ℕ × LinkState) (es : List (ℕ × LinkState)) (b : Bool) → is_at (nat_cmp n) e.0 ≡ b → (link_of n es ≡ None → link_of n (remove_entry (is_at (nat_cmp n)) es) ≡ None) →
-    link_of n (e ∷ es) ≡ None → link_of n (remove_entry (is_at (nat_cmp n)) (e ∷ es)) ≡ None
+without_at : (n : ℕ) (e : ℕ × StreamState) (es : List (ℕ × StreamState)) (b : Bool) → is_at (nat_cmp n) e.0 ≡ b → (stream_of n es ≡ None → stream_of n (remove_entry (is_at (nat_cmp n)) es) ≡ None) →
+    stream_of n (e ∷ es) ≡ None → stream_of n (remove_entry (is_at (nat_cmp n)) (e ∷ es)) ≡ None
 without_at n e es true t ih h = let h' = rw t at h in cc
 without_at n e es false t ih h = rw (t, t) (ih (rw t at h))
 
-without_none : (n : ℕ) (es : List (ℕ × LinkState)) → link_of n es ≡ None → link_of n (remove_entry (is_at (nat_cmp n)) es) ≡ None
+without_none : (n : ℕ) (es : List (ℕ × StreamState)) → stream_of n es ≡ None → stream_of n (remove_entry (is_at (nat_cmp n)) es) ≡ None
 without_none n [] h = refl
 without_none n (e ∷ es) h = without_at n e es (is_at (nat_cmp n) e.0) refl (without_none n es) h
 
@@ -83,9 +82,9 @@ module _ {S : Type 0} (m : Meaning S) (n : ℕ) where
       let t : eqb k s.next ≡ false = ne_eqb k s.next (λ x. omega (arith, g.before, e, x)) in
       let r' = rw t at r in cc
   quiet_on s (brings k moment piece) e g r =
-      let none : link_of k s.links ≡ None = rw e g.gone in
+      let none : stream_of k s.streams ≡ None = rw e g.gone in
       rw (bytes_step-none m s k moment piece none) (record { stays = g; says = tt })
-  quiet_on s (ends k) e g r = rw e (record { stays = record { gone = without_none n s.links g.gone; before = g.before }; says = tt })
+  quiet_on s (ends k) e g r = rw e (record { stays = record { gone = without_none n s.streams g.gone; before = g.before }; says = tt })
 
   quiet_at : (s : ShareState S) (event : EventText) (b : Bool) → eqb (connection_of event) n ≡ b → IsGone n s → event_refusal s event ≡ None → Quiet s (event_step m s event)
   quiet_at s event true t g r = quiet_on s event (eqb-true (connection_of event) n t) g r
@@ -111,16 +110,21 @@ module _ {S : Type 0} (m : Meaning S) (n : ℕ) where
   reply_no_end [] = tt
   reply_no_end (byte ∷ replies) = (λ e. cc, tt)
 
-  steps_at : (p : PayloadStep S) (others : ServerState S → Connection → PayloadSteps S) (o : Option (List ℕ)) → p.replies ≡ o →
-      AllByRecursion (IsNoEnd n) (others p.server p.connection).outputs → AllByRecursion (IsNoEnd n) (and_then n others p).outputs
-  steps_at p others None e ih = rw e tt
-  steps_at p others (Some r) e ih = rw e (all-append (IsNoEnd n) (reply_frame n r) (others p.server p.connection).outputs (reply_no_end r) ih)
+  payload_no_end : (moment : ℕ) (server : ServerState S) (connection : Connection) (payload : List ℕ) → AllByRecursion (IsNoEnd n) (payload_step m (arrived n moment) server connection payload).outputs
+  payload_no_end moment server connection payload =
+      let framed = (payload_whole m (arrived n moment) server connection payload).framed in
+      rw framed.1 (reply_no_end framed.0)
 
-  steps_no_end : (moment : ℕ) (server : ServerState S) (connection : Connection) (xs : List (List ℕ)) → AllByRecursion (IsNoEnd n) (payload_steps m n moment server connection xs).outputs
+  steps_at : (p : Step S) (others : ServerState S → Connection → Step S) (b : Bool) → p.stays_open ≡ b → AllByRecursion (IsNoEnd n) p.outputs →
+      AllByRecursion (IsNoEnd n) (others p.server p.connection).outputs → AllByRecursion (IsNoEnd n) (and_then others p).outputs
+  steps_at p others true e h ih = rw e (all-append (IsNoEnd n) p.outputs (others p.server p.connection).outputs h ih)
+  steps_at p others false e h ih = rw e h
+
+  steps_no_end : (moment : ℕ) (server : ServerState S) (connection : Connection) (xs : List (List ℕ)) → AllByRecursion (IsNoEnd n) (payload_steps m (arrived n moment) server connection xs).outputs
   steps_no_end moment server connection [] = tt
   steps_no_end moment server connection (x ∷ xs) =
-      let p = payload_step m n moment server connection x in
-      steps_at p (λ s c. payload_steps m n moment s c xs) p.replies refl (steps_no_end moment p.server p.connection xs)
+      let p = payload_step m (arrived n moment) server connection x in
+      steps_at p (λ s c. payload_steps m (arrived n moment) s c xs) p.stays_open refl (payload_no_end moment server connection x) (steps_no_end moment p.server p.connection xs)
 
   -- whatever comes behind it, if nothing of it goes to a connection that is gone
   abbrev Ends : EventStep S → Type 0
@@ -130,20 +134,20 @@ module _ {S : Type 0} (m : Meaning S) (n : ℕ) where
   end_last [] others h k = (λ e. k, all_last n others k)
   end_last (x ∷ xs) others h k = (λ e. absurd (h.0 e), end_last xs others h.1 k)
 
-  closed_at : (s : ShareState S) (link : LinkState) (stream : List ℕ) (steps : PayloadSteps S) (b : Bool) → (steps.stays_open && is_none (fault_of longest_payload (rest longest_payload stream))) ≡ b →
-      LinksInOrder s → n < s.next → AllByRecursion (IsNoEnd n) steps.outputs → Ends (settled s n (closed_by n link stream steps))
-  closed_at s link stream steps true e o p h others l q = rw e (last_behind n steps.outputs others h l)
-  closed_at s link stream steps false e o p h others l q =
+  closed_at : (s : ShareState S) (received : List ℕ) (steps : Step S) (b : Bool) → (steps.stays_open && is_none (fault_of longest_payload (rest longest_payload received))) ≡ b →
+      StreamsInOrder s → n < s.next → AllByRecursion (IsNoEnd n) steps.outputs → Ends (settled s n received (closed_by n received steps))
+  closed_at s received steps true e o p h others l q = rw e (last_behind n steps.outputs others h l)
+  closed_at s received steps false e o p h others l q =
       let q' = rw e at q in
-      rw e (end_last steps.outputs others h (q' (record { gone = link_of-without n s.links o.rising; before = p })))
+      rw e (end_last steps.outputs others h (q' (record { gone = stream_of-without n s.streams o.rising; before = p })))
 
-  piece_ends : (s : ShareState S) (moment : ℕ) (link : LinkState) (piece : List ℕ) → LinksInOrder s → n < s.next → Ends (settled s n (piece_step m n moment s.server link piece))
+  piece_ends : (s : ShareState S) (moment : ℕ) (stream : StreamState) (piece : List ℕ) → StreamsInOrder s → n < s.next → Ends (settled s n (stream.received ++ piece) (piece_step m (arrived n moment) s.server stream piece))
   unfolding piece_step
-  piece_ends s moment link piece o p = closed_at s link (link.stream ++ piece) _ _ refl o p (steps_no_end moment s.server link.connection (added_payloads link.stream piece))
+  piece_ends s moment stream piece o p = closed_at s (stream.received ++ piece) (payload_steps m (arrived n moment) s.server stream.connection (added_payloads stream.received piece)) _ refl o p (steps_no_end moment s.server stream.connection (added_payloads stream.received piece))
 
-  bytes_at : (s : ShareState S) (moment : ℕ) (piece : List ℕ) (o : Option LinkState) → link_of n s.links ≡ o → LinksInOrder s → n < s.next → Ends (bytes_step m s n moment piece)
+  bytes_at : (s : ShareState S) (moment : ℕ) (piece : List ℕ) (o : Option StreamState) → stream_of n s.streams ≡ o → StreamsInOrder s → n < s.next → Ends (bytes_step m s n moment piece)
   bytes_at s moment piece None e o p = rw (bytes_step-none m s n moment piece e) (λ others l q. l)
-  bytes_at s moment piece (Some link) e o p = rw (bytes_step-some m s n moment piece link e) (piece_ends s moment link piece o p)
+  bytes_at s moment piece (Some stream) e o p = rw (bytes_step-some m s n moment piece stream e) (piece_ends s moment stream piece o p)
 
   known_at : (a b : Bool) → option_map_or (λ (why : ServeFault). false) (if a && b then None else Some BadEvent) true ≡ true → b ≡ true
   known_at true true h = refl
@@ -153,12 +157,12 @@ module _ {S : Type 0} (m : Meaning S) (n : ℕ) where
   known : (s : ShareState S) (k moment : ℕ) (piece : List ℕ) → event_refusal s (brings k moment piece) ≡ None → k < s.next
   known s k moment piece r = ltb-true k s.next (known_at (ltb 0 k) (ltb k s.next) (ap (λ o. option_map_or (λ (why : ServeFault). false) o true) r))
 
-  event_on : (s : ShareState S) (event : EventText) → connection_of event ≡ n → LinksInOrder s → event_refusal s event ≡ None → Ends (event_step m s event)
+  event_on : (s : ShareState S) (event : EventText) → connection_of event ≡ n → StreamsInOrder s → event_refusal s event ≡ None → Ends (event_step m s event)
   event_on s (opens k) e o r = λ others l q. l
   event_on s (brings k moment piece) e o r = let p = known s k moment piece r in rw e (bytes_at s moment piece _ refl o (rw e at p))
   event_on s (ends k) e o r = λ others l q. l
 
-  event_at : (s : ShareState S) (event : EventText) (b : Bool) → eqb (connection_of event) n ≡ b → LinksInOrder s → event_refusal s event ≡ None → Ends (event_step m s event)
+  event_at : (s : ShareState S) (event : EventText) (b : Bool) → eqb (connection_of event) n ≡ b → StreamsInOrder s → event_refusal s event ≡ None → Ends (event_step m s event)
   event_at s event true t o r = event_on s event (eqb-true (connection_of event) n t) o r
   event_at s event false t o r = λ others l q. last_behind n (event_step m s event).outputs others (no_ends n _ (not_for m s event n t)) l
 
@@ -167,7 +171,7 @@ module _ {S : Type 0} (m : Meaning S) (n : ℕ) where
   run_at s d r None h l q = h refl r.outputs l q
   run_at s d r (Some why) h l q = tt
 
-  pub an_end_is_the_last : (s : ShareState S) (events : List EventText) → LinksInOrder s → IsLastEnd n (run m s events).outputs
+  pub an_end_is_the_last : (s : ShareState S) (events : List EventText) → StreamsInOrder s → IsLastEnd n (run m s events).outputs
   an_end_is_the_last s [] o = tt
   an_end_is_the_last s (event ∷ events) o =
       let d = event_step m s event in

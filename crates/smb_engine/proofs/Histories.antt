@@ -5,11 +5,11 @@ use Rattle.std.proofs.lemmas.List.Concat.{flat_map-append}
 use Rattle.std.proofs.lemmas.List.Folds.{list_any-append}
 use Rattle.std.proofs.lemmas.Bool.{eqb-true, true≢false}
 use Rattle.smb_session.specs.Authenticator.{Meaning}
-use Rattle.smb_engine.specs.State.{LinkState, ShareState}
-use Rattle.smb_engine.specs.Event.{EventText}
+use Rattle.smb_engine.specs.State.{StreamState, ShareState}
 use Rattle.smb_engine.specs.Run.{run}
+use Rattle.smb_engine.specs.Event.{EventText}
 use Rattle.smb_engine.specs.Record.{PeerCall, next_opened, taken_in, taken_by}
-use Rattle.smb_engine.specs.Clients.{ClientState}
+use Rattle.smb_engine.specs.ServedPeers.{PeerState}
 use Rattle.smb_engine.specs.Serving.{most_owed}
 use Rattle.smb_engine.specs.ServingLaws.{sent_when_open, opens_in, is_opened, breaks_in, brought_in, brought_to, ends_in, is_ended, put_out_to, IsAnswered}
 use Rattle.smb_engine.proofs.Accounts.{heard_more, Fate, there, gone}
@@ -45,17 +45,17 @@ last_part (y ∷ xs) x (z ∷ before) after e =
     let h : y ≡ z = cc in
     more_part y z xs x before after h (last_part xs x before after t)
 
-pub beginning_of : (limit : ℕ) (link : Option LinkState) (e b : Bool) (owed taken out : List ℕ) → Fate limit link e b owed taken out → (left : List ℕ) × (taken ++ left ≡ out)
-beginning_of limit link e b owed taken out (there x y) = (owed, y)
-beginning_of limit link e b owed taken out (gone left x y z w) = (left, z)
+pub beginning_of : (limit : ℕ) (stream : Option StreamState) (e b : Bool) (owed taken out : List ℕ) → Fate limit stream e b owed taken out → (left : List ℕ) × (taken ++ left ≡ out)
+beginning_of limit stream e b owed taken out (there x y) = (owed, y)
+beginning_of limit stream e b owed taken out (gone left x y z w) = (left, z)
 
 too_long : (limit : ℕ) (taken left out : List ℕ) → taken ++ left ≡ out → limit < length left → length out ≤ length taken + limit → ⊥
 too_long limit taken left out e p q = omega (arith, sym (length-append taken left) ∙ ap length e, p, q)
 
-pub whole_of : (limit : ℕ) (link : Option LinkState) (e b : Bool) (owed taken out : List ℕ) → Fate limit link e b owed taken out → b ≡ false → length out ≤ length taken + limit → (e ≡ false) × (taken ++ owed ≡ out)
-whole_of limit link e b owed taken out (there x y) h q = (x, y)
-whole_of limit link e b owed taken out (gone left x y z (inl w)) h q = absurd (true≢false (sym w ∙ h))
-whole_of limit link e b owed taken out (gone left x y z (inr w)) h q = absurd (too_long limit taken left out z w q)
+pub whole_of : (limit : ℕ) (stream : Option StreamState) (e b : Bool) (owed taken out : List ℕ) → Fate limit stream e b owed taken out → b ≡ false → length out ≤ length taken + limit → (e ≡ false) × (taken ++ owed ≡ out)
+whole_of limit stream e b owed taken out (there x y) h q = (x, y)
+whole_of limit stream e b owed taken out (gone left x y z (inl w)) h q = absurd (true≢false (sym w ∙ h))
+whole_of limit stream e b owed taken out (gone left x y z (inr w)) h q = absurd (too_long limit taken left out z w q)
 
 any_front : (x y : Bool) → (x || y) ≡ false → x ≡ false
 any_front true y h = h
@@ -82,9 +82,9 @@ module _ {S : Type 0} (m : Meaning S) (s0 : ShareState S) where
   History connections calls events =
       (before after : List PeerCall) → calls ≡ before ++ after → (front back : List EventText) × (events ≡ front ++ back) × AreAnswered connections before front
 
-  pub answered_now : (moments0 : List ℕ) (share : ShareState S) (clients : List ClientState) (calls : List PeerCall) (moments : List ℕ) (events : List EventText) (connections : ℕ → Option ℕ) →
-      Books m s0 moments0 share clients calls moments events connections → AreAnswered connections calls events
-  answered_now moments0 share clients calls moments events connections b = λ number connection e.
+  pub answered_now : (moments0 : List ℕ) (share : ShareState S) (served_peers : List PeerState) (calls : List PeerCall) (moments : List ℕ) (events : List EventText) (connections : ℕ → Option ℕ) →
+      Books m s0 moments0 share served_peers calls moments events connections → AreAnswered connections calls events
+  answered_now moments0 share served_peers calls moments events connections b = λ number connection e.
       let a = b.accounts number connection e in
       record { brought = a.brought; beginning = beginning_of most_owed _ _ _ _ _ _ a.fate; unended = λ g. (whole_of most_owed _ _ _ _ _ _ a.fate g.unbroken g.few).0 }
 
@@ -112,9 +112,9 @@ module _ {S : Type 0} (m : Meaning S) (s0 : ShareState S) where
   call_more connections calls call events h a = λ before after e. call_at connections calls call events before after h a (last_part calls call before after e)
 
   -- a refused opening changes nothing
-  pub opening_more : (moments0 : List ℕ) (share : ShareState S) (clients : List ClientState) (calls : List PeerCall) (moments : List ℕ) (events : List EventText) (connections : ℕ → Option ℕ) (k : ℕ) →
-      Books m s0 moments0 share clients calls moments events connections → AreAnswered connections (calls ++ next_opened k ∷ []) events
-  opening_more moments0 share clients calls moments events connections k b = λ number connection e.
+  pub opening_more : (moments0 : List ℕ) (share : ShareState S) (served_peers : List PeerState) (calls : List PeerCall) (moments : List ℕ) (events : List EventText) (connections : ℕ → Option ℕ) (k : ℕ) →
+      Books m s0 moments0 share served_peers calls moments events connections → AreAnswered connections (calls ++ next_opened k ∷ []) events
+  opening_more moments0 share served_peers calls moments events connections k b = λ number connection e.
       let a = b.accounts number connection e in
       let same : taken_by number (calls ++ next_opened k ∷ []) ≡ taken_by number calls = flat_map-append (taken_in number) calls (next_opened k ∷ []) ∙ more_none _ _ refl in
       let left = beginning_of most_owed _ _ _ _ _ _ a.fate in

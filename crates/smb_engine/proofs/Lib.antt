@@ -1,10 +1,9 @@
 pub mod Heard
 pub mod Lists
-pub mod Turns
-pub mod Placing
+pub mod Chains
 pub mod Steps
 pub mod Pieces
-pub mod Links
+pub mod Streams
 pub mod Kept
 pub mod Order
 pub mod Sessions

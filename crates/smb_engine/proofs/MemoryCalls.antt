@@ -8,7 +8,7 @@ use Rattle.smb_engine.specs.declared.peers.PeerEvent.{PeerEvent}
 use Rattle.smb_engine.specs.declared.peers.SendFault.{SendFault}
 use Rattle.smb_engine.specs.Record.{PeerCall, send, close, Told}
 use Rattle.smb_engine.specs.Peers.{call_of, OpensOnce}
-use Rattle.smb_engine.specs.MemoryPeers.{MemoryPeersState, opened_by, are_distinct, step_event, step_piece, step_failures, with_call, without_call, step_at, behind_step, behind_next, behind_close, send_count, count_at, behind_count, send_answer, behind_send}
+use Rattle.smb_engine.specs.MemoryPeers.{MemoryPeersState, opened_by, are_distinct, step_event, step_piece, step_failures, with_call, without_call, step_at, behind_step, behind_next, behind_close, send_count, count_at, behind_count, send_result, behind_send}
 use Rattle.smb_engine.specs.MemoryRecord.{step_call}
 use Rattle.smb_engine.proofs.Scripts.{opens_once, step_call_is}
 
@@ -83,8 +83,8 @@ refused_here {p} number bytes same room e told =
     ∙ ap (behind_send number bytes) same
 
 -- what a send answers
-pub answer_here : {p old : MemoryPeersState} (bytes : List ℕ) (count : Option ℕ) → p ≡ old → (p.calls_left ≡ 0 → ⊥) → count ≡ count_at p bytes → ok_or count refusal ≡ send_answer old bytes
+pub answer_here : {p old : MemoryPeersState} (bytes : List ℕ) (count : Option ℕ) → p ≡ old → (p.calls_left ≡ 0 → ⊥) → count ≡ count_at p bytes → ok_or count refusal ≡ send_result old bytes
 answer_here {p} bytes count same room e =
     ap (λ (o : Option ℕ). ok_or o refusal) e
     ∙ sym (with_room p.calls_left (Ok 0) (ok_or (count_at p bytes) refusal) room)
-    ∙ ap (λ (s : MemoryPeersState). send_answer s bytes) same
+    ∙ ap (λ (s : MemoryPeersState). send_result s bytes) same

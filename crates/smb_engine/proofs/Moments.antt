@@ -6,13 +6,13 @@ use Rattle.std.specs.BTreeMap.{is_at}
 use Rattle.std.specs.Ordering.{nat_cmp}
 use Rattle.smb_session.specs.Authenticator.{Meaning}
 use Rattle.smb_engine.specs.declared.fault.ServeFault.{ServeFault}
-use Rattle.smb_engine.specs.State.{LinkState, ShareState}
+use Rattle.smb_engine.specs.State.{StreamState, ShareState, stream_of}
+use Rattle.smb_engine.specs.Run.{EventStep, Stop, Ran, run, then_ran, later, refused_at_once, event_refusal, event_step}
+use Rattle.smb_engine.specs.Stream.{unread, unread_stream, unread_entry}
+use Rattle.smb_engine.specs.Laws.{StreamsInOrder}
 use Rattle.smb_engine.specs.Event.{EventText, opens, brings, ends}
-use Rattle.smb_engine.specs.Share.{EventStep, link_of, unread, unread_link, unread_entry}
-use Rattle.smb_engine.specs.Run.{Stop, Ran, run, then_ran, later, refused_at_once, event_refusal, event_step}
-use Rattle.smb_engine.specs.Laws.{LinksInOrder}
 use Rattle.smb_engine.specs.ServingLaws.{moment_of, moments_of}
-use Rattle.smb_engine.proofs.Links.{link_of-unread}
+use Rattle.smb_engine.proofs.Streams.{stream_of-unread}
 use Rattle.smb_engine.proofs.Kept.{numbers_of}
 use Rattle.smb_engine.proofs.Runs.{unread_step, event_step-unread}
 
@@ -20,9 +20,9 @@ no_stop : (o : Option Stop) → option_map later o ≡ None → o ≡ None
 no_stop None h = refl
 no_stop (Some f) h = cc
 
-still_open : (o : Option LinkState) → is_some (option_map unread_link o) ≡ is_some o
+still_open : (o : Option StreamState) → is_some (option_map unread_stream o) ≡ is_some o
 still_open None = refl
-still_open (Some link) = refl
+still_open (Some stream) = refl
 
 module _ {S : Type 0} (m : Meaning S) where
   goes_on : (s : ShareState S) (d : EventStep S) (r : Ran S) (o : Option ServeFault) → (option_map_or (refused_at_once s) o (then_ran d r)).stop ≡ None →
@@ -43,7 +43,7 @@ module _ {S : Type 0} (m : Meaning S) where
   moment_unread : (s : ShareState S) (x : EventText) → moment_of (unread s) x ≡ moment_of s x
   moment_unread s (opens n) = refl
   moment_unread s (brings n moment piece) =
-      ap (λ b. if b then moment ∷ [] else []) (ap is_some (link_of-unread (is_at (nat_cmp n)) s.links) ∙ still_open (link_of n s.links))
+      ap (λ b. if b then moment ∷ [] else []) (ap is_some (stream_of-unread (is_at (nat_cmp n)) s.streams) ∙ still_open (stream_of n s.streams))
   moment_unread s (ends n) = refl
 
   -- those of a run from what is unread
@@ -57,13 +57,13 @@ module _ {S : Type 0} (m : Meaning S) where
       ap (λ t. t ++ moments_of m d.state events) o ∙ ap (λ t. moment_of s' x ++ t) (moments_same d.state d'.state events (ap (λ t. t.state) e))
 
 -- the order of the connections, of what is unread
-numbers_unread : (links : List (ℕ × LinkState)) → numbers_of (map unread_entry links) ≡ numbers_of links
+numbers_unread : (streams : List (ℕ × StreamState)) → numbers_of (map unread_entry streams) ≡ numbers_of streams
 numbers_unread [] = refl
-numbers_unread (e ∷ links) = ap (λ ns. e.0 ∷ ns) (numbers_unread links)
+numbers_unread (e ∷ streams) = ap (λ ns. e.0 ∷ ns) (numbers_unread streams)
 
-given_unread : (next : ℕ) (links : List (ℕ × LinkState)) → AllByRecursion (λ e. e.0 < next) links → AllByRecursion (λ e. e.0 < next) (map unread_entry links)
+given_unread : (next : ℕ) (streams : List (ℕ × StreamState)) → AllByRecursion (λ e. e.0 < next) streams → AllByRecursion (λ e. e.0 < next) (map unread_entry streams)
 given_unread next [] h = tt
-given_unread next (e ∷ links) h = (h.0, given_unread next links h.1)
+given_unread next (e ∷ streams) h = (h.0, given_unread next streams h.1)
 
-pub order_unread : {S : Type 0} (s : ShareState S) → LinksInOrder s → LinksInOrder (unread s)
-order_unread s h = record { rising = rw (numbers_unread s.links) h.rising; given = given_unread s.next s.links h.given }
+pub order_unread : {S : Type 0} (s : ShareState S) → StreamsInOrder s → StreamsInOrder (unread s)
+order_unread s h = record { rising = rw (numbers_unread s.streams) h.rising; given = given_unread s.next s.streams h.given }

@@ -4,11 +4,11 @@ use Rattle.std.proofs.lemmas.List.{append-nil}
 use Rattle.std.proofs.lemmas.Bool.{lt-ltb, ne_eqb, eq-eqb, true≢false}
 use Rattle.smb_session.specs.Authenticator.{Meaning}
 use Rattle.smb_engine.specs.State.{ShareState}
-use Rattle.smb_engine.specs.Event.{EventText, connection_of}
-use Rattle.smb_engine.specs.Share.{unread}
+use Rattle.smb_engine.specs.Stream.{unread}
 use Rattle.smb_engine.specs.Run.{Ran, run, event_refusal, event_step, unknown_refusal}
+use Rattle.smb_engine.specs.Event.{EventText, connection_of}
 use Rattle.smb_engine.specs.Record.{PeerCall}
-use Rattle.smb_engine.specs.Clients.{ClientState}
+use Rattle.smb_engine.specs.ServedPeers.{PeerState}
 use Rattle.smb_engine.specs.ServingLaws.{moments_of}
 use Rattle.smb_engine.proofs.Runs.{unread-unread}
 use Rattle.smb_engine.proofs.Numbers.{found, found_same, found_other, apart_more, apart_less, all_more, all_less}
@@ -33,40 +33,40 @@ some_same x y h = cc
 pub some_none : {X : Type 0} (x : X) → Some x ≡ None → ⊥
 some_none x h = cc
 
--- another client in the place of one
-module _ (connections : ℕ → Option ℕ) (front back : List ClientState) (client : ClientState) (l : AreListed connections (front ++ client ∷ back)) where
-  pub own_connection : connections client.number ≡ Some client.connection
-  own_connection = (all_less (λ x. connections x.number ≡ Some x.connection) client front back l.known).0
+-- another peer in the place of one
+module _ (connections : ℕ → Option ℕ) (front back : List PeerState) (peer : PeerState) (l : AreListed connections (front ++ peer ∷ back)) where
+  pub own_connection : connections peer.number ≡ Some peer.connection
+  own_connection = (all_less (λ x. connections x.number ≡ Some x.connection) peer front back l.known).0
 
-  pub is_there : found client.number (front ++ client ∷ back) ≡ Some client
-  is_there = found_same client front back (apart_less client front back l.apart).1
+  pub is_there : found peer.number (front ++ peer ∷ back) ≡ Some peer
+  is_there = found_same peer front back (apart_less peer front back l.apart).1
 
-  pub is_out : found client.number (front ++ back) ≡ None
-  is_out = (apart_less client front back l.apart).1
+  pub is_out : found peer.number (front ++ back) ≡ None
+  is_out = (apart_less peer front back l.apart).1
 
   pub listed_without : AreListed connections (front ++ back)
   listed_without = record {
-    known = (all_less (λ x. connections x.number ≡ Some x.connection) client front back l.known).1;
-    apart = (apart_less client front back l.apart).0;
+    known = (all_less (λ x. connections x.number ≡ Some x.connection) peer front back l.known).1;
+    apart = (apart_less peer front back l.apart).0;
   }
 
-  pub others_without : (j : ℕ) → eqb client.number j ≡ false → found j (front ++ back) ≡ found j (front ++ client ∷ back)
-  others_without j d = sym (found_other client j front back d)
+  pub others_without : (j : ℕ) → eqb peer.number j ≡ false → found j (front ++ back) ≡ found j (front ++ peer ∷ back)
+  others_without j d = sym (found_other peer j front back d)
 
-  module _ (client' : ClientState) (n : client'.number ≡ client.number) (c : client'.connection ≡ client.connection) where
-    pub listed_with : AreListed connections (front ++ client' ∷ back)
+  module _ (peer' : PeerState) (n : peer'.number ≡ peer.number) (c : peer'.connection ≡ peer.connection) where
+    pub listed_with : AreListed connections (front ++ peer' ∷ back)
     listed_with =
-        let known : connections client'.number ≡ Some client'.connection = ap connections n ∙ own_connection ∙ ap Some (sym c) in
+        let known : connections peer'.number ≡ Some peer'.connection = ap connections n ∙ own_connection ∙ ap Some (sym c) in
         record {
-          known = all_more (λ x. connections x.number ≡ Some x.connection) client' front back known listed_without.known;
-          apart = apart_more client' front back listed_without.apart (ap (λ k. found k (front ++ back)) n ∙ is_out);
+          known = all_more (λ x. connections x.number ≡ Some x.connection) peer' front back known listed_without.known;
+          apart = apart_more peer' front back listed_without.apart (ap (λ k. found k (front ++ back)) n ∙ is_out);
         }
 
-    pub others_with : (j : ℕ) → eqb client.number j ≡ false → found j (front ++ client' ∷ back) ≡ found j (front ++ client ∷ back)
-    others_with j d = found_other client' j front back (ap (λ k. eqb k j) n ∙ d) ∙ others_without j d
+    pub others_with : (j : ℕ) → eqb peer.number j ≡ false → found j (front ++ peer' ∷ back) ≡ found j (front ++ peer ∷ back)
+    others_with j d = found_other peer' j front back (ap (λ k. eqb k j) n ∙ d) ∙ others_without j d
 
-    pub new_there : found client.number (front ++ client' ∷ back) ≡ Some client'
-    new_there = ap (λ k. found k (front ++ client' ∷ back)) (sym n) ∙ found_same client' front back (ap (λ k. found k (front ++ back)) n ∙ is_out)
+    pub new_there : found peer.number (front ++ peer' ∷ back) ≡ Some peer'
+    new_there = ap (λ k. found k (front ++ peer' ∷ back)) (sym n) ∙ found_same peer' front back (ap (λ k. found k (front ++ back)) n ∙ is_out)
 
 module _ {S : Type 0} (m : Meaning S) (s0 : ShareState S) (moments0 : List ℕ) where
   -- a run of one event that is not refused
@@ -79,8 +79,8 @@ module _ {S : Type 0} (m : Meaning S) (s0 : ShareState S) (moments0 : List ℕ) 
   pub run_one : (s : ShareState S) (event : EventText) → event_refusal s event ≡ None → run m s (event ∷ []) ≡ one s event
   run_one s event h = rw h refl
 
-  module _ (share : ShareState S) (clients : List ClientState) (calls : List PeerCall) (moments : List ℕ) (events : List EventText) (connections : ℕ → Option ℕ)
-      (b : Books m s0 moments0 share clients calls moments events connections) where
+  module _ (share : ShareState S) (served_peers : List PeerState) (calls : List PeerCall) (moments : List ℕ) (events : List EventText) (connections : ℕ → Option ℕ)
+      (b : Books m s0 moments0 share served_peers calls moments events connections) where
     -- the share is held as what is unread
     pub held : share ≡ unread share
     held = b.state ∙ sym (unread-unread (run m s0 events).state) ∙ ap unread (sym b.state)
@@ -92,24 +92,24 @@ module _ {S : Type 0} (m : Meaning S) (s0 : ShareState S) (moments0 : List ℕ) 
     not_beyond c d p q = ne_eqb c d (λ x. omega (arith, p, q, x))
 
     -- calls and no event
-    module _ (clients' : List ClientState) (cs : List PeerCall) (number : ℕ) (listed : AreListed connections clients') (same : (j : ℕ) → eqb number j ≡ false → found j clients' ≡ found j clients)
+    module _ (served_peers' : List PeerState) (cs : List PeerCall) (number : ℕ) (listed : AreListed connections served_peers') (same : (j : ℕ) → eqb number j ≡ false → found j served_peers' ≡ found j served_peers)
         (quiet : (j : ℕ) → eqb number j ≡ false → IsQuiet j cs) where
-      pub calls_alone : ((c : ℕ) → connections number ≡ Some c → Own m s0 moments0 share share clients clients' calls cs events [] number c) →
+      pub calls_alone : ((c : ℕ) → connections number ≡ Some c → Own m s0 moments0 share share served_peers served_peers' calls cs events [] number c) →
           (connections number ≡ None → IsOut m s0 number calls events → IsOut m s0 number (calls ++ cs) (events ++ [])) →
-          Books m s0 moments0 share clients' (calls ++ cs) moments (events ++ []) connections
+          Books m s0 moments0 share served_peers' (calls ++ cs) moments (events ++ []) connections
       calls_alone own refused =
-          move m s0 moments0 share share clients clients' calls cs moments moments events [] connections number b own refused (λ j c e d. tt) quiet same refl held refl (sym (append-nil moments)) (λ c p. tt) listed
+          move m s0 moments0 share share served_peers served_peers' calls cs moments moments events [] connections number b own refused (λ j c e d. tt) quiet same refl held refl (sym (append-nil moments)) (λ c p. tt) listed
 
     -- calls and an event on the connection
-    module _ (share' : ShareState S) (clients' : List ClientState) (cs : List PeerCall) (moments' : List ℕ) (event : EventText) (number c : ℕ) (at : connections number ≡ Some c) (on : connection_of event ≡ c)
-        (listed : AreListed connections clients') (same : (j : ℕ) → eqb number j ≡ false → found j clients' ≡ found j clients) (quiet : (j : ℕ) → eqb number j ≡ false → IsQuiet j cs) where
+    module _ (share' : ShareState S) (served_peers' : List PeerState) (cs : List PeerCall) (moments' : List ℕ) (event : EventText) (number c : ℕ) (at : connections number ≡ Some c) (on : connection_of event ≡ c)
+        (listed : AreListed connections served_peers') (same : (j : ℕ) → eqb number j ≡ false → found j served_peers' ≡ found j served_peers) (quiet : (j : ℕ) → eqb number j ≡ false → IsQuiet j cs) where
       pub one_event : event_refusal share event ≡ None → share' ≡ unread (event_step m share event).state → share'.next ≡ share.next → moments' ≡ moments ++ moments_of m share (event ∷ []) →
-          Own m s0 moments0 share share' clients clients' calls cs events (event ∷ []) number c → Books m s0 moments0 share' clients' (calls ++ cs) moments' (events ++ event ∷ []) connections
+          Own m s0 moments0 share share' served_peers served_peers' calls cs events (event ∷ []) number c → Books m s0 moments0 share' served_peers' (calls ++ cs) moments' (events ++ event ∷ []) connections
       one_event unrefused is next told own =
           let r = run_one share event unrefused in
           let known = (b.accounts number c at).given in
-          move m s0 moments0 share share' clients clients' calls cs moments moments' events (event ∷ []) connections number b
-          (λ c' e. let c'' : c ≡ c' = some_same c c' (sym at ∙ e) in subst (λ (x : ℕ). Own m s0 moments0 share share' clients clients' calls cs events (event ∷ []) number x) c'' own)
+          move m s0 moments0 share share' served_peers served_peers' calls cs moments moments' events (event ∷ []) connections number b
+          (λ c' e. let c'' : c ≡ c' = some_same c c' (sym at ∙ e) in subst (λ (x : ℕ). Own m s0 moments0 share share' served_peers served_peers' calls cs events (event ∷ []) number x) c'' own)
           (λ e. absurd (some_none c (sym at ∙ e)))
           (λ j c' e d. (ap (λ x. eqb x c') on ∙ not_its number j c c' at e d, tt))
           quiet same

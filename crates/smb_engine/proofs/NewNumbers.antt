@@ -5,13 +5,13 @@ use Rattle.std.proofs.lemmas.List.{append-nil, take-append-drop}
 use Rattle.std.proofs.lemmas.List.Concat.{flat_map-append}
 use Rattle.std.proofs.lemmas.Bool.{eqb-true, ne_eqb, eq-eqb, true≢false}
 use Rattle.smb_session.specs.Authenticator.{Meaning}
-use Rattle.smb_engine.specs.State.{ShareState}
+use Rattle.smb_engine.specs.State.{ShareState, opened}
+use Rattle.smb_engine.specs.Run.{opening_refusal, run, event_refusal}
+use Rattle.smb_engine.specs.Stream.{unread}
 use Rattle.smb_engine.specs.Event.{EventText, opens}
-use Rattle.smb_engine.specs.Share.{opened, opening_refusal, unread}
-use Rattle.smb_engine.specs.Run.{run, event_refusal}
 use Rattle.smb_engine.specs.Record.{PeerCall, next_opened, taken_in}
-use Rattle.smb_engine.specs.Clients.{ClientState, place_for, with_one_more}
-use Rattle.smb_engine.specs.Serving.{new_client}
+use Rattle.smb_engine.specs.ServedPeers.{PeerState, place_for, with_one_more}
+use Rattle.smb_engine.specs.Serving.{new_peer}
 use Rattle.smb_engine.specs.ServingLaws.{opens_in, is_opened, brought_in, ends_in, put_out_to, moments_of}
 use Rattle.smb_engine.proofs.Runs.{opened-unread}
 use Rattle.smb_engine.proofs.Order.{order_opened}
@@ -30,12 +30,12 @@ connected_other connections number c k (Some d) none e h =
     let t : eqb k number ≡ false = ne_eqb k number (λ x. some_none d (sym e ∙ ap connections x ∙ none)) in
     rw t refl
 
-all_kept : (P Q : ClientState → Type 0) (clients : List ClientState) → ((client : ClientState) → P client → Q client) → AllByRecursion P clients → AllByRecursion Q clients
+all_kept : (P Q : PeerState → Type 0) (served_peers : List PeerState) → ((peer : PeerState) → P peer → Q peer) → AllByRecursion P served_peers → AllByRecursion Q served_peers
 all_kept P Q [] f a = tt
-all_kept P Q (client ∷ clients) f a = (f client a.0, all_kept P Q clients f a.1)
+all_kept P Q (peer ∷ served_peers) f a = (f peer a.0, all_kept P Q served_peers f a.1)
 
-module _ {S : Type 0} (m : Meaning S) (s0 : ShareState S) (moments0 : List ℕ) (share : ShareState S) (clients : List ClientState) (calls : List PeerCall) (moments : List ℕ) (events : List EventText)
-    (connections : ℕ → Option ℕ) (b : Books m s0 moments0 share clients calls moments events connections) (number : ℕ) (fresh : is_opened number calls ≡ false) where
+module _ {S : Type 0} (m : Meaning S) (s0 : ShareState S) (moments0 : List ℕ) (share : ShareState S) (served_peers : List PeerState) (calls : List PeerCall) (moments : List ℕ) (events : List EventText)
+    (connections : ℕ → Option ℕ) (b : Books m s0 moments0 share served_peers calls moments events connections) (number : ℕ) (fresh : is_opened number calls ≡ false) where
   none_at : (o : Option ℕ) → connections number ≡ o → o ≡ None
   none_at None e = refl
   none_at (Some c) e = absurd (true≢false (sym (b.accounts number c e).opened ∙ fresh))
@@ -44,32 +44,32 @@ module _ {S : Type 0} (m : Meaning S) (s0 : ShareState S) (moments0 : List ℕ) 
   pub not_connected : connections number ≡ None
   not_connected = none_at (connections number) refl
 
-  -- nor a client
-  client_none : (o : Option ClientState) → found number clients ≡ o → ((client : ClientState) → o ≡ Some client → ⊥) → o ≡ None
-  client_none None e h = refl
-  client_none (Some client) e h = absurd (h client refl)
+  -- nor a peer
+  peer_none : (o : Option PeerState) → found number served_peers ≡ o → ((peer : PeerState) → o ≡ Some peer → ⊥) → o ≡ None
+  peer_none None e h = refl
+  peer_none (Some peer) e h = absurd (h peer refl)
 
-  module _ (none : found number clients ≡ None) (fits : opening_refusal share ≡ None) where
+  module _ (none : found number served_peers ≡ None) (fits : opening_refusal share ≡ None) where
     abbrev next : ℕ
     next = share.next
 
     abbrev connections' : ℕ → Option ℕ
     connections' = connected connections number share.next
 
-    abbrev client' : ClientState
-    client' = new_client share number
+    abbrev peer' : PeerState
+    peer' = new_peer share number
 
-    abbrev front : List ClientState
-    front = take (place_for number clients) clients
+    abbrev front : List PeerState
+    front = take (place_for number served_peers) served_peers
 
-    abbrev back : List ClientState
-    back = drop (place_for number clients) clients
+    abbrev back : List PeerState
+    back = drop (place_for number served_peers) served_peers
 
-    parts : front ++ back ≡ clients
-    parts = take-append-drop (place_for number clients) clients
+    parts : front ++ back ≡ served_peers
+    parts = take-append-drop (place_for number served_peers) served_peers
 
-    abbrev clients' : List ClientState
-    clients' = with_one_more (new_client share number) clients
+    abbrev served_peers' : List PeerState
+    served_peers' = with_one_more (new_peer share number) served_peers
 
     abbrev event : EventText
     event = opens share.next
@@ -81,7 +81,7 @@ module _ {S : Type 0} (m : Meaning S) (s0 : ShareState S) (moments0 : List ℕ) 
     ran = run_one m s0 moments0 share (opens share.next) unrefused
 
     is_held : share ≡ unread share
-    is_held = held m s0 moments0 share clients calls moments events connections b
+    is_held = held m s0 moments0 share served_peers calls moments events connections b
 
     x : Extended m s0 moments0 share events (opens share.next ∷ [])
     x = extend m s0 moments0 share events (opens share.next ∷ []) b.goes b.state (ap (λ t. t.stop) ran)
@@ -92,9 +92,9 @@ module _ {S : Type 0} (m : Meaning S) (s0 : ShareState S) (moments0 : List ℕ) 
     says : (run m s0 (events ++ opens share.next ∷ [])).outputs ≡ (run m s0 events).outputs
     says = x.outputs ∙ ap (λ t. (run m s0 events).outputs ++ t.outputs) ran ∙ append-nil (run m s0 events).outputs
 
-    known : AllByRecursion (λ client. connections' client.number ≡ Some client.connection) clients
-    known = all_kept (λ client. connections client.number ≡ Some client.connection) (λ client. connections' client.number ≡ Some client.connection) clients
-        (λ client e. connected_other connections number share.next client.number (Some client.connection) not_connected e refl ∙ e) b.listed.known
+    known : AllByRecursion (λ peer. connections' peer.number ≡ Some peer.connection) served_peers
+    known = all_kept (λ peer. connections peer.number ≡ Some peer.connection) (λ peer. connections' peer.number ≡ Some peer.connection) served_peers
+        (λ peer e. connected_other connections number share.next peer.number (Some peer.connection) not_connected e refl ∙ e) b.listed.known
 
     own : connections' number ≡ Some share.next
     own = rw (eq-eqb number number refl) refl
@@ -102,11 +102,11 @@ module _ {S : Type 0} (m : Meaning S) (s0 : ShareState S) (moments0 : List ℕ) 
     none' : found number (front ++ back) ≡ None
     none' = ap (found number) parts ∙ none
 
-    listed : AreListed connections' clients'
+    listed : AreListed connections' served_peers'
     listed = record {
-      known = all_more (λ client. connections' client.number ≡ Some client.connection) client' front back own
-          (subst (λ (cs : List ClientState). AllByRecursion (λ client. connections' client.number ≡ Some client.connection) cs) (sym parts) known);
-      apart = apart_more client' front back (subst Apart (sym parts) b.listed.apart) none';
+      known = all_more (λ peer. connections' peer.number ≡ Some peer.connection) peer' front back own
+          (subst (λ (cs : List PeerState). AllByRecursion (λ peer. connections' peer.number ≡ Some peer.connection) cs) (sym parts) known);
+      apart = apart_more peer' front back (subst Apart (sym parts) b.listed.apart) none';
     }
 
     -- of two numbers that have the same connection
@@ -122,38 +122,38 @@ module _ {S : Type 0} (m : Meaning S) (s0 : ShareState S) (moments0 : List ℕ) 
     distinct_at j k c false true e f h i = absurd (new_is c j (which j c false e h) (which k c true f i))
     distinct_at j k c false false e f h i = b.distinct j k c (which j c false e h) (which k c false f i)
 
-    fresh_account : Account m s0 moments0 (opened share) clients' (calls ++ next_opened number ∷ []) (events ++ opens share.next ∷ []) number share.next
+    fresh_account : Account m s0 moments0 (opened share) served_peers' (calls ++ next_opened number ∷ []) (events ++ opens share.next ∷ []) number share.next
     fresh_account =
         let u = b.unused share.next (omega arith) in
-        let new : found number clients' ≡ Some client' = found_same client' front back none' in
+        let new : found number served_peers' ≡ Some peer' = found_same peer' front back none' in
         record {
           given = (b.from_one, omega arith);
           opened = any_last (opens_in number) calls (next_opened number) (eq-eqb number number refl);
           brought = flat_map-append (brought_in share.next) events (opens share.next ∷ []) ∙ more_none _ _ refl ∙ u.brought ∙ sym (heard_opened number calls [] fresh);
           fate = there (any_none (ends_in share.next) events (opens share.next ∷ []) refl ∙ u.unended)
-              (ap (λ t. t ++ owed_of (found number clients')) (flat_map-append (taken_in number) calls (next_opened number ∷ []) ∙ more_none _ _ refl ∙ (b.others number not_connected).0)
+              (ap (λ t. t ++ owed_of (found number served_peers')) (flat_map-append (taken_in number) calls (next_opened number ∷ []) ∙ more_none _ _ refl ∙ (b.others number not_connected).0)
               ∙ ap owed_of new ∙ sym (ap (put_out_to share.next) says ∙ u.says));
-          closed = λ h. absurd (some_none client' (sym new ∙ h));
+          closed = λ h. absurd (some_none peer' (sym new ∙ h));
         }
 
-    account_at : (j c : ℕ) (t : Bool) → eqb j number ≡ t → connections' j ≡ Some c → Account m s0 moments0 (opened share) clients' (calls ++ next_opened number ∷ []) (events ++ opens share.next ∷ []) j c
+    account_at : (j c : ℕ) (t : Bool) → eqb j number ≡ t → connections' j ≡ Some c → Account m s0 moments0 (opened share) served_peers' (calls ++ next_opened number ∷ []) (events ++ opens share.next ∷ []) j c
     account_at j c true t h =
         let same : number ≡ j = sym (eqb-true j number t) in
         let same' : share.next ≡ c = some_same share.next c (which j c true t h) in
-        subst (λ (i : ℕ). Account m s0 moments0 (opened share) clients' (calls ++ next_opened number ∷ []) (events ++ opens share.next ∷ []) i c) same
-        (subst (λ (i : ℕ). Account m s0 moments0 (opened share) clients' (calls ++ next_opened number ∷ []) (events ++ opens share.next ∷ []) number i) same' fresh_account)
+        subst (λ (i : ℕ). Account m s0 moments0 (opened share) served_peers' (calls ++ next_opened number ∷ []) (events ++ opens share.next ∷ []) i c) same
+        (subst (λ (i : ℕ). Account m s0 moments0 (opened share) served_peers' (calls ++ next_opened number ∷ []) (events ++ opens share.next ∷ []) number i) same' fresh_account)
     account_at j c false t h =
         let e = which j c false t h in
         let a = b.accounts j c e in
         let d = other_way j number t in
-        other_account m s0 moments0 share (opened share) clients clients' calls (next_opened number ∷ []) events (opens share.next ∷ []) x (omega arith) is j c
-        (ne_eqb share.next c (λ y. omega (arith, a.given.1, y)), tt) (quiet_opening number j d) (found_other client' j front back d ∙ ap (found j) parts) a
+        other_account m s0 moments0 share (opened share) served_peers served_peers' calls (next_opened number ∷ []) events (opens share.next ∷ []) x (omega arith) is j c
+        (ne_eqb share.next c (λ y. omega (arith, a.given.1, y)), tt) (quiet_opening number j d) (found_other peer' j front back d ∙ ap (found j) parts) a
 
     refused_at : (j : ℕ) (t : Bool) → eqb j number ≡ t → connections' j ≡ None → IsOut m s0 j (calls ++ next_opened number ∷ []) (events ++ opens share.next ∷ [])
     refused_at j true t h = let h' = rw t at h in absurd (some_none share.next h')
     refused_at j false t h = still_refused m s0 j calls (next_opened number ∷ []) events (opens share.next ∷ []) (quiet_opening number j (other_way j number t)) (b.others j (rw t at h))
 
-    pub number_opened : Books m s0 moments0 (opened share) (with_one_more (new_client share number) clients) (calls ++ next_opened number ∷ []) moments (events ++ opens share.next ∷ [])
+    pub number_opened : Books m s0 moments0 (opened share) (with_one_more (new_peer share number) served_peers) (calls ++ next_opened number ∷ []) moments (events ++ opens share.next ∷ [])
         (connected connections number share.next)
     number_opened = record {
       goes = x.goes;
@@ -165,6 +165,6 @@ module _ {S : Type 0} (m : Meaning S) (s0 : ShareState S) (moments0 : List ℕ) 
       distinct = λ j k c. distinct_at j k c (eqb j number) (eqb k number) refl refl;
       accounts = λ j c. account_at j c (eqb j number) refl;
       others = λ j. refused_at j (eqb j number) refl;
-      unused = λ c h. still_unused m s0 moments0 share (opened share) clients clients' calls (next_opened number ∷ []) events (opens share.next ∷ []) x (omega arith) is c
+      unused = λ c h. still_unused m s0 moments0 share (opened share) served_peers served_peers' calls (next_opened number ∷ []) events (opens share.next ∷ []) x (omega arith) is c
           (ne_eqb share.next c (λ y. omega (arith, h, y)), tt) (b.unused c (omega (arith, h)));
     }

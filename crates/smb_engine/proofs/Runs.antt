@@ -1,84 +1,79 @@
 -- A run over whole streams and one over their rests leave and put out the same.
-use Rattle.std.proofs.Common.{◌≡◌, ℕ, zero, suc, ◌+◌, ◌<◌, ◌≤◌, ◌&&◌, Bool, true, false, get_or, List, [], ◌∷◌, ◌++◌, length, take, drop, map, Option, None, Some, is_some, is_none, refl, sym, ap, ◌∙◌, append_assoc, arith}
+use Rattle.std.proofs.Common.{◌≡◌, ℕ, zero, suc, ◌+◌, ◌<◌, ◌≤◌, Bool, true, false, get_or, List, [], ◌∷◌, ◌++◌, length, take, drop, map, Option, None, Some, is_some, refl, sym, ap, subst, ◌∙◌, append_assoc, arith}
 use Rattle.std.specs.Option.{option_map, option_map_or}
 use Rattle.std.proofs.lemmas.List.{append-nil, drop-map, drop_more, take_all, length-map}
 use Rattle.std.proofs.lemmas.Bool.{eq-eqb}
 use Rattle.std.proofs.lemmas.Option.{slice_get-map, slice_get_read}
 use Rattle.std.specs.BTreeMap.{is_at, insert_entry}
 use Rattle.std.specs.Ordering.{nat_cmp}
-use Rattle.smb_frame.specs.Reading.{rest, fault_of, payloads}
+use Rattle.smb_frame.specs.Reading.{rest, payloads}
 use Rattle.smb_frame.proofs.Streams.{rest-more}
 use Rattle.smb_engine.specs.declared.event.Event.{Event}
 use Rattle.smb_engine.specs.declared.fault.ServeFault.{ServeFault}
 use Rattle.smb_engine.specs.declared.fault.ServeFault.TheVariants.{TooManyConnections, NoMemory, BadEvent, BadConfig}
 use Rattle.smb_session.specs.Authenticator.{Meaning}
 use Rattle.smb_request.specs.State.{ServerState, connection_added}
-use Rattle.smb_engine.specs.State.{LinkState, ShareState}
-use Rattle.smb_engine.specs.Event.{EventText, opens, brings, ends, text_of, events_of, connection_of, connection_at}
+use Rattle.smb_engine.specs.State.{StreamState, ShareState, stream_of, new_stream, opened}
 use Rattle.smb_engine.specs.Output.{Output}
-use Rattle.smb_engine.specs.Stream.{longest_payload, PayloadSteps, payload_steps, added_payloads, PieceStep, closed_by, piece_step, server_after_piece, count_in_piece}
-use Rattle.smb_engine.specs.Share.{EventStep, settled, bytes_step, stopped, count_on, ended, opened, new_link, opening_refusal, OpeningRefused, unread, unread_link, unread_entry, link_of}
-use Rattle.smb_engine.specs.Run.{Stop, Ran, run, run_behind, then_ran, later, refused_at_once, event_refusal, event_step, count_of, stopped_event, can_want_memory, EventStopped, RunStopped}
+use Rattle.smb_engine.specs.Stream.{longest_payload, added_payloads, unread, unread_stream, unread_entry}
+use Rattle.smb_engine.specs.Run.{Step, piece_step, EventStep, quiet_step, settled, bytes_step, event_step, opening_refusal, event_refusal, Stop, Ran, later, then_ran, refused_at_once, run}
+use Rattle.smb_engine.specs.Refusals.{stopped, can_want_memory, EventOutOfMemory, OpeningRefused, EventStopped, run_behind, RunStopped}
+use Rattle.smb_engine.specs.Event.{EventText, opens, brings, ends, text_of, events_of, connection_of, connection_at}
 use Rattle.smb_engine.proofs.Pieces.{added_is}
-use Rattle.smb_engine.proofs.Links.{unread-with, unread-without, unread-insert, link_of-unread}
+use Rattle.smb_engine.proofs.Streams.{arrived, unread-with, unread-without, unread-insert, stream_of-unread}
 
-pub rest-rest : (stream : List ℕ) → rest longest_payload (rest longest_payload stream) ≡ rest longest_payload stream
-rest-rest stream = ap (rest longest_payload) (sym (append-nil (rest longest_payload stream))) ∙ sym (rest-more longest_payload [] stream) ∙ ap (rest longest_payload) (append-nil stream)
+pub rest-rest : (received : List ℕ) → rest longest_payload (rest longest_payload received) ≡ rest longest_payload received
+rest-rest received = ap (rest longest_payload) (sym (append-nil (rest longest_payload received))) ∙ sym (rest-more longest_payload [] received) ∙ ap (rest longest_payload) (append-nil received)
 
-pub added-rest : (stream piece : List ℕ) → added_payloads (rest longest_payload stream) piece ≡ added_payloads stream piece
-added-rest stream piece = added_is (rest longest_payload stream) piece ∙ ap (λ b. payloads longest_payload (b ++ piece)) (rest-rest stream) ∙ sym (added_is stream piece)
+pub added-rest : (received piece : List ℕ) → added_payloads (rest longest_payload received) piece ≡ added_payloads received piece
+added-rest received piece = added_is (rest longest_payload received) piece ∙ ap (λ b. payloads longest_payload (b ++ piece)) (rest-rest received) ∙ sym (added_is received piece)
 
-unread_entries : (links : List (ℕ × LinkState)) → map unread_entry (map unread_entry links) ≡ map unread_entry links
+unread_entries : (streams : List (ℕ × StreamState)) → map unread_entry (map unread_entry streams) ≡ map unread_entry streams
 unread_entries [] = refl
-unread_entries (e ∷ links) = rw (rest-rest e.1.stream, unread_entries links) refl
+unread_entries (e ∷ streams) = rw (rest-rest e.1.received, unread_entries streams) refl
 
 pub unread-unread : {S : Type 0} (s : ShareState S) → unread (unread s) ≡ unread s
-unread-unread s = ap (λ t. record s { links = t }) (unread_entries s.links)
-
-abbrev unread_piece : {S : Type 0} → PieceStep S → PieceStep S
-unread_piece t = record t { link = unread_link t.link }
+unread-unread s = ap (λ t. record s { streams = t }) (unread_entries s.streams)
 
 abbrev pub unread_step : {S : Type 0} → EventStep S → EventStep S
 unread_step d = record d { state = unread d.state }
 
 module _ {S : Type 0} (m : Meaning S) where
-  closed-rest : (n moment : ℕ) (link : LinkState) (steps : PayloadSteps S) (stream held : List ℕ) (b : Bool) → rest longest_payload held ≡ rest longest_payload stream →
-      (steps.stays_open && is_none (fault_of longest_payload (rest longest_payload stream))) ≡ b →
-      unread_piece (closed_by n (unread_link link) held steps) ≡ unread_piece (closed_by n link stream steps)
-  closed-rest n moment link steps stream held true r e = rw (r, e) (rw r refl)
-  closed-rest n moment link steps stream held false r e = rw (r, e) (rw (rest-rest link.stream) refl)
-
-  piece-rest : (n moment : ℕ) (server : ServerState S) (link : LinkState) (piece : List ℕ) → unread_piece (piece_step m n moment server (unread_link link) piece) ≡ unread_piece (piece_step m n moment server link piece)
+  -- a piece behind the rest of a stream is as behind the whole of it
+  piece-rest : (n moment : ℕ) (server : ServerState S) (stream : StreamState) (piece : List ℕ) → piece_step m (arrived n moment) server (unread_stream stream) piece ≡ piece_step m (arrived n moment) server stream piece
   unfolding piece_step
-  piece-rest n moment server link piece =
-      rw added-rest (closed-rest n moment link (payload_steps m n moment server link.connection (added_payloads link.stream piece)) (link.stream ++ piece) (rest longest_payload link.stream ++ piece) _ (sym (rest-more longest_payload piece link.stream)) refl)
+  piece-rest n moment server stream piece =
+      let same : rest longest_payload (rest longest_payload stream.received ++ piece) ≡ rest longest_payload (stream.received ++ piece) = sym (rest-more longest_payload piece stream.received) in
+      rw (added-rest, same) refl
 
-  settled-unread_at : (s : ShareState S) (n : ℕ) (t : PieceStep S) (b : Bool) → t.stays_open ≡ b → unread_step (settled s n t) ≡ settled (unread s) n (unread_piece t)
-  settled-unread_at s n t true e = rw (e, unread-with (is_at (nat_cmp n)) t.link s.links) refl
-  settled-unread_at s n t false e = rw (e, unread-without (is_at (nat_cmp n)) s.links) refl
+  settled-unread_at : (s : ShareState S) (n : ℕ) (held received : List ℕ) (step : Step S) (b : Bool) → step.stays_open ≡ b → rest longest_payload held ≡ rest longest_payload received →
+      unread_step (settled (unread s) n held step) ≡ unread_step (settled s n received step)
+  settled-unread_at s n held received step true e r =
+      let old : StreamState = record { received = held; connection = step.connection } in
+      let new : StreamState = record { received = received; connection = step.connection } in
+      rw (e, unread-with (is_at (nat_cmp n)) old (map unread_entry s.streams), unread_entries s.streams, unread-with (is_at (nat_cmp n)) new s.streams, r) refl
+  settled-unread_at s n held received step false e r =
+      rw (e, unread-without (is_at (nat_cmp n)) (map unread_entry s.streams), unread_entries s.streams, unread-without (is_at (nat_cmp n)) s.streams) refl
 
-  settled-unread : (s : ShareState S) (n : ℕ) (t : PieceStep S) → unread_step (settled s n t) ≡ settled (unread s) n (unread_piece t)
-  settled-unread s n t = settled-unread_at s n t t.stays_open refl
-
-  bytes_at : (s : ShareState S) (n moment : ℕ) (piece : List ℕ) (o : Option LinkState) →
-      unread_step (option_map_or (λ link. settled (unread s) n (piece_step m n moment s.server link piece)) (option_map unread_link o) (record { state = unread s; outputs = [] }))
-      ≡ unread_step (option_map_or (λ link. settled s n (piece_step m n moment s.server link piece)) o (record { state = s; outputs = [] }))
+  bytes_at : (s : ShareState S) (n moment : ℕ) (piece : List ℕ) (o : Option StreamState) →
+      unread_step (option_map_or (λ stream. settled (unread s) n (stream.received ++ piece) (piece_step m (arrived n moment) s.server stream piece)) (option_map unread_stream o) (quiet_step (unread s)))
+      ≡ unread_step (option_map_or (λ stream. settled s n (stream.received ++ piece) (piece_step m (arrived n moment) s.server stream piece)) o (quiet_step s))
   bytes_at s n moment piece None = rw unread-unread refl
-  bytes_at s n moment piece (Some link) =
-      settled-unread (unread s) n (piece_step m n moment s.server (unread_link link) piece)
-      ∙ ap (λ t. settled t n (unread_piece (piece_step m n moment s.server (unread_link link) piece))) (unread-unread s)
-      ∙ ap (settled (unread s) n) (piece-rest n moment s.server link piece)
-      ∙ sym (settled-unread s n (piece_step m n moment s.server link piece))
+  bytes_at s n moment piece (Some stream) =
+      let held = rest longest_payload stream.received ++ piece in
+      let step = piece_step m (arrived n moment) s.server stream piece in
+      ap (λ t. unread_step (settled (unread s) n held t)) (piece-rest n moment s.server stream piece)
+      ∙ settled-unread_at s n held (stream.received ++ piece) step step.stays_open refl (sym (rest-more longest_payload piece stream.received))
 
   bytes_step-unread : (s : ShareState S) (n moment : ℕ) (piece : List ℕ) → unread_step (bytes_step m (unread s) n moment piece) ≡ unread_step (bytes_step m s n moment piece)
   unfolding bytes_step
-  bytes_step-unread s n moment piece = rw (link_of-unread (is_at (nat_cmp n)) s.links) (bytes_at s n moment piece (link_of n s.links))
+  bytes_step-unread s n moment piece = rw (stream_of-unread (is_at (nat_cmp n)) s.streams) (bytes_at s n moment piece (stream_of n s.streams))
 
   -- an event over rests leaves and puts out what it does over whole streams
   pub event_step-unread : (s : ShareState S) (event : EventText) → unread_step (event_step m (unread s) event) ≡ unread_step (event_step m s event)
-  event_step-unread s (opens n) = rw (unread-insert s.next new_link (map unread_entry s.links), unread-insert s.next new_link s.links, unread_entries s.links) refl
+  event_step-unread s (opens n) = rw (unread-insert s.next new_stream (map unread_entry s.streams), unread-insert s.next new_stream s.streams, unread_entries s.streams) refl
   event_step-unread s (brings n moment piece) = bytes_step-unread s n moment piece
-  event_step-unread s (ends n) = rw (unread-without (is_at (nat_cmp n)) (map unread_entry s.links), unread_entries s.links, unread-without (is_at (nat_cmp n)) s.links) refl
+  event_step-unread s (ends n) = rw (unread-without (is_at (nat_cmp n)) (map unread_entry s.streams), unread_entries s.streams, unread-without (is_at (nat_cmp n)) s.streams) refl
 
   pub refusal-unread : (s : ShareState S) (event : EventText) → event_refusal (unread s) event ≡ event_refusal s event
   refusal-unread s (opens n) = rw length-map refl
@@ -138,46 +133,29 @@ module _ {S : Type 0} (m : Meaning S) where
       let r' : event_refusal (run m first.state (take i events)).state event ≡ Some why = ap (λ t. event_refusal t.state event) (sym whole) ∙ r in
       rw (whole, run-cons s x events p.0, run-refused first.state events others event i why h p.1 r') refl
 
-  stopped_at : (s : ShareState S) (n moment k : ℕ) (piece : List ℕ) (o : Option LinkState) →
-      unread (option_map_or (λ link. ended (record (unread s) { server = server_after_piece m n moment s.server link piece k }) n) (option_map unread_link o) (unread s))
-      ≡ unread (option_map_or (λ link. ended (record s { server = server_after_piece m n moment s.server link piece k }) n) o s)
-  unfolding server_after_piece
-  stopped_at s n moment k piece None = unread-unread s
-  stopped_at s n moment k piece (Some link) =
-      rw (added-rest, unread-without (is_at (nat_cmp n)) (map unread_entry s.links), unread_entries s.links, unread-without (is_at (nat_cmp n)) s.links) refl
+  -- where memory ran out in an event over rests
+  stopped-unread : (s : ShareState S) (event : EventText) (k : ℕ) → unread (stopped m (unread s) event k) ≡ unread (stopped m s event k)
+  stopped-unread s (opens n) k = unread-unread s
+  stopped-unread s (brings n moment piece) k =
+      let same = ap (λ d. d.requests) (bytes_step-unread s n moment piece) in
+      rw (same, unread-without (is_at (nat_cmp n)) (map unread_entry s.streams), unread_entries s.streams, unread-without (is_at (nat_cmp n)) s.streams) refl
+  stopped-unread s (ends n) k = unread-unread s
 
-  stopped-unread : (s : ShareState S) (n moment k : ℕ) (piece : List ℕ) → unread (stopped m (unread s) n moment piece k) ≡ unread (stopped m s n moment piece k)
-  unfolding stopped
-  stopped-unread s n moment k piece = rw (link_of-unread (is_at (nat_cmp n)) s.links) (stopped_at s n moment k piece (link_of n s.links))
-
-  stopped_event-unread : (s : ShareState S) (event : EventText) (k : ℕ) → unread (stopped_event m (unread s) event k) ≡ unread (stopped_event m s event k)
-  stopped_event-unread s (opens n) k = unread-unread s
-  stopped_event-unread s (brings n moment piece) k = stopped-unread s n moment k piece
-  stopped_event-unread s (ends n) k = unread-unread s
-
-  count_at : (s : ShareState S) (n moment : ℕ) (piece : List ℕ) (o : Option LinkState) →
-      option_map_or (λ link. count_in_piece m n moment s.server link piece) (option_map unread_link o) 0 ≡ option_map_or (λ link. count_in_piece m n moment s.server link piece) o 0
-  unfolding count_in_piece
-  count_at s n moment piece None = refl
-  count_at s n moment piece (Some link) = rw added-rest refl
-
-  count_on-unread : (s : ShareState S) (n moment : ℕ) (piece : List ℕ) → count_on m (unread s) n moment piece ≡ count_on m s n moment piece
-  unfolding count_on
-  count_on-unread s n moment piece = rw (link_of-unread (is_at (nat_cmp n)) s.links) (count_at s n moment piece (link_of n s.links))
-
-  count_of-unread : (s : ShareState S) (event : EventText) → count_of m (unread s) event ≡ count_of m s event
-  count_of-unread s (opens n) = refl
-  count_of-unread s (brings n moment piece) = count_on-unread s n moment piece
-  count_of-unread s (ends n) = refl
-
-  is_open-unread : (o : Option LinkState) → is_some (option_map unread_link o) ≡ is_some o
+  is_open-unread : (o : Option StreamState) → is_some (option_map unread_stream o) ≡ is_some o
   is_open-unread None = refl
-  is_open-unread (Some link) = refl
+  is_open-unread (Some stream) = refl
 
   can_want_memory-unread : (s : ShareState S) (event : EventText) → can_want_memory (unread s) event ≡ can_want_memory s event
   can_want_memory-unread s (opens n) = refl
-  can_want_memory-unread s (brings n moment piece) = ap is_some (link_of-unread (is_at (nat_cmp n)) s.links) ∙ is_open-unread (link_of n s.links)
+  can_want_memory-unread s (brings n moment piece) = ap is_some (stream_of-unread (is_at (nat_cmp n)) s.streams) ∙ is_open-unread (stream_of n s.streams)
   can_want_memory-unread s (ends n) = refl
+
+  memory-unread : (s : ShareState S) (event : EventText) (k : ℕ) (left : ShareState S) → EventOutOfMemory m (unread s) event k left → EventOutOfMemory m s event k left
+  memory-unread s event k left h = record {
+    wanting = sym (can_want_memory-unread s event) ∙ h.wanting;
+    within = let same = ap (λ d. length d.requests) (event_step-unread s event) in omega (arith, same, h.within);
+    state = h.state ∙ stopped-unread s event k;
+  }
 
   -- the first i events of a run are done, and none was refused
   pub record RunSoFar (start now : ShareState S) (front outputs : List Output) (events : List EventText) (i : ℕ) : Type 0 where
@@ -233,15 +211,13 @@ module _ {S : Type 0} (m : Meaning S) where
   run_stops start now new front outputs outputs' events event place (NoMemory done) i h q p e s t =
       let text = text_of event in
       let before = run m start (take i (events_of events)) in
+      let Q : ShareState S → Type 0 = λ x. EventOutOfMemory m x text done new in
       rw (q, t) (record {
         event = text;
         others = events_of (drop (i + 1) events);
         at = at_place events event i p e;
         unrefused = h.goes;
-        sound = not_refused start now (events_of events) text i None h.state s.0;
-        wanting = sym (ap (λ x. can_want_memory x text) h.state ∙ can_want_memory-unread before.state text) ∙ s.1;
-        within = let same = ap (λ x. count_of m x text) h.state ∙ count_of-unread before.state text in rw (← same) s.2;
-        state = s.3 ∙ ap (λ x. unread (stopped_event m x text done)) h.state ∙ stopped_event-unread before.state text done;
+        stops = (not_refused start now (events_of events) text i None h.state s.0, memory-unread before.state text done new (subst Q h.state s.1));
         outputs = h.says;
       })
   run_stops start now new front outputs outputs' events event place TooManyConnections i h q p e s t = rw (q, t) (run_refused start now new front outputs events event i TooManyConnections h p e s.0 s.1)
@@ -250,13 +226,13 @@ module _ {S : Type 0} (m : Meaning S) where
 
   pub opened-unread : (s : ShareState S) → s ≡ unread s → opened s ≡ unread (opened s)
   unfolding rest
-  opened-unread s h = rw (unread-insert s.next new_link s.links) (ap (λ t. record { server = connection_added s.server s.next; links = insert_entry nat_cmp t.links s.next new_link; next = s.next + 1 }) h)
+  opened-unread s h = rw (unread-insert s.next new_stream s.streams) (ap (λ t. record { server = connection_added s.server s.next; streams = insert_entry nat_cmp t.streams s.next new_stream; next = s.next + 1 }) h)
 
   open_refused : (s : ShareState S) (n : ℕ) (o : Option ServeFault) → n ≡ s.next → opening_refusal s ≡ o → event_refusal s (opens n) ≡ o
   open_refused s n o e h = rw (eq-eqb n s.next e) h
 
   pub open_stops : (s new : ShareState S) (n : ℕ) (fault : ServeFault) → s ≡ unread s → n ≡ s.next → OpeningRefused s fault → new ≡ s → EventStopped m s (opens n) fault new
-  open_stops s new n (NoMemory done) w e h k = (open_refused s n None e h.0, refl, omega (arith, h.1), k ∙ w)
+  open_stops s new n (NoMemory done) w e h k = (open_refused s n None e h.0, record { wanting = refl; within = omega (arith, h.1); state = k ∙ w })
   open_stops s new n TooManyConnections w e h k = (open_refused s n (Some TooManyConnections) e h, k)
   open_stops s new n BadEvent w e h k = absurd h
   open_stops s new n BadConfig w e h k = absurd h

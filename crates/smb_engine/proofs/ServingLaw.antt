@@ -4,15 +4,16 @@ use Rattle.std.proofs.lemmas.List.{append-nil, append_cancel_left}
 use Rattle.std.proofs.lemmas.Bool.{true≢false}
 use Rattle.smb_session.specs.Authenticator.{Meaning}
 use Rattle.smb_engine.specs.State.{ShareState}
-use Rattle.smb_engine.specs.Event.{EventText}
-use Rattle.smb_engine.specs.Share.{GoodState, unread, unread_entry}
+use Rattle.smb_engine.specs.Good.{GoodState}
+use Rattle.smb_engine.specs.Stream.{unread, unread_entry}
 use Rattle.smb_engine.specs.Run.{run}
+use Rattle.smb_engine.specs.Event.{EventText}
 use Rattle.smb_engine.specs.Record.{PeerCall, taken_by}
-use Rattle.smb_engine.specs.Clients.{ClientState}
+use Rattle.smb_engine.specs.ServedPeers.{PeerState}
 use Rattle.smb_engine.specs.Serving.{serving, most_owed}
 use Rattle.smb_engine.specs.ServingLaws.{OpensEachOnce, owed_to, put_out_to, GoesOn, moments_of, IsRun, ServingIsARun}
 use Rattle.smb_engine.proofs.Order.{good_in_order}
-use Rattle.smb_engine.proofs.Numbers.{client_of-found}
+use Rattle.smb_engine.proofs.Numbers.{peer_of-found}
 use Rattle.smb_engine.proofs.Books.{owed_of, Books}
 use Rattle.smb_engine.proofs.Histories.{whole_of, answered_now, no_history}
 use Rattle.smb_engine.proofs.ServedRuns.{Balanced, GoesAt, turns_at}
@@ -21,10 +22,10 @@ none_some : (c : ℕ) → None ≡ Some c → ⊥
 none_some c h = cc
 
 module _ {S : Type 0} (m : Meaning S) where
-  starting : (s : ShareState S) → s.links ≡ [] → s ≡ unread s
-  starting s e = ap (λ t. record s { links = t }) (e ∙ sym (ap (map unread_entry) e))
+  starting : (s : ShareState S) → s.streams ≡ [] → s ≡ unread s
+  starting s e = ap (λ t. record s { streams = t }) (e ∙ sym (ap (map unread_entry) e))
 
-  first_books : (s : ShareState S) (moments : List ℕ) → GoodState s → s.links ≡ [] → Books m s moments s [] [] moments [] (λ k. None)
+  first_books : (s : ShareState S) (moments : List ℕ) → GoodState s → s.streams ≡ [] → Books m s moments s [] [] moments [] (λ k. None)
   first_books s moments good e = record {
     goes = refl;
     state = starting s e;
@@ -38,24 +39,24 @@ module _ {S : Type 0} (m : Meaning S) where
     unused = λ c h. record { brought = refl; unended = refl; says = refl };
   }
 
-  all_answered : (s share : ShareState S) (clients : List ClientState) (calls : List PeerCall) (moments moments0 : List ℕ) (events : List EventText) (connections : ℕ → Option ℕ) →
-      Books m s moments0 share clients calls moments events connections → (number connection : ℕ) → connections number ≡ Some connection →
-      GoesOn number connection calls (run m s events).outputs → taken_by number calls ++ owed_to number clients ≡ put_out_to connection (run m s events).outputs
-  all_answered s share clients calls moments moments0 events connections b number connection e = λ g.
+  all_answered : (s share : ShareState S) (served_peers : List PeerState) (calls : List PeerCall) (moments moments0 : List ℕ) (events : List EventText) (connections : ℕ → Option ℕ) →
+      Books m s moments0 share served_peers calls moments events connections → (number connection : ℕ) → connections number ≡ Some connection →
+      GoesOn number connection calls (run m s events).outputs → taken_by number calls ++ owed_to number served_peers ≡ put_out_to connection (run m s events).outputs
+  all_answered s share served_peers calls moments moments0 events connections b number connection e = λ g.
       let w = whole_of most_owed _ _ _ _ _ _ (b.accounts number connection e).fate g.unbroken g.few in
-      ap (λ t. taken_by number calls ++ t) (ap owed_of (client_of-found number clients)) ∙ w.1
+      ap (λ t. taken_by number calls ++ t) (ap owed_of (peer_of-found number served_peers)) ∙ w.1
 
-  is_run : (s share : ShareState S) (calls0 : List PeerCall) (clients : List ClientState) (calls : List PeerCall) (moments later : List ℕ) → (b : Balanced m s calls0 moments share clients calls (moments ++ later)) →
-      IsRun m s share clients calls later b.0 b.1
-  is_run s share calls0 clients calls moments later b = record {
+  is_run : (s share : ShareState S) (calls0 : List PeerCall) (served_peers : List PeerState) (calls : List PeerCall) (moments later : List ℕ) → (b : Balanced m s calls0 moments share served_peers calls (moments ++ later)) →
+      IsRun m s share served_peers calls later b.0 b.1
+  is_run s share calls0 served_peers calls moments later b = record {
     unrefused = b.2.goes;
     state = b.2.state;
     told = append_cancel_left moments later (moments_of m s b.0) b.2.told;
     apart = b.2.distinct;
     points = b.3;
     answered = λ number connection e. (
-      answered_now m s moments share clients calls (moments ++ later) b.0 b.1 b.2 number connection e,
-      all_answered s share clients calls (moments ++ later) moments b.0 b.1 b.2 number connection e,
+      answered_now m s moments share served_peers calls (moments ++ later) b.0 b.1 b.2 number connection e,
+      all_answered s share served_peers calls (moments ++ later) moments b.0 b.1 b.2 number connection e,
     );
     others = b.2.others;
   }

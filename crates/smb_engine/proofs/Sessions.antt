@@ -1,9 +1,9 @@
 -- The sessions of other connections, and those that are over, over a chain, a piece and a run.
-use Rattle.std.proofs.Common.{◌≡◌, ◌&&◌, ◌==◌, ◌<◌, ℕ, zero, suc, Bool, true, false, not, List, [], ◌∷◌, ◌++◌, Option, None, Some, is_none, refl, sym, ap, subst, ◌⊎◌, arith}
+use Rattle.std.proofs.Common.{◌≡◌, ◌==◌, ◌<◌, ℕ, zero, suc, Bool, true, false, not, List, [], ◌∷◌, ◌++◌, Option, None, Some, MatchOption, refl, sym, ap, subst, ◌⊎◌, arith}
 use Rattle.std.proofs.lemmas.Bool.{eq-eqb}
 use Rattle.std.specs.List.{AllByRecursion, Any}
 use Rattle.std.specs.Option.{option_map_or}
-use Rattle.smb_frame.specs.Reading.{rest, fault_of}
+use Rattle.smb_frame.specs.Reading.{rest}
 use Rattle.smb_session.specs.Authenticator.{Meaning}
 use Rattle.smb_session.specs.Session.{SessionState}
 use Rattle.smb_session.specs.Table.{session_at}
@@ -16,15 +16,14 @@ use Rattle.smb_request.proofs.Leaving.{LeavesSharedBut, leaves_same, leaves_then
 use Rattle.smb_request.proofs.Numbers.{order_good}
 use Rattle.smb_engine.specs.declared.connection.Connection.{Connection}
 use Rattle.smb_engine.specs.declared.fault.ServeFault.{ServeFault}
-use Rattle.smb_engine.specs.State.{LinkState, ShareState}
+use Rattle.smb_engine.specs.State.{StreamState, ShareState, stream_of}
+use Rattle.smb_engine.specs.Stream.{added_payloads}
+use Rattle.smb_engine.specs.Run.{PerformedRequest, ChainState, one_performed, all_performed, requests_of_chain, admitted, chain_begun, Step, refused_step, first_negotiate, first_step, framed_chain, chain_step, payload_step, and_then, payload_steps, piece_step, EventStep, settled, bytes_step, event_step, event_refusal, Ran, run, then_ran, refused_at_once}
+use Rattle.smb_engine.specs.Good.{GoodState}
+use Rattle.smb_engine.specs.Laws.{requests_of_run}
 use Rattle.smb_engine.specs.Event.{EventText, opens, brings, ends, connection_of}
-use Rattle.smb_engine.specs.Chain.{Turn, turn_after, turn_after_all, turn_before, PayloadStep, step_of, refused_step, admitted, first_negotiate, first_step, chain_step, payload_step}
-use Rattle.smb_engine.specs.Stream.{longest_payload, PayloadSteps, and_then, payload_steps, added_payloads, PieceStep, closed_by, piece_step}
-use Rattle.smb_engine.specs.Share.{GoodState, EventStep, settled, bytes_step, link_of}
-use Rattle.smb_engine.specs.Run.{Ran, run, then_ran, refused_at_once, event_refusal, event_step}
-use Rattle.smb_engine.specs.Requests.{RequestAt, requests_of_chain, requests_of_payload, requests_of_payloads, requests_of_event, requests_of_run}
-use Rattle.smb_engine.proofs.Links.{bytes_step-none, bytes_step-some}
-use Rattle.smb_engine.proofs.Turns.{server-turn_after, first-server}
+use Rattle.smb_engine.proofs.Streams.{arrived, bytes_step-none, bytes_step-some}
+use Rattle.smb_engine.proofs.Chains.{server-one_performed, first-server}
 
 -- some element has a property
 module _ {X : Type 0} (P : X → Type 0) where
@@ -42,106 +41,105 @@ module _ {X : Type 0} (P : X → Type 0) where
 
 module _ {S : Type 0} (m : Meaning S) (acts : ℕ → Bool) where
   -- a step with these requests, by which a session may be over that one of them replaces
-  abbrev Replaced : List (RequestAt S) → ℕ → SessionState → Type 0
-  Replaced requests n session = Any (λ came. ReplacesSession m came.server came.context came.request n session) requests
+  abbrev Replaced : List (PerformedRequest S) → ℕ → SessionState → Type 0
+  Replaced requests n session = Any (λ came. MatchOption came.request ⊥ (λ request. ReplacesSession m came.before came.context request n session)) requests
 
-  abbrev LeavesAt : List (RequestAt S) → ServerState S → ServerState S → Type 0
+  abbrev LeavesAt : List (PerformedRequest S) → ServerState S → ServerState S → Type 0
   LeavesAt requests = LeavesSharedBut (Replaced requests) acts
 
-  server_same : (requests : List (RequestAt S)) (server : ServerState S) → IsInOrder server → LeavesAt requests server server
+  server_same : (requests : List (PerformedRequest S)) (server : ServerState S) → IsInOrder server → LeavesAt requests server server
   server_same requests server o = leaves_same acts server.sessions.table server.store o
 
   -- one step behind another
-  server_then : (requests others : List (RequestAt S)) (one two three : ServerState S) → IsInOrder one → LeavesAt requests one two → (IsInOrder two → LeavesAt others two three) → LeavesAt (requests ++ others) one three
+  server_then : (requests others : List (PerformedRequest S)) (one two three : ServerState S) → IsInOrder one → LeavesAt requests one two → (IsInOrder two → LeavesAt others two three) → LeavesAt (requests ++ others) one three
   server_then requests others one two three o first second =
       leaves_then acts one.sessions.table two.sessions.table three.sessions.table one.store two.store three.store o
-      (leaves_wider acts one.sessions.table two.sessions.table one.store two.store (λ n session. any_first (λ came. ReplacesSession m came.server came.context came.request n session) requests others) first)
-      (leaves_wider acts two.sessions.table three.sessions.table two.store three.store (λ n session. any_behind (λ came. ReplacesSession m came.server came.context came.request n session) requests others) (second first.order))
+      (leaves_wider acts one.sessions.table two.sessions.table one.store two.store (λ n session. any_first (λ came. MatchOption came.request ⊥ (λ request. ReplacesSession m came.before came.context request n session)) requests others) first)
+      (leaves_wider acts two.sessions.table three.sessions.table two.store three.store (λ n session. any_behind (λ came. MatchOption came.request ⊥ (λ request. ReplacesSession m came.before came.context request n session)) requests others) (second first.order))
 
   module _ (n : ℕ) (a : acts n ≡ true) (moment : ℕ) where
     -- the requests of a chain
-    turn_left : (turn : Turn S) (request : List ℕ) → IsInOrder turn.server → LeavesAt (record { server = turn.server; context = turn.context; request = request } ∷ []) turn.server (turn_after m n moment turn request).server
-    turn_left turn request o =
-        let came : RequestAt S = record { server = turn.server; context = turn.context; request = request } in
-        let after = turn_after m n moment turn request in
-        leaves_wider acts turn.server.sessions.table after.server.sessions.table turn.server.store after.server.store
-        (λ k session replaces. (0, came, omega arith, refl, replaces))
-        (subst (λ (after : ServerState S). LeavesSharedBut (ReplacesSession m turn.server turn.context request) acts turn.server after) (sym (server-turn_after m n moment turn request)) (request_left acts n a turn.server o m moment turn.connection.dialect turn.context request))
+    abbrev came_of : ChainState S → List ℕ → PerformedRequest S
+    came_of chain request = record { before = chain.server; context = chain.context; request = Some request; after = (one_performed m (arrived n moment) chain request).server }
 
-    turns_left : (turn : Turn S) (requests : List (List ℕ)) → IsInOrder turn.server → LeavesAt (requests_of_chain m n moment turn requests) turn.server (turn_after_all m n moment turn requests).server
-    turns_left turn [] o = server_same [] turn.server o
-    turns_left turn (request ∷ requests) o =
-        let next = turn_after m n moment turn request in
-        server_then (record { server = turn.server; context = turn.context; request = request } ∷ []) (requests_of_chain m n moment next requests) turn.server next.server (turn_after_all m n moment next requests).server o (turn_left turn request o) (turns_left next requests)
+    one_left : (chain : ChainState S) (request : List ℕ) → IsInOrder chain.server → LeavesAt (came_of chain request ∷ []) chain.server (one_performed m (arrived n moment) chain request).server
+    one_left chain request o =
+        let after = one_performed m (arrived n moment) chain request in
+        leaves_wider acts chain.server.sessions.table after.server.sessions.table chain.server.store after.server.store
+        (λ k session replaces. (0, came_of chain request, omega arith, refl, replaces))
+        (subst (λ (after : ServerState S). LeavesSharedBut (ReplacesSession m chain.server chain.context request) acts chain.server after) (sym (server-one_performed m (arrived n moment) chain request)) (request_left acts n a chain.server o m moment chain.connection.dialect chain.context request))
+
+    all_left : (chain : ChainState S) (requests : List (List ℕ)) → IsInOrder chain.server → LeavesAt (requests_of_chain m (arrived n moment) chain requests) chain.server (all_performed m (arrived n moment) chain requests).server
+    all_left chain [] o = server_same [] chain.server o
+    all_left chain (request ∷ requests) o =
+        let next = one_performed m (arrived n moment) chain request in
+        server_then (came_of chain request ∷ []) (requests_of_chain m (arrived n moment) next requests) chain.server next.server (all_performed m (arrived n moment) next requests).server o (one_left chain request o) (all_left next requests)
+
+    -- a step with its own requests
+    abbrev LeavesBy : ServerState S → Step S → Type 0
+    LeavesBy server step = LeavesAt step.requests server step.server
 
     module _ (server : ServerState S) (connection : Connection) (o : IsInOrder server) where
       chain_at : (requests : Option (List (List ℕ))) →
-          LeavesAt (option_map_or (λ requests. requests_of_chain m n moment (turn_before server connection requests) requests) requests []) server
-          (option_map_or (λ requests. step_of (turn_after_all m n moment (turn_before server connection requests) requests)) requests (refused_step server connection)).server
+          LeavesBy server (option_map_or (λ requests. framed_chain m (arrived n moment) (chain_begun server connection requests) requests) requests (refused_step server connection))
       chain_at None = server_same [] server o
-      chain_at (Some requests) = turns_left (turn_before server connection requests) requests o
+      chain_at (Some requests) = all_left (chain_begun server connection requests) requests o
 
-      abbrev chain_requests : List ℕ → List (RequestAt S)
-      chain_requests payload = option_map_or (λ requests. requests_of_chain m n moment (turn_before server connection requests) requests) (admitted connection payload) []
-
-      chain_left : (payload : List ℕ) → LeavesAt (chain_requests payload) server (chain_step m n moment server connection payload).server
+      chain_left : (payload : List ℕ) → LeavesBy server (chain_step m (arrived n moment) server connection payload)
       unfolding chain_step
       chain_left payload = chain_at (admitted connection payload)
 
       -- a payload
-      payload_at : (payload : List ℕ) (first : Option Smb1Dialects) →
-          LeavesAt (option_map_or (λ dialects. []) first (chain_requests payload)) server (option_map_or (first_step m moment server connection) first (chain_step m n moment server connection payload)).server
+      payload_at : (payload : List ℕ) (first : Option Smb1Dialects) → LeavesBy server (option_map_or (first_step m (arrived n moment) server connection) first (chain_step m (arrived n moment) server connection payload))
       payload_at payload None = chain_left payload
-      payload_at payload (Some dialects) = subst (λ (after : ServerState S). LeavesAt [] server after) (sym (first-server m n moment server connection dialects)) (server_same [] server o)
+      payload_at payload (Some dialects) =
+          let step = first_step m (arrived n moment) server connection dialects in
+          subst (λ (after : ServerState S). LeavesAt step.requests server after) (sym (first-server m (arrived n moment) server connection dialects)) (server_same step.requests server o)
 
-      payload_left : (payload : List ℕ) → LeavesAt (requests_of_payload m n moment server connection payload) server (payload_step m n moment server connection payload).server
+      payload_left : (payload : List ℕ) → LeavesBy server (payload_step m (arrived n moment) server connection payload)
       unfolding payload_step
       payload_left payload = payload_at payload (first_negotiate connection payload)
 
     -- the payloads of a piece
-    steps_at : (server : ServerState S) (step : PayloadStep S) (requests further : List (RequestAt S)) (others : ServerState S → Connection → PayloadSteps S) (replies : Option (List ℕ)) → step.replies ≡ replies → IsInOrder server → LeavesAt requests server step.server →
-        (IsInOrder step.server → LeavesAt further step.server (others step.server step.connection).server) → LeavesAt (requests ++ option_map_or (λ replies. further) step.replies []) server (and_then n others step).server
-    steps_at server step requests further others None e o one rest = rw e (server_then requests [] server step.server step.server o one (server_same [] step.server))
-    steps_at server step requests further others (Some replies) e o one rest = rw e (server_then requests further server step.server (others step.server step.connection).server o one rest)
+    steps_at : (server : ServerState S) (step : Step S) (others : ServerState S → Connection → Step S) (b : Bool) → step.stays_open ≡ b → IsInOrder server → LeavesBy server step →
+        (IsInOrder step.server → LeavesBy step.server (others step.server step.connection)) → LeavesBy server (and_then others step)
+    steps_at server step others true e o one rest = rw e (server_then step.requests (others step.server step.connection).requests server step.server (others step.server step.connection).server o one rest)
+    steps_at server step others false e o one rest = rw e one
 
-    steps_left : (server : ServerState S) (connection : Connection) (payloads : List (List ℕ)) → IsInOrder server → LeavesAt (requests_of_payloads m n moment server connection payloads) server (payload_steps m n moment server connection payloads).server
+    steps_left : (server : ServerState S) (connection : Connection) (payloads : List (List ℕ)) → IsInOrder server → LeavesBy server (payload_steps m (arrived n moment) server connection payloads)
     steps_left server connection [] o = server_same [] server o
     steps_left server connection (payload ∷ payloads) o =
-        let step = payload_step m n moment server connection payload in
-        steps_at server step (requests_of_payload m n moment server connection payload) (requests_of_payloads m n moment step.server step.connection payloads) (λ s c. payload_steps m n moment s c payloads) step.replies refl o (payload_left server connection o payload) (steps_left step.server step.connection payloads)
+        let step = payload_step m (arrived n moment) server connection payload in
+        steps_at server step (λ s c. payload_steps m (arrived n moment) s c payloads) step.stays_open refl o (payload_left server connection o payload) (steps_left step.server step.connection payloads)
 
-    closed_at : (server : ServerState S) (link : LinkState) (stream : List ℕ) (requests : List (RequestAt S)) (steps : PayloadSteps S) (b : Bool) → (steps.stays_open && is_none (fault_of longest_payload (rest longest_payload stream))) ≡ b →
-        LeavesAt requests server steps.server → LeavesAt requests server (closed_by n link stream steps).server
-    closed_at server link stream requests steps true e h = rw e h
-    closed_at server link stream requests steps false e h = rw e h
-
-    piece_left : (server : ServerState S) (link : LinkState) (piece : List ℕ) → IsInOrder server → LeavesAt (requests_of_payloads m n moment server link.connection (added_payloads link.stream piece)) server (piece_step m n moment server link piece).server
+    piece_left : (server : ServerState S) (stream : StreamState) (piece : List ℕ) → IsInOrder server → LeavesBy server (piece_step m (arrived n moment) server stream piece)
     unfolding piece_step
-    piece_left server link piece o = closed_at server link _ _ _ _ refl (steps_left server link.connection (added_payloads link.stream piece) o)
+    piece_left server stream piece o = steps_left server stream.connection (added_payloads stream.received piece) o
 
     -- and the connection's end, where the piece ends it
-    end_wider : (requests : List (RequestAt S)) (one two three : ServerState S) → IsInOrder one → LeavesAt requests one two → (IsInOrder two → LeavesAt requests two three) → LeavesAt requests one three
+    end_wider : (requests : List (PerformedRequest S)) (one two three : ServerState S) → IsInOrder one → LeavesAt requests one two → (IsInOrder two → LeavesAt requests two three) → LeavesAt requests one three
     end_wider requests one two three o first second =
         leaves_then acts one.sessions.table two.sessions.table three.sessions.table one.store two.store three.store o first (second first.order)
 
-    settled_left : (s : ShareState S) (requests : List (RequestAt S)) (step : PieceStep S) (b : Bool) → step.stays_open ≡ b → IsInOrder s.server → LeavesAt requests s.server step.server → LeavesAt requests s.server (settled s n step).state.server
-    settled_left s requests step true e o h = rw e h
-    settled_left s requests step false e o h = rw e (end_wider requests s.server step.server (connection_ended step.server n) o h (leaves_end _ acts n a step.server))
+    settled_left : (s : ShareState S) (received : List ℕ) (step : Step S) (b : Bool) → step.stays_open ≡ b → IsInOrder s.server → LeavesBy s.server step →
+        LeavesAt step.requests s.server (settled s n received step).state.server
+    settled_left s received step true e o h = rw e h
+    settled_left s received step false e o h = rw e (end_wider step.requests s.server step.server (connection_ended step.server n) o h (leaves_end _ acts n a step.server))
 
-    bytes_left : (s : ShareState S) (piece : List ℕ) (link : Option LinkState) → link_of n s.links ≡ link → IsInOrder s.server →
-        LeavesAt (option_map_or (λ (link : LinkState). requests_of_payloads m n moment s.server link.connection (added_payloads link.stream piece)) link []) s.server (bytes_step m s n moment piece).state.server
+    bytes_left : (s : ShareState S) (piece : List ℕ) (stream : Option StreamState) → stream_of n s.streams ≡ stream → IsInOrder s.server →
+        LeavesAt (bytes_step m s n moment piece).requests s.server (bytes_step m s n moment piece).state.server
     bytes_left s piece None e o = rw (bytes_step-none m s n moment piece e) (server_same [] s.server o)
-    bytes_left s piece (Some link) e o =
-        rw (bytes_step-some m s n moment piece link e) (settled_left s _ (piece_step m n moment s.server link piece) _ refl o (piece_left s.server link piece o))
+    bytes_left s piece (Some stream) e o =
+        rw (bytes_step-some m s n moment piece stream e) (settled_left s (stream.received ++ piece) (piece_step m (arrived n moment) s.server stream piece) _ refl o (piece_left s.server stream piece o))
 
   -- an event
-  event_left : (s : ShareState S) (event : EventText) → acts (connection_of event) ≡ true → IsInOrder s.server → LeavesAt (requests_of_event m s event) s.server (event_step m s event).state.server
+  event_left : (s : ShareState S) (event : EventText) → acts (connection_of event) ≡ true → IsInOrder s.server → LeavesAt (event_step m s event).requests s.server (event_step m s event).state.server
   event_left s (opens n) a o = leaves_start _ acts s.server s.next o
-  event_left s (brings n moment piece) a o = bytes_left n a moment s piece (link_of n s.links) refl o
+  event_left s (brings n moment piece) a o = bytes_left n a moment s piece (stream_of n s.streams) refl o
   event_left s (ends n) a o = leaves_end _ acts n a s.server o
 
   -- a run
-  run_at : (s : ShareState S) (requests : List (RequestAt S)) (step : EventStep S) (ran : Ran S) (refusal : Option ServeFault) → IsInOrder s.server → LeavesAt requests s.server ran.state.server →
+  run_at : (s : ShareState S) (requests : List (PerformedRequest S)) (step : EventStep S) (ran : Ran S) (refusal : Option ServeFault) → IsInOrder s.server → LeavesAt requests s.server ran.state.server →
       LeavesAt (option_map_or (λ fault. []) refusal requests) s.server (option_map_or (refused_at_once s) refusal (then_ran step ran)).state.server
   run_at s requests step ran None o h = h
   run_at s requests step ran (Some why) o h = server_same [] s.server o
@@ -152,7 +150,7 @@ module _ {S : Type 0} (m : Meaning S) (acts : ℕ → Bool) where
       let step = event_step m s event in
       let ran = run m step.state events in
       run_at s _ step ran (event_refusal s event) o
-      (server_then (requests_of_event m s event) (requests_of_run m step.state events) s.server step.state.server ran.state.server o (event_left s event a.0 o) (run_left step.state events a.1))
+      (server_then (event_step m s event).requests (requests_of_run m step.state events) s.server step.state.server ran.state.server o (event_left s event a.0 o) (run_left step.state events a.1))
 
 -- all events are on some connection
 any_event : (events : List EventText) → AllByRecursion (λ (event : EventText). true ≡ true) events
@@ -173,7 +171,7 @@ module _ {S : Type 0} (m : Meaning S) where
   pub sessions_left : (s : ShareState S) → IsInOrder s.server → (events : List EventText) (connection : ℕ) → AllByRecursion (λ event. (connection_of event == connection) ≡ false) events →
       (number : ℕ) (session : SessionState) → session_at s.server.sessions.table number ≡ Some session → session.connection ≡ connection →
       IsAsItWas s.server (run m s events).state.server number
-      ⊎ (IsOver (run m s events).state.server number × Any (λ came. ReplacesSession m came.server came.context came.request number session) (requests_of_run m s events))
+      ⊎ (IsOver (run m s events).state.server number × Any (λ came. MatchOption came.request ⊥ (λ request. ReplacesSession m came.before came.context request number session)) (requests_of_run m s events))
   sessions_left s o events connection others number session at on =
       (run_left m (λ n. not (n == connection)) s events (other_events connection events others) o).alone number session at (ap not (eq-eqb session.connection connection on))
 

@@ -1,38 +1,65 @@
 -- The payloads of a piece, one payload further.
-use Rattle.std.proofs.Common.{◌≡◌, ℕ, ◌+◌, ◌≤◌, ◌-◌, Bool, true, false, ltb, List, [], ◌∷◌, ◌++◌, length, take, Option, None, Some, refl, sym, ap, ◌∙◌, append_assoc, arith, length-drop, if◌then◌else◌}
+use Rattle.std.proofs.Common.{◌≡◌, ℕ, ◌+◌, ◌≤◌, Bool, true, false, List, ◌++◌, length, take, Option, None, Some, refl, sym, ap, ◌∙◌, append_assoc, arith, length-drop, length-append}
 use Rattle.std.specs.List.{flat_map}
 use Rattle.std.proofs.lemmas.List.{append-nil, take-take, length-take}
-use Rattle.std.proofs.lemmas.Bool.{le-ltb, ltb-false}
 use Rattle.std.proofs.lemmas.Grind.{flat_map-append}
+use Rattle.std.proofs.Math.Seq.{take-append_seam}
 use Rattle.smb_frame.specs.Reading.{first, after, payloads, rest}
 use Rattle.smb_frame.proofs.Frames.{first_is}
 use Rattle.smb_frame.proofs.Streams.{payloads-none, payloads-some, rest-none, rest-some}
+use Rattle.smb_engine.specs.declared.arrival.Arrival.{Arrival}
 use Rattle.smb_engine.specs.declared.connection.Connection.{Connection}
 use Rattle.smb_session.specs.Authenticator.{Meaning}
 use Rattle.smb_request.specs.State.{ServerState}
-use Rattle.smb_engine.specs.Chain.{PayloadStep, payload_step, server_after, count_in}
-use Rattle.smb_engine.specs.Output.{Output, reply_frame}
+use Rattle.smb_engine.specs.Output.{Output, output_bytes, reply_frame}
 use Rattle.smb_engine.specs.Sink.{Heard}
-use Rattle.smb_engine.specs.Stream.{longest_payload, PayloadSteps, payload_steps, server_after_some, count_in_all, and_then, after_outputs}
-use Rattle.smb_engine.specs.Held.{steps_heard}
-use Rattle.smb_engine.proofs.Turns.{server_after-none, server_after-all}
+use Rattle.smb_engine.specs.Stream.{longest_payload}
+use Rattle.smb_engine.specs.Run.{Step, payload_step, payload_steps, and_then, after_step}
+use Rattle.smb_engine.specs.Refusals.{server_after}
+use Rattle.smb_engine.specs.InPlace.{StepPlaced, step_behind}
+use Rattle.smb_engine.proofs.Chains.{payload_whole, after-past, after-front}
 
-by_test : {X : Type 0} (b : Bool) (x y z : X) → (b ≡ true → x ≡ z) → (b ≡ false → y ≡ z) → (if b then x else y) ≡ z
-by_test true x y z p q = p refl
-by_test false x y z p q = q refl
+-- a step's requests, with those of the others behind it
+module _ {S : Type 0} (server : ServerState S) (others : ServerState S → Connection → Step S) (step : Step S) where
+  pub and_then-open : step.stays_open ≡ true → and_then others step ≡ after_step step (others step.server step.connection)
+  and_then-open t = rw t refl
 
-module _ {S : Type 0} (m : Meaning S) (hears : Output → List Heard) (number moment : ℕ) where
+  pub and_then-over : step.stays_open ≡ false → and_then others step ≡ step
+  and_then-over t = rw t refl
+
+  in_at : (b : Bool) (k : ℕ) → step.stays_open ≡ b → k ≤ length step.requests → server_after server step.requests k ≡ server_after server (and_then others step).requests k
+  in_at true k t h = rw t (sym (after-front server step.requests (others step.server step.connection).requests k h))
+  in_at false k t h = rw t refl
+
+  within_at : (b : Bool) → step.stays_open ≡ b → length step.requests ≤ length (and_then others step).requests
+  within_at true t = rw t (omega (arith, length-append step.requests (others step.server step.connection).requests))
+  within_at false t = rw t (omega arith)
+
+  -- the server after k of the step's requests, and their number
+  pub and_then-in : (k : ℕ) → k ≤ length step.requests → server_after server step.requests k ≡ server_after server (and_then others step).requests k
+  and_then-in k h = in_at step.stays_open k refl h
+
+  pub and_then-within : length step.requests ≤ length (and_then others step).requests
+  and_then-within = within_at step.stays_open refl
+
+module _ {S : Type 0} (m : Meaning S) (hears : Output → List Heard) (arrival : Arrival) where
+  abbrev all : ServerState S → Connection → List ℕ → Step S
+  all server connection held = payload_steps m arrival server connection (payloads longest_payload held)
+
+  abbrev one : ServerState S → Connection → List ℕ → Step S
+  one server connection payload = payload_step m arrival server connection payload
+
   -- what is left to do of some held bytes, behind what was done, is what there was to do at first
   pub record StepsSoFar (server₀ : ServerState S) (connection₀ : Connection) (heard₀ : List Heard) (held₀ : List ℕ)
       (server : ServerState S) (connection : Connection) (heard : List Heard) (held : List ℕ) (done : ℕ) : Type 0 where
-    pub says : steps_heard hears heard (payload_steps m number moment server connection (payloads longest_payload held))
-        ≡ steps_heard hears heard₀ (payload_steps m number moment server₀ connection₀ (payloads longest_payload held₀))
+    pub says : step_behind hears heard (payload_steps m arrival server connection (payloads longest_payload held))
+        ≡ step_behind hears heard₀ (payload_steps m arrival server₀ connection₀ (payloads longest_payload held₀))
     pub left : rest longest_payload held ≡ rest longest_payload held₀
-    pub stops : (k : ℕ) → server_after_some m number moment server connection (payloads longest_payload held) k
-        ≡ server_after_some m number moment server₀ connection₀ (payloads longest_payload held₀) (done + k)
+    pub stops : (k : ℕ) → server_after server (payload_steps m arrival server connection (payloads longest_payload held)).requests k
+        ≡ server_after server₀ (payload_steps m arrival server₀ connection₀ (payloads longest_payload held₀)).requests (done + k)
     pub count : done + length held ≤ length held₀
-    pub number_of : done + count_in_all m number moment server connection (payloads longest_payload held)
-        ≡ count_in_all m number moment server₀ connection₀ (payloads longest_payload held₀)
+    pub number_of : done + length (payload_steps m arrival server connection (payloads longest_payload held)).requests
+        ≡ length (payload_steps m arrival server₀ connection₀ (payloads longest_payload held₀)).requests
 
   pub steps_none : (server : ServerState S) (connection : Connection) (heard : List Heard) (held : List ℕ) → StepsSoFar server connection heard held server connection heard held 0
   steps_none server connection heard held = record {
@@ -43,88 +70,73 @@ module _ {S : Type 0} (m : Meaning S) (hears : Output → List Heard) (number mo
     number_of = omega arith;
   }
 
-  heard-more : (a : List Heard) (b : List Output) (x : PayloadSteps S) → steps_heard hears a (after_outputs b x) ≡ steps_heard hears (a ++ flat_map hears b) x
-  heard-more a b x = ap (λ t. record { server = x.server; connection = x.connection; heard = t; stays_open = x.stays_open })
-      (ap (λ t. a ++ t) (flat_map-append hears b x.outputs) ∙ sym (append_assoc a (flat_map hears b) (flat_map hears x.outputs)))
+  behind-more : (a : List Heard) (step next : Step S) → step_behind hears a (after_step step next) ≡ step_behind hears (a ++ flat_map hears step.outputs) next
+  behind-more a step next =
+      let P : List Heard → StepPlaced S Heard = λ t. record { server = next.server; connection = next.connection; stays_open = next.stays_open; out = t } in
+      ap P (ap (λ t. a ++ t) (flat_map-append hears step.outputs next.outputs) ∙ sym (append_assoc a (flat_map hears step.outputs) (flat_map hears next.outputs)))
+
+  abbrev others_of : List ℕ → List ℕ → ServerState S → Connection → Step S
+  others_of held payload server connection = all server connection (after payload held)
 
   -- bytes with a first payload
-  steps-some : (server : ServerState S) (connection : Connection) (held payload : List ℕ) (step : PayloadStep S) → first longest_payload held ≡ Some payload →
-      step ≡ payload_step m number moment server connection payload →
-      payload_steps m number moment server connection (payloads longest_payload held)
-      ≡ and_then number (λ server' connection'. payload_steps m number moment server' connection' (payloads longest_payload (after payload held))) step
-  steps-some server connection held payload step e p =
-      ap (payload_steps m number moment server connection) (payloads-some longest_payload held payload e)
-      ∙ ap (and_then number (λ server' connection'. payload_steps m number moment server' connection' (payloads longest_payload (after payload held)))) (sym p)
-
-  after_some-past : (server : ServerState S) (connection : Connection) (held payload : List ℕ) (step : PayloadStep S) (n k : ℕ) → first longest_payload held ≡ Some payload →
-      step ≡ payload_step m number moment server connection payload → count_in m number moment server connection payload ≡ n →
-      server_after_some m number moment server connection (payloads longest_payload held) (n + k)
-      ≡ server_after_some m number moment step.server step.connection (payloads longest_payload (after payload held)) k
-  after_some-past server connection held payload step n k e p c =
-      let test : ltb (n + k) n ≡ false = le-ltb _ _ (omega arith) in
-      let left : n + k - n ≡ k = omega arith in
-      ap (λ ps. server_after_some m number moment server connection ps (n + k)) (payloads-some longest_payload held payload e) ∙ rw (c, test, left, p) refl
-
-  pub after_some-zero : (server : ServerState S) (connection : Connection) (ps : List (List ℕ)) → server_after_some m number moment server connection ps 0 ≡ server
-  after_some-zero server connection [] = refl
-  after_some-zero server connection (payload ∷ ps) =
-      let n = count_in m number moment server connection payload in
-      by_test (ltb 0 n) _ _ server (λ t. server_after-none m number moment server connection payload)
-      (λ t.
-      let z : n ≡ 0 = let k = ltb-false 0 n t in omega arith in
-      let e : 0 - n ≡ 0 = omega arith in
-      rw e (after_some-zero (payload_step m number moment server connection payload).server (payload_step m number moment server connection payload).connection ps
-      ∙ sym (server_after-all m number moment server connection payload) ∙ ap (server_after m number moment server connection payload) z ∙ server_after-none m number moment server connection payload))
-
-  after-some : (server : ServerState S) (connection : Connection) (held payload : List ℕ) (k : ℕ) → first longest_payload held ≡ Some payload → k ≤ count_in m number moment server connection payload →
-      server_after m number moment server connection payload k ≡ server_after_some m number moment server connection (payloads longest_payload held) k
-  after-some server connection held payload k f b =
-      let n = count_in m number moment server connection payload in
-      let opened = ap (λ ps. server_after_some m number moment server connection ps k) (payloads-some longest_payload held payload f) in
-      sym (opened ∙ by_test (ltb k n) _ _ (server_after m number moment server connection payload k) (λ t. refl)
-      (λ t.
-      let z : k ≡ n = let q = ltb-false k n t in omega arith in
-      let e : k - n ≡ 0 = omega arith in
-      rw e (after_some-zero (payload_step m number moment server connection payload).server (payload_step m number moment server connection payload).connection (payloads longest_payload (after payload held))
-      ∙ sym (server_after-all m number moment server connection payload) ∙ ap (server_after m number moment server connection payload) (sym z))))
+  steps-some : (server : ServerState S) (connection : Connection) (held payload : List ℕ) → first longest_payload held ≡ Some payload →
+      all server connection held ≡ and_then (others_of held payload) (one server connection payload)
+  steps-some server connection held payload e = ap (payload_steps m arrival server connection) (payloads-some longest_payload held payload e)
 
   pub steps_more : (server₀ : ServerState S) (connection₀ : Connection) (heard₀ : List Heard) (held₀ : List ℕ) (server : ServerState S) (connection : Connection) (heard : List Heard) (held : List ℕ) (done : ℕ)
-      (server' : ServerState S) (connection' : Connection) (heard' : List Heard) (held' payload replies : List ℕ) (n : ℕ) →
+      (server' : ServerState S) (connection' : Connection) (heard' : List Heard) (held' payload : List ℕ) (n : ℕ) →
       StepsSoFar server₀ connection₀ heard₀ held₀ server connection heard held done → first longest_payload held ≡ Some payload →
-      record { server = server'; connection = connection'; replies = Some replies } ≡ payload_step m number moment server connection payload →
-      count_in m number moment server connection payload ≡ n → held' ≡ after payload held → heard' ≡ heard ++ flat_map hears (reply_frame number replies) → n ≤ length payload →
+      record { server = server'; connection = connection'; stays_open = true; out = heard' } ≡ step_behind hears heard (payload_step m arrival server connection payload) →
+      n ≡ length (payload_step m arrival server connection payload).requests → held' ≡ after payload held → n ≤ length payload →
       StepsSoFar server₀ connection₀ heard₀ held₀ server' connection' heard' held' (done + n)
-  steps_more server₀ connection₀ heard₀ held₀ server connection heard held done server' connection' heard' held' payload replies n h f e c p t b =
+  steps_more server₀ connection₀ heard₀ held₀ server connection heard held done server' connection' heard' held' payload n h f e c p b =
+      let step = one server connection payload in
+      let next = all step.server step.connection (after payload held) in
+      let s = ap (λ x. x.server) e in
+      let k' = ap (λ x. x.connection) e in
+      let o = ap (λ x. x.out) e in
+      let open_still : step.stays_open ≡ true = sym (ap (λ x. x.stays_open) e) in
+      let opened = steps-some server connection held payload f ∙ and_then-open server (others_of held payload) step open_still in
       record {
-        says = rw (p, t) (sym (heard-more heard (reply_frame number replies) (payload_steps m number moment server' connection' (payloads longest_payload (after payload held)))))
-            ∙ ap (steps_heard hears heard) (sym (steps-some server connection held payload _ f e)) ∙ h.says;
+        says = rw (s, k', o, p) (sym (behind-more heard step next) ∙ ap (step_behind hears heard) (sym opened) ∙ h.says);
         left = rw p (sym (rest-some longest_payload held payload f) ∙ h.left);
         stops = λ k. let assoc : done + n + k ≡ done + (n + k) = omega arith in
-            rw (p, assoc) (sym (after_some-past server connection held payload _ n k f e c) ∙ h.stops (n + k));
+            let past : server_after step.server next.requests k ≡ server_after server (all server connection held).requests (n + k) =
+            rw (opened, c) (sym (after-past server step.requests next.requests k ∙ ap (λ t. server_after t next.requests k) (payload_whole m arrival server connection payload).whole)) in
+            rw (s, k', p, assoc) (past ∙ h.stops (n + k));
         number_of =
-            let step : count_in_all m number moment server connection (payloads longest_payload held) ≡ n + count_in_all m number moment server' connection' (payloads longest_payload (after payload held)) =
-            ap (count_in_all m number moment server connection) (payloads-some longest_payload held payload f) ∙ rw (← e, c) refl in
-            rw p (omega (arith, step, h.number_of));
+            let whole : length (all server connection held).requests ≡ n + length next.requests =
+            ap (λ t. length t.requests) opened ∙ length-append step.requests next.requests ∙ ap (λ i. i + length next.requests) (sym c) in
+            rw (s, k', p) (omega (arith, whole, h.number_of));
         count = rw p (omega (arith, h.count, first_is longest_payload held payload f, length-drop (length payload + 4) held));
       }
 
   -- a payload that ends the connection
   pub steps_over : (server₀ : ServerState S) (connection₀ : Connection) (heard₀ : List Heard) (held₀ : List ℕ) (server : ServerState S) (connection : Connection) (heard : List Heard) (held : List ℕ) (done : ℕ)
-      (server' : ServerState S) (connection' : Connection) (payload : List ℕ) →
+      (server' : ServerState S) (connection' : Connection) (heard' : List Heard) (payload : List ℕ) →
       StepsSoFar server₀ connection₀ heard₀ held₀ server connection heard held done → first longest_payload held ≡ Some payload →
-      record { server = server'; connection = connection'; replies = None } ≡ payload_step m number moment server connection payload →
-      record { server = server'; connection = connection'; heard = heard; stays_open = false } ≡ steps_heard hears heard₀ (payload_steps m number moment server₀ connection₀ (payloads longest_payload held₀))
-  steps_over server₀ connection₀ heard₀ held₀ server connection heard held done server' connection' payload h f e =
-      ap (λ t. record { server = server'; connection = connection'; heard = t; stays_open = false }) (sym (append-nil heard))
-      ∙ ap (steps_heard hears heard) (sym (steps-some server connection held payload _ f e)) ∙ h.says
+      record { server = server'; connection = connection'; stays_open = false; out = heard' } ≡ step_behind hears heard (payload_step m arrival server connection payload) →
+      record { server = server'; connection = connection'; stays_open = false; out = heard' } ≡ step_behind hears heard₀ (payload_steps m arrival server₀ connection₀ (payloads longest_payload held₀))
+  steps_over server₀ connection₀ heard₀ held₀ server connection heard held done server' connection' heard' payload h f e =
+      let step = one server connection payload in
+      let over = steps-some server connection held payload f ∙ and_then-over server (others_of held payload) step (sym (ap (λ x. x.stays_open) e)) in
+      e ∙ ap (step_behind hears heard) (sym over) ∙ h.says
+
+  -- and changes nothing
+  pub steps_refused : (server : ServerState S) (connection : Connection) (heard : List Heard) (server' : ServerState S) (connection' : Connection) (heard' : List Heard) (payload : List ℕ) →
+      record { server = server'; connection = connection'; stays_open = false; out = heard' } ≡ step_behind hears heard (payload_step m arrival server connection payload) → (server' ≡ server) × (heard' ≡ heard)
+  steps_refused server connection heard server' connection' heard' payload e =
+      let refused = (payload_whole m arrival server connection payload).refused (sym (ap (λ x. x.stays_open) e)) in
+      (ap (λ x. x.server) e ∙ refused.0, ap (λ x. x.out) e ∙ ap (λ os. heard ++ flat_map hears os) refused.1 ∙ append-nil heard)
 
   -- no whole frame is left
   pub steps_all : (server₀ : ServerState S) (connection₀ : Connection) (heard₀ : List Heard) (held₀ : List ℕ) (server : ServerState S) (connection : Connection) (heard : List Heard) (held : List ℕ) (done : ℕ) →
       StepsSoFar server₀ connection₀ heard₀ held₀ server connection heard held done → first longest_payload held ≡ None →
-      record { server = server; connection = connection; heard = heard; stays_open = true } ≡ steps_heard hears heard₀ (payload_steps m number moment server₀ connection₀ (payloads longest_payload held₀))
+      record { server = server; connection = connection; stays_open = true; out = heard } ≡ step_behind hears heard₀ (payload_steps m arrival server₀ connection₀ (payloads longest_payload held₀))
   steps_all server₀ connection₀ heard₀ held₀ server connection heard held done h f =
-      ap (λ t. record { server = server; connection = connection; heard = t; stays_open = true }) (sym (append-nil heard))
-      ∙ ap (λ ps. steps_heard hears heard (payload_steps m number moment server connection ps)) (sym (payloads-none longest_payload held f)) ∙ h.says
+      let P : List Heard → StepPlaced S Heard = λ t. record { server = server; connection = connection; stays_open = true; out = t } in
+      ap P (sym (append-nil heard))
+      ∙ ap (λ ps. step_behind hears heard (payload_steps m arrival server connection ps)) (sym (payloads-none longest_payload held f)) ∙ h.says
 
   pub held_all : (server₀ : ServerState S) (connection₀ : Connection) (heard₀ : List Heard) (held₀ : List ℕ) (server : ServerState S) (connection : Connection) (heard : List Heard) (held : List ℕ) (done : ℕ) →
       StepsSoFar server₀ connection₀ heard₀ held₀ server connection heard held done → first longest_payload held ≡ None → held ≡ rest longest_payload held₀
@@ -132,31 +144,64 @@ module _ {S : Type 0} (m : Meaning S) (hears : Output → List Heard) (number mo
 
   -- memory ran out after the requests done so far
   pub steps_stopped : (server₀ : ServerState S) (connection₀ : Connection) (heard₀ : List Heard) (held₀ : List ℕ) (server : ServerState S) (connection : Connection) (heard : List Heard) (held : List ℕ) (done : ℕ) →
-      StepsSoFar server₀ connection₀ heard₀ held₀ server connection heard held done → server ≡ server_after_some m number moment server₀ connection₀ (payloads longest_payload held₀) done
+      StepsSoFar server₀ connection₀ heard₀ held₀ server connection heard held done → server ≡ server_after server₀ (payload_steps m arrival server₀ connection₀ (payloads longest_payload held₀)).requests done
   steps_stopped server₀ connection₀ heard₀ held₀ server connection heard held done h =
       let e : done + 0 ≡ done = omega arith in
-      sym (after_some-zero server connection (payloads longest_payload held)) ∙ h.stops 0 ∙ ap (server_after_some m number moment server₀ connection₀ (payloads longest_payload held₀)) e
+      h.stops 0 ∙ ap (server_after server₀ (all server₀ connection₀ held₀).requests) e
 
   -- memory ran out after k requests of the payload that stands first
   pub steps_stopped_in : (server₀ : ServerState S) (connection₀ : Connection) (heard₀ : List Heard) (held₀ : List ℕ) (server : ServerState S) (connection : Connection) (heard : List Heard) (held : List ℕ) (done : ℕ)
       (server' : ServerState S) (payload : List ℕ) (k : ℕ) →
       StepsSoFar server₀ connection₀ heard₀ held₀ server connection heard held done → first longest_payload held ≡ Some payload →
-      k ≤ count_in m number moment server connection payload → server' ≡ server_after m number moment server connection payload k →
-      server' ≡ server_after_some m number moment server₀ connection₀ (payloads longest_payload held₀) (done + k)
+      k ≤ length (payload_step m arrival server connection payload).requests → server' ≡ server_after server (payload_step m arrival server connection payload).requests k →
+      server' ≡ server_after server₀ (payload_steps m arrival server₀ connection₀ (payloads longest_payload held₀)).requests (done + k)
   steps_stopped_in server₀ connection₀ heard₀ held₀ server connection heard held done server' payload k h f b e =
-      e ∙ after-some server connection held payload k f b ∙ h.stops k
+      e ∙ and_then-in server (others_of held payload) (one server connection payload) k b ∙ ap (λ t. server_after server t.requests k) (sym (steps-some server connection held payload f)) ∙ h.stops k
 
   pub steps_within : (server₀ : ServerState S) (connection₀ : Connection) (heard₀ : List Heard) (held₀ : List ℕ) (server : ServerState S) (connection : Connection) (heard : List Heard) (held : List ℕ) (done k : ℕ) (payload : List ℕ) →
-      StepsSoFar server₀ connection₀ heard₀ held₀ server connection heard held done → first longest_payload held ≡ Some payload → k ≤ count_in m number moment server connection payload →
-      done + k ≤ count_in_all m number moment server₀ connection₀ (payloads longest_payload held₀)
+      StepsSoFar server₀ connection₀ heard₀ held₀ server connection heard held done → first longest_payload held ≡ Some payload → k ≤ length (payload_step m arrival server connection payload).requests →
+      done + k ≤ length (payload_steps m arrival server₀ connection₀ (payloads longest_payload held₀)).requests
   steps_within server₀ connection₀ heard₀ held₀ server connection heard held done k payload h f b =
-      let step = ap (count_in_all m number moment server connection) (payloads-some longest_payload held payload f) in
-      omega (arith, h.number_of, step)
+      let more = and_then-within server (others_of held payload) (one server connection payload) in
+      let same = ap (λ t. length t.requests) (steps-some server connection held payload f) in
+      omega (arith, h.number_of, more, same, b)
 
   pub steps_done : (server₀ : ServerState S) (connection₀ : Connection) (heard₀ : List Heard) (held₀ : List ℕ) (server : ServerState S) (connection : Connection) (heard : List Heard) (held : List ℕ) (done : ℕ) →
       StepsSoFar server₀ connection₀ heard₀ held₀ server connection heard held done →
-      done ≤ count_in_all m number moment server₀ connection₀ (payloads longest_payload held₀)
+      done ≤ length (payload_steps m arrival server₀ connection₀ (payloads longest_payload held₀)).requests
   steps_done server₀ connection₀ heard₀ held₀ server connection heard held done h = omega (arith, h.number_of)
+
+-- a payload whose frame of replies a place for outputs took
+module _ {S : Type 0} (m : Meaning S) (hears : Output → List Heard) (arrival : Arrival) (server : ServerState S) (connection : Connection) (payload : List ℕ) (server' : ServerState S) (connection' : Connection) (front out : List ℕ) where
+  pub frame_of : record { server = server'; connection = connection'; stays_open = true; out = out } ≡ step_behind output_bytes front (payload_step m arrival server connection payload) →
+      (replies : List ℕ) × (out ≡ front ++ flat_map output_bytes (reply_frame arrival.connection_id replies)) × ((before heard : List Heard) → heard ≡ before ++ flat_map hears (reply_frame arrival.connection_id replies) →
+      record { server = server'; connection = connection'; stays_open = true; out = heard } ≡ step_behind hears before (payload_step m arrival server connection payload))
+  frame_of e =
+      let step = payload_step m arrival server connection payload in
+      let framed = (payload_whole m arrival server connection payload).framed in (
+        framed.0,
+        ap (λ x. x.out) e ∙ ap (λ os. front ++ flat_map output_bytes os) framed.1,
+        λ before heard h.
+            let P : List Heard → StepPlaced S ℕ → StepPlaced S Heard = λ t x. record { server = x.server; connection = x.connection; stays_open = x.stays_open; out = t } in
+            ap (P heard) e ∙ ap (λ t. P t (step_behind output_bytes front step)) (h ∙ ap (λ os. before ++ flat_map hears os) (sym framed.1)),
+      )
+
+  -- one that ends its connection has none
+  pub no_frame : record { server = server'; connection = connection'; stays_open = false; out = out } ≡ step_behind output_bytes front (payload_step m arrival server connection payload) →
+      (out ≡ front) × ((before heard : List Heard) → heard ≡ before →
+      record { server = server'; connection = connection'; stays_open = false; out = heard } ≡ step_behind hears before (payload_step m arrival server connection payload))
+  no_frame e =
+      let step = payload_step m arrival server connection payload in
+      let refused = (payload_whole m arrival server connection payload).refused (sym (ap (λ x. x.stays_open) e)) in (
+        ap (λ x. x.out) e ∙ ap (λ os. front ++ flat_map output_bytes os) refused.1 ∙ append-nil front,
+        λ before heard h.
+            let P : List Heard → StepPlaced S ℕ → StepPlaced S Heard = λ t x. record { server = x.server; connection = x.connection; stays_open = x.stays_open; out = t } in
+            ap (P heard) e ∙ ap (λ t. P t (step_behind output_bytes front step)) (h ∙ sym (append-nil before) ∙ ap (λ os. before ++ flat_map hears os) (sym refused.1)),
+      )
+
+-- what stood before is kept
+pub front_kept : {X : Type 0} (before more all : List X) → all ≡ before ++ more → take (length before) all ≡ before
+front_kept before more all e = rw e (take-append_seam before more)
 
 -- what stood first in a list still does
 pub kept_more : {X : Type 0} (a b d : List X) → take (length a) b ≡ a → take (length b) d ≡ b → take (length a) d ≡ a

@@ -10,72 +10,72 @@ use Rattle.smb_session.specs.Authenticator.{Meaning}
 use Rattle.smb_engine.specs.State.{ShareState}
 use Rattle.smb_engine.specs.Record.{PeerCall, send, close, Keeping}
 use Rattle.smb_engine.specs.Peers.{send_call}
-use Rattle.smb_engine.specs.Clients.{ClientState, place_of, client_of, with_client, dropped}
-use Rattle.smb_engine.specs.Serving.{ServingState, serving, PieceTaken, PieceFollows, is_for, clients_behind_end, share_behind_end, behind_end, Follows, EventTaken, Line, IsSent, takes, stays, kept_clients, closing_calls, IsServed, AreServed, Turn, Turns}
+use Rattle.smb_engine.specs.ServedPeers.{PeerState, place_of, peer_of, with_peer, dropped}
+use Rattle.smb_engine.specs.Serving.{ServingState, serving, PieceTaken, PieceFollows, is_for, peers_behind_end, share_behind_end, behind_end, Follows, EventTaken, Line, IsSent, takes, stays, kept_peers, closing_calls, IsServed, AreServed, Turn, Turns}
 
 -- an event, from what its call of `next` told
-pub event_taken : {S : Type 0} (m : Meaning S) (share share' : ShareState S) (clients clients' : List ClientState) (calls told calls' : List PeerCall) (moments moments' : List ℕ) (n n' : ℕ)
-    (call : PeerCall) → told ≡ calls ++ call ∷ [] → Follows m call (serving share clients told moments n) (serving share' clients' calls' moments' n') →
-    EventTaken m (serving share clients calls moments n) (serving share' clients' calls' moments' n')
-event_taken m share share' clients clients' calls told calls' moments moments' n n' call e h =
-    let P : List PeerCall → Type 0 = λ cs. Follows m call (serving share clients cs moments n) (serving share' clients' calls' moments' n') in
+pub event_taken : {S : Type 0} (m : Meaning S) (share share' : ShareState S) (served_peers served_peers' : List PeerState) (calls told calls' : List PeerCall) (moments moments' : List ℕ) (n n' : ℕ)
+    (call : PeerCall) → told ≡ calls ++ call ∷ [] → Follows m call (serving share served_peers told moments n) (serving share' served_peers' calls' moments' n') →
+    EventTaken m (serving share served_peers calls moments n) (serving share' served_peers' calls' moments' n')
+event_taken m share share' served_peers served_peers' calls told calls' moments moments' n n' call e h =
+    let P : List PeerCall → Type 0 = λ cs. Follows m call (serving share served_peers cs moments n) (serving share' served_peers' calls' moments' n') in
     (call, subst P e h)
 
--- one client more
-AreServed-snoc : {S : Type 0} (clients : List ClientState) (client : ClientState) (s middle t : ServingState S) →
-    AreServed clients s middle → IsServed client middle t → AreServed (clients ++ client ∷ []) s t
-AreServed-snoc {S} [] client s middle t e h =
-    let P : ServingState S → Type 0 = λ x. IsServed client x t in
+-- one peer more
+AreServed-snoc : {S : Type 0} (served_peers : List PeerState) (peer : PeerState) (s middle t : ServingState S) →
+    AreServed served_peers s middle → IsServed peer middle t → AreServed (served_peers ++ peer ∷ []) s t
+AreServed-snoc {S} [] peer s middle t e h =
+    let P : ServingState S → Type 0 = λ x. IsServed peer x t in
     (t, subst P e h, refl)
-AreServed-snoc (x ∷ clients) client s middle t p h = (p.0, p.1, AreServed-snoc clients client p.0 middle t p.2 h)
+AreServed-snoc (x ∷ served_peers) peer s middle t p h = (p.0, p.1, AreServed-snoc served_peers peer p.0 middle t p.2 h)
 
-same_serving : {S : Type 0} (share : ShareState S) (clients clients' : List ClientState) (calls calls' : List PeerCall) (moments : List ℕ) (n : ℕ) → clients ≡ clients' → calls ≡ calls' →
-    serving share clients calls moments n ≡ serving share clients' calls' moments n
-same_serving share clients clients' calls calls' moments n e f =
-    ap (λ cs. serving share cs calls moments n) e ∙ ap (λ cs. serving share clients' cs moments n) f
+same_serving : {S : Type 0} (share : ShareState S) (served_peers served_peers' : List PeerState) (calls calls' : List PeerCall) (moments : List ℕ) (n : ℕ) → served_peers ≡ served_peers' → calls ≡ calls' →
+    serving share served_peers calls moments n ≡ serving share served_peers' calls' moments n
+same_serving share served_peers served_peers' calls calls' moments n e f =
+    ap (λ cs. serving share cs calls moments n) e ∙ ap (λ cs. serving share served_peers' cs moments n) f
 
--- what a loop over the clients has done before a place
-pub record SentSoFar {S : Type 0} (kept keeps : Bool) (share0 share : ShareState S) (clients0 clients : List ClientState) (calls0 calls : List PeerCall) (place : ℕ) : Type 0 where
-  pub before : List ClientState
-  pub parts : clients0 ≡ before ++ drop place clients
-  pub served : Keeping kept keeps ((moments : List ℕ) (n : ℕ) → AreServed before (serving share0 [] calls0 moments n) (serving share (take place clients) calls moments n))
+-- what a loop over the served peers has done before a place
+pub record SentSoFar {S : Type 0} (kept keeps : Bool) (share0 share : ShareState S) (served_peers0 served_peers : List PeerState) (calls0 calls : List PeerCall) (place : ℕ) : Type 0 where
+  pub before : List PeerState
+  pub parts : served_peers0 ≡ before ++ drop place served_peers
+  pub served : Keeping kept keeps ((moments : List ℕ) (n : ℕ) → AreServed before (serving share0 [] calls0 moments n) (serving share (take place served_peers) calls moments n))
 
-pub sent_none : {S : Type 0} (keeps : Bool) (share : ShareState S) (clients : List ClientState) (calls : List PeerCall) → SentSoFar keeps keeps share share clients clients calls calls 0
-sent_none keeps share clients calls = record { before = []; parts = refl; served = λ k. (k, λ moments n. refl) }
+pub sent_none : {S : Type 0} (keeps : Bool) (share : ShareState S) (served_peers : List PeerState) (calls : List PeerCall) → SentSoFar keeps keeps share share served_peers served_peers calls calls 0
+sent_none keeps share served_peers calls = record { before = []; parts = refl; served = λ k. (k, λ moments n. refl) }
 
-sent_more : {S : Type 0} {kept keeps keeps' keeps'' : Bool} {share0 share : ShareState S} {clients0 clients clients' : List ClientState} {calls0 calls calls' : List PeerCall} {place place' : ℕ}
-    (client : ClientState) (line : Line S) → SentSoFar kept keeps share0 share clients0 clients calls0 calls place →
-    drop place clients ≡ client ∷ drop (place + 1) clients →
-    Keeping keeps keeps' (IsSent client share calls line) → Keeping keeps' keeps'' (calls' ≡ closing_calls line) →
-    take place' clients' ≡ take place clients ++ kept_clients line → drop place' clients' ≡ drop (place + 1) clients →
-    SentSoFar kept keeps'' share0 line.share clients0 clients' calls0 calls' place'
-sent_more {S} {kept} {keeps} {keeps'} {keeps''} {share0} {share} {clients0} {clients} {clients'} {calls0} {calls} {calls'} {place} {place'} client line h split sent told front back = record {
-  before = h.before ++ client ∷ [];
-  parts = h.parts ∙ ap (λ xs. h.before ++ xs) (split ∙ ap (λ xs. client ∷ xs) (sym back)) ∙ sym (append_assoc h.before (client ∷ []) (drop place' clients'));
+sent_more : {S : Type 0} {kept keeps keeps' keeps'' : Bool} {share0 share : ShareState S} {served_peers0 served_peers served_peers' : List PeerState} {calls0 calls calls' : List PeerCall} {place place' : ℕ}
+    (peer : PeerState) (line : Line S) → SentSoFar kept keeps share0 share served_peers0 served_peers calls0 calls place →
+    drop place served_peers ≡ peer ∷ drop (place + 1) served_peers →
+    Keeping keeps keeps' (IsSent peer share calls line) → Keeping keeps' keeps'' (calls' ≡ closing_calls line) →
+    take place' served_peers' ≡ take place served_peers ++ kept_peers line → drop place' served_peers' ≡ drop (place + 1) served_peers →
+    SentSoFar kept keeps'' share0 line.share served_peers0 served_peers' calls0 calls' place'
+sent_more {S} {kept} {keeps} {keeps'} {keeps''} {share0} {share} {served_peers0} {served_peers} {served_peers'} {calls0} {calls} {calls'} {place} {place'} peer line h split sent told front back = record {
+  before = h.before ++ peer ∷ [];
+  parts = h.parts ∙ ap (λ xs. h.before ++ xs) (split ∙ ap (λ xs. peer ∷ xs) (sym back)) ∙ sym (append_assoc h.before (peer ∷ []) (drop place' served_peers'));
   served = λ k.
       let t = told k in
       let s = sent t.0 in
       let b = h.served s.0 in (
         b.0,
-        λ moments n. AreServed-snoc h.before client _ _ _ (b.1 moments n)
-            (record { line = line; sent = s.1; done = same_serving line.share (take place' clients') (take place clients ++ kept_clients line) calls' (closing_calls line) moments n front t.1 }),
+        λ moments n. AreServed-snoc h.before peer _ _ _ (b.1 moments n)
+            (record { line = line; sent = s.1; done = same_serving line.share (take place' served_peers') (take place served_peers ++ kept_peers line) calls' (closing_calls line) moments n front t.1 }),
       );
 }
 
-pub sent_all : {S : Type 0} {kept keeps : Bool} {share0 share : ShareState S} {clients0 clients : List ClientState} {calls0 calls : List PeerCall} {place : ℕ} →
-    SentSoFar kept keeps share0 share clients0 clients calls0 calls place → take place clients ≡ clients → drop place clients ≡ [] →
-    Keeping kept keeps ((moments : List ℕ) (n : ℕ) → AreServed clients0 (serving share0 [] calls0 moments n) (serving share clients calls moments n))
-sent_all {S} {kept} {keeps} {share0} {share} {clients0} {clients} {calls0} {calls} {place} h all none = λ k.
+pub sent_all : {S : Type 0} {kept keeps : Bool} {share0 share : ShareState S} {served_peers0 served_peers : List PeerState} {calls0 calls : List PeerCall} {place : ℕ} →
+    SentSoFar kept keeps share0 share served_peers0 served_peers calls0 calls place → take place served_peers ≡ served_peers → drop place served_peers ≡ [] →
+    Keeping kept keeps ((moments : List ℕ) (n : ℕ) → AreServed served_peers0 (serving share0 [] calls0 moments n) (serving share served_peers calls moments n))
+sent_all {S} {kept} {keeps} {share0} {share} {served_peers0} {served_peers} {calls0} {calls} {place} h all none = λ k.
     let b = h.served k in
-    let whole : clients0 ≡ h.before = h.parts ∙ ap (λ xs. h.before ++ xs) none ∙ append-nil h.before in (
+    let whole : served_peers0 ≡ h.before = h.parts ∙ ap (λ xs. h.before ++ xs) none ∙ append-nil h.before in (
       b.0,
       λ moments n.
-          let P : List ClientState → Type 0 = λ xs. AreServed xs (serving share0 [] calls0 moments n) (serving share clients calls moments n) in
-          let Q : List ClientState → Type 0 = λ xs. AreServed h.before (serving share0 [] calls0 moments n) (serving share xs calls moments n) in
+          let P : List PeerState → Type 0 = λ xs. AreServed xs (serving share0 [] calls0 moments n) (serving share served_peers calls moments n) in
+          let Q : List PeerState → Type 0 = λ xs. AreServed h.before (serving share0 [] calls0 moments n) (serving share xs calls moments n) in
           subst P (sym whole) (subst Q all (b.1 moments n)),
     )
 
--- a client that was changed, and one that was taken out
+-- a peer that was changed, and one that was taken out
 pub take-gone : {X : Type 0} (xs : List X) (i : ℕ) (x : X) → i < length xs → take i (remove (set xs i x) i) ≡ take i xs
 take-gone [] i x h = absurd (omega arith)
 take-gone (y ∷ xs) zero x h = refl
@@ -86,43 +86,43 @@ drop-gone [] i x h = absurd (omega arith)
 drop-gone (y ∷ xs) zero x h = refl
 drop-gone (y ∷ xs) (suc i) x h = drop-gone xs i x (omega arith)
 
--- one step of the loop: the client at the place has its send, and stays or is taken out
-module _ {S : Type 0} (kept keeps keeps' keeps'' : Bool) (share0 share share' : ShareState S) (clients0 clients : List ClientState) (calls0 calls calls' calls'' : List PeerCall) (place : ℕ)
-    (client client' shown : ClientState) where
-  abbrev Shown : ClientState → Type 0
+-- one step of the loop: the peer at the place has its send, and stays or is taken out
+module _ {S : Type 0} (kept keeps keeps' keeps'' : Bool) (share0 share share' : ShareState S) (served_peers0 served_peers : List PeerState) (calls0 calls calls' calls'' : List PeerCall) (place : ℕ)
+    (peer peer' shown : PeerState) where
+  abbrev Shown : PeerState → Type 0
   Shown c = Keeping keeps' keeps'' (calls'' ≡ (if stays share' c then calls' else calls' ++ close c.number ∷ []))
 
-  shown_is : place < length clients → shown ≡ get_or (set clients place client') place shown → shown ≡ client'
-  shown_is within is = is ∙ get_or-set_same clients place client' shown within
+  shown_is : place < length served_peers → shown ≡ get_or (set served_peers place peer') place shown → shown ≡ peer'
+  shown_is within is = is ∙ get_or-set_same served_peers place peer' shown within
 
-  split_is : place < length clients → client ≡ get_or clients place client → drop place clients ≡ client ∷ drop (place + 1) clients
-  split_is within is = drop_more clients place client within ∙ ap (λ x. x ∷ drop (place + 1) clients) (sym is)
+  split_is : place < length served_peers → peer ≡ get_or served_peers place peer → drop place served_peers ≡ peer ∷ drop (place + 1) served_peers
+  split_is within is = drop_more served_peers place peer within ∙ ap (λ x. x ∷ drop (place + 1) served_peers) (sym is)
 
   abbrev line : Line S
-  line = record { share = share'; client = client'; calls = calls' }
+  line = record { share = share'; peer = peer'; calls = calls' }
 
-  pub step_stays : SentSoFar kept keeps share0 share clients0 clients calls0 calls place → place < length clients → client ≡ get_or clients place client →
-      shown ≡ get_or (set clients place client') place shown → Keeping keeps keeps' (IsSent client share calls line) → Shown shown → stays share' shown ≡ true →
-      SentSoFar kept keeps'' share0 share' clients0 (set clients place client') calls0 calls'' (place + 1)
+  pub step_stays : SentSoFar kept keeps share0 share served_peers0 served_peers calls0 calls place → place < length served_peers → peer ≡ get_or served_peers place peer →
+      shown ≡ get_or (set served_peers place peer') place shown → Keeping keeps keeps' (IsSent peer share calls line) → Shown shown → stays share' shown ≡ true →
+      SentSoFar kept keeps'' share0 share' served_peers0 (set served_peers place peer') calls0 calls'' (place + 1)
   step_stays h within is is' sent told stay =
       let same = shown_is within is' in
-      let P : ClientState → Type 0 = λ c. stays share' c ≡ true in
-      let stay' : stays share' client' ≡ true = subst P same stay in
-      sent_more client line h (split_is within is) sent (let Q : ClientState → Type 0 = λ c. Shown c in subst Q same told)
-      (take_more_set clients place client' within ∙ ap (λ b. take place clients ++ (if b then client' ∷ [] else [])) (sym stay'))
-      (drop-set-lt (place + 1) clients place client' (omega arith))
+      let P : PeerState → Type 0 = λ c. stays share' c ≡ true in
+      let stay' : stays share' peer' ≡ true = subst P same stay in
+      sent_more peer line h (split_is within is) sent (let Q : PeerState → Type 0 = λ c. Shown c in subst Q same told)
+      (take_more_set served_peers place peer' within ∙ ap (λ b. take place served_peers ++ (if b then peer' ∷ [] else [])) (sym stay'))
+      (drop-set-lt (place + 1) served_peers place peer' (omega arith))
 
-  pub step_goes : (clients'' : List ClientState) → clients'' ≡ remove (set clients place client') place →
-      SentSoFar kept keeps share0 share clients0 clients calls0 calls place → place < length clients → client ≡ get_or clients place client →
-      shown ≡ get_or (set clients place client') place shown → Keeping keeps keeps' (IsSent client share calls line) → Shown shown → stays share' shown ≡ false →
-      SentSoFar kept keeps'' share0 share' clients0 clients'' calls0 calls'' place
-  step_goes clients'' e h within is is' sent told stay =
+  pub step_goes : (served_peers'' : List PeerState) → served_peers'' ≡ remove (set served_peers place peer') place →
+      SentSoFar kept keeps share0 share served_peers0 served_peers calls0 calls place → place < length served_peers → peer ≡ get_or served_peers place peer →
+      shown ≡ get_or (set served_peers place peer') place shown → Keeping keeps keeps' (IsSent peer share calls line) → Shown shown → stays share' shown ≡ false →
+      SentSoFar kept keeps'' share0 share' served_peers0 served_peers'' calls0 calls'' place
+  step_goes served_peers'' e h within is is' sent told stay =
       let same = shown_is within is' in
-      let P : ClientState → Type 0 = λ c. stays share' c ≡ false in
-      let stay' : stays share' client' ≡ false = subst P same stay in
-      sent_more client line h (split_is within is) sent (let Q : ClientState → Type 0 = λ c. Shown c in subst Q same told)
-      (ap (take place) e ∙ take-gone clients place client' within ∙ sym (append-nil (take place clients)) ∙ ap (λ b. take place clients ++ (if b then client' ∷ [] else [])) (sym stay'))
-      (ap (drop place) e ∙ drop-gone clients place client' within ∙ ap (λ i. drop i clients) (let o : suc place ≡ place + 1 = omega arith in o))
+      let P : PeerState → Type 0 = λ c. stays share' c ≡ false in
+      let stay' : stays share' peer' ≡ false = subst P same stay in
+      sent_more peer line h (split_is within is) sent (let Q : PeerState → Type 0 = λ c. Shown c in subst Q same told)
+      (ap (take place) e ∙ take-gone served_peers place peer' within ∙ sym (append-nil (take place served_peers)) ∙ ap (λ b. take place served_peers ++ (if b then peer' ∷ [] else [])) (sym stay'))
+      (ap (drop place) e ∙ drop-gone served_peers place peer' within ∙ ap (λ i. drop i served_peers) (let o : suc place ≡ place + 1 = omega arith in o))
 
 pub stays_within : {X : Type 0} (xs : List X) (i : ℕ) (x : X) → i < length xs → i + 1 ≤ length (set xs i x)
 stays_within xs i x h = omega (arith, length-set xs i x)
@@ -137,36 +137,36 @@ goes_within xs ys i x e h =
 pub turns_more : {S : Type 0} (m : Meaning S) (i : ℕ) (s middle t : ServingState S) → Turns m i s middle → Turn m middle t → Turns m (i + 1) s t
 turns_more m i s middle t h turn = rw add-one (middle, h, turn)
 
--- the client at a place
-module _ (number place : ℕ) (clients : List ClientState) (client : ClientState) (at : Some place ≡ place_of number clients) (within : place < length clients) (is : client ≡ get_or clients place client) where
-  client_at : client_of number clients ≡ Some client
-  client_at = ap (λ o. option_map_or (slice_get clients) o None) (sym at) ∙ slice_get_read clients (length clients) place client refl within is
+-- the peer at a place
+module _ (number place : ℕ) (served_peers : List PeerState) (peer : PeerState) (at : Some place ≡ place_of number served_peers) (within : place < length served_peers) (is : peer ≡ get_or served_peers place peer) where
+  peer_at : peer_of number served_peers ≡ Some peer
+  peer_at = ap (λ o. option_map_or (slice_get served_peers) o None) (sym at) ∙ slice_get_read served_peers (length served_peers) place peer refl within is
 
-  put_at : (client' : ClientState) → set clients place client' ≡ with_client number client' clients
-  put_at client' = ap (λ o. option_map_or (λ p. set clients p client') o clients) at
+  put_at : (peer' : PeerState) → set served_peers place peer' ≡ with_peer number peer' served_peers
+  put_at peer' = ap (λ o. option_map_or (λ p. set served_peers p peer') o served_peers) at
 
-  pub ended_at : (client' : ClientState) → client' ≡ dropped client → set clients place client' ≡ clients_behind_end clients number
-  ended_at client' e = put_at client' ∙ ap (λ c. with_client number c clients) e ∙ ap (λ o. option_map_or (λ c. with_client number (dropped c) clients) o clients) (sym client_at)
+  pub ended_at : (peer' : PeerState) → peer' ≡ dropped peer → set served_peers place peer' ≡ peers_behind_end served_peers number
+  ended_at peer' e = put_at peer' ∙ ap (λ c. with_peer number c served_peers) e ∙ ap (λ o. option_map_or (λ c. with_peer number (dropped c) served_peers) o served_peers) (sym peer_at)
 
-  pub fed_at : {S : Type 0} (m : Meaning S) (piece : List ℕ) (share share' : ShareState S) (client' : ClientState) (moments moments' : List ℕ) (ran_out : Bool) →
-      PieceTaken m piece share client moments (record { share = share'; client = client'; moments = moments'; ran_out = ran_out }) →
-      (calls : List PeerCall) (n : ℕ) → PieceFollows m number piece (serving share clients calls moments n) (serving share' (set clients place client') calls moments' (if ran_out then n + 1 else n))
-  fed_at m piece share share' client' moments moments' ran_out h calls n =
-      is_for client (record { share = share'; client = client'; moments = moments'; ran_out = ran_out }) client_at h
-      (ap (λ cs. serving share' cs calls moments' (if ran_out then n + 1 else n)) (put_at client'))
+  pub fed_at : {S : Type 0} (m : Meaning S) (piece : List ℕ) (share share' : ShareState S) (peer' : PeerState) (moments moments' : List ℕ) (ran_out : Bool) →
+      PieceTaken m piece share peer moments (record { share = share'; peer = peer'; moments = moments'; ran_out = ran_out }) →
+      (calls : List PeerCall) (n : ℕ) → PieceFollows m number piece (serving share served_peers calls moments n) (serving share' (set served_peers place peer') calls moments' (if ran_out then n + 1 else n))
+  fed_at m piece share share' peer' moments moments' ran_out h calls n =
+      is_for peer (record { share = share'; peer = peer'; moments = moments'; ran_out = ran_out }) peer_at h
+      (ap (λ cs. serving share' cs calls moments' (if ran_out then n + 1 else n)) (put_at peer'))
 
-pub end_follows : {S : Type 0} (number : ℕ) (share share' : ShareState S) (clients clients' : List ClientState) (calls : List PeerCall) (moments : List ℕ) (n : ℕ) →
-    share' ≡ share_behind_end share clients number → clients' ≡ clients_behind_end clients number → serving share' clients' calls moments n ≡ behind_end (serving share clients calls moments n) number
-end_follows number share share' clients clients' calls moments n e f =
-    ap (λ s. serving s clients' calls moments n) e ∙ ap (λ cs. serving (share_behind_end share clients number) cs calls moments n) f
+pub end_follows : {S : Type 0} (number : ℕ) (share share' : ShareState S) (served_peers served_peers' : List PeerState) (calls : List PeerCall) (moments : List ℕ) (n : ℕ) →
+    share' ≡ share_behind_end share served_peers number → served_peers' ≡ peers_behind_end served_peers number → serving share' served_peers' calls moments n ≡ behind_end (serving share served_peers calls moments n) number
+end_follows number share share' served_peers served_peers' calls moments n e f =
+    ap (λ s. serving s served_peers' calls moments n) e ∙ ap (λ cs. serving (share_behind_end share served_peers number) cs calls moments n) f
 
 -- a send of which a part was taken
-pub sent_part : {S : Type 0} (client client' : ClientState) (share : ShareState S) (calls calls' : List PeerCall) (number : ℕ) (bytes : List ℕ) (count : ℕ) → number ≡ client.number → bytes ≡ client.owed →
-    nat_lt 0 (length client.owed) ≡ true → count ≤ length bytes → calls' ≡ calls ++ send_call number bytes (Ok count) ∷ [] → client' ≡ record client { owed = drop count client.owed } →
-    IsSent client share calls (record { share = share; client = client'; calls = calls' })
-sent_part {S} client client' share calls calls' number bytes count same whole owed within told left =
+pub sent_part : {S : Type 0} (peer peer' : PeerState) (share : ShareState S) (calls calls' : List PeerCall) (number : ℕ) (bytes : List ℕ) (count : ℕ) → number ≡ peer.number → bytes ≡ peer.owed →
+    nat_lt 0 (length peer.owed) ≡ true → count ≤ length bytes → calls' ≡ calls ++ send_call number bytes (Ok count) ∷ [] → peer' ≡ record peer { owed = drop count peer.owed } →
+    IsSent peer share calls (record { share = share; peer = peer'; calls = calls' })
+sent_part {S} peer peer' share calls calls' number bytes count same whole owed within told left =
     let P : ℕ → List ℕ → List PeerCall = λ n bs. calls ++ send n (length bs) (Some (take count bs)) ∷ [] in
     let W : List ℕ → Type 0 = λ bs. count ≤ length bs in
-    let L : ClientState → List PeerCall → Line S = λ c cs. record { share = share; client = c; calls = cs } in
+    let L : PeerState → List PeerCall → Line S = λ c cs. record { share = share; peer = c; calls = cs } in
     takes count owed (subst W whole within)
-    (ap (λ c. L c calls') left ∙ ap (λ cs. L (record client { owed = drop count client.owed }) cs) (told ∙ ap (λ n. P n bytes) same ∙ ap (λ bs. P client.number bs) whole))
+    (ap (λ c. L c calls') left ∙ ap (λ cs. L (record peer { owed = drop count peer.owed }) cs) (told ∙ ap (λ n. P n bytes) same ∙ ap (λ bs. P peer.number bs) whole))

@@ -1,6 +1,6 @@
 -- What follows from the definitions, of every authenticator.
-use Rattle.std.specs.Prelude.{◌≡◌, ◌⊎◌, ℕ, ◌+◌, ◌<◌, false, ◌==◌, nat_lt, List, [], ◌∷◌, ◌++◌, length, map, None, Some, if◌then◌else◌}
-use Rattle.std.specs.Option.{option_map}
+use Rattle.std.specs.Prelude.{◌≡◌, ◌⊎◌, ℕ, ◌+◌, ◌<◌, false, ◌==◌, nat_lt, List, [], ◌∷◌, ◌++◌, length, map, None, Some, MatchOption, if◌then◌else◌}
+use Rattle.std.specs.Option.{option_map, option_map_or}
 use Rattle.std.specs.List.{AllByRecursion, Any, flat_map}
 use Rattle.smb_session.specs.Numbers.{IsRising}
 use Rattle.smb_session.specs.Authenticator.{Meaning}
@@ -8,16 +8,17 @@ use Rattle.smb_session.specs.Session.{SessionState}
 use Rattle.smb_session.specs.Table.{session_at}
 use Rattle.smb_request.specs.Laws.{IsInOrder, IsAsItWas, IsOver, ReplacesSession}
 use Rattle.smb_engine.specs.Event.{EventText, brings, connection_of}
-use Rattle.smb_engine.specs.State.{ShareState}
+use Rattle.smb_engine.specs.State.{ShareState, stream_of}
+use Rattle.smb_engine.specs.Good.{GoodState}
+use Rattle.smb_engine.specs.Stream.{unread}
+use Rattle.smb_engine.specs.Run.{PerformedRequest, Stop, Ran, later, run, event_refusal, event_step}
+use Rattle.smb_engine.specs.Refusals.{run_behind}
 use Rattle.smb_engine.specs.Output.{Output, frame_to, end_of}
-use Rattle.smb_engine.specs.Share.{GoodState, link_of, unread}
-use Rattle.smb_engine.specs.Run.{Stop, Ran, later, run, run_behind}
-use Rattle.smb_engine.specs.Requests.{requests_of_run}
 
--- the open connections stand in rising number, and each number was given
-pub record LinksInOrder {S : Type 0} (s : ShareState S) : Type 0 where
-  pub rising : IsRising (map (λ entry. entry.0) s.links)
-  pub given : AllByRecursion (λ entry. entry.0 < s.next) s.links
+-- the numbers of the open connections rise, and each was given to a connection
+pub record StreamsInOrder {S : Type 0} (s : ShareState S) : Type 0 where
+  pub rising : IsRising (map (λ entry. entry.0) s.streams)
+  pub given : AllByRecursion (λ entry. entry.0 < s.next) s.streams
 
 -- a fault behind a place is seen one event later
 abbrev pub later_behind : ℕ → Stop → Stop
@@ -58,22 +59,28 @@ IsLastEnd connection (output ∷ outputs) =
     (output ≡ end_of connection → AllByRecursion (λ output. (receiver output == connection) ≡ false) outputs) × IsLastEnd connection outputs
 
 module _ {S : Type 0} (authenticator : Meaning S) where
+  -- the requests that a run performs, in order, up to an event that is refused
+  abbrev pub requests_of_run : ShareState S → List EventText → List (PerformedRequest S)
+  requests_of_run s [] = []
+  requests_of_run s (event ∷ events) = option_map_or (λ fault. [])
+      (event_refusal s event) ((event_step authenticator s event).requests ++ requests_of_run (event_step authenticator s event).state events)
+
   -- a good state is in order, and so is what a run leaves of one in order
   abbrev pub StatesAreInOrder : Type 0
-  StatesAreInOrder = ((s : ShareState S) → GoodState s → LinksInOrder s) × ((s : ShareState S) (events : List EventText) → LinksInOrder s → LinksInOrder (run authenticator s events).state)
+  StatesAreInOrder = ((s : ShareState S) → GoodState s → StreamsInOrder s) × ((s : ShareState S) (events : List EventText) → StreamsInOrder s → StreamsInOrder (run authenticator s events).state)
 
-  -- of one piece, wherever it stands in a run, two can be made, and the run leaves and puts out the same; where it stops
+  -- one piece of a run can be cut in two, and the run leaves and puts out the same; where it stops
   -- behind them, that is one event later
   abbrev pub ACutDoesNotMatter : Type 0
   ACutDoesNotMatter =
-      (s : ShareState S) → LinksInOrder s → (before after : List EventText) (connection moment : ℕ) (front back : List ℕ) →
+      (s : ShareState S) → StreamsInOrder s → (before after : List EventText) (connection moment : ℕ) (front back : List ℕ) →
       run authenticator s (before ++ brings connection moment front ∷ brings connection moment back ∷ after)
       ≡ with_one_more_at (length before) (run authenticator s (before ++ brings connection moment (front ++ back) ∷ after))
 
   -- it does not matter how bytes that come at one moment are cut into pieces, if there is one at all
   abbrev pub CutsDoNotMatter : Type 0
   CutsDoNotMatter =
-      (s : ShareState S) → LinksInOrder s → (before after : List EventText) (connection moment : ℕ) (pieces others : List (List ℕ)) →
+      (s : ShareState S) → StreamsInOrder s → (before after : List EventText) (connection moment : ℕ) (pieces others : List (List ℕ)) →
       0 < length pieces → 0 < length others → bytes_of_pieces pieces ≡ bytes_of_pieces others →
       AreAlike (run authenticator s (before ++ (pieces_on connection moment pieces ++ after))) (run authenticator s (before ++ (pieces_on connection moment others ++ after)))
 
@@ -92,7 +99,7 @@ module _ {S : Type 0} (authenticator : Meaning S) where
   abbrev pub OthersAreLeft : Type 0
   OthersAreLeft =
       (s : ShareState S) (events : List EventText) (connection : ℕ) → AllByRecursion (λ event. (connection_of event == connection) ≡ false) events →
-      (link_of connection (run authenticator s events).state.links ≡ link_of connection s.links)
+      (stream_of connection (run authenticator s events).state.streams ≡ stream_of connection s.streams)
       × AllByRecursion (λ output. (receiver output == connection) ≡ false) (run authenticator s events).outputs
 
   -- the sessions and opens of a good state are in order, and so are those that a run leaves of such ones
@@ -109,7 +116,7 @@ module _ {S : Type 0} (authenticator : Meaning S) where
       (number : ℕ) (session : SessionState) → session_at s.server.sessions.table number ≡ Some session → session.connection ≡ connection →
       IsAsItWas s.server (run authenticator s events).state.server number
       ⊎ (IsOver (run authenticator s events).state.server number
-      × Any (λ came. ReplacesSession authenticator came.server came.context came.request number session) (requests_of_run authenticator s events))
+      × Any (λ came. MatchOption came.request ⊥ (λ request. ReplacesSession authenticator came.before came.context request number session)) (requests_of_run s events))
 
   -- a session's number is given once: it stays given, and a session that is over stays over, whatever events come
   abbrev pub WhatIsOverStaysOver : Type 0
@@ -120,4 +127,4 @@ module _ {S : Type 0} (authenticator : Meaning S) where
 
   -- the share ends a connection at most once, and puts nothing out to it afterwards
   abbrev pub AnEndIsTheLast : Type 0
-  AnEndIsTheLast = (s : ShareState S) → LinksInOrder s → (events : List EventText) (connection : ℕ) → IsLastEnd connection (run authenticator s events).outputs
+  AnEndIsTheLast = (s : ShareState S) → StreamsInOrder s → (events : List EventText) (connection : ℕ) → IsLastEnd connection (run authenticator s events).outputs

@@ -62,7 +62,7 @@ without_call p = record p { keeps = false }
 abbrev pub step_at : List PeerStep → ℕ → PeerStep
 step_at script place = unwrap_or (slice_get script place) Idle
 
--- the event that a step brings: a read that fails is told as an end
+-- the event of a step: a read that fails is an end
 abbrev pub step_event : PeerStep → PeerEvent
 step_event (Opened k) = opened_event k
 step_event (Bytes k piece) = bytes_event k
@@ -87,8 +87,8 @@ step_failures (Fails k) = 1
 step_failures Idle = 0
 
 -- what `next` answers
-abbrev pub next_answer : MemoryPeersState → PeerEvent
-next_answer p = if p.calls_left == 0 then idle_event else step_event (step_at p.script p.place)
+abbrev pub next_result : MemoryPeersState → PeerEvent
+next_result p = if p.calls_left == 0 then idle_event else step_event (step_at p.script p.place)
 
 -- behind a step
 abbrev pub behind_step : PeerStep → MemoryPeersState → MemoryPeersState
@@ -111,8 +111,8 @@ abbrev pub count_at : MemoryPeersState → List ℕ → Option ℕ
 count_at p bytes = send_count (slice_get p.sends p.sent) (min (length bytes) p.bytes_left)
 
 -- what a send of some bytes answers
-abbrev pub send_answer : MemoryPeersState → List ℕ → Result ℕ SendFault
-send_answer p bytes = if p.calls_left == 0 then Ok 0 else ok_or (count_at p bytes) (record {})
+abbrev pub send_result : MemoryPeersState → List ℕ → Result ℕ SendFault
+send_result p bytes = if p.calls_left == 0 then Ok 0 else ok_or (count_at p bytes) (record {})
 
 -- behind a send that takes so many bytes, or is refused
 abbrev pub behind_count : ℕ → List ℕ → Option ℕ → MemoryPeersState → MemoryPeersState

@@ -1,12 +1,12 @@
--- What is told of the calls on peers and on a clock.
+-- The record of the calls on peers and on a clock.
 use Rattle.std.specs.Prelude.{◌≡◌, ℕ, Bool, true, false, ◌==◌, List, [], ◌∷◌, ◌++◌, Option, None, Some, count_by, if◌then◌else◌}
 use Rattle.std.specs.List.{flat_map}
 
--- a call is told: if the record is kept after it, it was kept before it, and now has that call at its end
+-- a call is in the record: if the record is complete after it, it was complete before it, and now has that call at its end
 abbrev pub Told : {A : Type 0} → Bool → List A → Bool → List A → A → Type 0
 Told kept before keeps after call = keeps ≡ true → (kept ≡ true) × (after ≡ before ++ call ∷ [])
 
--- calls are told: if the record is kept after them, it was kept before them, and this holds of them
+-- calls are in the record: if the record is complete after them, it was complete before them, and this holds of them
 abbrev pub Keeping : Bool → Bool → Type 0 → Type 0
 Keeping kept keeps Holds = keeps ≡ true → (kept ≡ true) × Holds
 

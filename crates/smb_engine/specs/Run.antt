@@ -1,13 +1,260 @@
--- A run of events.
-use Rattle.std.specs.Prelude.{◌≡◌, ℕ, suc, ◌≤◌, Bool, true, false, ◌&&◌, ◌==◌, nat_lt, List, [], ◌∷◌, ◌++◌, drop, take, Option, None, Some, is_some, if◌then◌else◌}
+-- What a share does, to be read once from top to bottom: a request of a chain, the chain, a payload, a piece of a
+-- connection's stream, an event and a run of events, each over the definition before it ([MS-SMB2] 3.3.5).
+use Rattle.std.specs.Prelude.{ℕ, suc, Bool, true, false, ◌&&◌, ◌||◌, ◌==◌, not, nat_lt, nat_le, List, [], ◌∷◌, ◌++◌, length, filter, map, replicate, Option, Some, None, is_none, if◌then◌else◌}
 use Rattle.std.specs.Option.{option_map, option_map_or}
-use Rattle.smb_engine.specs.declared.fault.ServeFault.{ServeFault}
-use Rattle.smb_engine.specs.declared.fault.ServeFault.TheVariants.{TooManyConnections, NoMemory, BadEvent, BadConfig}
+use Rattle.std.specs.List.{list_any}
+use Rattle.smb_wire.specs.Commands.{code_of}
+use Rattle.smb_wire.specs.Counters.{is_spent}
+use Rattle.smb_wire.specs.declared.command.Command.TheVariants.{Negotiate, Cancel}
+use Rattle.smb_wire.specs.declared.dialect.Dialect.{Dialect}
+use Rattle.smb_frame.specs.Reading.{rest, fault_of}
+use Rattle.smb_head.specs.Headers.{header_of}
+use Rattle.smb_head.specs.Chains.{chain_of, is_related}
+use Rattle.smb_head.specs.Replies.{Reply, joined_replies}
+use Rattle.smb_body.specs.Smb1.{smb1_of}
+use Rattle.smb_body.specs.declared.smb1.Smb1Dialects.{Smb1Dialects}
+use Rattle.smb_session.specs.Window.{first_window, may_use, without_ids, credits_granted, with_more}
 use Rattle.smb_session.specs.Authenticator.{Meaning}
-use Rattle.smb_engine.specs.State.{ShareState}
+use Rattle.smb_request.specs.declared.context.Context.{Context}
+use Rattle.smb_request.specs.Status.{status_code}
+use Rattle.smb_request.specs.Negotiate.{negotiate_answer}
+use Rattle.smb_request.specs.Smb1.{answer_to_smb1, reply_to_smb1}
+use Rattle.smb_request.specs.Context.{first_context}
+use Rattle.smb_request.specs.State.{ServerState, hello_of}
+use Rattle.smb_request.specs.Response.{ResponseState, Performed}
+use Rattle.smb_request.specs.Request.{performed}
+use Rattle.smb_engine.specs.declared.arrival.Arrival.{Arrival}
+use Rattle.smb_engine.specs.declared.connection.Connection.{Connection}
+use Rattle.smb_engine.specs.declared.fault.ServeFault.{ServeFault}
+use Rattle.smb_engine.specs.declared.fault.ServeFault.TheVariants.{TooManyConnections, BadEvent}
+use Rattle.smb_engine.specs.State.{StreamState, ShareState, stream_of, with_stream, opened, ended}
+use Rattle.smb_engine.specs.Stream.{longest_payload, added_payloads}
 use Rattle.smb_engine.specs.Event.{EventText, opens, brings, ends}
-use Rattle.smb_engine.specs.Output.{Output}
-use Rattle.smb_engine.specs.Share.{EventStep, link_of, opened, ended, opening_refusal, bytes_step, stopped, count_on, unread}
+use Rattle.smb_engine.specs.Output.{Output, end_of, reply_frame}
+
+-- A REQUEST
+
+-- a request that was performed: the server before and after it, the context of its chain, and its bytes; None where it
+-- was an SMB_COM_NEGOTIATE
+pub record PerformedRequest (S : Type 0) : Type 0 where
+  pub before : ServerState S
+  pub context : Context
+  pub request : Option (List ℕ)
+  pub after : ServerState S
+
+-- a chain in progress: the server, the connection, what the next related request acts under (3.3.5.2.7.2), and the replies
+pub record ChainState (S : Type 0) : Type 0 where
+  pub server : ServerState S
+  pub connection : Connection
+  pub context : Context
+  pub replies : List Reply
+
+-- the reply to a request: its header has the request's numbers, the flag SERVER_TO_REDIR (1), RELATED_OPERATIONS (4) where
+-- the request had it, and the credits that are granted (3.3.4.1)
+abbrev pub reply_to : List ℕ → ResponseState → ℕ → Reply
+reply_to request response credits = record {
+  header = record {
+    credit_charge = (header_of request).credit_charge;
+    status = status_code response.status;
+    command = (header_of request).command;
+    credits = credits;
+    flags = record { 0 = if is_related request then 5 else 1 };
+    next_command = 0;
+    message_id = (header_of request).message_id;
+    reserved = (header_of request).reserved;
+    tree_id = response.ids.tree_id;
+    session_id = response.ids.session_id;
+    signature = replicate 16 0;
+  };
+  body = response.body;
+}
+
+-- a chain after a request that was performed: its response grants credits and joins the replies (3.3.1.2); without a
+-- response neither changes
+abbrev pub replied : {S : Type 0} → ChainState S → List ℕ → Performed S → ChainState S
+replied chain request p = option_map_or
+    (λ response. let credits = credits_granted chain.connection.window (header_of request).credits in record {
+      server = p.server;
+      connection = record chain.connection { dialect = p.dialect; window = with_more chain.connection.window credits };
+      context = p.context;
+      replies = chain.replies ++ reply_to request response credits ∷ [];
+    })
+    p.response
+    (record { server = p.server; connection = record chain.connection { dialect = p.dialect }; context = p.context; replies = chain.replies })
+
+module _ {S : Type 0} (authenticator : Meaning S) (arrival : Arrival) where
+  -- one request of a chain on a connection (3.3.5.2)
+  unfoldable pub one_performed : ChainState S → List ℕ → ChainState S
+  one_performed chain request = replied chain request (performed authenticator arrival.connection_id arrival.moment chain.server chain.connection.dialect chain.context request)
+
+  -- A CHAIN
+
+  -- the requests of a chain, in order (3.3.5.2.7)
+  abbrev pub all_performed : ChainState S → List (List ℕ) → ChainState S
+  all_performed chain [] = chain
+  all_performed chain (request ∷ requests) = all_performed (one_performed chain request) requests
+
+  -- and each of them as it was performed
+  abbrev pub requests_of_chain : ChainState S → List (List ℕ) → List (PerformedRequest S)
+  requests_of_chain chain [] = []
+  requests_of_chain chain (request ∷ requests) =
+      record { before = chain.server; context = chain.context; request = Some request; after = (one_performed chain request).server }
+      ∷ requests_of_chain (one_performed chain request) requests
+
+-- whether a request is a CANCEL (2.2.30), or a NEGOTIATE (2.2.3)
+abbrev pub is_cancel : List ℕ → Bool
+is_cancel request = (header_of request).command.0 == code_of Cancel
+
+abbrev pub is_negotiate_request : List ℕ → Bool
+is_negotiate_request request = (header_of request).command.0 == code_of Negotiate
+
+-- the MessageIds that a chain uses: those of its requests, but for CANCEL (3.3.5.2.3)
+abbrev pub message_ids : List (List ℕ) → List ℕ
+message_ids requests = map (λ request. (header_of request).message_id) (filter (λ request. not (is_cancel request)) requests)
+
+-- until a dialect is negotiated a chain is one NEGOTIATE alone, and afterwards it holds none (3.3.5.2, 3.3.5.4)
+abbrev pub keeps_negotiate_rule : Option Dialect → List (List ℕ) → Bool
+keeps_negotiate_rule None (request ∷ []) = is_negotiate_request request
+keeps_negotiate_rule None requests = false
+keeps_negotiate_rule (Some dialect) requests = not (list_any is_negotiate_request requests)
+
+-- the requests of a payload that are performed; none where the payload is no chain, breaks the rule about NEGOTIATE, or
+-- uses a MessageId twice or one that the window lacks (3.3.5.2.3)
+unfoldable pub admitted : Connection → List ℕ → Option (List (List ℕ))
+admitted connection payload =
+    option_map_or
+    (λ requests. if keeps_negotiate_rule connection.dialect requests && may_use connection.window (message_ids requests) then Some requests else None)
+    (chain_of payload) None
+
+-- where a chain begins: its MessageIds are no more in the window (3.3.1.1)
+abbrev pub chain_begun : {S : Type 0} → ServerState S → Connection → List (List ℕ) → ChainState S
+chain_begun server connection requests = record {
+  server = server;
+  connection = record connection { payload_came = true; window = without_ids connection.window (message_ids requests) };
+  context = first_context;
+  replies = [];
+}
+
+-- A PAYLOAD
+
+-- what a payload, or several, leave of the server and of the connection, and put out; whether the connection stays
+-- open; and the requests that were performed
+pub record Step (S : Type 0) : Type 0 where
+  pub server : ServerState S
+  pub connection : Connection
+  pub outputs : List Output
+  pub stays_open : Bool
+  pub requests : List (PerformedRequest S)
+
+-- a payload that ends the connection: nothing of it is performed
+abbrev pub refused_step : {S : Type 0} → ServerState S → Connection → Step S
+refused_step server connection = record { server = server; connection = connection; outputs = []; stays_open = false; requests = [] }
+
+-- the first payload of a connection may be an SMB_COM_NEGOTIATE: which dialects it lists (3.3.5.3.1)
+unfoldable pub first_negotiate : Connection → List ℕ → Option Smb1Dialects
+first_negotiate connection payload = if connection.payload_came then None else smb1_of payload
+
+module _ {S : Type 0} (authenticator : Meaning S) (arrival : Arrival) where
+  -- it is answered by an SMB2 NEGOTIATE response, and the client goes on with MessageId 1; without a dialect of the share
+  -- it ends the connection (3.3.5.3.1)
+  unfoldable pub first_step : ServerState S → Connection → Smb1Dialects → Step S
+  first_step server connection dialects = option_map_or
+      (λ answer. record {
+        server = server;
+        connection = record connection { payload_came = true; dialect = answer.dialect; window = first_window 1 };
+        outputs = reply_frame arrival.connection_id (joined_replies (reply_to_smb1 (negotiate_answer server.settings.guid (hello_of authenticator server) arrival.moment answer.dialect_revision) ∷ []));
+        stays_open = true;
+        requests = record { before = server; context = first_context; request = None; after = server } ∷ [];
+      })
+      (answer_to_smb1 dialects)
+      (refused_step server connection)
+
+  -- the requests of a chain, their replies in one frame
+  abbrev pub framed_chain : ChainState S → List (List ℕ) → Step S
+  framed_chain chain requests = record {
+    server = (all_performed authenticator arrival chain requests).server;
+    connection = (all_performed authenticator arrival chain requests).connection;
+    outputs = reply_frame arrival.connection_id (joined_replies (all_performed authenticator arrival chain requests).replies);
+    stays_open = true;
+    requests = requests_of_chain authenticator arrival chain requests;
+  }
+
+  -- a payload that is a chain: performed whole and answered, or refused whole, which ends the connection (3.3.5.2)
+  unfoldable pub chain_step : ServerState S → Connection → List ℕ → Step S
+  chain_step server connection payload =
+      option_map_or (λ requests. framed_chain (chain_begun server connection requests) requests) (admitted connection payload) (refused_step server connection)
+
+  -- one payload
+  unfoldable pub payload_step : ServerState S → Connection → List ℕ → Step S
+  payload_step server connection payload = option_map_or (first_step server connection) (first_negotiate connection payload) (chain_step server connection payload)
+
+-- A PIECE OF A STREAM
+
+-- two steps, one after the other
+abbrev pub after_step : {S : Type 0} → Step S → Step S → Step S
+after_step step next = record next { outputs = step.outputs ++ next.outputs; requests = step.requests ++ next.requests }
+
+-- a step, and the others after it where the connection stays open
+abbrev pub and_then : {S : Type 0} → (ServerState S → Connection → Step S) → Step S → Step S
+and_then others step = if step.stays_open then after_step step (others step.server step.connection) else step
+
+-- after the payloads of a piece: one of them ends the connection, or a fault in the unread bytes of its stream does
+abbrev pub closed_by : {S : Type 0} → ℕ → List ℕ → Step S → Step S
+closed_by connection_id received step =
+    let stays_open = step.stays_open && is_none (fault_of longest_payload (rest longest_payload received)) in
+    record step { outputs = if stays_open then step.outputs else step.outputs ++ end_of connection_id ∷ []; stays_open = stays_open }
+
+module _ {S : Type 0} (authenticator : Meaning S) (arrival : Arrival) where
+  -- payloads in order, up to one that ends the connection
+  abbrev pub payload_steps : ServerState S → Connection → List (List ℕ) → Step S
+  payload_steps server connection [] = record { server = server; connection = connection; outputs = []; stays_open = true; requests = [] }
+  payload_steps server connection (payload ∷ payloads) =
+      and_then (λ server' connection'. payload_steps server' connection' payloads) (payload_step authenticator arrival server connection payload)
+
+  -- a piece: the payloads that it adds to the stream, in order
+  unfoldable pub piece_step : ServerState S → StreamState → List ℕ → Step S
+  piece_step server stream piece =
+      closed_by arrival.connection_id (stream.received ++ piece) (payload_steps server stream.connection (added_payloads stream.received piece))
+
+-- AN EVENT
+
+-- what an event leaves and puts out, and the requests that were performed
+pub record EventStep (S : Type 0) : Type 0 where
+  pub state : ShareState S
+  pub outputs : List Output
+  pub requests : List (PerformedRequest S)
+
+-- an event that puts nothing out
+abbrev pub quiet_step : {S : Type 0} → ShareState S → EventStep S
+quiet_step s = record { state = s; outputs = []; requests = [] }
+
+-- the share after a piece: a connection that stays open has received these bytes; else it has ended
+abbrev pub settled : {S : Type 0} → ShareState S → ℕ → List ℕ → Step S → EventStep S
+settled s connection received step = record {
+  state = if step.stays_open
+      then record s { server = step.server; streams = with_stream connection (record { received = received; connection = step.connection }) s.streams }
+      else ended (record s { server = step.server }) connection;
+  outputs = step.outputs;
+  requests = step.requests;
+}
+
+-- a piece on a connection; on one that is not open it is passed over
+unfoldable pub bytes_step : {S : Type 0} → Meaning S → ShareState S → ℕ → ℕ → List ℕ → EventStep S
+bytes_step authenticator s connection moment piece =
+    option_map_or (λ stream. settled s connection (stream.received ++ piece) (piece_step authenticator (record { connection_id = connection; moment = moment }) s.server stream piece))
+    (stream_of connection s.streams) (quiet_step s)
+
+-- one event that is not refused
+abbrev pub event_step : {S : Type 0} → Meaning S → ShareState S → EventText → EventStep S
+event_step authenticator s (opens connection) = quiet_step (opened s)
+event_step authenticator s (brings connection moment piece) = bytes_step authenticator s connection moment piece
+event_step authenticator s (ends connection) = quiet_step (ended s connection)
+
+-- A RUN OF EVENTS
+
+-- why no connection opens: 64 are open, or the numbers are spent (3.3.5.1)
+abbrev pub opening_refusal : {S : Type 0} → ShareState S → Option ServeFault
+opening_refusal s = if nat_le 64 (length s.streams) || is_spent 64 s.next then Some TooManyConnections else None
 
 -- an event on a number that was never opened is refused
 abbrev pub unknown_refusal : {S : Type 0} → ShareState S → ℕ → Option ServeFault
@@ -18,30 +265,6 @@ abbrev pub event_refusal : {S : Type 0} → ShareState S → EventText → Optio
 event_refusal s (opens connection) = if connection == s.next then opening_refusal s else Some BadEvent
 event_refusal s (brings connection moment piece) = unknown_refusal s connection
 event_refusal s (ends connection) = unknown_refusal s connection
-
--- one event that is not refused
-abbrev pub event_step : {S : Type 0} → Meaning S → ShareState S → EventText → EventStep S
-event_step authenticator s (opens connection) = record { state = opened s; outputs = [] }
-event_step authenticator s (brings connection moment piece) = bytes_step authenticator s connection moment piece
-event_step authenticator s (ends connection) = record { state = ended s connection; outputs = [] }
-
--- how many requests an event performs
-abbrev pub count_of : {S : Type 0} → Meaning S → ShareState S → EventText → ℕ
-count_of authenticator s (opens connection) = 0
-count_of authenticator s (brings connection moment piece) = count_on authenticator s connection moment piece
-count_of authenticator s (ends connection) = 0
-
--- whether memory can be wanting at an event: at no end, and at a piece only where its connection is open
-abbrev pub can_want_memory : {S : Type 0} → ShareState S → EventText → Bool
-can_want_memory s (opens connection) = true
-can_want_memory s (brings connection moment piece) = is_some (link_of connection s.links)
-can_want_memory s (ends connection) = false
-
--- where memory ran out after k requests of an event; an opening changes nothing
-abbrev pub stopped_event : {S : Type 0} → Meaning S → ShareState S → EventText → ℕ → ShareState S
-stopped_event authenticator s (opens connection) k = s
-stopped_event authenticator s (brings connection moment piece) k = stopped authenticator s connection moment piece k
-stopped_event authenticator s (ends connection) k = s
 
 -- where a run stops at a refused event: the event's place, from 0, and why
 pub record Stop : Type 0 where
@@ -69,37 +292,3 @@ abbrev pub run : {S : Type 0} → Meaning S → ShareState S → List EventText 
 run authenticator s [] = record { state = s; outputs = []; stop = None }
 run authenticator s (event ∷ events) =
     option_map_or (refused_at_once s) (event_refusal s event) (then_ran (event_step authenticator s event) (run authenticator (event_step authenticator s event).state events))
-
--- a run as the code holds its state, behind what was put out before
-abbrev pub run_behind : {S : Type 0} → List Output → Ran S → Ran S
-run_behind before ran = record { state = unread ran.state; outputs = before ++ ran.outputs; stop = ran.stop }
-
--- where one event stops: it is refused and changes nothing, or memory ran out after some of its requests
-abbrev pub EventStopped : {S : Type 0} → Meaning S → ShareState S → EventText → ServeFault → ShareState S → Type 0
-EventStopped authenticator s event (NoMemory done) left =
-    (event_refusal s event ≡ None) × (can_want_memory s event ≡ true) × (done ≤ count_of authenticator s event) × (left ≡ unread (stopped_event authenticator s event done))
-EventStopped authenticator s event TooManyConnections left = (event_refusal s event ≡ Some TooManyConnections) × (left ≡ s)
-EventStopped authenticator s event BadEvent left = (event_refusal s event ≡ Some BadEvent) × (left ≡ s)
-EventStopped authenticator s event BadConfig left = ⊥
-
--- where memory ran out in a run: the events before the place were performed whole, none of them refused, and of that
--- event, at which memory can be wanting, the first `done` requests
-pub record OutOfMemory {S : Type 0} (authenticator : Meaning S) (start : ShareState S) (events : List EventText) (place done : ℕ) (left : ShareState S) (before after : List Output) : Type 0 where
-  pub event : EventText
-  pub others : List EventText
-  pub at : drop place events ≡ event ∷ others
-  pub unrefused : (run authenticator start (take place events)).stop ≡ None
-  pub sound : event_refusal (run authenticator start (take place events)).state event ≡ None
-  pub wanting : can_want_memory (run authenticator start (take place events)).state event ≡ true
-  pub within : done ≤ count_of authenticator (run authenticator start (take place events)).state event
-  pub state : left ≡ unread (stopped_event authenticator (run authenticator start (take place events)).state event done)
-  pub outputs : after ≡ before ++ (run authenticator start (take place events)).outputs
-
--- what an error of a run says: the definition stops there, or memory ran out
-abbrev pub RunStopped : {S : Type 0} → Meaning S → ShareState S → List EventText → ℕ → ServeFault → ShareState S → List Output → List Output → Type 0
-RunStopped authenticator start events place (NoMemory done) left before after = OutOfMemory authenticator start events place done left before after
-RunStopped authenticator start events place TooManyConnections left before after =
-    record { state = left; outputs = after; stop = Some (record { place = place; fault = TooManyConnections }) } ≡ run_behind before (run authenticator start events)
-RunStopped authenticator start events place BadEvent left before after =
-    record { state = left; outputs = after; stop = Some (record { place = place; fault = BadEvent }) } ≡ run_behind before (run authenticator start events)
-RunStopped authenticator start events place BadConfig left before after = ⊥

@@ -1,18 +1,19 @@
--- What serving comes to for its peers: a run of events.
+-- Serving is a run of events for its peers.
 use Rattle.std.specs.Prelude.{◌≡◌, ℕ, ◌+◌, ◌≤◌, Bool, true, false, ◌==◌, List, [], ◌∷◌, ◌++◌, length, Option, None, Some, is_some, if◌then◌else◌}
 use Rattle.std.specs.Option.{option_map_or}
 use Rattle.std.specs.List.{flat_map, list_any}
 use Rattle.smb_engine.specs.declared.fault.ServeFault.TheVariants.{TooManyConnections}
 use Rattle.smb_session.specs.Authenticator.{Meaning}
-use Rattle.smb_engine.specs.State.{ShareState}
+use Rattle.smb_engine.specs.State.{ShareState, stream_of}
+use Rattle.smb_engine.specs.Good.{GoodState}
+use Rattle.smb_engine.specs.Run.{opening_refusal, event_step, run}
+use Rattle.smb_engine.specs.Stream.{unread}
+use Rattle.smb_engine.specs.Laws.{receiver}
 use Rattle.smb_engine.specs.Event.{EventText, brings, ends}
 use Rattle.smb_engine.specs.Output.{Output, output_bytes}
-use Rattle.smb_engine.specs.Share.{GoodState, link_of, opening_refusal, unread}
-use Rattle.smb_engine.specs.Run.{event_step, run}
 use Rattle.smb_engine.specs.Record.{PeerCall, next_opened, next_ended, send, close, sent_by, taken_by}
-use Rattle.smb_engine.specs.Clients.{ClientState, client_of}
+use Rattle.smb_engine.specs.ServedPeers.{PeerState, peer_of}
 use Rattle.smb_engine.specs.Serving.{most_owed, Served}
-use Rattle.smb_engine.specs.Laws.{receiver}
 
 -- whether a number is opened in a call, and in calls
 abbrev pub opens_in : ℕ → PeerCall → Bool
@@ -62,13 +63,13 @@ bytes_for connection output = if receiver output == connection then output_bytes
 abbrev pub put_out_to : ℕ → List Output → List ℕ
 put_out_to connection outputs = flat_map (bytes_for connection) outputs
 
--- the bytes that a number is owed; one that has no client is owed none
-abbrev pub owed_to : ℕ → List ClientState → List ℕ
-owed_to number clients = option_map_or (λ client. client.owed) (client_of number clients) []
+-- the bytes that a number is owed; one that has no peer is owed none
+abbrev pub owed_to : ℕ → List PeerState → List ℕ
+owed_to number served_peers = option_map_or (λ peer. peer.owed) (peer_of number served_peers) []
 
--- the moment of a piece that comes to an open connection
+-- the moment of a piece on an open connection
 abbrev pub moment_of : {S : Type 0} → ShareState S → EventText → List ℕ
-moment_of share (brings connection moment piece) = if is_some (link_of connection share.links) then moment ∷ [] else []
+moment_of share (brings connection moment piece) = if is_some (stream_of connection share.streams) then moment ∷ [] else []
 moment_of share event = []
 
 -- a number was not broken off, and of what was put out for it no more is left than may be owed
@@ -99,12 +100,12 @@ module _ {S : Type 0} (authenticator : Meaning S) where
     pub point : events ≡ front ++ back
     pub refusal : opening_refusal (run authenticator share front).state ≡ Some TooManyConnections
 
-  -- a record of calls is that of a run of events, none of them refused, which leaves the share as it is now; the clock told the moments
+  -- a record of calls is that of a run of events, none of them refused, which leaves the share as it is now; the clock gave the moments
   -- of its pieces. Numbers have connections of their own. At each point of the record there is a point of the run up to which
-  -- each of them is answered; and so it is at the end, where what was taken for a number that goes on, and what it is owed, are
+  -- each of them is answered; and so is each at the end, where what was taken for a number that goes on, and what it is owed, are
   -- all that is put out to its connection. For a number without a connection nothing was taken, and if it was opened at all,
   -- it was refused
-  pub record IsRun (share share' : ShareState S) (clients : List ClientState) (calls : List PeerCall) (moments : List ℕ) (events : List EventText) (connections : ℕ → Option ℕ) : Type 0 where
+  pub record IsRun (share share' : ShareState S) (served_peers : List PeerState) (calls : List PeerCall) (moments : List ℕ) (events : List EventText) (connections : ℕ → Option ℕ) : Type 0 where
     pub unrefused : (run authenticator share events).stop ≡ None
     pub state : share' ≡ unread (run authenticator share events).state
     pub told : moments ≡ moments_of share events
@@ -113,12 +114,12 @@ module _ {S : Type 0} (authenticator : Meaning S) where
         × ((number connection : ℕ) → connections number ≡ Some connection → IsAnswered number connection before front (run authenticator share front).outputs)
     pub answered : (number connection : ℕ) → connections number ≡ Some connection →
         IsAnswered number connection calls events (run authenticator share events).outputs
-        × (GoesOn number connection calls (run authenticator share events).outputs → taken_by number calls ++ owed_to number clients ≡ put_out_to connection (run authenticator share events).outputs)
+        × (GoesOn number connection calls (run authenticator share events).outputs → taken_by number calls ++ owed_to number served_peers ≡ put_out_to connection (run authenticator share events).outputs)
     pub others : (number : ℕ) → connections number ≡ None → (taken_by number calls ≡ []) × (is_opened number calls ≡ true → IsRefused share number calls events)
 
   -- serving a share without connections, if memory never ran out and no number was opened twice, is a run of events
   abbrev pub ServingIsARun : Type 0
   ServingIsARun =
       (turns : ℕ) (share share' : ShareState S) (calls more : List PeerCall) (moments later : List ℕ) →
-      GoodState share → share.links ≡ [] → OpensEachOnce more → (served : Served authenticator turns share calls moments share' (calls ++ more) (moments ++ later) 0) →
+      GoodState share → share.streams ≡ [] → OpensEachOnce more → (served : Served authenticator turns share calls moments share' (calls ++ more) (moments ++ later) 0) →
       (events : List EventText) × (connections : ℕ → Option ℕ) × IsRun share share' served.0 more later events connections

@@ -1,5 +1,5 @@
 -- For the proofs; nothing here need be believed.
--- What a place for outputs holds: whole outputs, or their bytes.
+-- What a sink holds of the outputs: whole outputs, or their bytes.
 use Rattle.std.specs.Prelude.{ℕ, List, [], ◌∷◌, map}
 use Rattle.smb_engine.specs.Output.{Output, output_bytes}
 

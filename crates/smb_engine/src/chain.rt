@@ -5,21 +5,22 @@ ghost use Rattle.std.specs.List.{list_any, flat_map};
 ghost use Rattle.smb_head.specs.Headers.{header_of};
 ghost use Rattle.smb_head.specs.Replies.{Reply, rounded_up};
 ghost use Rattle.smb_head.specs.Placed.{placed, replies_written};
-ghost use Rattle.smb_session.specs.Window.{credits_granted, without_ids};
-ghost use Rattle.smb_request.specs.Context.{first_context};
+ghost use Rattle.smb_session.specs.Window.{without_ids};
 ghost use Rattle.smb_request.specs.Request.{performed};
 ghost use Rattle.std.specs.Bool.{OnTrue, OnFalse};
 ghost use Rattle.smb_head.specs.Replies.{joined_replies};
 ghost use Rattle.smb_request.specs.Negotiate.{negotiate_answer};
 ghost use Rattle.smb_request.specs.State.{hello_of};
 ghost use Rattle.smb_request.specs.Smb1.{reply_to_smb1};
-ghost use Rattle.smb_engine.specs.Chain.{is_negotiate_request, message_ids, keeps_negotiate_rule, admitted, reply_to, turn_after, turn_after_all, step_of, first_negotiate, first_step, count_in_first, chain_step, server_after_chain, count_in_chain, payload_step, server_after, count_in};
+ghost use Rattle.smb_engine.specs.Run.{is_negotiate_request, message_ids, keeps_negotiate_rule, admitted, reply_to, one_performed, first_negotiate, first_step, chain_step, payload_step};
+ghost use Rattle.smb_engine.specs.Held.{StoppedAfter};
 ghost use Rattle.smb_request.specs.Held.{is_performed};
 ghost use Rattle.smb_engine.specs.Output.{reply_frame, output_bytes};
-ghost use Rattle.smb_engine.specs.InPlace.{turn_behind, chain_behind, payload_behind};
+ghost use Rattle.smb_engine.specs.InPlace.{chain_state_behind, step_behind};
 
+use super::arrival::Arrival;
 use super::connection::Connection;
-use super::fault::RanOut;
+use super::fault::OutOfMemoryAfter;
 use arrayvec::ArrayVec;
 use bitflags::Flags;
 use smb_body::{Smb1Dialects, read_smb1_negotiate};
@@ -33,6 +34,13 @@ use smb_wire::{Command, Dialect};
 
 /// How many requests a chain has at most.
 const CHAIN_LIMIT: usize = 16;
+
+/// The flags of a response to a request that is not related to the one before it, and of one to a related request.
+const RESPONSE: HeaderFlags = HeaderFlags::SERVER_TO_REDIR;
+
+const RELATED_RESPONSE: HeaderFlags = HeaderFlags(
+    HeaderFlags::SERVER_TO_REDIR.0 | HeaderFlags::RELATED.0,
+);
 
 /// A request of a chain, with its header.
 fn request_at<'a>(chain: &'a Chain<'_>, i: usize) -> (Header, &'a [u8])
@@ -83,7 +91,7 @@ fn message_ids(chain: &Chain<'_>) -> ArrayVec<u64, CHAIN_LIMIT>
 
 /// The requests of a payload that are performed, their MessageIds taken from the window; None where the
 /// payload ends the connection.
-#[tactic(auto, unfolding(crate::specs::Chain::admitted))]
+#[tactic(auto, unfolding(crate::specs::Run::admitted))]
 fn admit<'a>(connection: &mut Connection, payload: &'a [u8]) -> Option<Chain<'a>>
     ensures chain { result ≡ admitted connection.old payload.now }
     ensures few { IfSome result (λ chain. length chain ≤ 16) }
@@ -115,7 +123,7 @@ fn reply_header(header: &Header, answered: Answered, credits: u16) -> Header
         status: answered.status.code(),
         command: header.command,
         credits,
-        flags: HeaderFlags(if related { 5 } else { 1 }),
+        flags: if related { RELATED_RESPONSE } else { RESPONSE },
         next_command: 0,
         message_id: header.message_id,
         reserved: header.reserved,
@@ -126,7 +134,7 @@ fn reply_header(header: &Header, answered: Answered, credits: u16) -> Header
 }
 
 /// Which dialects a connection's first payload lists, where it is an SMB_COM_NEGOTIATE.
-#[tactic(auto, unfolding(crate::specs::Chain::first_negotiate))]
+#[tactic(auto, unfolding(crate::specs::Run::first_negotiate))]
 fn first_negotiate(connection: &Connection, payload: &[u8]) -> Option<Smb1Dialects>
     ensures { result ≡ first_negotiate connection.now payload.now }
 {
@@ -136,44 +144,61 @@ fn first_negotiate(connection: &Connection, payload: &[u8]) -> Option<Smb1Dialec
     read_smb1_negotiate(payload)
 }
 
+/// A chain in progress: what its next related request acts under, and the writer of its replies.
+#[derive(Drop)]
+struct ChainProgress {
+    context: Context,
+    writer: ReplyWriter,
+}
+
 /// Performs one request of a chain, its reply written once, behind the others. An error tells whether the
 /// request was performed.
-#[tactic(auto, unfolding(crate::specs::Chain::turn_after))]
-fn turn<A: Authenticator + Drop, T: Tree + Drop, O: Opens + Drop>(
+#[tactic(auto, unfolding(crate::specs::Run::one_performed))]
+fn perform_one<A: Authenticator + Drop, T: Tree + Drop, O: Opens + Drop>(
     server: &mut Server<A, T, O>,
-    connection_id: u64,
-    moment: u64,
+    arrival: Arrival,
     connection: &mut Connection,
-    context: &mut Context,
-    writer: &mut ReplyWriter,
+    progress: &mut ChainProgress,
     header: &Header,
     request: &[u8],
     out: &mut Vec<u8>,
 ) -> Result<(), NoReply>
     requires header { header.now ≡ header_of request.now }
-    requires order { writer.old.base ≤ writer.old.last }
-    requires within { writer.old.last ≤ length out.old.items }
-    requires room { rounded_up (length out.old.items - writer.old.base) + 65616 < 2 ^ 24 }
-    ensures ok { (front : List ℕ) (before : List Reply) → writer.old ≡ placed front before → out.old.items ≡ replies_written front before →
-        OnOk result (record { server = server.new; connection = connection.new; context = context.new; writer = writer.new; out = out.new.items }
-        ≡ turn_behind front (turn_after A.meaning connection_id moment (record { server = server.old; connection = connection.old; context = context.old; replies = before }) request.now)) }
-    ensures order { writer.new.base ≤ writer.new.last }
-    ensures base { writer.new.base ≡ writer.old.base }
-    ensures within { OnOk result (writer.new.last ≤ length out.new.items) }
-    ensures len { OnOk result (rounded_up (length out.new.items - writer.old.base) ≤ rounded_up (length out.old.items - writer.old.base) + 65616) }
-    ensures kept { take writer.old.base out.new.items ≡ take writer.old.base out.old.items }
+    requires order { progress.old.writer.base ≤ progress.old.writer.last }
+    requires within { progress.old.writer.last ≤ length out.old.items }
+    requires room { rounded_up (length out.old.items - progress.old.writer.base) + 65616 < 2 ^ 24 }
+    ensures ok { (front : List ℕ) (before : List Reply) →
+        progress.old.writer ≡ placed front before → out.old.items ≡ replies_written front before →
+        OnOk result (record {
+          server = server.new;
+          connection = connection.new;
+          context = progress.new.context;
+          writer = progress.new.writer;
+          out = out.new.items;
+        }
+        ≡ chain_state_behind front (one_performed A.meaning arrival
+        (record { server = server.old; connection = connection.old; context = progress.old.context; replies = before })
+        request.now)) }
+    ensures order { progress.new.writer.base ≤ progress.new.writer.last }
+    ensures base { progress.new.writer.base ≡ progress.old.writer.base }
+    ensures within { OnOk result (progress.new.writer.last ≤ length out.new.items) }
+    ensures len { OnOk result (rounded_up (length out.new.items - progress.old.writer.base)
+        ≤ rounded_up (length out.old.items - progress.old.writer.base) + 65616) }
+    ensures kept { take progress.old.writer.base out.new.items ≡ take progress.old.writer.base out.old.items }
     ensures known { server.new.sessions.table.connections ≡ server.old.sessions.table.connections }
-    ensures err { IfErr result (λ no_reply. server.new
-        ≡ (if is_performed no_reply then (performed A.meaning connection_id moment server.old connection.old.dialect context.old request.now).server else server.old)) }
+    ensures err { IfErr result (λ no_reply. server.new ≡ (if is_performed no_reply
+        then (performed A.meaning arrival.connection_id arrival.moment server.old connection.old.dialect
+        progress.old.context request.now).server
+        else server.old)) }
 {
-    let Ok(reply) = writer.open_reply(out) else {
+    let Ok(reply) = progress.writer.open_reply(out) else {
         return Err(NoReply::NotPerformed);
     };
     let answered = match server.perform(
-        connection_id,
-        moment,
+        arrival.connection_id,
+        arrival.moment,
         &mut connection.dialect,
-        context,
+        &mut progress.context,
         header,
         request,
         out,
@@ -182,12 +207,12 @@ fn turn<A: Authenticator + Drop, T: Tree + Drop, O: Opens + Drop>(
         Err(no_reply) => return Err(no_reply),
     };
     let Some(answered) = answered else {
-        writer.drop_reply(reply, out);
+        progress.writer.drop_reply(reply, out);
         return Ok(());
     };
     let credits = connection.window.grant(header.credits);
     let header = reply_header(header, answered, credits);
-    writer.close_reply(reply, &header, out);
+    progress.writer.close_reply(reply, &header, out);
     Ok(())
 }
 
@@ -202,56 +227,13 @@ fn done_behind(others: usize, no_reply: NoReply) -> usize
     }
 }
 
-/// Performs the requests of a chain in order, and adds their replies, joined, to `out`. An error tells how many were
-/// performed.
-fn perform_chain<A: Authenticator + Drop, T: Tree + Drop, O: Opens + Drop>(
-    server: &mut Server<A, T, O>,
-    connection_id: u64,
-    moment: u64,
-    connection: &mut Connection,
-    chain: &Chain<'_>,
-    out: &mut Vec<u8>,
-) -> Result<(), RanOut>
-    requires few { length chain.now ≤ 16 }
-    ensures ok { OnOk result (record { server = server.new; connection = connection.new; out = out.new.items }
-        ≡ chain_behind out.old.items (turn_after_all A.meaning connection_id moment (record { server = server.old; connection = connection.old; context = first_context; replies = [] }) chain.now)) }
-    ensures len { OnOk result (length out.new.items ≤ length out.old.items + 1049856) }
-    ensures kept { take (length out.old.items) out.new.items ≡ out.old.items }
-    ensures known { server.new.sessions.table.connections ≡ server.old.sessions.table.connections }
-    ensures err { IfErr result (λ ran_out. (ran_out.done ≤ length chain.now) × (server.new
-        ≡ (turn_after_all A.meaning connection_id moment (record { server = server.old; connection = connection.old; context = first_context; replies = [] }) (take ran_out.done chain.now)).server)) }
-{
-    let mut writer = ReplyWriter::begin(out);
-    let mut context = Context::first();
-    for i in 0..chain.len() {
-        let (header, request) = request_at(chain, i);
-        match turn(
-            server,
-            connection_id,
-            moment,
-            connection,
-            &mut context,
-            &mut writer,
-            &header,
-            request,
-            out,
-        ) {
-            Ok(()) => {}
-            Err(no_reply) => {
-                let done = done_behind(i, no_reply);
-                return Err(RanOut { done });
-            }
-        }
-    }
-    Ok(())
-}
-
-/// Ends the frame that begins at `start`: closes it, or takes it off where nothing stands in it.
+/// Ends the frame that begins at `start`: closes it, or takes it off where its payload is empty.
 fn end_frame(start: usize, out: &mut Vec<u8>)
     requires within { start + 4 ≤ length out.old.items }
     requires fits { length out.old.items < start + 4 + 2 ^ 24 }
-    ensures { (before payload : List ℕ) → start ≡ length before → out.old.items ≡ (before ++ replicate 4 0) ++ payload →
-        out.new.items ≡ before ++ flat_map output_bytes (reply_frame 0 payload) }
+    ensures { (connection : ℕ) (before payload : List ℕ) →
+        start ≡ length before → out.old.items ≡ (before ++ replicate 4 0) ++ payload →
+        out.new.items ≡ before ++ flat_map output_bytes (reply_frame connection payload) }
 {
     if out.len() == start + 4 {
         out.truncate(start);
@@ -260,63 +242,57 @@ fn end_frame(start: usize, out: &mut Vec<u8>)
     }
 }
 
-/// Performs the requests of a chain, and adds the frame of their replies to `out`, where there are any. An error tells
-/// how many were performed, and leaves `out` as it was.
-fn frame_chain<A: Authenticator + Drop, T: Tree + Drop, O: Opens + Drop>(
-    server: &mut Server<A, T, O>,
-    connection_id: u64,
-    moment: u64,
-    connection: &mut Connection,
-    chain: &Chain<'_>,
-    out: &mut Vec<u8>,
-) -> Result<(), RanOut>
-    requires few { length chain.now ≤ 16 }
-    ensures ok { OnOk result (record { server = server.new; connection = connection.new; goes_on = true; out = out.new.items }
-        ≡ payload_behind out.old.items (step_of (turn_after_all A.meaning connection_id moment (record { server = server.old; connection = connection.old; context = first_context; replies = [] }) chain.now))) }
-    ensures kept { OnErr result (out.new.items ≡ out.old.items) }
-    ensures known { server.new.sessions.table.connections ≡ server.old.sessions.table.connections }
-    ensures err { IfErr result (λ ran_out. (ran_out.done ≤ length chain.now) × (server.new
-        ≡ (turn_after_all A.meaning connection_id moment (record { server = server.old; connection = connection.old; context = first_context; replies = [] }) (take ran_out.done chain.now)).server)) }
-{
-    let Ok(start) = open_frame(out) else {
-        return Err(RanOut { done: 0 });
-    };
-    match perform_chain(server, connection_id, moment, connection, chain, out) {
-        Ok(()) => {
-            end_frame(start, out);
-            Ok(())
-        }
-        Err(ran_out) => {
-            out.truncate(start);
-            Err(ran_out)
-        }
-    }
-}
-
-/// Performs a payload that is a chain, adds the frame of its replies to `out`, and tells the number of its requests;
-/// None where it ends the connection. An error tells how many requests were performed. Where it is not performed whole
-/// `out` is as it was.
-#[tactic(auto, unfolding(crate::specs::Chain::chain_step, crate::specs::Chain::server_after_chain, crate::specs::Chain::count_in_chain))]
+/// Performs a payload that is a chain, adds the frame of its replies to `out`, where there are any, and tells the
+/// number of its requests; None where it ends the connection. An error tells how many requests were performed. Where
+/// it is not performed whole `out` is as it was.
+#[tactic(auto, unfolding(crate::specs::Run::chain_step))]
 fn chain_payload<A: Authenticator + Drop, T: Tree + Drop, O: Opens + Drop>(
     server: &mut Server<A, T, O>,
-    connection_id: u64,
-    moment: u64,
+    arrival: Arrival,
     connection: &mut Connection,
     payload: &[u8],
     out: &mut Vec<u8>,
-) -> Result<Option<usize>, RanOut>
-    ensures ok { IfOk result (λ count. record { server = server.new; connection = connection.new; goes_on = is_some count; out = out.new.items }
-        ≡ payload_behind out.old.items (chain_step A.meaning connection_id moment server.old connection.old payload.now)) }
-    ensures count { IfOk result (λ count. IfSome count (λ n. count_in_chain A.meaning connection_id moment server.old connection.old payload.now ≡ n)) }
+) -> Result<Option<usize>, OutOfMemoryAfter>
+    ensures ok { IfOk result (λ count.
+        record { server = server.new; connection = connection.new; stays_open = is_some count; out = out.new.items }
+        ≡ step_behind output_bytes out.old.items (chain_step A.meaning arrival server.old connection.old payload.now)) }
+    ensures count { IfOk result (λ count. IfSome count (λ n. n ≡ length
+        (chain_step A.meaning arrival server.old connection.old payload.now).requests)) }
     ensures kept { OnErr result (out.new.items ≡ out.old.items) }
-    ensures err { IfErr result (λ ran_out. (ran_out.done ≤ count_in_chain A.meaning connection_id moment server.old connection.old payload.now)
-        × (server.new ≡ server_after_chain A.meaning connection_id moment server.old connection.old payload.now ran_out.done)) }
+    ensures err { IfErr result (λ ran_out. StoppedAfter server.old
+        (chain_step A.meaning arrival server.old connection.old payload.now) ran_out.done server.new) }
     ensures known { server.new.sessions.table.connections ≡ server.old.sessions.table.connections }
 {
     let Some(chain) = admit(connection, payload) else {
         return Ok(None);
     };
-    frame_chain(server, connection_id, moment, connection, &chain, out)?;
+    let Ok(start) = open_frame(out) else {
+        return Err(OutOfMemoryAfter { done: 0 });
+    };
+    let mut progress = ChainProgress {
+        context: Context::first(),
+        writer: ReplyWriter::begin(out),
+    };
+    for i in 0..chain.len() {
+        let (header, request) = request_at(&chain, i);
+        match perform_one(
+            server,
+            arrival,
+            connection,
+            &mut progress,
+            &header,
+            request,
+            out,
+        ) {
+            Ok(()) => {}
+            Err(no_reply) => {
+                out.truncate(start);
+                let done = done_behind(i, no_reply);
+                return Err(OutOfMemoryAfter { done });
+            }
+        }
+    }
+    end_frame(start, out);
     Ok(Some(chain.len()))
 }
 
@@ -324,12 +300,13 @@ fn chain_payload<A: Authenticator + Drop, T: Tree + Drop, O: Opens + Drop>(
 /// was then.
 fn frame_smb1<A: Authenticator + Drop, T: Tree + Drop, O: Opens + Drop>(
     server: &Server<A, T, O>,
-    moment: u64,
+    arrival: Arrival,
     dialect_revision: u16,
     out: &mut Vec<u8>,
 ) -> bool
     ensures ok { OnTrue result (out.new.items ≡ out.old.items
-        ++ flat_map output_bytes (reply_frame 0 (joined_replies (reply_to_smb1 (negotiate_answer server.now.settings.guid (hello_of A.meaning server.now) moment dialect_revision) ∷ [])))) }
+        ++ flat_map output_bytes (reply_frame arrival.connection_id (joined_replies (reply_to_smb1
+        (negotiate_answer server.now.settings.guid (hello_of A.meaning server.now) arrival.moment dialect_revision) ∷ [])))) }
     ensures kept { OnFalse result (out.new.items ≡ out.old.items) }
 {
     let Ok(start) = open_frame(out) else {
@@ -340,7 +317,7 @@ fn frame_smb1<A: Authenticator + Drop, T: Tree + Drop, O: Opens + Drop>(
         out.truncate(start);
         return false;
     };
-    let Ok(()) = server.put_smb1_body(moment, dialect_revision, out) else {
+    let Ok(()) = server.put_smb1_body(arrival.moment, dialect_revision, out) else {
         out.truncate(start);
         return false;
     };
@@ -351,25 +328,27 @@ fn frame_smb1<A: Authenticator + Drop, T: Tree + Drop, O: Opens + Drop>(
 
 /// Answers an SMB_COM_NEGOTIATE that lists these dialects, and tells how many requests it is; None where it ends the
 /// connection. Where it is not answered `out` is as it was.
-#[tactic(auto, unfolding(crate::specs::Chain::first_step))]
+#[tactic(auto, unfolding(crate::specs::Run::first_step))]
 fn first_payload<A: Authenticator + Drop, T: Tree + Drop, O: Opens + Drop>(
     server: &Server<A, T, O>,
-    moment: u64,
+    arrival: Arrival,
     connection: &mut Connection,
     dialects: Smb1Dialects,
     out: &mut Vec<u8>,
-) -> Result<Option<usize>, RanOut>
-    ensures ok { IfOk result (λ count. record { server = server.now; connection = connection.new; goes_on = is_some count; out = out.new.items }
-        ≡ payload_behind out.old.items (first_step A.meaning moment server.now connection.old dialects)) }
-    ensures count { IfOk result (λ count. IfSome count (λ n. count_in_first dialects ≡ n)) }
+) -> Result<Option<usize>, OutOfMemoryAfter>
+    ensures ok { IfOk result (λ count.
+        record { server = server.now; connection = connection.new; stays_open = is_some count; out = out.new.items }
+        ≡ step_behind output_bytes out.old.items (first_step A.meaning arrival server.now connection.old dialects)) }
+    ensures count { IfOk result (λ count. IfSome count (λ n. n ≡ length
+        (first_step A.meaning arrival server.now connection.old dialects).requests)) }
     ensures err { IfErr result (λ ran_out. ran_out.done ≡ 0) }
     ensures kept { OnErr result (out.new.items ≡ out.old.items) }
 {
     let Some(answer) = smb1::answer(dialects) else {
         return Ok(None);
     };
-    if !frame_smb1(server, moment, answer.dialect_revision, out) {
-        return Err(RanOut { done: 0 });
+    if !frame_smb1(server, arrival, answer.dialect_revision, out) {
+        return Err(OutOfMemoryAfter { done: 0 });
     }
     connection.payload_came = true;
     connection.dialect = answer.dialect;
@@ -380,25 +359,27 @@ fn first_payload<A: Authenticator + Drop, T: Tree + Drop, O: Opens + Drop>(
 /// Performs a payload, adds the frame of its replies to `out`, where there are any, and tells the number of its
 /// requests; None where it ends the connection. An error tells how many requests were performed. Where it is not
 /// performed whole `out` is as it was.
-#[tactic(auto, unfolding(crate::specs::Chain::payload_step, crate::specs::Chain::server_after, crate::specs::Chain::count_in))]
+#[tactic(auto, unfolding(crate::specs::Run::payload_step))]
 pub(crate) fn perform_payload<A: Authenticator + Drop, T: Tree + Drop, O: Opens + Drop>(
     server: &mut Server<A, T, O>,
-    connection_id: u64,
-    moment: u64,
+    arrival: Arrival,
     connection: &mut Connection,
     payload: &[u8],
     out: &mut Vec<u8>,
-) -> Result<Option<usize>, RanOut>
-    ensures ok { IfOk result (λ count. record { server = server.new; connection = connection.new; goes_on = is_some count; out = out.new.items }
-        ≡ payload_behind out.old.items (payload_step A.meaning connection_id moment server.old connection.old payload.now)) }
-    ensures count { IfOk result (λ count. IfSome count (λ n. count_in A.meaning connection_id moment server.old connection.old payload.now ≡ n)) }
+) -> Result<Option<usize>, OutOfMemoryAfter>
+    ensures ok { IfOk result (λ count.
+        record { server = server.new; connection = connection.new; stays_open = is_some count; out = out.new.items }
+        ≡ step_behind output_bytes out.old.items
+        (payload_step A.meaning arrival server.old connection.old payload.now)) }
+    ensures count { IfOk result (λ count. IfSome count (λ n. n ≡ length
+        (payload_step A.meaning arrival server.old connection.old payload.now).requests)) }
     ensures kept { OnErr result (out.new.items ≡ out.old.items) }
-    ensures err { IfErr result (λ ran_out. (ran_out.done ≤ count_in A.meaning connection_id moment server.old connection.old payload.now)
-        × (server.new ≡ server_after A.meaning connection_id moment server.old connection.old payload.now ran_out.done)) }
+    ensures err { IfErr result (λ ran_out. StoppedAfter server.old
+        (payload_step A.meaning arrival server.old connection.old payload.now) ran_out.done server.new) }
     ensures known { server.new.sessions.table.connections ≡ server.old.sessions.table.connections }
 {
     match first_negotiate(connection, payload) {
-        None => chain_payload(server, connection_id, moment, connection, payload, out),
-        Some(dialects) => first_payload(server, moment, connection, dialects, out),
+        None => chain_payload(server, arrival, connection, payload, out),
+        Some(dialects) => first_payload(server, arrival, connection, dialects, out),
     }
 }

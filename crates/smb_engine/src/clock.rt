@@ -11,10 +11,10 @@ use std::marker::Model;
 pub trait Clock {
     ghost use Rattle.std.specs.Prelude.{ℕ, List, Bool};
 
-    /// The moments that were told, by a clock that keeps its record.
+    /// The moments that it gave, by a clock whose record is complete.
     ghost moments: { Self → List ℕ };
 
-    /// Whether all moments that were told are in the record.
+    /// Whether all moments that it gave are in the record.
     ghost keeps: { Self → Bool };
 
     /// The moment, in units of 100 ns since 1601.

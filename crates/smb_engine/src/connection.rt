@@ -1,4 +1,4 @@
-//! A connection, and what is unread of its stream ([MS-SMB2] 3.3.1.7).
+//! A connection, and the unread bytes of its stream ([MS-SMB2] 3.3.1.7).
 
 use smb_frame::FrameBuffer;
 use smb_session::Window;
@@ -18,18 +18,18 @@ pub(crate) const LONGEST_PAYLOAD: u32 = 131_072;
 
 /// A connection with the unread bytes of its stream.
 #[derive(Drop)]
-pub struct Link {
+pub struct ConnectionStream {
     pub(crate) buffer: FrameBuffer,
     pub(crate) connection: Connection,
 }
 
-impl Model for Link {
+impl Model for ConnectionStream {
     ghost use Rattle.std.specs.Prelude.{◌≡◌};
-    ghost use Rattle.smb_engine.specs.State.{LinkState};
+    ghost use Rattle.smb_engine.specs.State.{StreamState};
 
-    ghost Value = { LinkState };
+    ghost Value = { StreamState };
 
-    ghost view = { λ l. record { stream = l.buffer.bytes; connection = l.connection } };
+    ghost view = { λ s. record { received = s.buffer.bytes; connection = s.connection } };
 
-    ghost invariant = { λ l. l.buffer.limit ≡ 131072 };
+    ghost invariant = { λ s. s.buffer.limit ≡ 131072 };
 }

@@ -22,7 +22,7 @@ pub enum ServeFault {
 
 /// Memory ran out, and so many requests had been performed.
 #[derive(Clone, Copy, Debug, PartialEq, Eq)]
-pub(crate) struct RanOut {
+pub(crate) struct OutOfMemoryAfter {
     pub(crate) done: usize,
 }
 

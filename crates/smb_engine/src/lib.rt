@@ -1,7 +1,7 @@
 //! The share: connections, their streams of requests, and what answers them ([MS-SMB2] 3.3).
 //!
 //! ```text
-//!    what comes                                      what goes out
+//!    calls                                           outputs
 //!
 //!    opened: a connection, 1, 2, 3 ..     +-------+
 //!    feed: its bytes, at a moment     ->  | Share |  ->  frames: bytes for the client of a connection
@@ -36,10 +36,10 @@
 //! A [`Share`] is made of a [`Config`]: [`in_memory`](Share::in_memory), or [`new`](Share::new) over a tree and opens
 //! of one's own. Connections are [`opened`](Share::opened), bring pieces of their streams, which are
 //! [`feed`](Share::feed), and [end](Share::ended); [`run`](Share::run) takes a list of such [`Event`]s and gives the
-//! [`Answer`]s. What it gives is a definition, to be read in this order: `specs/Event.antt` and `Run.antt` (a list of
-//! events), `Share.antt` (one event), `Stream.antt` (a piece, payload by payload), `Chain.antt` (a payload, request by
-//! request), and of the crate smb_request `Request.antt` (one request). The definition reads each stream from its first
-//! byte; the share holds what is unread alone. That it does not matter how bytes that come at one moment were cut is a
+//! [`Answer`]s. What it gives is a definition, to be read in this order: `specs/Event.antt` and `State.antt`; `Run.antt`,
+//! from one request of a chain to a run of events, over `Request.antt` of the crate smb_request (what one request does);
+//! and `Refusals.antt` (what an error says). The definition reads each stream from its first byte; the share holds the
+//! unread bytes alone. That it does not matter how bytes that come at one moment were cut is a
 //! law of the definition, with others of `specs/Laws.antt`: [`laws_of_shares`]. What serving a share comes to for its
 //! peers, where memory does not run out, is a law too, of `specs/ServingLaws.antt`: [`laws_of_serving`].
 //!
@@ -50,8 +50,8 @@
 //! logarithmic time.
 #![tactic(auto)]
 
+mod arrival;
 mod chain;
-mod client;
 mod clock;
 mod connection;
 mod event;
@@ -62,6 +62,7 @@ mod memory_peers;
 mod memory_record;
 mod output;
 mod peers;
+mod served_peer;
 mod serving;
 mod share;
 mod stream;

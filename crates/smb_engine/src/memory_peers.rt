@@ -20,7 +20,7 @@ pub enum PeerStep {
     Bytes(u64, Vec<u8>),
     /// Its stream ends.
     Ended(u64),
-    /// A read of it fails: that is told as its end, and counts as a failure.
+    /// A read of it fails: that is its end, and counts as a failure.
     Fails(u64),
     /// Nothing comes.
     Idle,
@@ -119,7 +119,7 @@ impl MemoryPeers {
 
 impl Peers for MemoryPeers {
     ghost use Rattle.std.specs.Prelude.{take};
-    ghost use Rattle.smb_engine.specs.MemoryPeers.{opened_by, next_answer, behind_next, send_answer, behind_send, behind_close};
+    ghost use Rattle.smb_engine.specs.MemoryPeers.{opened_by, next_result, behind_next, send_result, behind_send, behind_close};
 
     ghost calls = { λ p. p.calls };
 
@@ -134,7 +134,7 @@ impl Peers for MemoryPeers {
     fn next(&mut self) -> PeerEvent
         ensures told { Told self.old.keeps self.old.calls self.new.keeps self.new.calls (call_of result self.new.piece) }
         ensures once { OpensOnce result (opened_by (take self.old.place self.old.script)) (opened_by (take self.new.place self.new.script)) }
-        ensures value { result ≡ next_answer self.old }
+        ensures value { result ≡ next_result self.old }
         ensures after { self.new ≡ behind_next self.old }
     {
         if self.calls_left == 0 {
@@ -161,7 +161,7 @@ impl Peers for MemoryPeers {
         ensures within { IfOk result (λ count. count ≤ length bytes.now) }
         ensures failed { OnErr result (self.old.failures < self.new.failures) }
         ensures opened { opened_by (take self.new.place self.new.script) ≡ opened_by (take self.old.place self.old.script) }
-        ensures value { result ≡ send_answer self.old bytes.now }
+        ensures value { result ≡ send_result self.old bytes.now }
         ensures after { self.new ≡ behind_send number bytes.now self.old }
     {
         if self.calls_left == 0 {

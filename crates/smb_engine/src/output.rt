@@ -29,13 +29,13 @@ pub(crate) trait Sink {
 
     ghost hears: { Output → List Heard };
 
-    /// What stands there, with the vector that was inherited out, which holds these bytes.
+    /// What the sink holds, with the vector that was lent out, which holds these bytes.
     ghost with_bytes: { Self → List ℕ → List Heard };
 
-    /// A vector that was inherited out with these bytes.
+    /// A vector was lent out with these bytes.
     ghost lends: { Self → List ℕ → Type 0 };
 
-    /// How much stands there.
+    /// How much the sink holds.
     fn mark(&self) -> usize
         ensures { result ≡ length (content self.now) };
 
@@ -46,11 +46,11 @@ pub(crate) trait Sink {
 
     /// Takes the vector back with the frame of a payload's replies behind what it held, where there are any.
     fn give_frame(&mut self, connection: u64, bytes: Vec<u8>) -> Result<(), AllocError>
-        ensures ok { (before replies : List ℕ) → lends self.old before → bytes.items ≡ before ++ flat_map output_bytes (reply_frame 0 replies) →
+        ensures ok { (before replies : List ℕ) → lends self.old before → bytes.items ≡ before ++ flat_map output_bytes (reply_frame connection replies) →
             OnOk result (content self.new ≡ with_bytes self.old before ++ flat_map hears (reply_frame connection replies)) }
         ensures err { (before : List ℕ) → lends self.old before → OnErr result (content self.new ≡ with_bytes self.old before) };
 
-    /// Takes the vector back as it was inherited out.
+    /// Takes the vector back as it was lent out.
     fn give_back(&mut self, bytes: Vec<u8>)
         ensures { (before : List ℕ) → lends self.old before → bytes.items ≡ before → content self.new ≡ with_bytes self.old before };
 

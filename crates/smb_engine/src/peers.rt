@@ -1,6 +1,6 @@
 //! The peers that a share is served to.
 
-ghost use Rattle.std.specs.Prelude.{◌≡◌, ◌<◌, ◌≤◌, length, IfOk, IfErr, OnErr, take};
+ghost use Rattle.std.specs.Prelude.{◌≡◌, ◌<◌, ◌≤◌, length, IfOk, OnErr};
 ghost use Rattle.smb_engine.specs.Record.{Told, close};
 ghost use Rattle.smb_engine.specs.Peers.{call_of, send_call, OpensOnce};
 

@@ -3,43 +3,43 @@
 ghost use Rattle.std.specs.Prelude.{◌≡◌, ◌&&◌, ◌+◌, ◌++◌, ◌∷◌, [], ◌<◌, ◌≤◌, ℕ, List, length, nat_lt, IfSome, if◌then◌else◌};
 ghost use Rattle.std.specs.List.{position};
 ghost use Rattle.smb_engine.specs.Record.{Keeping, PeerCall, close};
-ghost use Rattle.smb_engine.specs.Clients.{place_of, place_for};
-ghost use Rattle.smb_engine.specs.Serving.{serving, OpeningFollows, PieceTaken, PieceFollows, share_behind_end, clients_behind_end, EventTaken, IsSent, stays, AreServed, Turn, Served};
+ghost use Rattle.smb_engine.specs.ServedPeers.{place_of, place_for};
+ghost use Rattle.smb_engine.specs.Serving.{serving, OpeningFollows, PieceTaken, PieceFollows, share_behind_end, peers_behind_end, EventTaken, IsSent, stays, AreServed, Turn, Served};
 ghost use Rattle.smb_engine.specs.Openings.{Begins};
 
-use super::client::Client;
 use super::clock::Clock;
 use super::fault::ServeFault;
 use super::peers::{PeerEvent, Peers};
+use super::served_peer::ServedPeer;
 use super::share::Share;
 use smb_opens::Opens;
 use smb_session::Authenticator;
 use smb_tree::Tree;
 
-/// The place of a number among the clients.
-fn find_client(clients: &[Client], number: u64) -> Option<usize>
-    ensures place { result ≡ place_of number clients.now }
-    ensures within { IfSome result (λ place. place < length clients.now) }
+/// The place of a number among the served peers.
+fn find_peer(served_peers: &[ServedPeer], number: u64) -> Option<usize>
+    ensures place { result ≡ place_of number served_peers.now }
+    ensures within { IfSome result (λ place. place < length served_peers.now) }
 {
-    clients.iter().position(|client| client.number == number)
+    served_peers.iter().position(|peer| peer.number == number)
 }
 
-/// The place of the first client that has a greater number.
-fn first_above(clients: &[Client], number: u64) -> Option<usize>
-    ensures place { result ≡ position (λ client. nat_lt number client.number) clients.now }
-    ensures within { IfSome result (λ place. place < length clients.now) }
+/// The place of the first peer that has a greater number.
+fn first_above(served_peers: &[ServedPeer], number: u64) -> Option<usize>
+    ensures place { result ≡ position (λ peer. nat_lt number peer.number) served_peers.now }
+    ensures within { IfSome result (λ place. place < length served_peers.now) }
 {
-    clients.iter().position(|client| number < client.number)
+    served_peers.iter().position(|peer| number < peer.number)
 }
 
-/// Where a client of a number is to be put.
-fn place_behind(clients: &[Client], number: u64) -> usize
-    ensures place { result ≡ place_for number clients.now }
-    ensures within { result ≤ length clients.now }
+/// Where a peer of a number is to be put.
+fn place_behind(served_peers: &[ServedPeer], number: u64) -> usize
+    ensures place { result ≡ place_for number served_peers.now }
+    ensures within { result ≤ length served_peers.now }
 {
-    match first_above(clients, number) {
+    match first_above(served_peers, number) {
         Some(place) => place,
-        None => clients.len(),
+        None => served_peers.len(),
     }
 }
 
@@ -50,15 +50,15 @@ pub enum Opening {
     NoMemory,
 }
 
-/// Opens a connection of the share for a new client. Room for the client is made first.
+/// Opens a connection of the share for a new peer. Room for the peer is made first.
 fn begin<A: Authenticator + Drop, T: Tree + Drop, O: Opens + Drop>(
     share: &mut Share<A, T, O>,
-    clients: &mut Vec<Client>,
+    served_peers: &mut Vec<ServedPeer>,
     number: u64,
 ) -> Opening
-    ensures { Begins number share.old clients.old.items share.new clients.new.items result }
+    ensures { Begins number share.old served_peers.old.items share.new served_peers.new.items result }
 {
-    match clients.reserve(1) {
+    match served_peers.reserve(1) {
         Ok(()) => {}
         Err(_) => return Opening::NoMemory,
     }
@@ -67,29 +67,29 @@ fn begin<A: Authenticator + Drop, T: Tree + Drop, O: Opens + Drop>(
         Err(ServeFault::NoMemory { .. }) => return Opening::NoMemory,
         Err(_) => return Opening::Refused,
     };
-    let place = place_behind(clients, number);
-    let client = Client::new(share.allocator(), number, connection);
-    match clients.insert(place, client) {
+    let place = place_behind(served_peers, number);
+    let peer = ServedPeer::new(share.allocator(), number, connection);
+    match served_peers.insert(place, peer) {
         Ok(()) => Opening::Done,
         Err(_) => unreachable!(),
     }
 }
 
 /// Takes the opening of a number, and tells whether memory ran out.
-fn open_client<A: Authenticator + Drop, T: Tree + Drop, O: Opens + Drop, P: Peers>(
+fn open_peer<A: Authenticator + Drop, T: Tree + Drop, O: Opens + Drop, P: Peers>(
     share: &mut Share<A, T, O>,
     peers: &mut P,
-    clients: &mut Vec<Client>,
+    served_peers: &mut Vec<ServedPeer>,
     number: u64,
 ) -> bool
     ensures { Keeping (P.keeps peers.old) (P.keeps peers.new) ((moments : List ℕ) (n : ℕ) →
-        OpeningFollows number (serving share.old clients.old.items (P.calls peers.old) moments n)
-        (serving share.new clients.new.items (P.calls peers.new) moments (if result then n + 1 else n))) }
+        OpeningFollows number (serving share.old served_peers.old.items (P.calls peers.old) moments n)
+        (serving share.new served_peers.new.items (P.calls peers.new) moments (if result then n + 1 else n))) }
 {
-    if find_client(clients, number).is_some() {
+    if find_peer(served_peers, number).is_some() {
         return false;
     }
-    match begin(share, clients, number) {
+    match begin(share, served_peers, number) {
         Opening::Done => false,
         Opening::Refused => {
             peers.close(number);
@@ -102,21 +102,21 @@ fn open_client<A: Authenticator + Drop, T: Tree + Drop, O: Opens + Drop, P: Peer
     }
 }
 
-/// Takes a piece of a client's stream, and tells whether memory ran out.
-fn feed_client<A: Authenticator + Drop, T: Tree + Drop, O: Opens + Drop, C: Clock>(
+/// Takes a piece of a peer's stream, and tells whether memory ran out.
+fn feed_peer<A: Authenticator + Drop, T: Tree + Drop, O: Opens + Drop, C: Clock>(
     share: &mut Share<A, T, O>,
     clock: &mut C,
-    client: &mut Client,
+    peer: &mut ServedPeer,
     piece: &[u8],
 ) -> bool
     ensures { Keeping (C.keeps clock.old) (C.keeps clock.new)
-        (PieceTaken A.meaning piece.now share.old client.old (C.moments clock.old) (record { share = share.new; client = client.new; moments = C.moments clock.new; ran_out = result })) }
+        (PieceTaken A.meaning piece.now share.old peer.old (C.moments clock.old) (record { share = share.new; peer = peer.new; moments = C.moments clock.new; ran_out = result })) }
 {
-    if !share.is_open(client.connection) {
+    if !share.is_open(peer.connection) {
         return false;
     }
     let moment = clock.moment();
-    match client.take_piece(share, moment, piece) {
+    match peer.take_piece(share, moment, piece) {
         Ok(()) => false,
         Err(_) => true,
     }
@@ -126,33 +126,33 @@ fn feed_client<A: Authenticator + Drop, T: Tree + Drop, O: Opens + Drop, C: Cloc
 fn take_bytes<A: Authenticator + Drop, T: Tree + Drop, O: Opens + Drop, C: Clock>(
     share: &mut Share<A, T, O>,
     clock: &mut C,
-    clients: &mut Vec<Client>,
+    served_peers: &mut Vec<ServedPeer>,
     number: u64,
     piece: &[u8],
 ) -> bool
     ensures { Keeping (C.keeps clock.old) (C.keeps clock.new) ((calls : List PeerCall) (n : ℕ) →
-        PieceFollows A.meaning number piece.now (serving share.old clients.old.items calls (C.moments clock.old) n)
-        (serving share.new clients.new.items calls (C.moments clock.new) (if result then n + 1 else n))) }
+        PieceFollows A.meaning number piece.now (serving share.old served_peers.old.items calls (C.moments clock.old) n)
+        (serving share.new served_peers.new.items calls (C.moments clock.new) (if result then n + 1 else n))) }
 {
-    match find_client(clients, number) {
-        Some(place) => feed_client(share, clock, &mut clients[place], piece),
+    match find_peer(served_peers, number) {
+        Some(place) => feed_peer(share, clock, &mut served_peers[place], piece),
         None => false,
     }
 }
 
 /// Takes the end of a number by its peers.
-fn end_client<A: Authenticator + Drop, T: Tree + Drop, O: Opens + Drop>(
+fn end_peer<A: Authenticator + Drop, T: Tree + Drop, O: Opens + Drop>(
     share: &mut Share<A, T, O>,
-    clients: &mut Vec<Client>,
+    served_peers: &mut Vec<ServedPeer>,
     number: u64,
 )
-    ensures share { share.new ≡ share_behind_end share.old clients.old.items number }
-    ensures clients { clients.new.items ≡ clients_behind_end clients.old.items number }
+    ensures share { share.new ≡ share_behind_end share.old served_peers.old.items number }
+    ensures served_peers { served_peers.new.items ≡ peers_behind_end served_peers.old.items number }
 {
-    if let Some(place) = find_client(clients, number) {
-        let client = &mut clients[place];
-        share.ended(client.connection);
-        client.drop_owed();
+    if let Some(place) = find_peer(served_peers, number) {
+        let peer = &mut served_peers[place];
+        share.ended(peer.connection);
+        peer.drop_owed();
     }
 }
 
@@ -161,77 +161,77 @@ fn take_event<A: Authenticator + Drop, T: Tree + Drop, O: Opens + Drop, P: Peers
     share: &mut Share<A, T, O>,
     peers: &mut P,
     clock: &mut C,
-    clients: &mut Vec<Client>,
+    served_peers: &mut Vec<ServedPeer>,
 ) -> bool
     ensures { Keeping (P.keeps peers.old && C.keeps clock.old) (P.keeps peers.new && C.keeps clock.new) ((n : ℕ) →
-        EventTaken A.meaning (serving share.old clients.old.items (P.calls peers.old) (C.moments clock.old) n)
-        (serving share.new clients.new.items (P.calls peers.new) (C.moments clock.new) (if result then n + 1 else n))) }
+        EventTaken A.meaning (serving share.old served_peers.old.items (P.calls peers.old) (C.moments clock.old) n)
+        (serving share.new served_peers.new.items (P.calls peers.new) (C.moments clock.new) (if result then n + 1 else n))) }
 {
     match peers.next() {
-        PeerEvent::Opened(number) => open_client(share, peers, clients, number),
-        PeerEvent::Bytes(number) => take_bytes(share, clock, clients, number, peers.piece()),
+        PeerEvent::Opened(number) => open_peer(share, peers, served_peers, number),
+        PeerEvent::Bytes(number) => take_bytes(share, clock, served_peers, number, peers.piece()),
         PeerEvent::Ended(number) => {
-            end_client(share, clients, number);
+            end_peer(share, served_peers, number);
             false
         }
         PeerEvent::Idle => false,
     }
 }
 
-/// Sends a client what it is owed.
+/// Sends a peer what it is owed.
 fn send_owed<A: Authenticator + Drop, T: Tree + Drop, O: Opens + Drop, P: Peers>(
     share: &mut Share<A, T, O>,
     peers: &mut P,
-    client: &mut Client,
+    peer: &mut ServedPeer,
 )
     ensures { Keeping (P.keeps peers.old) (P.keeps peers.new)
-        (IsSent client.old share.old (P.calls peers.old) (record { share = share.new; client = client.new; calls = P.calls peers.new })) }
+        (IsSent peer.old share.old (P.calls peers.old) (record { share = share.new; peer = peer.new; calls = P.calls peers.new })) }
 {
-    if !client.is_owed() {
+    if !peer.is_owed() {
         return;
     }
-    match peers.send(client.number, client.owed()) {
-        Ok(count) => client.drop_first(count),
+    match peers.send(peer.number, peer.owed()) {
+        Ok(count) => peer.drop_first(count),
         Err(_) => {
-            share.ended(client.connection);
-            client.drop_owed();
+            share.ended(peer.connection);
+            peer.drop_owed();
         }
     }
 }
 
-/// Closes a client that does not stay, and tells whether it does.
+/// Closes a peer that does not stay, and tells whether it does.
 fn settle<A: Authenticator + Drop, T: Tree + Drop, O: Opens + Drop, P: Peers>(
     share: &Share<A, T, O>,
     peers: &mut P,
-    client: &Client,
+    peer: &ServedPeer,
 ) -> bool
-    ensures stays { result ≡ stays share.now client.now }
+    ensures stays { result ≡ stays share.now peer.now }
     ensures told { Keeping (P.keeps peers.old) (P.keeps peers.new)
-        (P.calls peers.new ≡ (if stays share.now client.now then P.calls peers.old else P.calls peers.old ++ close client.now.number ∷ [])) }
+        (P.calls peers.new ≡ (if stays share.now peer.now then P.calls peers.old else P.calls peers.old ++ close peer.now.number ∷ [])) }
 {
-    if client.is_owed() || share.is_open(client.connection) {
+    if peer.is_owed() || share.is_open(peer.connection) {
         return true;
     }
-    peers.close(client.number);
+    peers.close(peer.number);
     false
 }
 
-/// Each client's part of a turn, in rising number.
+/// Each peer's part of a turn, in rising number.
 fn send_all<A: Authenticator + Drop, T: Tree + Drop, O: Opens + Drop, P: Peers>(
     share: &mut Share<A, T, O>,
     peers: &mut P,
-    clients: &mut Vec<Client>,
+    served_peers: &mut Vec<ServedPeer>,
 )
     ensures { Keeping (P.keeps peers.old) (P.keeps peers.new) ((moments : List ℕ) (n : ℕ) →
-        AreServed clients.old.items (serving share.old [] (P.calls peers.old) moments n) (serving share.new clients.new.items (P.calls peers.new) moments n)) }
+        AreServed served_peers.old.items (serving share.old [] (P.calls peers.old) moments n) (serving share.new served_peers.new.items (P.calls peers.new) moments n)) }
 {
     let mut place = 0;
-    while place < clients.len() {
-        send_owed(share, peers, &mut clients[place]);
-        if settle(share, peers, &clients[place]) {
+    while place < served_peers.len() {
+        send_owed(share, peers, &mut served_peers[place]);
+        if settle(share, peers, &served_peers[place]) {
             place += 1;
         } else {
-            let _ = clients.remove(place);
+            let _ = served_peers.remove(place);
         }
     }
 }
@@ -241,21 +241,21 @@ fn turn<A: Authenticator + Drop, T: Tree + Drop, O: Opens + Drop, P: Peers, C: C
     share: &mut Share<A, T, O>,
     peers: &mut P,
     clock: &mut C,
-    clients: &mut Vec<Client>,
+    served_peers: &mut Vec<ServedPeer>,
 ) -> bool
     ensures { Keeping (P.keeps peers.old && C.keeps clock.old) (P.keeps peers.new && C.keeps clock.new) ((n : ℕ) →
-        Turn A.meaning (serving share.old clients.old.items (P.calls peers.old) (C.moments clock.old) n)
-        (serving share.new clients.new.items (P.calls peers.new) (C.moments clock.new) (if result then n + 1 else n))) }
+        Turn A.meaning (serving share.old served_peers.old.items (P.calls peers.old) (C.moments clock.old) n)
+        (serving share.new served_peers.new.items (P.calls peers.new) (C.moments clock.new) (if result then n + 1 else n))) }
 {
-    let ran_out = take_event(share, peers, clock, clients);
-    send_all(share, peers, clients);
+    let ran_out = take_event(share, peers, clock, served_peers);
+    send_all(share, peers, served_peers);
     ran_out
 }
 
 /// Serves a share to its peers for so many turns, and tells how often memory ran out.
 ///
-/// A turn is the next event of the peers, and then a send to each client that is owed bytes. Where memory runs out in a piece,
-/// or at an opening, that client is closed, and the others are served on.
+/// A turn is the next event of the peers, and then a send to each peer that is owed bytes. Where memory runs out in a piece,
+/// or at an opening, that peer is closed, and the others are served on.
 pub fn serve<A: Authenticator + Drop, T: Tree + Drop, O: Opens + Drop, P: Peers, C: Clock>(
     share: &mut Share<A, T, O>,
     peers: &mut P,
@@ -265,10 +265,10 @@ pub fn serve<A: Authenticator + Drop, T: Tree + Drop, O: Opens + Drop, P: Peers,
     ensures { Keeping (P.keeps peers.old && C.keeps clock.old) (P.keeps peers.new && C.keeps clock.new)
         (Served A.meaning turns share.old (P.calls peers.old) (C.moments clock.old) share.new (P.calls peers.new) (C.moments clock.new) result) }
 {
-    let mut clients = Vec::new(share.allocator());
+    let mut served_peers = Vec::new(share.allocator());
     let mut count = 0;
     for _turn in 0..turns {
-        if turn(share, peers, clock, &mut clients) {
+        if turn(share, peers, clock, &mut served_peers) {
             count += 1;
         }
     }

@@ -1,6 +1,6 @@
 //! The share over its connections.
 
-ghost use Rattle.std.specs.Prelude.{◌≡◌, ◌<◌, ◌≤◌, ◌+◌, ◌++◌, [], true, false, Some, None, OnOk, OnErr, IfOk, IfErr, is_some, length, if◌then◌else◌};
+ghost use Rattle.std.specs.Prelude.{◌≡◌, ◌<◌, ◌+◌, ◌++◌, [], true, false, Some, None, OnOk, OnErr, IfOk, IfErr, if◌then◌else◌};
 ghost use Rattle.std.specs.List.{AllByRecursion, flat_map};
 ghost use Rattle.std.specs.Map.{remove_entry};
 ghost use Rattle.std.specs.BTreeMap.{is_at, insert_entry};
@@ -8,14 +8,18 @@ ghost use Rattle.std.specs.Ordering.{nat_cmp};
 ghost use Rattle.smb_tree.specs.Content.{new_content};
 ghost use Rattle.smb_request.specs.Settings.{settings_of, is_lawful};
 ghost use Rattle.smb_request.specs.State.{connection_added};
-ghost use Rattle.smb_engine.specs.Event.{text_of, events_of, connection_at};
+ghost use Rattle.smb_engine.specs.Event.{brings, text_of, events_of, connection_at};
 ghost use Rattle.smb_engine.specs.Output.{output_bytes, outputs_of};
-ghost use Rattle.smb_engine.specs.Share.{MakingRefused, new_share, link_of, new_link, opened, ended, opening_refusal, bytes_step, is_open_after, stopped, count_on, unread, OpeningRefused, PieceStopped, GoodState};
-ghost use Rattle.smb_engine.specs.Run.{unknown_refusal, event_refusal, event_step, run, run_behind, EventStopped, RunStopped};
+ghost use Rattle.smb_engine.specs.Refusals.{MakingRefused, EventOutOfMemory, OpeningRefused, PieceStopped, run_behind, EventStopped, RunStopped};
+ghost use Rattle.smb_engine.specs.State.{new_share, new_stream, stream_of, is_open, opened, ended};
+ghost use Rattle.smb_engine.specs.Run.{opening_refusal, bytes_step, unknown_refusal, event_refusal, event_step, run};
+ghost use Rattle.smb_engine.specs.Stream.{unread};
+ghost use Rattle.smb_engine.specs.Good.{GoodState};
 
-use super::connection::{Connection, LONGEST_PAYLOAD, Link};
+use super::arrival::Arrival;
+use super::connection::{Connection, ConnectionStream, LONGEST_PAYLOAD};
 use super::event::{Event, Fate};
-use super::fault::{RanOut, RunFault, ServeFault};
+use super::fault::{OutOfMemoryAfter, RunFault, ServeFault};
 use super::output::{Answer, Sink};
 use super::stream::take_piece;
 use smb_frame::FrameBuffer;
@@ -38,13 +42,13 @@ const CONNECTION_LIMIT: usize = 64;
 #[derive(Drop)]
 pub struct Share<A: Authenticator + Drop, T: Tree + Drop, O: Opens + Drop> {
     server: Server<A, T, O>,
-    links: BTreeMap<u64, Link>,
+    streams: BTreeMap<u64, ConnectionStream>,
     next: u64,
 }
 
 impl<A: Authenticator + Drop, T: Tree + Drop, O: Opens + Drop> fmt::Debug for Share<A, T, O> {
     fn fmt<W: fmt::Write>(&self, f: &mut fmt::Formatter<W>) -> fmt::Result {
-        write!(f, "Share {{ connections: {}, .. }}", self.links.len())
+        write!(f, "Share {{ connections: {}, .. }}", self.streams.len())
     }
 }
 
@@ -54,16 +58,16 @@ impl<A: Authenticator + Drop, T: Tree + Drop, O: Opens + Drop> Model for Share<A
 
     ghost Value = { ShareState A };
 
-    ghost view = { λ s. record { server = s.server; links = s.links.entries; next = s.next } };
+    ghost view = { λ s. record { server = s.server; streams = s.streams.entries; next = s.next } };
 
-    ghost invariant = { λ s. AreKept s.server.sessions.table.connections s.links.entries s.next };
+    ghost invariant = { λ s. AreKept s.server.sessions.table.connections s.streams.entries s.next };
 }
 
-/// A new connection: nothing came, no dialect stands, and its window is {0}.
-fn fresh_link(alloc: Global) -> Link
-    ensures { result ≡ new_link }
+/// The stream of a new connection: nothing was received, no dialect is negotiated, and the window is {0}.
+fn new_stream(alloc: Global) -> ConnectionStream
+    ensures { result ≡ new_stream }
 {
-    Link {
+    ConnectionStream {
         buffer: FrameBuffer::new(alloc, LONGEST_PAYLOAD),
         connection: Connection {
             payload_came: false,
@@ -74,39 +78,43 @@ fn fresh_link(alloc: Global) -> Link
 }
 
 /// Adds a connection's stream.
-fn put_link(links: &mut BTreeMap<u64, Link>, connection: u64, link: Link) -> Result<(), AllocError>
-    ensures ok { OnOk result (links.new.entries ≡ insert_entry nat_cmp links.old.entries connection link) }
-    ensures err { OnErr result (links.new.entries ≡ links.old.entries) }
+fn add_stream(
+    streams: &mut BTreeMap<u64, ConnectionStream>,
+    connection: u64,
+    stream: ConnectionStream,
+) -> Result<(), AllocError>
+    ensures ok { OnOk result (streams.new.entries ≡ insert_entry nat_cmp streams.old.entries connection stream) }
+    ensures err { OnErr result (streams.new.entries ≡ streams.old.entries) }
 {
-    links.insert(connection, link)?;
+    streams.insert(connection, stream)?;
     Ok(())
 }
 
 /// Takes a connection's stream out.
-fn drop_link(links: &mut BTreeMap<u64, Link>, connection: u64)
-    ensures { links.new.entries ≡ remove_entry (is_at (nat_cmp connection)) links.old.entries }
+fn remove_stream(streams: &mut BTreeMap<u64, ConnectionStream>, connection: u64)
+    ensures { streams.new.entries ≡ remove_entry (is_at (nat_cmp connection)) streams.old.entries }
 {
-    let _ = links.remove(&connection);
+    let _ = streams.remove(&connection);
 }
 
 /// Adds a connection, which may begin sessions from now on. An error changes nothing.
 fn add_connection<A: Authenticator + Drop, T: Tree + Drop, O: Opens + Drop>(
     server: &mut Server<A, T, O>,
-    links: &mut BTreeMap<u64, Link>,
+    streams: &mut BTreeMap<u64, ConnectionStream>,
     connection: u64,
-    link: Link,
+    stream: ConnectionStream,
 ) -> Result<(), AllocError>
-    requires { AllByRecursion (λ entry. entry.0 < connection) links.old.entries }
+    requires { AllByRecursion (λ entry. entry.0 < connection) streams.old.entries }
     ensures server { OnOk result (server.new ≡ connection_added server.old connection) }
-    ensures links { OnOk result (links.new.entries ≡ insert_entry nat_cmp links.old.entries connection link) }
+    ensures streams { OnOk result (streams.new.entries ≡ insert_entry nat_cmp streams.old.entries connection stream) }
     ensures err_server { OnErr result (server.new ≡ server.old) }
-    ensures err_links { OnErr result (links.new.entries ≡ links.old.entries) }
+    ensures err_streams { OnErr result (streams.new.entries ≡ streams.old.entries) }
 {
-    put_link(links, connection, link)?;
+    add_stream(streams, connection, stream)?;
     match server.connect(connection) {
         Ok(()) => Ok(()),
         Err(fault) => {
-            drop_link(links, connection);
+            remove_stream(streams, connection);
             Err(fault)
         }
     }
@@ -117,7 +125,7 @@ impl<A: Authenticator + Drop> Share<A, NodeTree, HandleTable> {
     /// [`Share::new`] makes of them. No condition is asked of the caller.
     ///
     /// A configuration that breaks its rules is [`ServeFault::BadConfig`], before any memory is asked for; else
-    /// memory may be wanting, [`ServeFault::NoMemory`]. Both drop what was inherited in.
+    /// memory may be wanting, [`ServeFault::NoMemory`]. Both drop what was passed in.
     pub fn in_memory(alloc: Global, config: Config, authenticator: A) -> Result<Self, ServeFault>
         ensures lawful { OnOk result (is_lawful (settings_of config) ≡ true) }
         ensures state { IfOk result (λ share. share ≡ new_share (settings_of config) authenticator) }
@@ -139,7 +147,7 @@ impl<A: Authenticator + Drop, T: Tree + Drop, O: Opens + Drop> Share<A, T, O> {
     /// configuration, and there are no opens.
     ///
     /// A configuration that breaks its rules is [`ServeFault::BadConfig`]; else memory may be wanting,
-    /// [`ServeFault::NoMemory`]. Both drop what was inherited in.
+    /// [`ServeFault::NoMemory`]. Both drop what was passed in.
     pub fn new(
         alloc: Global,
         config: Config,
@@ -176,7 +184,7 @@ impl<A: Authenticator + Drop, T: Tree + Drop, O: Opens + Drop> Share<A, T, O> {
         match Server::new(alloc, config, authenticator, tree, opens) {
             Ok(server) => Ok(Share {
                 server,
-                links: BTreeMap::new(alloc),
+                streams: BTreeMap::new(alloc),
                 next: 1,
             }),
             Err(_) => Err(ServeFault::NoMemory { done: 0 }),
@@ -200,11 +208,11 @@ impl<A: Authenticator + Drop, T: Tree + Drop, O: Opens + Drop> Share<A, T, O> {
         ensures kept { OnErr result (self.new ≡ self.old) }
     {
         let connection = self.next;
-        if self.links.len() >= CONNECTION_LIMIT || connection == u64::MAX {
+        if self.streams.len() >= CONNECTION_LIMIT || connection == u64::MAX {
             return Err(ServeFault::TooManyConnections);
         }
-        let link = fresh_link(self.server.allocator());
-        match add_connection(&mut self.server, &mut self.links, connection, link) {
+        let stream = new_stream(self.server.allocator());
+        match add_connection(&mut self.server, &mut self.streams, connection, stream) {
             Ok(()) => {}
             Err(_) => return Err(ServeFault::NoMemory { done: 0 }),
         }
@@ -214,46 +222,51 @@ impl<A: Authenticator + Drop, T: Tree + Drop, O: Opens + Drop> Share<A, T, O> {
 
     /// Whether a connection is open.
     pub fn is_open(&self, connection: u64) -> bool
-        ensures { result ≡ is_some (link_of connection self.now.links) }
+        ensures { result ≡ is_open self.now connection }
     {
-        self.links.contains_key(&connection)
+        self.streams.contains_key(&connection)
     }
 
-    /// Takes a piece of a connection's stream, and puts out what answers it. On a connection that is not
-    /// open it is passed over, and there is no error. An error tells how many requests were performed; the
-    /// connection has ended after them.
-    #[tactic(auto, unfolding(crate::specs::Share::bytes_step, crate::specs::Share::stopped))]
+    /// Takes a piece of a connection's stream, and puts out the replies. On a connection that is not open it is
+    /// passed over, and there is no error. An error tells how many requests were performed; the connection has ended
+    /// after them.
+    #[tactic(auto, unfolding(crate::specs::Run::bytes_step))]
     fn take<K: Sink>(
         &mut self,
         connection: u64,
         moment: u64,
         piece: &[u8],
         out: &mut K,
-    ) -> Result<Fate, RanOut>
-        ensures state { OnOk result (self.new ≡ unread (bytes_step A.meaning self.old connection moment piece.now).state) }
-        ensures outputs { OnOk result (K.content out.new ≡ K.content out.old ++ flat_map K.hears (bytes_step A.meaning self.old connection moment piece.now).outputs) }
-        ensures fate { IfOk result (λ fate. fate ≡ (if is_open_after A.meaning self.old connection moment piece.now then Fate.Open else Fate.Ended)) }
-        ensures err { IfErr result (λ ran_out. self.new ≡ unread (stopped A.meaning self.old connection moment piece.now ran_out.done)) }
-        ensures within { IfErr result (λ ran_out. ran_out.done ≤ count_on A.meaning self.old connection moment piece.now) }
-        ensures open { OnErr result (is_some (link_of connection self.old.links) ≡ true) }
+    ) -> Result<Fate, OutOfMemoryAfter>
+        ensures state { OnOk result (self.new ≡ unread
+            (bytes_step A.meaning self.old connection moment piece.now).state) }
+        ensures outputs { OnOk result (K.content out.new ≡ K.content out.old ++ flat_map K.hears
+            (bytes_step A.meaning self.old connection moment piece.now).outputs) }
+        ensures fate { IfOk result (λ fate. fate ≡ (if is_open self.new connection then Fate.Open else Fate.Ended)) }
+        ensures err { IfErr result (λ ran_out. EventOutOfMemory A.meaning self.old
+            (brings connection moment piece.now) ran_out.done self.new) }
         ensures kept { OnErr result (K.content out.new ≡ K.content out.old) }
     {
-        let link = match self.links.get_mut(&connection) {
-            Some(link) => link,
+        let stream = match self.streams.get_mut(&connection) {
+            Some(stream) => stream,
             None => return Ok(Fate::Ended),
         };
-        match take_piece(&mut self.server, link, connection, moment, piece, out) {
+        let arrival = Arrival {
+            connection_id: connection,
+            moment,
+        };
+        match take_piece(&mut self.server, arrival, stream, piece, out) {
             Ok(true) => Ok(Fate::Open),
             Ok(false) => {
                 self.server.good();
                 self.server.disconnect(connection);
-                self.links.remove(&connection);
+                self.streams.remove(&connection);
                 Ok(Fate::Ended)
             }
             Err(ran_out) => {
                 self.server.good();
                 self.server.disconnect(connection);
-                self.links.remove(&connection);
+                self.streams.remove(&connection);
                 Err(ran_out)
             }
         }
@@ -267,11 +280,11 @@ impl<A: Authenticator + Drop, T: Tree + Drop, O: Opens + Drop> Share<A, T, O> {
     {
         self.server.good();
         self.server.disconnect(connection);
-        let _ = self.links.remove(&connection);
+        let _ = self.streams.remove(&connection);
         self.good();
     }
 
-    /// Takes a piece of a connection's stream, and adds the bytes of the frames that answer it.
+    /// Takes a piece of a connection's stream, and adds the bytes of the frames that reply to it.
     ///
     /// `moment` is in units of 100 ns since 1601. On a connection that is not open the piece is passed over:
     /// nothing changes, and the connection is [`Fate::Ended`]. After [`ServeFault::NoMemory`], the only refusal,
@@ -284,41 +297,22 @@ impl<A: Authenticator + Drop, T: Tree + Drop, O: Opens + Drop> Share<A, T, O> {
         piece: &[u8],
         out: &mut Vec<u8>,
     ) -> Result<Fate, ServeFault>
-        ensures state { OnOk result (self.new ≡ unread (bytes_step A.meaning self.old connection moment piece.now).state) }
-        ensures outputs { OnOk result (out.new.items ≡ out.old.items ++ flat_map output_bytes (bytes_step A.meaning self.old connection moment piece.now).outputs) }
-        ensures fate { IfOk result (λ fate. fate ≡ (if is_open_after A.meaning self.old connection moment piece.now then Fate.Open else Fate.Ended)) }
+        ensures state { OnOk result (self.new ≡ unread
+            (bytes_step A.meaning self.old connection moment piece.now).state) }
+        ensures outputs { OnOk result (out.new.items ≡ out.old.items ++ flat_map output_bytes
+            (bytes_step A.meaning self.old connection moment piece.now).outputs) }
+        ensures fate { IfOk result (λ fate. fate ≡ (if is_open self.new connection then Fate.Open else Fate.Ended)) }
         ensures err { IfErr result (λ fault. PieceStopped A.meaning self.old connection moment piece.now fault self.new) }
         ensures kept { OnErr result (out.new.items ≡ out.old.items) }
-        ensures passed { OnOk result (link_of connection self.old.links ≡ None → self.new ≡ self.old) }
+        ensures passed { OnOk result (stream_of connection self.old.streams ≡ None → self.new ≡ self.old) }
         ensures good { GoodState self.new }
     {
-        let _ = &self.links;
+        let _ = &self.streams;
         let taken = self.take(connection, moment, piece, out);
         self.good();
         match taken {
             Ok(fate) => Ok(fate),
-            Err(RanOut { done }) => Err(ServeFault::NoMemory { done }),
-        }
-    }
-
-    /// Takes a piece as [`Share::take`] does, for answers with their connections.
-    fn answer(
-        &mut self,
-        connection: u64,
-        moment: u64,
-        piece: &[u8],
-        answers: &mut Vec<Answer>,
-    ) -> Result<(), RanOut>
-        ensures state { OnOk result (self.new ≡ unread (bytes_step A.meaning self.old connection moment piece.now).state) }
-        ensures outputs { OnOk result (outputs_of answers.new.items ≡ outputs_of answers.old.items ++ (bytes_step A.meaning self.old connection moment piece.now).outputs) }
-        ensures err { IfErr result (λ ran_out. self.new ≡ unread (stopped A.meaning self.old connection moment piece.now ran_out.done)) }
-        ensures within { IfErr result (λ ran_out. ran_out.done ≤ count_on A.meaning self.old connection moment piece.now) }
-        ensures open { OnErr result (is_some (link_of connection self.old.links) ≡ true) }
-        ensures kept { OnErr result (outputs_of answers.new.items ≡ outputs_of answers.old.items) }
-    {
-        match self.take(connection, moment, piece, answers) {
-            Ok(_) => Ok(()),
-            Err(ran_out) => Err(ran_out),
+            Err(OutOfMemoryAfter { done }) => Err(ServeFault::NoMemory { done }),
         }
     }
 
@@ -333,7 +327,8 @@ impl<A: Authenticator + Drop, T: Tree + Drop, O: Opens + Drop> Share<A, T, O> {
     fn event(&mut self, event: &Event, answers: &mut Vec<Answer>) -> Result<(), ServeFault>
         ensures unrefused { OnOk result (event_refusal self.old (text_of event.now) ≡ None) }
         ensures state { OnOk result (self.new ≡ unread (event_step A.meaning self.old (text_of event.now)).state) }
-        ensures outputs { OnOk result (outputs_of answers.new.items ≡ outputs_of answers.old.items ++ (event_step A.meaning self.old (text_of event.now)).outputs) }
+        ensures outputs { OnOk result (outputs_of answers.new.items ≡ outputs_of answers.old.items ++
+            (event_step A.meaning self.old (text_of event.now)).outputs) }
         ensures err { IfErr result (λ fault. EventStopped A.meaning self.old (text_of event.now) fault self.new) }
         ensures kept { OnErr result (outputs_of answers.new.items ≡ outputs_of answers.old.items) }
     {
@@ -356,9 +351,9 @@ impl<A: Authenticator + Drop, T: Tree + Drop, O: Opens + Drop> Share<A, T, O> {
                 if !self.was_opened(*connection) {
                     return Err(ServeFault::BadEvent);
                 }
-                match self.answer(*connection, *moment, piece, answers) {
-                    Ok(()) => Ok(()),
-                    Err(RanOut { done }) => Err(ServeFault::NoMemory { done }),
+                match self.take(*connection, *moment, piece, answers) {
+                    Ok(_) => Ok(()),
+                    Err(OutOfMemoryAfter { done }) => Err(ServeFault::NoMemory { done }),
                 }
             }
             Event::Ended(connection) => {
@@ -375,7 +370,8 @@ impl<A: Authenticator + Drop, T: Tree + Drop, O: Opens + Drop> Share<A, T, O> {
     fn run_events(&mut self, events: &[Event], answers: &mut Vec<Answer>) -> Result<(), RunFault>
         ensures ok { OnOk result (record { state = self.new; outputs = outputs_of answers.new.items; stop = None }
             ≡ run_behind (outputs_of answers.old.items) (run A.meaning self.old (events_of events.now))) }
-        ensures err { IfErr result (λ e. RunStopped A.meaning self.old (events_of events.now) e.place e.fault self.new (outputs_of answers.old.items) (outputs_of answers.new.items)) }
+        ensures err { IfErr result (λ e. RunStopped A.meaning self.old (events_of events.now) e.place e.fault self.new
+            (outputs_of answers.old.items) (outputs_of answers.new.items)) }
         ensures connection { IfErr result (λ e. connection_at (events_of events.now) e.place ≡ Some e.connection) }
     {
         let _ = &self.server;
@@ -402,12 +398,13 @@ impl<A: Authenticator + Drop, T: Tree + Drop, O: Opens + Drop> Share<A, T, O> {
     /// A fault tells the place of the event that it stopped at, and its connection; the events before it were
     /// performed, and their answers added. A refused event ([`ServeFault::BadEvent`],
     /// [`ServeFault::TooManyConnections`]) changes nothing. After [`ServeFault::NoMemory`] the first `done` requests of
-    /// the event were performed, no_reply, and then its connection has ended; an opening changed nothing. Memory
+    /// the event were performed, without a reply, and then its connection has ended; an opening changed nothing. Memory
     /// never runs out at the end of a connection, nor at a piece on one that is not open.
     pub fn run(&mut self, events: &[Event], answers: &mut Vec<Answer>) -> Result<(), RunFault>
         ensures ok { OnOk result (record { state = self.new; outputs = outputs_of answers.new.items; stop = None }
             ≡ run_behind (outputs_of answers.old.items) (run A.meaning self.old (events_of events.now))) }
-        ensures err { IfErr result (λ e. RunStopped A.meaning self.old (events_of events.now) e.place e.fault self.new (outputs_of answers.old.items) (outputs_of answers.new.items)) }
+        ensures err { IfErr result (λ e. RunStopped A.meaning self.old (events_of events.now) e.place e.fault self.new
+            (outputs_of answers.old.items) (outputs_of answers.new.items)) }
         ensures connection { IfErr result (λ e. connection_at (events_of events.now) e.place ≡ Some e.connection) }
         ensures good { GoodState self.new }
     {
@@ -421,6 +418,6 @@ impl<A: Authenticator + Drop, T: Tree + Drop, O: Opens + Drop> Share<A, T, O> {
         ensures { GoodState self.now }
     {
         self.server.good();
-        let _ = &self.links;
+        let _ = &self.streams;
     }
 }

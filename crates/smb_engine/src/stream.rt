@@ -3,14 +3,15 @@
 ghost use Rattle.std.specs.Prelude.{◌≡◌, ◌≤◌, ◌++◌, ◌&&◌, None, OnOk, OnErr, IfOk, IfErr, IfSome, IsTrue, is_none, is_some, length, take};
 ghost use Rattle.std.specs.List.{flat_map};
 ghost use Rattle.smb_frame.specs.Reading.{first, fault_of, payloads, rest};
-ghost use Rattle.smb_engine.specs.Stream.{longest_payload, payload_steps, server_after_some, count_in_all, piece_step, server_after_piece, count_in_piece};
-ghost use Rattle.smb_engine.specs.Chain.{payload_step, server_after, count_in};
-ghost use Rattle.smb_engine.specs.Held.{steps_heard, Waits, IsPieceHeld};
-ghost use Rattle.smb_engine.specs.InPlace.{payload_heard};
+ghost use Rattle.smb_engine.specs.Stream.{longest_payload};
+ghost use Rattle.smb_engine.specs.Run.{payload_step, payload_steps, piece_step};
+ghost use Rattle.smb_engine.specs.Held.{Waits, IsPieceHeld, StoppedAfter};
+ghost use Rattle.smb_engine.specs.InPlace.{step_behind};
 
+use super::arrival::Arrival;
 use super::chain::perform_payload;
-use super::connection::{Connection, Link};
-use super::fault::RanOut;
+use super::connection::{Connection, ConnectionStream};
+use super::fault::OutOfMemoryAfter;
 use super::output::Sink;
 use smb_frame::FrameBuffer;
 use smb_opens::Opens;
@@ -22,32 +23,27 @@ use smb_tree::Tree;
 /// None where it ends the connection. An error tells how many requests were performed, and puts nothing out.
 fn put_payload<A: Authenticator + Drop, T: Tree + Drop, O: Opens + Drop, K: Sink>(
     server: &mut Server<A, T, O>,
+    arrival: Arrival,
     connection: &mut Connection,
-    connection_id: u64,
-    moment: u64,
     payload: &[u8],
     out: &mut K,
-) -> Result<Option<usize>, RanOut>
-    ensures ok { IfOk result (λ count. record { server = server.new; connection = connection.new; goes_on = is_some count; heard = K.content out.new }
-        ≡ payload_heard K.hears (K.content out.old) connection_id (payload_step A.meaning connection_id moment server.old connection.old payload.now)) }
-    ensures count { IfOk result (λ count. IfSome count (λ n. count_in A.meaning connection_id moment server.old connection.old payload.now ≡ n)) }
-    ensures err { IfErr result (λ ran_out. (ran_out.done ≤ count_in A.meaning connection_id moment server.old connection.old payload.now)
-        × (server.new ≡ server_after A.meaning connection_id moment server.old connection.old payload.now ran_out.done)) }
+) -> Result<Option<usize>, OutOfMemoryAfter>
+    ensures ok { IfOk result (λ count.
+        record { server = server.new; connection = connection.new; stays_open = is_some count; out = K.content out.new }
+        ≡ step_behind K.hears (K.content out.old)
+        (payload_step A.meaning arrival server.old connection.old payload.now)) }
+    ensures count { IfOk result (λ count. IfSome count (λ n. n ≡ length
+        (payload_step A.meaning arrival server.old connection.old payload.now).requests)) }
+    ensures err { IfErr result (λ ran_out. StoppedAfter server.old
+        (payload_step A.meaning arrival server.old connection.old payload.now) ran_out.done server.new) }
     ensures kept { OnErr result (K.content out.new ≡ K.content out.old) }
     ensures known { server.new.sessions.table.connections ≡ server.old.sessions.table.connections }
 {
     let mut bytes = out.take_bytes(server.allocator());
-    match perform_payload(
-        server,
-        connection_id,
-        moment,
-        connection,
-        payload,
-        &mut bytes,
-    ) {
-        Ok(Some(count)) => match out.give_frame(connection_id, bytes) {
+    match perform_payload(server, arrival, connection, payload, &mut bytes) {
+        Ok(Some(count)) => match out.give_frame(arrival.connection_id, bytes) {
             Ok(()) => Ok(Some(count)),
-            Err(_) => Err(RanOut { done: count }),
+            Err(_) => Err(OutOfMemoryAfter { done: count }),
         },
         Ok(None) => {
             out.give_back(bytes);
@@ -64,20 +60,24 @@ fn put_payload<A: Authenticator + Drop, T: Tree + Drop, O: Opens + Drop, K: Sink
 /// whether the connection stays open and how many requests were performed; an error, the latter.
 fn take_payloads<A: Authenticator + Drop, T: Tree + Drop, O: Opens + Drop, K: Sink>(
     server: &mut Server<A, T, O>,
+    arrival: Arrival,
     buffer: &mut FrameBuffer,
     connection: &mut Connection,
-    connection_id: u64,
-    moment: u64,
     out: &mut K,
-) -> Result<(bool, usize), RanOut>
+) -> Result<(bool, usize), OutOfMemoryAfter>
     requires { buffer.old.limit ≡ longest_payload }
-    ensures ok { IfOk result (λ r. record { server = server.new; connection = connection.new; heard = K.content out.new; stays_open = r.0 }
-        ≡ steps_heard K.hears (K.content out.old) (payload_steps A.meaning connection_id moment server.old connection.old (payloads longest_payload buffer.old.bytes))) }
-    ensures rest { IfOk result (λ r. IsTrue r.0 → (buffer.new.bytes ≡ rest longest_payload buffer.old.bytes) × (first longest_payload buffer.new.bytes ≡ None)) }
-    ensures done { IfOk result (λ r. server.new ≡ server_after_some A.meaning connection_id moment server.old connection.old (payloads longest_payload buffer.old.bytes) r.1) }
-    ensures count { IfOk result (λ r. r.1 ≤ count_in_all A.meaning connection_id moment server.old connection.old (payloads longest_payload buffer.old.bytes)) }
-    ensures err { IfErr result (λ ran_out. server.new ≡ server_after_some A.meaning connection_id moment server.old connection.old (payloads longest_payload buffer.old.bytes) ran_out.done) }
-    ensures within { IfErr result (λ ran_out. ran_out.done ≤ count_in_all A.meaning connection_id moment server.old connection.old (payloads longest_payload buffer.old.bytes)) }
+    ensures ok { IfOk result (λ r.
+        record { server = server.new; connection = connection.new; stays_open = r.0; out = K.content out.new }
+        ≡ step_behind K.hears (K.content out.old)
+        (payload_steps A.meaning arrival server.old connection.old (payloads longest_payload buffer.old.bytes))) }
+    ensures rest { IfOk result (λ r. IsTrue r.0 → (buffer.new.bytes ≡ rest longest_payload buffer.old.bytes)
+        × (first longest_payload buffer.new.bytes ≡ None)) }
+    ensures done { IfOk result (λ r. StoppedAfter server.old
+        (payload_steps A.meaning arrival server.old connection.old (payloads longest_payload buffer.old.bytes))
+        r.1 server.new) }
+    ensures err { IfErr result (λ ran_out. StoppedAfter server.old
+        (payload_steps A.meaning arrival server.old connection.old (payloads longest_payload buffer.old.bytes))
+        ran_out.done server.new) }
     ensures kept { take (length (K.content out.old)) (K.content out.new) ≡ K.content out.old }
     ensures limit { buffer.new.limit ≡ longest_payload }
     ensures known { server.new.sessions.table.connections ≡ server.old.sessions.table.connections }
@@ -85,10 +85,10 @@ fn take_payloads<A: Authenticator + Drop, T: Tree + Drop, O: Opens + Drop, K: Si
     let _length = buffer.len();
     let mut done = 0;
     while let Some(payload) = buffer.next() {
-        match put_payload(server, connection, connection_id, moment, payload, out) {
+        match put_payload(server, arrival, connection, payload, out) {
             Err(ran_out) => {
                 let done = done + ran_out.done;
-                return Err(RanOut { done });
+                return Err(OutOfMemoryAfter { done });
             }
             Ok(None) => return Ok((false, done)),
             Ok(Some(count)) => {
@@ -114,31 +114,31 @@ fn stays_open(open_still: bool, buffer: &FrameBuffer) -> bool
 /// After an error nothing was put out. The connection is to be given up then, and where it doesn't stay open.
 pub(crate) fn take_piece<A: Authenticator + Drop, T: Tree + Drop, O: Opens + Drop, K: Sink>(
     server: &mut Server<A, T, O>,
-    link: &mut Link,
-    connection_id: u64,
-    moment: u64,
+    arrival: Arrival,
+    stream: &mut ConnectionStream,
     piece: &[u8],
     out: &mut K,
-) -> Result<bool, RanOut>
-    requires { Waits link.old }
-    ensures ok { IfOk result (λ stays_open. IsPieceHeld (piece_step A.meaning connection_id moment server.old link.old piece.now) server.new link.new stays_open) }
-    ensures outputs { OnOk result (K.content out.new ≡ K.content out.old ++ flat_map K.hears (piece_step A.meaning connection_id moment server.old link.old piece.now).outputs) }
-    ensures err { IfErr result (λ ran_out. server.new ≡ server_after_piece A.meaning connection_id moment server.old link.old piece.now ran_out.done) }
-    ensures within { IfErr result (λ ran_out. ran_out.done ≤ count_in_piece A.meaning connection_id moment server.old link.old piece.now) }
+) -> Result<bool, OutOfMemoryAfter>
+    requires { Waits stream.old }
+    ensures ok { IfOk result (λ stays_open. IsPieceHeld stream.old.received piece.now
+        (piece_step A.meaning arrival server.old stream.old piece.now) server.new stream.new stays_open) }
+    ensures outputs { OnOk result (K.content out.new ≡ K.content out.old ++ flat_map K.hears
+        (piece_step A.meaning arrival server.old stream.old piece.now).outputs) }
+    ensures err { IfErr result (λ ran_out. StoppedAfter server.old
+        (piece_step A.meaning arrival server.old stream.old piece.now) ran_out.done server.new) }
     ensures kept { OnErr result (K.content out.new ≡ K.content out.old) }
     ensures known { server.new.sessions.table.connections ≡ server.old.sessions.table.connections }
 {
     let before = out.mark();
-    match link.buffer.push(piece) {
+    match stream.buffer.push(piece) {
         Ok(()) => {}
-        Err(_) => return Err(RanOut { done: 0 }),
+        Err(_) => return Err(OutOfMemoryAfter { done: 0 }),
     }
     let (open_still, done) = match take_payloads(
         server,
-        &mut link.buffer,
-        &mut link.connection,
-        connection_id,
-        moment,
+        arrival,
+        &mut stream.buffer,
+        &mut stream.connection,
         out,
     ) {
         Ok(taken) => taken,
@@ -147,15 +147,15 @@ pub(crate) fn take_piece<A: Authenticator + Drop, T: Tree + Drop, O: Opens + Dro
             return Err(ran_out);
         }
     };
-    if stays_open(open_still, &link.buffer) {
-        link.connection.window.good();
+    if stays_open(open_still, &stream.buffer) {
+        stream.connection.window.good();
         return Ok(true);
     }
-    match out.put_end(connection_id) {
+    match out.put_end(arrival.connection_id) {
         Ok(()) => {}
         Err(_) => {
             out.cut_back(before);
-            return Err(RanOut { done });
+            return Err(OutOfMemoryAfter { done });
         }
     }
     Ok(false)

@@ -44,6 +44,9 @@ pub enum CommandFault {
     ConfigRefused(Option<ConfigRule>),
     #[error("listen: failed")]
     ListenFailed(ListenFault),
+    /// The system gave no random bytes for the logins of a served share.
+    #[error("seed: failed")]
+    SeedFailed,
     #[error("input: failed")]
     InputFailed,
     #[error("input too long")]

@@ -94,6 +94,7 @@ fn share_over<T: Tree + Drop, O: Opens + Drop>(
     };
     let Configuration {
         config,
+        guest: _,
         authenticator,
     } = configuration;
     match Share::new(alloc, config, authenticator, tree, opens) {

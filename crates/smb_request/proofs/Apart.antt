@@ -1,7 +1,7 @@
 -- One request, seen from the sessions of other connections.
 use Rattle.std.proofs.Common.{◌≡◌, ◌==◌, ℕ, Bool, true, false, if◌then◌else◌, List, [], ◌∷◌, length, filter, ◌⊎◌, Option, None, Some, is_some, refl, sym, ap, subst, arith, ◌∙◌}
 use Rattle.std.proofs.lemmas.Bool.Decides.{nat_tests}
-use Rattle.std.specs.Option.{option_map, option_map_or, option_and_then}
+use Rattle.std.specs.Option.{option_map_or, option_and_then}
 use Rattle.smb_session.specs.Session.{SessionState}
 use Rattle.smb_session.specs.Setup.{setup_number}
 use Rattle.smb_body.specs.SessionSetup.{SessionSetupAsked}
@@ -10,10 +10,7 @@ use Rattle.smb_access.specs.declared.open_row.OpenRow.{OpenRow}
 use Rattle.smb_access.specs.declared.open_row.Owner.TheVariants.{Session, Tree}
 use Rattle.smb_access.specs.Opens.{open_numbers, is_held_by, open_of, without_open}
 use Rattle.smb_access.proofs.Rows.{kept_above, others}
-use Rattle.smb_head.specs.Headers.{header_of}
-use Rattle.smb_wire.specs.Commands.{known_command}
 use Rattle.smb_wire.specs.Dialects.{revision_of}
-use Rattle.smb_wire.specs.declared.command.Command.{Command}
 use Rattle.smb_wire.specs.declared.dialect.Dialect.{Dialect}
 use Rattle.smb_session.specs.Negotiate.{best_of}
 use Rattle.smb_body.specs.Requests.{RequestValue, asks_negotiate, asks_session_setup, asks_logoff, asks_tree_connect, asks_tree_disconnect, asks_create, asks_close, asks_flush, asks_read, asks_write, asks_lock, asks_cancel, asks_echo, asks_query_directory, asks_query_info, asks_set_info, file_id_of}

@@ -1,5 +1,5 @@
 -- QUERY_DIRECTORY: what holds of the state that it leaves, where it holds with the scan of an open set.
-use Rattle.std.proofs.Common.{◌≡◌, ◌≢◌, ◌==◌, ◌||◌, not, ◌<◌, ◌≤◌, ◌+◌, ◌^◌, ℕ, zero, suc, Bool, true, false, cond, filter, length, take, replicate, length-append, length-take, nat_le, List, [], ◌∷◌, ◌++◌, if◌then◌else◌, nat_lt, Option, None, Some, IfSome, Result, Ok, Err, IsErrAnd, refl, sym, ap, arith, ◌∙◌}
+use Rattle.std.proofs.Common.{◌≡◌, ◌≢◌, ◌==◌, ◌<◌, ◌≤◌, ◌+◌, ◌^◌, ℕ, zero, suc, Bool, true, false, cond, filter, length, take, replicate, length-append, length-take, nat_le, List, [], ◌∷◌, ◌++◌, if◌then◌else◌, nat_lt, Option, None, Some, IfSome, Result, Ok, Err, IsErrAnd, refl, sym, ap, arith, ◌∙◌}
 use Rattle.std.proofs.lemmas.Bool.Decides.{nat_tests}
 use Rattle.std.proofs.Math.Nat.{min-le_left}
 use Rattle.std.specs.Prelude.{option_and_then}
@@ -20,11 +20,11 @@ use Rattle.smb_info.specs.OpenQueries.{open_list_fault, open_bytes_listed, open_
 use Rattle.smb_info.specs.declared.fault.InfoFault.{InfoFault}
 use Rattle.smb_info.specs.declared.fault.InfoFault.TheVariants.{BadClass, BadPattern, TooSmall, NoMatch, NoMore, Unreadable, NoMemory}
 use Rattle.smb_request.specs.declared.status.Status.{Status}
-use Rattle.smb_request.specs.declared.status.Status.TheVariants.{InfoLengthMismatch, InvalidParameter, NotSupported}
+use Rattle.smb_request.specs.declared.status.Status.TheVariants.{InfoLengthMismatch}
 use Rattle.smb_request.specs.declared.call.Call.{Call}
 use Rattle.smb_request.specs.declared.query_directory.ListingRefusal.{ListingRefusal}
 use Rattle.smb_request.specs.QueryDirectory.{list_asked_by, directory_refusal, listing_refusal, listing_refused, directory_listed, listed_as_asked, directory_queried}
-use Rattle.smb_request.specs.Response.{CommandStep, failure, refused}
+use Rattle.smb_request.specs.Response.{refused}
 use Rattle.smb_request.specs.State.{ServerState, with_store}
 use Rattle.smb_session.specs.Table.{TableState}
 use Rattle.smb_access.specs.declared.open_row.OpenRow.{OpenRow}

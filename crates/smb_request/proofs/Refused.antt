@@ -1,7 +1,6 @@
 -- What a refusal of the store or of the sessions comes to is what the definitions say of it.
-use Rattle.std.proofs.Common.{◌≡◌, ◌≢◌, ℕ, ◌==◌, Bool, true, false, if◌then◌else◌, Option, None, Some, IfSome, Result, Ok, Err, IsErrAnd, refl, sym, ap, arith, ◌∙◌}
+use Rattle.std.proofs.Common.{◌≡◌, ◌≢◌, ℕ, ◌==◌, false, Option, IfSome, Result, Ok, Err, IsErrAnd, refl, arith}
 use Rattle.std.proofs.lemmas.Bool.Decides.{nat_tests}
-use Rattle.std.specs.Option.{option_map_or, option_and_then}
 use Rattle.smb_wire.specs.NtStatus.{STATUS_SUCCESS}
 use Rattle.smb_access.specs.Faults.{IsRefusal}
 use Rattle.smb_access.specs.declared.fault.StoreFault.{StoreFault}
@@ -12,13 +11,12 @@ use Rattle.smb_session.specs.Sessions.{IsRefused}
 use Rattle.smb_session.specs.Authenticator.{Meaning}
 use Rattle.smb_request.specs.declared.call.Call.{Call}
 use Rattle.smb_request.specs.declared.refusal.Refusal.{Refusal}
-use Rattle.smb_request.specs.declared.refusal.Refusal.TheVariants.{Status as ByStatus, NoMemory}
 use Rattle.smb_request.specs.declared.response.Response.{Response}
 use Rattle.smb_request.specs.declared.status.Status.TheVariants.{Store}
 use Rattle.smb_request.specs.Bodies.{result_step}
 use Rattle.smb_request.specs.Refusals.{store_refusal, stored_refusal, session_refusal}
 use Rattle.smb_request.specs.Response.{CommandStep, refused, by_status}
-use Rattle.smb_request.specs.Session.{status_of_refusal, unless_refused}
+use Rattle.smb_request.specs.Session.{unless_refused}
 use Rattle.smb_request.specs.State.{ServerState}
 
 module _ {S : Type 0} (m : Meaning S) (server : ServerState S) (call : Call) (done : CommandStep S) where

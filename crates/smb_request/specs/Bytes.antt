@@ -1,5 +1,5 @@
 -- READ and WRITE ([MS-SMB2] 3.3.5.12, 3.3.5.13).
-use Rattle.std.specs.Prelude.{ℕ, length}
+use Rattle.std.specs.Prelude.{length}
 use Rattle.smb_body.specs.declared.read.ReadRequest.{ReadRequest}
 use Rattle.smb_body.specs.Write.{WriteAsked}
 use Rattle.smb_body.specs.Replies.{answers_read, answers_write}

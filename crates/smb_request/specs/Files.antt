@@ -1,5 +1,5 @@
 -- CREATE and CLOSE ([MS-SMB2] 3.3.5.9, 3.3.5.10).
-use Rattle.std.specs.Prelude.{ℕ, Bool, false, ◌&&◌, ◌==◌, bit_and, List, if◌then◌else◌}
+use Rattle.std.specs.Prelude.{Bool, false, ◌&&◌, ◌==◌, bit_and, List, if◌then◌else◌}
 use Rattle.std.specs.Option.{option_map_or}
 use Rattle.smb_wire.specs.declared.file_id.FileId.{FileId}
 use Rattle.smb_body.specs.declared.create.CreateResponse.{CreateResponse}

@@ -1,16 +1,14 @@
 -- For the proofs; nothing here need be believed.
 -- What the code holds of an information class, and of what is refused before one is looked at.
-use Rattle.std.specs.Prelude.{◌≡◌, ◌≢◌, ℕ, ◌==◌, ◌||◌, not, nat_lt, Option, Some, None, if◌then◌else◌}
-use Rattle.std.specs.Option.{option_map, option_map_or}
-use Rattle.smb_body.specs.declared.query_info.QueryInfoRequest.{QueryInfoRequest}
+use Rattle.std.specs.Prelude.{◌≡◌, ◌≢◌, ℕ, Option, Some, None}
+use Rattle.std.specs.Option.{option_map}
 use Rattle.smb_info.specs.declared.fault.InfoFault.{InfoFault}
 use Rattle.smb_info.specs.declared.fault.InfoFault.TheVariants.{Unreadable, NoMemory}
 use Rattle.smb_info.specs.Information.{Information, told, information_written, info_fault}
 use Rattle.smb_request.specs.declared.query_info.InformationBytes.{InformationBytes}
 use Rattle.smb_request.specs.declared.status.Status.{Status}
-use Rattle.smb_request.specs.declared.status.Status.TheVariants.{InvalidParameter, NotSupported}
+use Rattle.smb_request.specs.declared.status.Status.TheVariants.{InvalidParameter}
 use Rattle.smb_request.specs.QueryDirectory.{listing_refusal}
-use Rattle.smb_request.specs.InfoTypes.{FILE, FILESYSTEM, SECURITY, QUOTA}
 
 -- the status of a refusal: that of a rename that is unreadable, else as of a listing; being out of memory has none
 abbrev pub fault_status : InfoFault → Option Status

@@ -1,5 +1,5 @@
 -- LOCK ([MS-SMB2] 3.3.5.14).
-use Rattle.std.specs.Prelude.{ℕ, ◌==◌, Bool, false, bit_and, List, [], ◌∷◌, map, if◌then◌else◌}
+use Rattle.std.specs.Prelude.{◌==◌, Bool, false, bit_and, List, [], ◌∷◌, map, if◌then◌else◌}
 use Rattle.smb_wire.specs.LockFlags.{UNLOCK}
 use Rattle.smb_locks.specs.declared.ask.LockAsk.{LockAsk}
 use Rattle.smb_body.specs.declared.lock_element.LockElement.{LockElement}

@@ -1,5 +1,5 @@
 -- QUERY_DIRECTORY ([MS-SMB2] 3.3.5.18).
-use Rattle.std.specs.Prelude.{ℕ, not, nat_lt, Option, None, Some, option_and_then, if◌then◌else◌}
+use Rattle.std.specs.Prelude.{not, nat_lt, Option, None, Some, option_and_then, if◌then◌else◌}
 use Rattle.std.specs.Option.{option_map_or}
 use Rattle.smb_wire.specs.Access.{has_any, FILE_READ_DATA}
 use Rattle.smb_tree.specs.Entries.{is_folder_kind}

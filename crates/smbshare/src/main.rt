@@ -10,7 +10,7 @@ use clap::error::ErrorKind as WordFault;
 use clap::{Arg, ArgAction, ArgMatches, Command};
 use command_line::CommandLine;
 use named_file::NamedFile;
-use serve::{ServeWords, serve_share};
+use serve::{Login, ServeWords, serve_share};
 use smb_config::{BUILT_IN, ConfigFault, read_config};
 use smb_replay::{CommandFault, Detail, Given, replay_in_detail, show_fields, show_text};
 use std::alloc::{AllocError, Global};
@@ -25,7 +25,7 @@ SESSION_SETUP and no password: no client of Samba's sends `a`, so serve with --c
 
 Examples:
   smbshare replay --explain < examples/two_clients
-  smbshare serve --listen 127.0.0.1:4450 --config guest.toml
+  smbshare serve --listen 127.0.0.1:4450 --config guest.toml --login ntlm
   echo 00000044fe534d42 | smbshare show
 
 With --explain, and always on a terminal, `replay` and `serve` say in a second line what is wrong: of a
@@ -38,7 +38,7 @@ const REPLAY_HELP: &str = "Example:
 
 /// The end of the help of `serve`.
 const SERVE_HELP: &str = "Example, of a share that lets guests in:
-  smbshare serve --listen 127.0.0.1:4450 --config guest.toml";
+  smbshare serve --listen 127.0.0.1:4450 --config guest.toml --login ntlm";
 
 /// The end of the help of `show`.
 const SHOW_HELP: &str = "No share is made, so nothing is built in.
@@ -86,12 +86,20 @@ fn serve_command<'a>(alloc: Global) -> Result<Command<'a>, AllocError> {
         .value_name("SECONDS")
         .value_parser(ValueParser::Unsigned(0, u64::MAX))
         .help("After how long a client is gone that says nothing, 0 for never [default: 3600]");
+    let login = Arg::new(alloc, "login")
+        .long("login")
+        .value_name("HOW")
+        .value_parser(ValueParser::Names(&["token", "ntlm"]))
+        .help(
+            "How clients log in: by one token of the configuration, or by NTLM, which lets guests in alone [default: token]",
+        );
     Command::new(alloc, "serve")
         .about("Serves a new share over TCP")
         .after_help(SERVE_HELP)
         .arg(config_option(alloc))?
         .arg(explain_option(alloc))?
         .arg(listen)?
+        .arg(login)?
         .arg(turns)?
         .arg(idle)
 }
@@ -207,6 +215,14 @@ fn show_input(rt: &HostRuntime, with_fields: bool) -> ExitCode {
     })
 }
 
+/// How clients log in to a served share.
+fn login_of(words: &ArgMatches<'_>) -> Login {
+    match words.get_str("login") {
+        Some("ntlm") => Login::Ntlm,
+        _ => Login::Token,
+    }
+}
+
 /// Serves a share by the words of the command, and gives the exit status.
 fn serve_clients<'a>(
     rt: &HostRuntime,
@@ -217,6 +233,7 @@ fn serve_clients<'a>(
     let serve_words = ServeWords {
         config,
         is_built_in,
+        login: login_of(words),
         listen: word_of(words, "listen"),
         turns: words.get_one("turns").unwrap_or(u64::MAX),
         idle_seconds: words.get_one("idle").unwrap_or(3600),

@@ -10,7 +10,7 @@ pub returns-clause-ok : goal.returns-clause-ok
 unfolding joined_replies
 returns-clause-ok g c =
     let before : List ℕ = c.open_frame.new.out.items in
-    let response = negotiate_answer c.args.server.now.settings.guid (hello_of g.A.Authenticator.meaning c.args.server.now) c.args.moment c.args.dialect_revision in
+    let response = negotiate_answer c.args.server.now.settings.guid (hello_of g.A.Authenticator.meaning c.args.server.now) c.args.arrival.moment c.args.dialect_revision in
     let none : before ≡ replies_written before [] = sym (append-nil before) in
     let opened = c.in-Ok-open_reply.ensures.opened before [] c.begin-writer.ensures.placed none in
     let place = c.in-Ok-open_reply.ensures.place before [] c.begin-writer.ensures.placed none in
@@ -18,4 +18,4 @@ returns-clause-ok g c =
     let closed = c.close_reply.ensures.closed before [] (reply_spelling response) c.begin-writer.ensures.placed place (body ∙ ap (λ bytes. bytes ++ reply_spelling response) opened) in
     let spelled = ap (λ (bytes : List ℕ). bytes ++ joined_replies (record { header = c.reply_header.result; body = reply_spelling response } ∷ [])) c.in-Ok.ensures.ok in
     let headed = ap (λ h. (c.args.out.now.items ++ replicate 4 0) ++ joined_replies (record { header = h; body = reply_spelling response } ∷ [])) (c.reply_header.ensures response) in
-    c.end_frame.ensures c.args.out.now.items _ c.in-Ok.ensures.start (closed ∙ spelled ∙ headed)
+    c.end_frame.ensures c.args.arrival.connection_id c.args.out.now.items _ c.in-Ok.ensures.start (closed ∙ spelled ∙ headed)

@@ -1,6 +1,6 @@
 use Rattle.std.proofs.Common.{sym, ap, ◌∙◌, eqb, arith}
 use Rattle.std.proofs.lemmas.Bool.{eq-eqb, ne_eqb}
-use Rattle.smb_engine.proofs.Turns.{ids_skip, ids_more}
+use Rattle.smb_engine.proofs.Chains.{ids_skip, ids_more}
 use Rattle.smb_engine.proofs.chain.message_ids.Goals as goal
 use Rattle.smb_engine.proofs.chain.message_ids.Goals.{then-header-code, else-header-code}
 

@@ -1,5 +1,5 @@
 use Rattle.std.proofs.Common.{◌≡◌, ◌≤◌, ◌++◌, drop, length}
-use Rattle.smb_engine.specs.Chain.{message_ids}
+use Rattle.smb_engine.specs.Run.{message_ids}
 use Rattle.smb_engine.proofs.chain.message_ids.Given as goal
 
 abbrev pub invariant-loop-i : goal.invariant-loop-i

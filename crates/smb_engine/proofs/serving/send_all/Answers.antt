@@ -5,30 +5,30 @@ use Rattle.smb_engine.proofs.serving.send_all.Goals as goal
 
 pub loop-place-preserved-then-settle : goal.loop-place-preserved-then-settle
 loop-place-preserved-then-settle g c =
-    let within : c.loop-place.place < length c.loop-place.clients.items = omega arith in
+    let within : c.loop-place.place < length c.loop-place.served_peers.items = omega arith in
     record {
-      within = stays_within c.loop-place.clients.items c.loop-place.place c.send_owed.new.client within;
+      within = stays_within c.loop-place.served_peers.items c.loop-place.place c.send_owed.new.peer within;
       so_far = step_stays (g.P.Peers.keeps c.args.peers.now) (g.P.Peers.keeps c.loop-place.peers) (g.P.Peers.keeps c.send_owed.new.peers) (g.P.Peers.keeps c.settle.new.peers)
-          c.args.share.now c.loop-place.share c.send_owed.new.share c.args.clients.now.items c.loop-place.clients.items
+          c.args.share.now c.loop-place.share c.send_owed.new.share c.args.served_peers.now.items c.loop-place.served_peers.items
           (g.P.Peers.calls c.args.peers.now) (g.P.Peers.calls c.loop-place.peers) (g.P.Peers.calls c.send_owed.new.peers) (g.P.Peers.calls c.settle.new.peers)
-          c.loop-place.place c.index_mut.result.now c.send_owed.new.client c.index.result.now
+          c.loop-place.place c.index_mut.result.now c.send_owed.new.peer c.index.result.now
           c.loop-place.invariant.so_far within c.index_mut.ensures.value c.index.ensures c.send_owed.ensures c.settle.ensures.told (sym c.settle.ensures.stays ∙ c.if-settle.true);
     }
 
 pub loop-place-preserved : goal.loop-place-preserved
 loop-place-preserved g c =
-    let within : c.loop-place.place < length c.loop-place.clients.items = omega arith in
+    let within : c.loop-place.place < length c.loop-place.served_peers.items = omega arith in
     record {
-      within = goes_within c.loop-place.clients.items c.remove.new.self.items c.loop-place.place c.send_owed.new.client c.remove.ensures.items within;
+      within = goes_within c.loop-place.served_peers.items c.remove.new.self.items c.loop-place.place c.send_owed.new.peer c.remove.ensures.items within;
       so_far = step_goes (g.P.Peers.keeps c.args.peers.now) (g.P.Peers.keeps c.loop-place.peers) (g.P.Peers.keeps c.send_owed.new.peers) (g.P.Peers.keeps c.settle.new.peers)
-          c.args.share.now c.loop-place.share c.send_owed.new.share c.args.clients.now.items c.loop-place.clients.items
+          c.args.share.now c.loop-place.share c.send_owed.new.share c.args.served_peers.now.items c.loop-place.served_peers.items
           (g.P.Peers.calls c.args.peers.now) (g.P.Peers.calls c.loop-place.peers) (g.P.Peers.calls c.send_owed.new.peers) (g.P.Peers.calls c.settle.new.peers)
-          c.loop-place.place c.index_mut.result.now c.send_owed.new.client c.index.result.now
+          c.loop-place.place c.index_mut.result.now c.send_owed.new.peer c.index.result.now
           c.remove.new.self.items c.remove.ensures.items
           c.loop-place.invariant.so_far within c.index_mut.ensures.value c.index.ensures c.send_owed.ensures c.settle.ensures.told (sym c.settle.ensures.stays ∙ c.if-settle.false);
     }
 
 pub returns : goal.returns
 returns g c =
-    let past : length c.loop-place.clients.items ≤ c.loop-place.place = omega arith in
-    sent_all c.loop-place.invariant.so_far (take_all c.loop-place.place c.loop-place.clients.items past) (drop_all c.loop-place.place c.loop-place.clients.items past)
+    let past : length c.loop-place.served_peers.items ≤ c.loop-place.place = omega arith in
+    sent_all c.loop-place.invariant.so_far (take_all c.loop-place.place c.loop-place.served_peers.items past) (drop_all c.loop-place.place c.loop-place.served_peers.items past)

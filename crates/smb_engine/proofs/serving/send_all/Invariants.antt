@@ -4,9 +4,9 @@ use Rattle.smb_engine.proofs.serving.send_all.Given as goal
 
 abbrev pub invariant-loop-place : goal.invariant-loop-place
 invariant-loop-place g l = record {
-  within : l.place ≤ length l.clients.items;
-  so_far : SentSoFar (g.P.Peers.keeps l.fn.peers) (g.P.Peers.keeps l.peers) l.fn.share l.share l.fn.clients.items l.clients.items (g.P.Peers.calls l.fn.peers) (g.P.Peers.calls l.peers) l.place;
+  within : l.place ≤ length l.served_peers.items;
+  so_far : SentSoFar (g.P.Peers.keeps l.fn.peers) (g.P.Peers.keeps l.peers) l.fn.share l.share l.fn.served_peers.items l.served_peers.items (g.P.Peers.calls l.fn.peers) (g.P.Peers.calls l.peers) l.place;
 }
 
 abbrev pub decreases-loop-place : goal.decreases-loop-place
-decreases-loop-place g l = length l.clients.items - l.place
+decreases-loop-place g l = length l.served_peers.items - l.place

@@ -1,14 +1,34 @@
-use Rattle.std.proofs.Common.{sym, ap, ◌∙◌, arith}
-use Rattle.smb_engine.specs.Chain.{server_after}
-use Rattle.smb_engine.proofs.Turns.{server_after-all}
+use Rattle.std.proofs.Common.{◌++◌, sym, ap, ◌∙◌, arith}
+use Rattle.std.specs.List.{flat_map}
+use Rattle.smb_engine.specs.Output.{reply_frame}
+use Rattle.smb_engine.specs.Refusals.{server_after}
+use Rattle.smb_engine.specs.Run.{payload_step}
+use Rattle.smb_engine.proofs.Chains.{payload_whole}
+use Rattle.smb_engine.proofs.Steps.{frame_of, no_frame}
 use Rattle.smb_engine.proofs.stream.put_payload.Goals as goal
 
 pub returns-in-Err-give_frame-clause-err : goal.returns-in-Err-give_frame-clause-err
 returns-in-Err-give_frame-clause-err g c =
     let n = rw c.in-Ok-Some.field-0-is at c.in-Ok-Some.ensures.count in
-    let m = g.A.Authenticator.meaning in (
-      omega (arith, n),
-      ap (λ p. p.server) c.in-Ok-Some.ensures.ok
-          ∙ sym (server_after-all m c.args.connection_id c.args.moment c.args.server.now c.args.connection.now c.args.payload.now)
-          ∙ ap (server_after m c.args.connection_id c.args.moment c.args.server.now c.args.connection.now c.args.payload.now) n,
-    )
+    let step = payload_step g.A.Authenticator.meaning c.args.arrival c.args.server.now c.args.connection.now c.args.payload.now in
+    record {
+      within = omega (arith, n);
+      state = ap (λ p. p.server) c.in-Ok-Some.ensures.ok
+          ∙ sym (payload_whole g.A.Authenticator.meaning c.args.arrival c.args.server.now c.args.connection.now c.args.payload.now).whole
+          ∙ ap (server_after c.args.server.now step.requests) (sym n);
+    }
+
+pub returns-in-Ok-clause-ok : goal.returns-in-Ok-clause-ok
+returns-in-Ok-clause-ok g c =
+    let f = frame_of g.A.Authenticator.meaning g.K.Sink.hears c.args.arrival c.args.server.now c.args.connection.now c.args.payload.now _ _ c.take_bytes-bytes.result.items _
+    (rw c.in-Ok-Some.field-0-is at c.in-Ok-Some.ensures.ok) in
+    f.2 (g.K.Sink.content c.args.out.now) (g.K.Sink.content c.give_frame.new.self)
+    (c.in-Ok.ensures.ok c.take_bytes-bytes.result.items f.0 c.take_bytes-bytes.ensures.lent f.1
+    ∙ ap (λ t. t ++ flat_map g.K.Sink.hears (reply_frame c.args.arrival.connection_id f.0)) c.take_bytes-bytes.ensures.content)
+
+pub returns-in-Ok-None-clause-ok : goal.returns-in-Ok-None-clause-ok
+returns-in-Ok-None-clause-ok g c =
+    let f = no_frame g.A.Authenticator.meaning g.K.Sink.hears c.args.arrival c.args.server.now c.args.connection.now c.args.payload.now _ _ c.take_bytes-bytes.result.items _
+    (rw c.in-Ok-None.field-0-is at c.in-Ok-None.ensures.ok) in
+    f.1 (g.K.Sink.content c.args.out.now) (g.K.Sink.content c.give_back.new.self)
+    (c.give_back.ensures c.take_bytes-bytes.result.items c.take_bytes-bytes.ensures.lent f.0 ∙ c.take_bytes-bytes.ensures.content)

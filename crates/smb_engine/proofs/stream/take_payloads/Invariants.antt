@@ -5,7 +5,7 @@ use Rattle.smb_engine.proofs.stream.take_payloads.Given as goal
 
 abbrev pub invariant-loop-payload : goal.invariant-loop-payload
 invariant-loop-payload g l = record {
-  so_far : StepsSoFar g.A.Authenticator.meaning g.K.Sink.hears l.connection_id l.moment
+  so_far : StepsSoFar g.A.Authenticator.meaning g.K.Sink.hears l.arrival
       l.fn.server l.fn.connection (g.K.Sink.content l.fn.out) l.fn.buffer.bytes
       l.server l.connection (g.K.Sink.content l.out) l.buffer.bytes l.done;
   kept : take (length (g.K.Sink.content l.fn.out)) (g.K.Sink.content l.out) ≡ g.K.Sink.content l.fn.out;

@@ -1,7 +1,7 @@
 use Rattle.std.proofs.Common.{sym, ◌∙◌}
 use Rattle.smb_engine.specs.Held.{AllWait}
-use Rattle.smb_engine.specs.Share.{bytes_step}
-use Rattle.smb_engine.proofs.Links.{take_none}
+use Rattle.smb_engine.specs.Run.{bytes_step}
+use Rattle.smb_engine.proofs.Streams.{take_none}
 use Rattle.smb_engine.proofs.Heard.{same_bytes, bytes_more}
 use Rattle.smb_engine.proofs.share.Share.feed.Goals as goal
 
@@ -13,5 +13,5 @@ returns-in-Err-clause-kept g c = same_bytes _ _ c.in-Err.ensures.kept
 
 pub returns-in-Ok-clause-passed : goal.returns-in-Ok-clause-passed
 returns-in-Ok-clause-passed g c h =
-    let waits : AllWait c.args.self.now.links = rw (← c.self.view_is) c.self.invariant.waits in
+    let waits : AllWait c.args.self.now.streams = rw (← c.self.view_is) c.self.invariant.waits in
     c.in-Ok.ensures.state ∙ sym (take_none g.A.Authenticator.meaning c.args.self.now c.args.connection c.args.moment c.args.piece.now waits h)

@@ -1,5 +1,5 @@
 use Rattle.std.proofs.Common.{refl, arith}
-use Rattle.smb_engine.proofs.Links.{same_unread}
+use Rattle.smb_engine.proofs.Streams.{same_unread}
 use Rattle.smb_engine.proofs.Runs.{run_none, run_more, run_stops, connection_read}
 use Rattle.smb_engine.proofs.share.Share.run_events.Goals as goal
 

@@ -1,16 +1,15 @@
-use Rattle.std.proofs.Common.{refl, sym, ap, if◌then◌else◌}
+use Rattle.std.proofs.Common.{refl, sym, subst, ap, ◌∙◌, is_some, if◌then◌else◌}
 use Rattle.std.specs.BTreeMap.{is_at}
 use Rattle.std.specs.Ordering.{nat_cmp}
+use Rattle.smb_session.specs.Numbers.{IsRising}
 use Rattle.smb_engine.specs.declared.event.Fate.TheVariants.{Open, Ended}
-use Rattle.smb_engine.proofs.Links.{waits_found, remove-set, take_none, fate_none, fate_is, take_open, take_over, take_stopped, take_within}
+use Rattle.smb_engine.proofs.Streams.{waits_found, remove-set, take_none, take_open, take_over, take_stopped}
 use Rattle.smb_engine.proofs.Kept.{kept_set, kept_over}
+use Rattle.smb_engine.proofs.Order.{lookup-set, stream_of-without}
 use Rattle.smb_engine.proofs.share.Share.take.Goals as goal
 
 pub returns-in-None-clause-state : goal.returns-in-None-clause-state
 returns-in-None-clause-state g c = rw (c.get_mut.follows.holds-at-none, ← c.self.view_is) (take_none g.A.Authenticator.meaning _ _ _ _ c.self.invariant.waits (sym c.in-None.ensures.value))
-
-pub returns-in-None-clause-fate : goal.returns-in-None-clause-fate
-returns-in-None-clause-fate g c = rw (← c.self.view_is) (ap (λ b. if b then Open else Ended) (fate_none g.A.Authenticator.meaning _ _ _ _ (sym c.in-None.ensures.value)))
 
 pub take_piece-requires : goal.take_piece-requires
 take_piece-requires g c = waits_found _ _ _ c.self.invariant.waits (sym c.in-Some.ensures.value)
@@ -19,43 +18,40 @@ pub invariant_of-self-in-Ok-true : goal.invariant_of-self-in-Ok-true
 invariant_of-self-in-Ok-true g c =
     let t = c.in-Ok-true.ensures.ok in
     let t' = rw c.in-Ok-true.field-0-test at t in
-    rw ((c.get_mut.follows.holds c.take_piece.new.link).0, c.take_piece.ensures.known) (kept_set (is_at (nat_cmp c.args.connection)) _ c.self.inside.links.entries _ c.self.inside.next (t'.waits refl) c.self.invariant)
+    rw ((c.get_mut.follows.holds c.take_piece.new.stream).0, c.take_piece.ensures.known) (kept_set (is_at (nat_cmp c.args.connection)) _ c.self.inside.streams.entries _ c.self.inside.next (t'.waits refl) c.self.invariant)
 
 pub invariant_of-self-in-Ok-false : goal.invariant_of-self-in-Ok-false
 invariant_of-self-in-Ok-false g c =
-    rw (c.remove.ensures.entries, (c.get_mut.follows.holds c.take_piece.new.link).0, remove-set) (kept_over _ _ c.args.connection c.self.inside.links.entries c.self.inside.next c.disconnect.ensures.ended c.good.ensures.sessions.connections (rw c.take_piece.ensures.known c.self.invariant))
+    rw (c.remove.ensures.entries, (c.get_mut.follows.holds c.take_piece.new.stream).0, remove-set) (kept_over _ _ c.args.connection c.self.inside.streams.entries c.self.inside.next c.disconnect.ensures.ended c.good.ensures.sessions.connections (rw c.take_piece.ensures.known c.self.invariant))
 
 pub invariant_of-self-in-Err : goal.invariant_of-self-in-Err
 invariant_of-self-in-Err g c =
-    rw (c.remove-in-Err.ensures.entries, (c.get_mut.follows.holds c.take_piece.new.link).0, remove-set) (kept_over _ _ c.args.connection c.self.inside.links.entries c.self.inside.next c.disconnect-in-Err.ensures.ended c.good-in-Err.ensures.sessions.connections (rw c.take_piece.ensures.known c.self.invariant))
+    rw (c.remove-in-Err.ensures.entries, (c.get_mut.follows.holds c.take_piece.new.stream).0, remove-set) (kept_over _ _ c.args.connection c.self.inside.streams.entries c.self.inside.next c.disconnect-in-Err.ensures.ended c.good-in-Err.ensures.sessions.connections (rw c.take_piece.ensures.known c.self.invariant))
 
 pub returns-in-Ok-true-clause-state : goal.returns-in-Ok-true-clause-state
 returns-in-Ok-true-clause-state g c =
     let t = c.in-Ok-true.ensures.ok in
-    rw (← c.self.view_is, (c.get_mut.follows.holds c.take_piece.new.link).0)
+    rw (← c.self.view_is, (c.get_mut.follows.holds c.take_piece.new.stream).0)
     (take_open g.A.Authenticator.meaning _ _ _ _ _ _ _ c.self.invariant.waits (sym c.in-Some.ensures.value) (rw c.in-Ok-true.field-0-test at t))
 
 pub returns-in-Ok-false-clause-state : goal.returns-in-Ok-false-clause-state
 returns-in-Ok-false-clause-state g c =
     let t = c.in-Ok-false.ensures.ok in
-    rw (← c.self.view_is, c.remove.ensures.entries, (c.get_mut.follows.holds c.take_piece.new.link).0, remove-set, c.disconnect.ensures.ended)
+    rw (← c.self.view_is, c.remove.ensures.entries, (c.get_mut.follows.holds c.take_piece.new.stream).0, remove-set, c.disconnect.ensures.ended)
     (take_over g.A.Authenticator.meaning _ _ _ _ _ _ _ c.self.invariant.waits (sym c.in-Some.ensures.value) (rw c.in-Ok-false.field-0-test at t))
 
 pub returns-in-Err-clause-err : goal.returns-in-Err-clause-err
 returns-in-Err-clause-err g c =
-    rw (← c.self.view_is, c.remove-in-Err.ensures.entries, (c.get_mut.follows.holds c.take_piece.new.link).0, remove-set, c.disconnect-in-Err.ensures.ended)
-    (take_stopped g.A.Authenticator.meaning _ _ _ _ _ _ _ c.self.invariant.waits (sym c.in-Some.ensures.value) c.in-Err.ensures.err)
-
-pub returns-in-Err-clause-within : goal.returns-in-Err-clause-within
-returns-in-Err-clause-within g c =
-    rw (← c.self.view_is) (take_within g.A.Authenticator.meaning _ _ _ _ _ _ (sym c.in-Some.ensures.value) c.in-Err.ensures.within)
+    rw (← c.self.view_is, c.remove-in-Err.ensures.entries, (c.get_mut.follows.holds c.take_piece.new.stream).0, remove-set, c.disconnect-in-Err.ensures.ended)
+    (take_stopped g.A.Authenticator.meaning _ _ _ _ _ _ _ c.self.invariant.waits (sym c.in-Some.ensures.value) c.in-Err.ensures.err.state c.in-Err.ensures.err.within)
 
 pub returns-in-Ok-true-clause-fate : goal.returns-in-Ok-true-clause-fate
 returns-in-Ok-true-clause-fate g c =
-    let t = c.in-Ok-true.ensures.ok in
-    rw (← c.self.view_is) (ap (λ b. if b then Open else Ended) (fate_is g.A.Authenticator.meaning _ _ _ _ _ _ _ _ (sym c.in-Some.ensures.value) (rw c.in-Ok-true.field-0-test at t)))
+    rw ((c.get_mut.follows.holds c.take_piece.new.stream).0)
+    (ap (λ b. if b then Open else Ended) (sym (ap is_some (lookup-set (is_at (nat_cmp c.args.connection)) c.self.inside.streams.entries _ c.take_piece.new.stream (sym c.in-Some.ensures.value)))))
 
 pub returns-in-Ok-false-clause-fate : goal.returns-in-Ok-false-clause-fate
 returns-in-Ok-false-clause-fate g c =
-    let t = c.in-Ok-false.ensures.ok in
-    rw (← c.self.view_is) (ap (λ b. if b then Open else Ended) (fate_is g.A.Authenticator.meaning _ _ _ _ _ _ _ _ (sym c.in-Some.ensures.value) (rw c.in-Ok-false.field-0-test at t)))
+    rw (c.remove.ensures.entries, (c.get_mut.follows.holds c.take_piece.new.stream).0, remove-set)
+    (ap (λ b. if b then Open else Ended) (sym (ap is_some (stream_of-without c.args.connection c.self.inside.streams.entries
+    (subst IsRising (c.take_piece.ensures.known ∙ c.self.invariant.known) c.good.ensures.sessions.connections)))))

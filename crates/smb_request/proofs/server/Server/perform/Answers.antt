@@ -2,7 +2,7 @@ use Rattle.std.proofs.Common.{◌≡◌, ◌∙◌, Option, false, sym, ap}
 use Rattle.std.specs.Option.{option_map}
 use Rattle.smb_wire.specs.Commands.{known_command}
 use Rattle.smb_wire.specs.declared.command.Command.{Command}
-use Rattle.smb_body.specs.Requests.{RequestValue, request_value}
+use Rattle.smb_body.specs.Requests.{request_value}
 use Rattle.smb_request.specs.declared.call.Call.{Call}
 use Rattle.smb_request.specs.declared.context.Context.{Context}
 use Rattle.smb_request.specs.Context.{open_for_next_related}
@@ -34,8 +34,8 @@ returns-clause-ok g c =
     read ∙ ap (λ h. body_of (known_command h.command.0) request) c.requires ∙ ap (λ (x : Call). body_of x.command request) (sym is) in
     let other : is_cancel_command call.command ≡ false = sym c.is_cancel_command.ensures ∙ c.if-is_cancel_command.false in
     let next = ap
-        (λ n. let x : Context = record { ids = c.in_ok-answered.answered.ids; last_open = open_for_next_related call.inherited n call.command call.file_id c.in_ok-answered.answered.status } in x)
-        (c.next_number-next.ensures ∙ ap (λ (s : ServerState g.row.A.Denot). s.store.next) c.self.view_is) in
+    (λ n. let x : Context = record { ids = c.in_ok-answered.answered.ids; last_open = open_for_next_related call.inherited n call.command call.file_id c.in_ok-answered.answered.status } in x)
+    (c.next_number-next.ensures ∙ ap (λ (s : ServerState g.row.A.Denot). s.store.next) c.self.view_is) in
     performed_put g.A.Authenticator.meaning c.args.connection c.args.moment c.args.self.now c.args.dialect.now c.args.context.now request call is body named other c.args.out.now.items
     c.answer.new.self c.answer.new.dialect c.context_behind.result (answer_held c.in_ok-answered.answered c.answer.new.out.items)
     c.in_ok-answered.ensures.server c.in_ok-answered.ensures.dialect c.in_ok-answered.ensures.ok (c.context_behind.ensures ∙ next)

@@ -6,7 +6,7 @@ use Rattle.smb_request.specs.Call.{named_open}
 use Rattle.smb_request.specs.Context.{open_named}
 use Rattle.smb_request.specs.Needs.{is_unsupported}
 use Rattle.smb_request.specs.Request.{open_refusal, dialect_after}
-use Rattle.smb_request.proofs.Handed.{named_there, mapped_there, refused_dialect}
+use Rattle.smb_request.proofs.Handed.{named_there, mapped_there}
 use Rattle.smb_request.proofs.server.Server.respond.Goals as goal
 
 -- the open of a request that passed its checks exists

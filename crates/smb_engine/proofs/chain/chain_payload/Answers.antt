@@ -1,0 +1,49 @@
+use Rattle.std.proofs.Common.{refl, sym, ap, take, ◌∙◌, arith}
+use Rattle.std.proofs.lemmas.List.{take_all}
+use Rattle.smb_engine.proofs.Chains.{chain_begins, writer_at, out_at, chain_more, chain_stopped, chain_left, chain_count, done_least, kept_on}
+use Rattle.smb_engine.proofs.Steps.{front_kept, kept_more}
+use Rattle.smb_engine.proofs.chain.chain_payload.Goals as goal
+
+pub loop-i-init : goal.loop-i-init
+loop-i-init g c = record {
+  so_far = chain_begins g.A.Authenticator.meaning _ _ _ _ _ refl refl refl c.first.ensures c.begin.ensures.placed refl;
+  known = refl;
+  base = c.begin.ensures.base;
+  order = omega (arith, c.begin.ensures.base, c.begin.ensures.last);
+  within = omega (arith, c.begin.ensures.last);
+  kept = take_all _ _ (omega arith);
+  room = omega arith;
+}
+
+pub returns-in-Err-clause-kept : goal.returns-in-Err-clause-kept
+returns-in-Err-clause-kept g c =
+    c.truncate.ensures.items ∙ ap (λ n. take n c.perform_one.new.out.items) c.in-Ok.ensures.start
+    ∙ kept_more _ _ _ (front_kept _ _ _ c.in-Ok.ensures.ok) (kept_on _ _ _ _ _ c.loop-i.invariant.base c.perform_one.ensures.kept c.loop-i.invariant.kept)
+
+pub returns-in-Err-clause-err : goal.returns-in-Err-clause-err
+returns-in-Err-clause-err g c = record {
+  within =
+      let count = chain_count g.A.Authenticator.meaning c.args.arrival c.args.server.now c.args.connection.now c.args.payload.now _ (sym c.in-Some.ensures.chain) in
+      omega (arith, count, c.len-i-end.ensures.len, done_least c.in-Err.no_reply c.loop-i.i c.done_behind-done.result c.done_behind-done.ensures, c.loop-i-test.true);
+  state =
+      chain_left g.A.Authenticator.meaning c.args.arrival c.args.server.now c.args.connection.now c.args.payload.now _ c.admit.new.connection _ _ (sym c.in-Some.ensures.chain) c.in-Some.ensures.taken
+      (rw c.done_behind-done.ensures
+      (chain_stopped g.A.Authenticator.meaning _ _ _ _ _ _ _ _ c.in-Err.no_reply c.loop-i.invariant.so_far c.request_at.ensures.request c.in-Err.ensures.err));
+}
+
+pub loop-i-preserved : goal.loop-i-preserved
+loop-i-preserved g c = record {
+  so_far = chain_more g.A.Authenticator.meaning _ _ _ _ _ _ _ _ c.loop-i.invariant.so_far c.request_at.ensures.request
+      (c.in-Ok-perform_one.ensures.ok _ _ (writer_at g.A.Authenticator.meaning _ _ _ _ _ _ c.loop-i.invariant.so_far) (out_at g.A.Authenticator.meaning _ _ _ _ _ _ c.loop-i.invariant.so_far));
+  known = c.perform_one.ensures.known ∙ c.loop-i.invariant.known;
+  base = c.perform_one.ensures.base ∙ c.loop-i.invariant.base;
+  order = c.perform_one.ensures.order;
+  within = c.in-Ok-perform_one.ensures.within;
+  kept = kept_on _ _ _ _ _ c.loop-i.invariant.base c.perform_one.ensures.kept c.loop-i.invariant.kept;
+  room = omega (arith, c.in-Ok-perform_one.ensures.len, c.loop-i.invariant.room, c.loop-i.invariant.base);
+}
+
+pub returns-clause-count : goal.returns-clause-count
+returns-clause-count g c =
+    c.len.ensures.len
+    ∙ sym (chain_count g.A.Authenticator.meaning c.args.arrival c.args.server.now c.args.connection.now c.args.payload.now _ (sym c.in-Some.ensures.chain))

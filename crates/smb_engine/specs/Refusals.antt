@@ -1,0 +1,89 @@
+-- What a fault of a share says, and the state that it leaves.
+use Rattle.std.specs.Prelude.{◌≡◌, ℕ, zero, suc, ◌≤◌, Bool, true, false, List, [], ◌∷◌, ◌++◌, length, take, drop, None, Some}
+use Rattle.smb_session.specs.Authenticator.{Meaning}
+use Rattle.smb_request.specs.Settings.{Settings, is_lawful}
+use Rattle.smb_request.specs.State.{ServerState}
+use Rattle.smb_engine.specs.declared.fault.ServeFault.{ServeFault}
+use Rattle.smb_engine.specs.declared.fault.ServeFault.TheVariants.{TooManyConnections, NoMemory, BadEvent, BadConfig}
+use Rattle.smb_engine.specs.State.{ShareState, is_open, ended}
+use Rattle.smb_engine.specs.Stream.{unread}
+use Rattle.smb_engine.specs.Event.{EventText, opens, brings, ends}
+use Rattle.smb_engine.specs.Output.{Output}
+use Rattle.smb_engine.specs.Run.{PerformedRequest, Ran, opening_refusal, event_refusal, bytes_step, event_step, run}
+
+-- the server after the first k of some requests that were performed
+abbrev pub server_after : {S : Type 0} → ServerState S → List (PerformedRequest S) → ℕ → ServerState S
+server_after server requests zero = server
+server_after server [] (suc k) = server
+server_after server (request ∷ requests) (suc k) = server_after request.after requests k
+
+-- the share where memory ran out after the first k requests of an event: those of a piece were performed, and then its
+-- connection ended; an opening changed nothing; and at an end memory is never wanting
+abbrev pub stopped : {S : Type 0} → Meaning S → ShareState S → EventText → ℕ → ShareState S
+stopped authenticator s (opens connection) k = s
+stopped authenticator s (brings connection moment piece) k =
+    ended (record s { server = server_after s.server (bytes_step authenticator s connection moment piece).requests k }) connection
+stopped authenticator s (ends connection) k = s
+
+-- whether memory can be wanting at an event: at no end, and at a piece only where its connection is open
+abbrev pub can_want_memory : {S : Type 0} → ShareState S → EventText → Bool
+can_want_memory s (opens connection) = true
+can_want_memory s (brings connection moment piece) = is_open s connection
+can_want_memory s (ends connection) = false
+
+-- memory ran out after so many requests of an event, of which it has so many or more
+pub record EventOutOfMemory {S : Type 0} (authenticator : Meaning S) (s : ShareState S) (event : EventText) (done : ℕ) (left : ShareState S) : Type 0 where
+  pub wanting : can_want_memory s event ≡ true
+  pub within : done ≤ length (event_step authenticator s event).requests
+  pub state : left ≡ unread (stopped authenticator s event done)
+
+-- why a share is not made: the configuration breaks its rules; else memory may be wanting
+abbrev pub MakingRefused : Settings → ServeFault → Type 0
+MakingRefused settings (NoMemory done) = (is_lawful settings ≡ true) × (done ≡ 0)
+MakingRefused settings BadConfig = is_lawful settings ≡ false
+MakingRefused settings TooManyConnections = ⊥
+MakingRefused settings BadEvent = ⊥
+
+-- why opening a connection is refused
+abbrev pub OpeningRefused : {S : Type 0} → ShareState S → ServeFault → Type 0
+OpeningRefused s (NoMemory done) = (opening_refusal s ≡ None) × (done ≡ 0)
+OpeningRefused s TooManyConnections = opening_refusal s ≡ Some TooManyConnections
+OpeningRefused s BadEvent = ⊥
+OpeningRefused s BadConfig = ⊥
+
+-- where a piece stops: only memory can run out
+abbrev pub PieceStopped : {S : Type 0} → Meaning S → ShareState S → ℕ → ℕ → List ℕ → ServeFault → ShareState S → Type 0
+PieceStopped authenticator s connection moment piece (NoMemory done) left = EventOutOfMemory authenticator s (brings connection moment piece) done left
+PieceStopped authenticator s connection moment piece TooManyConnections left = ⊥
+PieceStopped authenticator s connection moment piece BadEvent left = ⊥
+PieceStopped authenticator s connection moment piece BadConfig left = ⊥
+
+-- where one event stops: it is refused and changes nothing, or memory ran out after some of its requests
+abbrev pub EventStopped : {S : Type 0} → Meaning S → ShareState S → EventText → ServeFault → ShareState S → Type 0
+EventStopped authenticator s event (NoMemory done) left = (event_refusal s event ≡ None) × EventOutOfMemory authenticator s event done left
+EventStopped authenticator s event TooManyConnections left = (event_refusal s event ≡ Some TooManyConnections) × (left ≡ s)
+EventStopped authenticator s event BadEvent left = (event_refusal s event ≡ Some BadEvent) × (left ≡ s)
+EventStopped authenticator s event BadConfig left = ⊥
+
+-- a run as the code holds its state, behind what was put out before
+abbrev pub run_behind : {S : Type 0} → List Output → Ran S → Ran S
+run_behind before ran = record { state = unread ran.state; outputs = before ++ ran.outputs; stop = ran.stop }
+
+-- where memory ran out in a run: the events before the place were performed whole, none of them refused, and of that
+-- event, which is not refused, the first `done` requests
+pub record RunOutOfMemory {S : Type 0} (authenticator : Meaning S) (start : ShareState S) (events : List EventText) (place done : ℕ) (left : ShareState S) (before after : List Output) : Type 0 where
+  pub event : EventText
+  pub others : List EventText
+  pub at : drop place events ≡ event ∷ others
+  pub unrefused : (run authenticator start (take place events)).stop ≡ None
+  pub stops : EventStopped authenticator (run authenticator start (take place events)).state event (NoMemory done) left
+  pub outputs : after ≡ before ++ (run authenticator start (take place events)).outputs
+
+-- what an error of a run says: the definition stops there, or memory ran out
+abbrev pub RunStopped : {S : Type 0} → Meaning S → ShareState S → List EventText → ℕ → ServeFault → ShareState S → List Output → List Output → Type 0
+RunStopped authenticator start events place (NoMemory done) left before after = RunOutOfMemory authenticator start events place done left before after
+RunStopped authenticator start events place TooManyConnections left before after =
+    record { state = left; outputs = after; stop = Some (record { place = place; fault = TooManyConnections }) } ≡ run_behind before (run authenticator start events)
+RunStopped authenticator start events place BadEvent left before after =
+    record { state = left; outputs = after; stop = Some (record { place = place; fault = BadEvent }) } ≡ run_behind before (run authenticator start events)
+RunStopped authenticator start events place BadConfig left before after = ⊥

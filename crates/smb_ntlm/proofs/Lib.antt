@@ -1,0 +1,16 @@
+pub mod Elements
+pub mod Mechanisms
+pub mod Names
+pub mod Blocks
+pub mod Challenges
+pub mod CapitalUnits
+pub mod Faults
+pub mod TokenBytes
+pub mod SessionNumbers
+pub mod Entries
+pub mod Digests
+pub mod Texts
+pub mod LoginRows
+pub mod Lawful
+pub mod LoginLaws
+pub mod Standards

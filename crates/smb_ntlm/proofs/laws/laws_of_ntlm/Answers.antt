@@ -1,0 +1,34 @@
+use Rattle.std.proofs.Common.{refl}
+use Rattle.smb_ntlm.proofs.Lawful.{answer_lawful}
+use Rattle.smb_ntlm.proofs.LoginLaws.{users_proved, none_unasked, all_guests, none_shows, cut_denied, challenge_read, guests_strangers, guests_no_accounts}
+use Rattle.smb_ntlm.proofs.laws.laws_of_ntlm.Goals as goal
+
+pub returns-clause-proved : goal.returns-clause-proved
+returns-clause-proved c = users_proved
+
+pub returns-clause-unasked : goal.returns-clause-unasked
+returns-clause-unasked c = none_unasked
+
+pub returns-clause-guests : goal.returns-clause-guests
+returns-clause-guests c = all_guests
+
+pub returns-clause-hidden : goal.returns-clause-hidden
+returns-clause-hidden c = none_shows
+
+pub returns-clause-cut : goal.returns-clause-cut
+returns-clause-cut c = cut_denied
+
+pub returns-clause-lawful : goal.returns-clause-lawful
+returns-clause-lawful c = answer_lawful
+
+pub returns-clause-stays : goal.returns-clause-stays
+returns-clause-stays c = λ state session token. refl
+
+pub returns-clause-challenge : goal.returns-clause-challenge
+returns-clause-challenge c = challenge_read
+
+pub returns-clause-strangers : goal.returns-clause-strangers
+returns-clause-strangers c = guests_strangers
+
+pub returns-clause-apart : goal.returns-clause-apart
+returns-clause-apart c = guests_no_accounts

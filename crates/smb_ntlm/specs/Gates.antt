@@ -1,0 +1,26 @@
+-- For the proofs; nothing here need be believed.
+-- What a login is decided by, as it stands in memory, and a part of its table.
+use Rattle.std.specs.Prelude.{ℕ, not, if◌then◌else◌, List, map}
+use Rattle.smb_session.specs.Authenticator.{Answered, continues, denies}
+use Rattle.smb_ntlm.specs.Accounts.{KnownAccount, known}
+use Rattle.smb_ntlm.specs.Messages.{has_unicode, asked_flags, challenge_message}
+use Rattle.smb_ntlm.specs.Proof.{challenge}
+use Rattle.smb_ntlm.specs.Tokens.{answer_token}
+use Rattle.smb_ntlm.specs.Login.{NtlmState}
+use Rattle.smb_ntlm.specs.declared.token.Wrapping.{Wrapping}
+use Rattle.smb_ntlm.specs.declared.entry.Entry.{Entry}
+use Rattle.smb_ntlm.specs.declared.login.Gate.{Gate}
+
+-- an account that was made ready
+abbrev pub known_entry : Entry → KnownAccount
+known_entry entry = known entry.account
+
+-- the state that is lent
+abbrev pub gate_state : Gate → NtlmState
+gate_state gate = record { seed = gate.seed.now; accounts = map known_entry gate.entries.now; guest = gate.guest }
+
+-- rows 4 and 5: a NEGOTIATE
+abbrev pub negotiate_answer : List ℕ → ℕ → Wrapping → List ℕ → Answered
+negotiate_answer seed session wrapping message =
+    if not (has_unicode (asked_flags message)) then denies
+    else continues (answer_token wrapping (challenge_message (asked_flags message) (challenge seed session)))

@@ -1,0 +1,12 @@
+pub mod Der
+pub mod Spnego
+pub mod Hmac
+pub mod Messages
+pub mod Accounts
+pub mod Proof
+pub mod Md4
+pub mod Passwords
+pub mod Tokens
+pub mod Login
+pub mod Gates
+pub mod Laws

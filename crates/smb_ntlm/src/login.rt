@@ -1,0 +1,174 @@
+//! What a token is answered.
+
+ghost use Rattle.std.specs.Prelude.{◌≡◌, ◌≤◌, length, find, option_copied, IfOk};
+ghost use Rattle.smb_session.specs.Answers.{answered_by};
+ghost use Rattle.smb_ntlm.specs.Messages.{login_asked, challenge_message};
+ghost use Rattle.smb_ntlm.specs.Proof.{challenge, is_named};
+ghost use Rattle.smb_ntlm.specs.Tokens.{answer_token};
+ghost use Rattle.smb_ntlm.specs.Login.{guest_user, lets_in, first_answer, login_rows, message_rows, login_answer};
+ghost use Rattle.smb_ntlm.specs.Gates.{known_entry, gate_state, negotiate_answer};
+
+use super::entry::Entry;
+use super::messages::{
+    CHALLENGE_SIZE, Login, NEGOTIATE, asked_flags, has_unicode, is_message, message_type,
+    put_challenge,
+};
+use super::token::{Token, Wrapping, ask_token};
+use md5::{Digest, Md5};
+use smb_session::Answer;
+use smb_wire::WireFault;
+use std::alloc::{AllocError, Global};
+
+/// The longest token that is read, in bytes.
+const LONGEST_TOKEN: usize = 4096;
+
+/// The session flag of a guest ([MS-SMB2] 2.2.6).
+const IS_GUEST: u16 = 1;
+
+/// What a login is decided by.
+#[derive(Clone, Copy)]
+pub struct Gate<'a> {
+    pub alloc: Global,
+    pub seed: &'a [u8; 16],
+    pub entries: &'a [Entry],
+    pub guest: bool,
+}
+
+/// The challenge of a session.
+#[tactic(auto, unfolding(crate::specs::Proof::challenge))]
+fn challenge(seed: &[u8; 16], session: u64) -> [u8; 8]
+    ensures { result ≡ challenge seed.now session }
+{
+    let mut hasher = Md5::new();
+    hasher.update(seed.as_slice());
+    hasher.update(session.to_le_bytes().as_slice());
+    let digest = hasher.finalize();
+    let mut challenge = [0u8; 8];
+    challenge.copy_from_slice(&digest[..8]);
+    challenge
+}
+
+/// The guest of a session, as a user.
+fn guest_user(alloc: Global, session: u64) -> Result<Vec<u8>, AllocError>
+    ensures { IfOk result (λ user. user.items ≡ guest_user session) }
+{
+    let text = format!(in alloc; "guest\0{session}")?;
+    Ok(text.into_bytes())
+}
+
+/// The account of a user.
+fn find_entry<'a>(entries: &'a [Entry], user: &[u8]) -> Option<&'a Entry>
+    ensures { option_copied result ≡ find (λ entry. is_named user.now (known_entry entry)) entries.now }
+{
+    entries.iter().find(|entry| entry.is_named(user))
+}
+
+/// The token of a CHALLENGE.
+fn challenge_token(
+    alloc: Global,
+    wrapping: Wrapping,
+    asked: u32,
+    challenge: &[u8; 8],
+) -> Result<Vec<u8>, WireFault>
+    ensures { IfOk result (λ token. token.items ≡ answer_token wrapping (challenge_message asked challenge.now)) }
+{
+    let front = wrapping.front();
+    let mut token = Vec::with_capacity(alloc, front.len() + CHALLENGE_SIZE)?;
+    token.extend_from_slice(front)?;
+    put_challenge(&mut token, asked, challenge)?;
+    Ok(token)
+}
+
+/// Lets a user in.
+fn let_in(alloc: Global, wrapping: Wrapping, user: Vec<u8>) -> Result<Answer, AllocError>
+    ensures { IfOk result (λ answer. answered_by answer ≡ lets_in wrapping user.items) }
+{
+    Ok(Answer::Accept {
+        user,
+        flags: IS_GUEST,
+        token: Vec::from_slice(alloc, wrapping.last_token())?,
+    })
+}
+
+/// What a login is answered.
+fn answer_login(
+    gate: Gate<'_>,
+    session: u64,
+    wrapping: Wrapping,
+    login: &Login<'_>,
+) -> Result<Answer, AllocError>
+    ensures { IfOk result (λ answer. answered_by answer ≡
+        first_answer (login_rows (gate_state gate.entry) session wrapping (login_asked login.now))) }
+{
+    match find_entry(gate.entries, login.user) {
+        Some(entry) if entry.has_proof(&challenge(gate.seed, session), login) => {
+            let user = Vec::from_slice(gate.alloc, &entry.account.name)?;
+            let_in(gate.alloc, wrapping, user)
+        }
+        Some(_) => Ok(Answer::Deny),
+        None if gate.guest => let_in(gate.alloc, wrapping, guest_user(gate.alloc, session)?),
+        None => Ok(Answer::Deny),
+    }
+}
+
+/// What a NEGOTIATE is answered.
+fn answer_negotiate(
+    gate: Gate<'_>,
+    session: u64,
+    wrapping: Wrapping,
+    message: &[u8],
+) -> Result<Answer, AllocError>
+    requires { 16 ≤ length message.now }
+    ensures { IfOk result (λ answer. answered_by answer ≡
+        negotiate_answer gate.entry.seed.now session wrapping message.now) }
+{
+    let asked = asked_flags(message);
+    if !has_unicode(asked) {
+        return Ok(Answer::Deny);
+    }
+    let challenge = challenge(gate.seed, session);
+    match challenge_token(gate.alloc, wrapping, asked, &challenge) {
+        Ok(token) => Ok(Answer::Continue(token)),
+        Err(_) => Err(AllocError),
+    }
+}
+
+/// What a message is answered.
+#[tactic(auto, unfolding(crate::specs::Login::message_rows))]
+fn answer_message(
+    gate: Gate<'_>,
+    session: u64,
+    wrapping: Wrapping,
+    message: &[u8],
+) -> Result<Answer, AllocError>
+    ensures { IfOk result (λ answer. answered_by answer ≡
+        first_answer (message_rows (gate_state gate.entry) session wrapping message.now)) }
+{
+    if !is_message(message) {
+        return Ok(Answer::Deny);
+    }
+    if message_type(message) == NEGOTIATE {
+        return answer_negotiate(gate, session, wrapping, message);
+    }
+    match Login::read(message) {
+        Some(login) => answer_login(gate, session, wrapping, &login),
+        None => Ok(Answer::Deny),
+    }
+}
+
+/// What a token is answered.
+#[tactic(auto, unfolding(crate::specs::Login::login_answer))]
+pub fn answer_to(gate: Gate<'_>, session: u64, token: &[u8]) -> Result<Answer, AllocError>
+    ensures { IfOk result (λ answer. answered_by answer ≡ login_answer (gate_state gate.entry) session token.now) }
+{
+    if token.len() > LONGEST_TOKEN {
+        return Ok(Answer::Deny);
+    }
+    let Some(token) = Token::read(token) else {
+        return Ok(Answer::Deny);
+    };
+    if token.prefers_another() {
+        return Ok(Answer::Continue(Vec::from_slice(gate.alloc, ask_token())?));
+    }
+    answer_message(gate, session, token.wrapping, token.message)
+}

@@ -1,0 +1,99 @@
+//! The authenticator.
+
+ghost use Rattle.std.specs.Prelude.{◌≡◌, map, IfOk};
+ghost use Rattle.smb_ntlm.specs.Accounts.{known, AreLawful};
+
+use super::account::Account;
+use super::entry::Entry;
+use super::login::{Gate, answer_to};
+use super::token::hello_token;
+use smb_session::{Answer, Authenticator};
+use std::alloc::{AllocError, Global};
+use std::marker::Model;
+
+/// Lets in who knows an account's password, by NTLM's second version ([MS-NLMP] 3.3.2), and guests where these may
+/// come. Who is let in has the session flag of a guest, since nothing is signed.
+///
+/// An account's user is its name. A guest's is `guest`, a zero byte, and the session's number in decimal digits, so the
+/// guests of two sessions are two users. Steps change nothing, also those that end without memory.
+#[derive(Drop)]
+pub struct Ntlm {
+    alloc: Global,
+    seed: [u8; 16],
+    entries: Vec<Entry>,
+    guest: bool,
+}
+
+impl Model for Ntlm {
+    ghost use Rattle.std.specs.Prelude.{map};
+    ghost use Rattle.smb_ntlm.specs.Accounts.{known, AreLawful};
+    ghost use Rattle.smb_ntlm.specs.Login.{NtlmState};
+
+    ghost Value = { NtlmState };
+
+    ghost view = { λ n. record {
+      seed = n.seed;
+      accounts = map (λ entry. known entry.account) n.entries.items;
+      guest = n.guest;
+    } };
+
+    ghost invariant = { λ n. AreLawful (map (λ entry. known entry.account) n.entries.items) };
+}
+
+/// Accounts made ready.
+fn entries_of(alloc: Global, accounts: Vec<Account>) -> Result<Vec<Entry>, AllocError>
+    ensures { IfOk result (λ entries. map (λ entry. known entry.account) entries.items ≡ map known accounts.items) }
+{
+    let mut entries = Vec::new(alloc);
+    for account in accounts {
+        entries.push(Entry::of(alloc, account)?)?;
+    }
+    Ok(entries)
+}
+
+impl Ntlm {
+    /// An authenticator with these accounts, in which [`account_fault`](crate::account_fault) finds no fault, and
+    /// guests where these may come.
+    ///
+    /// The seed is to be fresh in each run, from a source of random bytes: under a seed of an earlier run a login that
+    /// was seen then is good again, in the session with the same number. Fails where an account's name in capitals
+    /// cannot be made.
+    pub fn new(
+        alloc: Global,
+        seed: [u8; 16],
+        accounts: Vec<Account>,
+        guest: bool,
+    ) -> Result<Ntlm, AllocError>
+        requires { AreLawful (map known accounts.items) }
+        ensures { IfOk result (λ ntlm. ntlm ≡
+            record { seed = seed; accounts = map known accounts.items; guest = guest }) }
+    {
+        let entries = entries_of(alloc, accounts)?;
+        Ok(Ntlm {
+            alloc,
+            seed,
+            entries,
+            guest,
+        })
+    }
+}
+
+impl Authenticator for Ntlm {
+    ghost use Rattle.smb_ntlm.specs.Login.{by_ntlm};
+
+    ghost meaning = { by_ntlm };
+
+    fn hello(&self) -> &[u8] {
+        hello_token()
+    }
+
+    fn step(&mut self, session: u64, token: &[u8]) -> Result<Answer, AllocError> {
+        let gate = Gate {
+            alloc: self.alloc,
+            seed: &self.seed,
+            entries: &self.entries,
+            guest: self.guest,
+        };
+        answer_to(gate, session, token)
+    }
+}
