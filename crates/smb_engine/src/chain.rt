@@ -293,7 +293,8 @@ fn chain_payload<A: Authenticator + Drop, T: Tree + Drop, O: Opens + Drop>(
         }
     }
     end_frame(start, out);
-    Ok(Some(chain.len()))
+    let count = chain.len();
+    Ok(Some(count))
 }
 
 /// Adds the frame of the response to an SMB_COM_NEGOTIATE to `out`. False says that memory was wanting; `out` is as it

@@ -45,5 +45,5 @@ loop-i-preserved g c = record {
 
 pub returns-clause-count : goal.returns-clause-count
 returns-clause-count g c =
-    c.len.ensures.len
+    c.len-count.ensures.len
     ∙ sym (chain_count g.A.Authenticator.meaning c.args.arrival c.args.server.now c.args.connection.now c.args.payload.now _ (sym c.in-Some.ensures.chain))
