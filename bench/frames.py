@@ -28,10 +28,10 @@ def negotiate(message_id=0):
     return frame(header(0, message_id) + body)
 
 
-def session_setup(message_id, token=b'a'):
-    """A frame of a SESSION_SETUP for a new session."""
+def session_setup(message_id, token=b'a', session_id=0):
+    """A frame of a SESSION_SETUP, for a new session where none is named."""
     body = struct.pack('<HBBIIHHQ', 25, 0, 1, 0, 0, 88, len(token), 0) + token
-    return frame(header(1, message_id) + body)
+    return frame(header(1, message_id, session_id=session_id) + body)
 
 
 def tree_connect(message_id, session_id, path='\\\\s\\data'):

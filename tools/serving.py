@@ -292,14 +292,51 @@ def two_clients_are_replayed():
         return (found.returncode, found.stdout, found.stderr) == (0, answers.read(), b'')
 
 
+UNICODE = 1
+NTLM_NEGOTIATE = b'NTLMSSP\0' + struct.pack('<II', 1, UNICODE)
+
+
+def ntlm_authenticate(user):
+    """The last message of a login by NTLM, without a proof."""
+    name = user.encode('utf-16-le')
+    nothing = struct.pack('<HHI', 0, 0, 64)
+    named = struct.pack('<HHI', len(name), len(name), 64)
+    return b'NTLMSSP\0' + struct.pack('<I', 3) + nothing * 3 + named + nothing * 2 + struct.pack('<I', UNICODE) + name
+
+
+def logs_in_by_ntlm(client, user):
+    """The status that ends a login of two messages, and the flags of the session; none where there is no challenge."""
+    if not client.negotiates():
+        return None
+    first = client.send(session_setup(1, NTLM_NEGOTIATE)).reply()
+    session = struct.unpack_from('<Q', first, 40)[0]
+    if struct.unpack_from('<I', first, STATUS_AT - 4)[0] != 0xC0000016 or b'NTLMSSP\0\2\0\0\0' not in first:
+        return None
+    last = client.send(session_setup(2, ntlm_authenticate(user), session)).reply()
+    return struct.unpack_from('<I', last, STATUS_AT - 4)[0], struct.unpack_from('<H', last, 66)[0]
+
+
+def guests_log_in_by_ntlm():
+    """Guests come in where the configuration lets them, and say how they log in; elsewhere nobody does."""
+    with Served('--login', 'ntlm', '--config', os.path.join(TOP, 'guest.toml')) as share:
+        client = share.client()
+        comes = logs_in_by_ntlm(client, 'somebody') == (0, 1) and client.asks(tree_connect(3, 1)) == 0
+    with Served('--login', 'ntlm') as share:
+        client = share.client()
+        first = client.negotiates() and client.send(session_setup(1, NTLM_NEGOTIATE)).reply()
+        stays = client.asks(session_setup(2, ntlm_authenticate('somebody'), struct.unpack_from('<Q', first, 40)[0])) == 0xC000006D
+    return comes and stays
+
+
 def words_are_refused():
-    return all(ran('serve', *words)[0] == 2 for words in ((), ('--listen',), ('--listen', 'x', '--turns', '0'), ('--listen', 'x', '--idle', '-1')))
+    return all(ran('serve', *words)[0] == 2 for words in ((), ('--listen',), ('--listen', 'x', '--turns', '0'), ('--listen', 'x', '--idle', '-1'),
+                                                         ('--listen', 'x', '--login', 'x')))
 
 
 TESTS = (a_client_is_served, a_file_is_written_and_read, bytes_come_one_by_one, an_end_is_told, sixty_four_are_served, others_go_on_beside_ends,
          one_that_never_reads_holds_up_nobody, slow_reader_takes_every_byte, without_descriptors_it_goes_on, silence_is_an_end,
          so_many_turns_are_taken, addresses_are_refused, configurations_are_looked_at_first, two_clients_are_replayed,
-         words_are_refused)
+         words_are_refused, guests_log_in_by_ntlm)
 TESTS_OF_ODD_SYSTEMS = (a_clock_before_1970_is_1970, a_port_that_is_not_allowed_is_refused)
 
 
