@@ -5,7 +5,7 @@
     bash tools/serve.sh --demo           plays stored runs, and a client over TCP, and shows what is asked and answered
     bash tools/serve.sh replay < FILE    does what the program itself does with these words,
     bash tools/serve.sh show < FILE      its standard input and its exit status; so does
-    bash tools/serve.sh serve --listen 127.0.0.1:4455 --config guest.toml
+    bash tools/serve.sh serve --listen 127.0.0.1:4455 --config guest.toml --login ntlm
     bash tools/serve.sh --proved ..      proves the program first, with any of these words behind it
     bash tools/serve.sh --help           prints this, and what the program says of its words
 
@@ -76,7 +76,7 @@ def become(*words):
 
 def serve(program):
     """Serves the share until it is ended, and gives the exit status."""
-    words = [program, "serve", "--listen", f"{HOST}:{PORT}", "--config", os.path.join(TOP, "guest.toml")]
+    words = [program, "serve", "--listen", f"{HOST}:{PORT}", "--config", os.path.join(TOP, "guest.toml"), "--login", "ntlm"]
     share = subprocess.Popen(words, stdin=subprocess.DEVNULL, stderr=subprocess.PIPE)
     try:
         for line in share.stderr:
