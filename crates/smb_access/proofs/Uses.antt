@@ -5,7 +5,7 @@ use Rattle.smb_wire.specs.declared.access.Access.{Access}
 use Rattle.smb_wire.specs.declared.access.ShareAccess.{ShareAccess}
 use Rattle.smb_wire.specs.Access.{has_any, FILE_SHARE_READ, FILE_SHARE_WRITE, FILE_SHARE_DELETE}
 use Rattle.smb_access.specs.declared.open_row.OpenRow.{OpenRow}
-use Rattle.smb_access.specs.declared.use_kind.UseKind.TheVariants.{Reads, Writes, Deletes, SharesNoRead, SharesNoWrite, SharesNoDelete}
+use Rattle.smb_access.specs.declared.use_kind.SharingUse.TheVariants.{Reads, Writes, Deletes, SharesNoRead, SharesNoWrite, SharesNoDelete}
 use Rattle.smb_access.specs.Access.{is_reading, is_writing, is_deleting}
 use Rattle.smb_access.specs.Opens.{is_on_entry}
 use Rattle.smb_access.specs.Sharing.{is_shared_access, is_kept_out, has_use, has_conflict}

@@ -14,7 +14,7 @@ use Rattle.smb_tree.specs.declared.fault.TreeFault.TheVariants.{Absent, ParentAb
 use Rattle.smb_access.specs.declared.fault.StoreFault.{StoreFault}
 use Rattle.smb_access.specs.declared.fault.StoreFault.TheVariants.{Status, NoMemory as NoRoom}
 use Rattle.smb_access.specs.declared.found.Target.{Target}
-use Rattle.smb_access.specs.declared.found.Found.{Found}
+use Rattle.smb_access.specs.declared.found.CreateLookup.{CreateLookup}
 use Rattle.smb_access.specs.Access.{is_bad_access, granted, is_writing, is_deleting}
 use Rattle.smb_access.specs.Asked.{FileAsked, asks_folder, asks_file, asks_by_number, asks_delete, asks_read_only}
 use Rattle.smb_access.specs.StatusRows.{StatusRow}
@@ -63,7 +63,7 @@ asked_rows ask =
     ∷ []
 
 -- rows 6 to 10: whether an entry may be there
-abbrev pub place_rows : FileAsked → Found → List StatusRow
+abbrev pub place_rows : FileAsked → CreateLookup → List StatusRow
 place_rows ask found = (
   is_bad_access ask.access || asks_delete ask && not (is_deleting (granted ask.access (is_read_only_target found.target))),
   STATUS_ACCESS_DENIED,
@@ -91,14 +91,14 @@ kind_rows ask target =
     ∷ []
 
 -- rows 16 and 17: whether there is room
-abbrev pub room_rows : Found → List StatusRow
+abbrev pub room_rows : CreateLookup → List StatusRow
 room_rows found =
     (found.opens_full, STATUS_TOO_MANY_OPENED_FILES)
     ∷ (is_none found.target && found.entries_full, STATUS_DISK_FULL)
     ∷ []
 
 -- rows 6 to 17, by what was found and the opens
-abbrev pub found_rows : List OpenRow → FileAsked → Found → List StatusRow
+abbrev pub found_rows : List OpenRow → FileAsked → CreateLookup → List StatusRow
 found_rows opens ask found =
     place_rows ask found
     ++ (kind_rows ask found.target ++ ((target_conflicts opens ask found.target, STATUS_SHARING_VIOLATION) ∷ room_rows found))

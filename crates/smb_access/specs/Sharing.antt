@@ -5,8 +5,8 @@ use Rattle.smb_wire.specs.Access.{has_any, FILE_SHARE_READ, FILE_SHARE_WRITE, FI
 use Rattle.smb_wire.specs.declared.access.Access.{Access}
 use Rattle.smb_wire.specs.declared.access.ShareAccess.{ShareAccess}
 use Rattle.smb_access.specs.declared.open_row.OpenRow.{OpenRow}
-use Rattle.smb_access.specs.declared.use_kind.UseKind.{UseKind}
-use Rattle.smb_access.specs.declared.use_kind.UseKind.TheVariants.{Reads, Writes, Deletes, SharesNoRead, SharesNoWrite, SharesNoDelete}
+use Rattle.smb_access.specs.declared.use_kind.SharingUse.{SharingUse}
+use Rattle.smb_access.specs.declared.use_kind.SharingUse.TheVariants.{Reads, Writes, Deletes, SharesNoRead, SharesNoWrite, SharesNoDelete}
 use Rattle.smb_access.specs.Access.{is_reading, is_writing, is_deleting}
 use Rattle.smb_access.specs.Opens.{open_of, is_on_entry}
 use Rattle.smb_wire.specs.Dispositions.{overwrites_by}
@@ -38,7 +38,7 @@ abbrev pub shares_no : ℕ → OpenRow → Bool
 shares_no share row = is_shared_access row.access && not (has_any row.share.0 share)
 
 -- an open uses its entry so: it may, or it does not share
-abbrev pub uses : UseKind → OpenRow → Bool
+abbrev pub uses : SharingUse → OpenRow → Bool
 uses Reads row = is_reading row.access
 uses Writes row = is_writing row.access
 uses Deletes row = is_deleting row.access
@@ -47,7 +47,7 @@ uses SharesNoWrite row = shares_no FILE_SHARE_WRITE row
 uses SharesNoDelete row = shares_no FILE_SHARE_DELETE row
 
 -- some open of an entry uses it so
-abbrev pub has_use : List OpenRow → ℕ → UseKind → Bool
+abbrev pub has_use : List OpenRow → ℕ → SharingUse → Bool
 has_use opens entry kind = list_any (λ row. is_on_entry entry row && uses kind row) opens
 
 -- an open's access and sharing

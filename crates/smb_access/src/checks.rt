@@ -13,7 +13,7 @@ ghost use Rattle.smb_access.specs.Looked.{asked_rows, place_rows, kind_rows, roo
 
 use super::access::{granted, is_bad_access, is_deleting, is_writing};
 use super::ask::CreateAsk;
-use super::found::{Found, ROOT, Target};
+use super::found::{CreateLookup, ROOT, Target};
 use bitflags::Flags;
 use smb_wire::nt_status::{
     STATUS_ACCESS_DENIED, STATUS_CANNOT_DELETE, STATUS_DELETE_PENDING, STATUS_DISK_FULL,
@@ -185,7 +185,7 @@ fn is_denied(ask: &CreateAsk<'_>, target: &Option<Target>) -> bool
 pub fn check_place(
     ask: &CreateAsk<'_>,
     disposition: CreateDisposition,
-    found: &Found,
+    found: &CreateLookup,
 ) -> Result<(), u32>
     requires { disposition_code disposition ≡ ask.now.disposition.0 }
     ensures lawful { OnOk result ((rows : List StatusRow) → first_status (place_rows (asked ask.now) found.now ++ rows) ≡ first_status rows) }
@@ -242,7 +242,7 @@ pub fn check_kind(
 }
 
 /// The status of a request by whether there is room.
-pub fn room_status(found: &Found) -> u32
+pub fn room_status(found: &CreateLookup) -> u32
     ensures { result ≡ first_status (room_rows found.now) }
 {
     if found.opens_full {

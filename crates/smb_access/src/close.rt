@@ -48,7 +48,7 @@ pub fn mark_closed<T: Tree>(tree: &mut T, row: &OpenRow)
 }
 
 /// Removes an entry that is marked and has no open, and tells whether it did.
-pub fn clear<T: Tree, O: Opens>(tree: &mut T, opens: &O, number: EntryNo) -> bool
+pub fn remove_if_delete_pending<T: Tree, O: Opens>(tree: &mut T, opens: &O, number: EntryNo) -> bool
     requires { has_mark (T.content tree.old).rows number ≡ true → is_deletable (T.content tree.old).rows number ≡ true }
     ensures tree { T.content tree.new ≡ tree_cleared (T.content tree.old) (O.content opens.now) number }
     ensures removed { result ≡ is_due (T.content tree.old) (O.content opens.now) number }

@@ -101,7 +101,7 @@ fn overwritten_basic(
 
 /// Does to an entry that stands what is asked: a file may be overwritten. Only want of memory can refuse, and
 /// nothing has changed then.
-pub fn affect<T: Tree>(
+pub fn overwrite_if_asked<T: Tree>(
     tree: &mut T,
     ask: &CreateAsk<'_>,
     disposition: CreateDisposition,

@@ -16,7 +16,7 @@ pub struct Target {
 
 /// What stands where a request looks.
 #[derive(Clone, Copy, Debug)]
-pub struct Found {
+pub struct CreateLookup {
     /// The entry that it names, if it stands.
     pub target: Option<Target>,
     /// Each entry above it is a folder.

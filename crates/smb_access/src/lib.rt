@@ -41,5 +41,5 @@ pub use open_row::{OpenNo, OpenRow, Owner};
 pub use opens::Opens;
 pub use plain::PlainOpens;
 pub use scan::{Scan, ScanLast};
-pub use use_kind::UseKind;
+pub use use_kind::SharingUse;
 pub use view::{Closed, Created, View};

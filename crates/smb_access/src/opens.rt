@@ -6,7 +6,7 @@ ghost use Rattle.smb_access.specs.Sharing.{has_use};
 
 use super::open_row::{OpenNo, OpenRow, Owner};
 use super::scan::Scan;
-use super::use_kind::UseKind;
+use super::use_kind::SharingUse;
 use smb_tree::EntryNo;
 use std::alloc::AllocError;
 
@@ -44,7 +44,7 @@ pub trait Opens {
         ensures { result ≡ open_on_entry_after (content self.now) entry number };
 
     /// Whether an open of an entry uses it so.
-    fn has_use(&self, entry: EntryNo, kind: UseKind) -> bool
+    fn has_use(&self, entry: EntryNo, kind: SharingUse) -> bool
         ensures { result ≡ has_use (content self.now) entry kind };
 
     /// The least number of the opens, or of those above a number where one is given, or None.

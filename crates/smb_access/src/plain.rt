@@ -9,7 +9,7 @@ ghost use Rattle.smb_access.specs.Sharing.{uses};
 use super::open_row::{OpenNo, OpenRow, Owner};
 use super::opens::Opens;
 use super::scan::Scan;
-use super::use_kind::UseKind;
+use super::use_kind::SharingUse;
 use indexmap::IndexMap;
 use smb_tree::EntryNo;
 use smb_wire::FoldedName;
@@ -73,7 +73,7 @@ fn row_on_entry(rows: &IndexMap<OpenNo, OpenRow>, entry: EntryNo, i: usize) -> O
 }
 
 // Whether an open is one of an entry, and uses it so.
-fn is_use(row: &OpenRow, entry: EntryNo, kind: UseKind) -> bool
+fn is_use(row: &OpenRow, entry: EntryNo, kind: SharingUse) -> bool
     ensures { result ≡ (is_on_entry entry row.now && uses kind row.now) }
 {
     row.entry == entry && kind.is_of(row)
@@ -182,7 +182,7 @@ impl Opens for PlainOpens {
         number_from(&self.rows, begin, entry, number)
     }
 
-    fn has_use(&self, entry: EntryNo, kind: UseKind) -> bool {
+    fn has_use(&self, entry: EntryNo, kind: SharingUse) -> bool {
         self.rows.values().any(|row| is_use(row, entry, kind))
     }
 

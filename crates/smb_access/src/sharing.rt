@@ -12,7 +12,7 @@ use super::ask::CreateAsk;
 use super::checks::is_read_only_target;
 use super::found::Target;
 use super::opens::Opens;
-use super::use_kind::UseKind;
+use super::use_kind::SharingUse;
 use bitflags::Flags;
 use smb_tree::EntryNo;
 use smb_wire::{Access, CreateDisposition, ShareAccess};
@@ -39,9 +39,9 @@ pub fn is_shared_access(access: Access) -> bool
 fn is_kept_out<O: Opens>(opens: &O, entry: EntryNo, access: Access) -> bool
     ensures { result ≡ is_kept_out_by_some (O.content opens.now) entry access }
 {
-    (is_reading(access) && opens.has_use(entry, UseKind::SharesNoRead))
-        || (is_writing(access) && opens.has_use(entry, UseKind::SharesNoWrite))
-        || (is_deleting(access) && opens.has_use(entry, UseKind::SharesNoDelete))
+    (is_reading(access) && opens.has_use(entry, SharingUse::SharesNoRead))
+        || (is_writing(access) && opens.has_use(entry, SharingUse::SharesNoWrite))
+        || (is_deleting(access) && opens.has_use(entry, SharingUse::SharesNoDelete))
 }
 
 // Whether an open of an entry has an access that is not shared.
@@ -49,9 +49,9 @@ fn is_kept_out<O: Opens>(opens: &O, entry: EntryNo, access: Access) -> bool
 fn keeps_out<O: Opens>(opens: &O, entry: EntryNo, share: ShareAccess) -> bool
     ensures { result ≡ keeps_out_some (O.content opens.now) entry share }
 {
-    (!share.intersects(ShareAccess::READ) && opens.has_use(entry, UseKind::Reads))
-        || (!share.intersects(ShareAccess::WRITE) && opens.has_use(entry, UseKind::Writes))
-        || (!share.intersects(ShareAccess::DELETE) && opens.has_use(entry, UseKind::Deletes))
+    (!share.intersects(ShareAccess::READ) && opens.has_use(entry, SharingUse::Reads))
+        || (!share.intersects(ShareAccess::WRITE) && opens.has_use(entry, SharingUse::Writes))
+        || (!share.intersects(ShareAccess::DELETE) && opens.has_use(entry, SharingUse::Deletes))
 }
 
 // Whether an access and what it shares conflict with an open of an entry.

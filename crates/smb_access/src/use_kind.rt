@@ -12,7 +12,7 @@ use smb_wire::ShareAccess;
 /// What of an open may stand in the way of another one of its entry ([MS-FSA] 2.1.5.1.2). An open whose access neither reads,
 /// writes nor deletes has none of it, whatever it shares.
 #[derive(Clone, Copy, Debug, PartialEq, Eq)]
-pub enum UseKind {
+pub enum SharingUse {
     /// It reads.
     Reads,
     /// It writes.
@@ -27,18 +27,18 @@ pub enum UseKind {
     SharesNoDelete,
 }
 
-impl UseKind {
+impl SharingUse {
     /// Whether an open uses its entry so.
     pub fn is_of(self, row: &OpenRow) -> bool
         ensures { result ≡ uses self row.now }
     {
         match self {
-            UseKind::Reads => is_reading(row.access),
-            UseKind::Writes => is_writing(row.access),
-            UseKind::Deletes => is_deleting(row.access),
-            UseKind::SharesNoRead => is_shared_without(row, ShareAccess::READ),
-            UseKind::SharesNoWrite => is_shared_without(row, ShareAccess::WRITE),
-            UseKind::SharesNoDelete => is_shared_without(row, ShareAccess::DELETE),
+            SharingUse::Reads => is_reading(row.access),
+            SharingUse::Writes => is_writing(row.access),
+            SharingUse::Deletes => is_deleting(row.access),
+            SharingUse::SharesNoRead => is_shared_without(row, ShareAccess::READ),
+            SharingUse::SharesNoWrite => is_shared_without(row, ShareAccess::WRITE),
+            SharingUse::SharesNoDelete => is_shared_without(row, ShareAccess::DELETE),
         }
     }
 }

@@ -5,6 +5,7 @@ use Rattle.std.specs.BTreeMap.{is_at}
 use Rattle.std.specs.Ordering.{nat_cmp}
 use Rattle.std.proofs.lemmas.List.{append-nil}
 use Rattle.std.proofs.lemmas.Bool.{ltb-true, ltb-false, lt-ltb, le-ltb}
+use Rattle.smb_wire.specs.Limits.{longest_payload}
 use Rattle.smb_frame.specs.declared.fault.FrameFault.{FrameFault}
 use Rattle.smb_frame.specs.Reading.{payloads, rest, fault_of}
 use Rattle.smb_frame.proofs.Streams.{payloads-more, payloads-none, rest-more, rest-none}
@@ -16,7 +17,7 @@ use Rattle.smb_engine.specs.Event.{EventText, brings}
 use Rattle.smb_request.specs.State.{ServerState}
 use Rattle.smb_engine.specs.State.{StreamState, ShareState, ended, stream_of, with_stream}
 use Rattle.smb_engine.specs.Output.{end_of}
-use Rattle.smb_engine.specs.Stream.{longest_payload, added_payloads, unread}
+use Rattle.smb_engine.specs.Stream.{added_payloads, unread}
 use Rattle.smb_engine.specs.Run.{Step, payload_step, after_step, and_then, payload_steps, EventStep, settled, bytes_step, event_step, event_refusal, Stop, Ran, run, then_ran, later, refused_at_once}
 use Rattle.smb_engine.specs.Refusals.{run_behind}
 use Rattle.smb_engine.specs.Laws.{StreamsInOrder, AreAlike, later_behind, with_one_more_at, moved, run_after, pieces_on, bytes_of_pieces}

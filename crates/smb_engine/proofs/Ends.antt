@@ -6,6 +6,7 @@ use Rattle.std.specs.Map.{remove_entry}
 use Rattle.std.specs.BTreeMap.{is_at}
 use Rattle.std.specs.Ordering.{nat_cmp}
 use Rattle.std.proofs.lemmas.Bool.{eqb-true, ltb-true, ne_eqb, eq-eqb, true≢false}
+use Rattle.smb_wire.specs.Limits.{longest_payload}
 use Rattle.smb_session.proofs.Windows.{all-append}
 use Rattle.smb_session.specs.Authenticator.{Meaning}
 use Rattle.smb_frame.specs.Reading.{rest, fault_of}
@@ -16,7 +17,7 @@ use Rattle.smb_request.specs.State.{ServerState}
 use Rattle.smb_engine.specs.Laws.{StreamsInOrder, receiver, IsLastEnd}
 use Rattle.smb_engine.specs.State.{StreamState, ShareState, stream_of}
 use Rattle.smb_engine.specs.Output.{Output, frame_to, end_of, reply_frame}
-use Rattle.smb_engine.specs.Stream.{longest_payload, added_payloads}
+use Rattle.smb_engine.specs.Stream.{added_payloads}
 use Rattle.smb_engine.specs.Run.{Step, payload_step, payload_steps, and_then, closed_by, piece_step, EventStep, settled, bytes_step, event_step, event_refusal, Ran, run, then_ran, refused_at_once}
 use Rattle.smb_engine.specs.Event.{EventText, opens, brings, ends, connection_of}
 use Rattle.smb_engine.proofs.Chains.{payload_whole}

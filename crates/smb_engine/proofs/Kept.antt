@@ -5,6 +5,7 @@ use Rattle.std.specs.Map.{set_value, remove_entry}
 use Rattle.std.specs.BTreeMap.{is_at, insert_entry}
 use Rattle.std.specs.Ordering.{nat_cmp}
 use Rattle.std.proofs.lemmas.Bool.{eqb-true, ne_eqb, le-ltb}
+use Rattle.smb_wire.specs.Limits.{longest_payload}
 use Rattle.smb_frame.proofs.Bounds.{open_rest_short}
 use Rattle.smb_session.specs.Numbers.{contains, IsRising, with_number, without_number}
 use Rattle.smb_session.specs.Table.{TableState, connected}
@@ -14,7 +15,6 @@ use Rattle.smb_request.specs.Settings.{is_lawful}
 use Rattle.smb_request.specs.Owners.{AreOwned}
 use Rattle.smb_request.specs.State.{ServerState, connection_ended}
 use Rattle.smb_engine.specs.State.{StreamState, ShareState, new_stream}
-use Rattle.smb_engine.specs.Stream.{longest_payload}
 use Rattle.smb_engine.specs.Good.{IsGoodStream, GoodState}
 use Rattle.smb_engine.specs.Held.{Waits, AllWait, AreKept}
 use Rattle.smb_request.proofs.Numbered.{at_is, at_same, at_above, greater}

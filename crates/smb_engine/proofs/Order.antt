@@ -8,6 +8,7 @@ use Rattle.std.specs.Ordering.{nat_cmp}
 use Rattle.std.specs.declared.cmp.Ordering.{Ordering}
 use Rattle.std.specs.declared.cmp.Ordering.TheVariants.{Less, Equal, Greater}
 use Rattle.std.proofs.lemmas.Bool.{eqb-true, ne_eqb}
+use Rattle.smb_wire.specs.Limits.{longest_payload}
 use Rattle.smb_session.specs.Numbers.{IsRising}
 use Rattle.smb_session.proofs.Numbers.{rising-with}
 use Rattle.smb_session.proofs.Windows.{rising-filter, all-append}
@@ -19,7 +20,7 @@ use Rattle.smb_request.specs.State.{ServerState}
 use Rattle.smb_engine.specs.Laws.{StreamsInOrder, receiver}
 use Rattle.smb_engine.specs.State.{StreamState, ShareState, stream_of, new_stream, opened, ended}
 use Rattle.smb_engine.specs.Output.{Output, end_of, reply_frame}
-use Rattle.smb_engine.specs.Stream.{longest_payload, added_payloads}
+use Rattle.smb_engine.specs.Stream.{added_payloads}
 use Rattle.smb_engine.specs.Run.{Step, payload_step, payload_steps, and_then, closed_by, piece_step, EventStep, settled, bytes_step, event_step, event_refusal, Ran, run, then_ran, refused_at_once}
 use Rattle.smb_engine.specs.Good.{GoodState}
 use Rattle.smb_engine.specs.Event.{EventText, opens, brings, ends, connection_of}

@@ -13,6 +13,7 @@ use Rattle.smb_engine.specs.declared.connection.Connection.{Connection}
 use Rattle.smb_session.specs.Authenticator.{Meaning}
 use Rattle.smb_request.specs.State.{ServerState}
 use Rattle.std.specs.Option.{option_map_or}
+use Rattle.smb_wire.specs.Limits.{longest_payload}
 use Rattle.smb_body.specs.declared.smb1.Smb1Dialects.{Smb1Dialects}
 use Rattle.smb_request.specs.declared.smb1.Smb1Answer.{Smb1Answer}
 use Rattle.smb_request.specs.Smb1.{answer_to_smb1}
@@ -21,7 +22,7 @@ use Rattle.smb_request.specs.Response.{Performed}
 use Rattle.smb_engine.specs.State.{StreamState, new_stream}
 use Rattle.smb_engine.specs.Output.{Output, end_of}
 use Rattle.smb_engine.specs.Sink.{Heard}
-use Rattle.smb_engine.specs.Stream.{longest_payload, added_payloads}
+use Rattle.smb_engine.specs.Stream.{added_payloads}
 use Rattle.smb_engine.specs.Run.{ChainState, replied, one_performed, all_performed, admitted, chain_begun, Step, refused_step, first_negotiate, first_step, framed_chain, chain_step, payload_step, and_then, payload_steps, piece_step}
 use Rattle.smb_engine.specs.Refusals.{server_after}
 use Rattle.smb_engine.specs.Held.{Waits, IsPieceHeld, StoppedAfter}

@@ -6,6 +6,7 @@ use Rattle.std.proofs.lemmas.Bool.{eq-eqb}
 use Rattle.std.proofs.lemmas.Option.{slice_get-map, slice_get_read}
 use Rattle.std.specs.BTreeMap.{is_at, insert_entry}
 use Rattle.std.specs.Ordering.{nat_cmp}
+use Rattle.smb_wire.specs.Limits.{longest_payload}
 use Rattle.smb_frame.specs.Reading.{rest, payloads}
 use Rattle.smb_frame.proofs.Streams.{rest-more}
 use Rattle.smb_engine.specs.declared.event.Event.{Event}
@@ -15,7 +16,7 @@ use Rattle.smb_session.specs.Authenticator.{Meaning}
 use Rattle.smb_request.specs.State.{ServerState, connection_added}
 use Rattle.smb_engine.specs.State.{StreamState, ShareState, stream_of, new_stream, opened}
 use Rattle.smb_engine.specs.Output.{Output}
-use Rattle.smb_engine.specs.Stream.{longest_payload, added_payloads, unread, unread_stream, unread_entry}
+use Rattle.smb_engine.specs.Stream.{added_payloads, unread, unread_stream, unread_entry}
 use Rattle.smb_engine.specs.Run.{Step, piece_step, EventStep, quiet_step, settled, bytes_step, event_step, opening_refusal, event_refusal, Stop, Ran, later, then_ran, refused_at_once, run}
 use Rattle.smb_engine.specs.Refusals.{stopped, can_want_memory, EventOutOfMemory, OpeningRefused, EventStopped, run_behind, RunStopped}
 use Rattle.smb_engine.specs.Event.{EventText, opens, brings, ends, text_of, events_of, connection_of, connection_at}

@@ -4,6 +4,7 @@ use Rattle.std.specs.List.{flat_map}
 use Rattle.std.proofs.lemmas.List.{append-nil, take-take, length-take}
 use Rattle.std.proofs.lemmas.Grind.{flat_map-append}
 use Rattle.std.proofs.Math.Seq.{take-append_seam}
+use Rattle.smb_wire.specs.Limits.{longest_payload}
 use Rattle.smb_frame.specs.Reading.{first, after, payloads, rest}
 use Rattle.smb_frame.proofs.Frames.{first_is}
 use Rattle.smb_frame.proofs.Streams.{payloads-none, payloads-some, rest-none, rest-some}
@@ -13,7 +14,6 @@ use Rattle.smb_session.specs.Authenticator.{Meaning}
 use Rattle.smb_request.specs.State.{ServerState}
 use Rattle.smb_engine.specs.Output.{Output, output_bytes, reply_frame}
 use Rattle.smb_engine.specs.Sink.{Heard}
-use Rattle.smb_engine.specs.Stream.{longest_payload}
 use Rattle.smb_engine.specs.Run.{Step, payload_step, payload_steps, and_then, after_step}
 use Rattle.smb_engine.specs.Refusals.{server_after}
 use Rattle.smb_engine.specs.InPlace.{StepPlaced, step_behind}

@@ -8,12 +8,13 @@ use Rattle.std.specs.Ordering.{nat_cmp}
 use Rattle.std.specs.declared.cmp.Ordering.{Ordering}
 use Rattle.std.specs.declared.cmp.Ordering.TheVariants.{Less, Equal, Greater}
 use Rattle.std.proofs.lemmas.List.{append-nil}
+use Rattle.smb_wire.specs.Limits.{longest_payload}
 use Rattle.smb_frame.proofs.Streams.{rest-none}
 use Rattle.smb_session.specs.Authenticator.{Meaning}
 use Rattle.smb_request.specs.State.{ServerState, connection_ended}
 use Rattle.smb_engine.specs.declared.arrival.Arrival.{Arrival}
 use Rattle.smb_engine.specs.State.{StreamState, ShareState, stream_of, with_stream, without_stream}
-use Rattle.smb_engine.specs.Stream.{longest_payload, unread, unread_stream, unread_entry}
+use Rattle.smb_engine.specs.Stream.{unread, unread_stream, unread_entry}
 use Rattle.smb_engine.specs.Event.{brings}
 use Rattle.smb_engine.specs.Run.{piece_step, settled, bytes_step, quiet_step}
 use Rattle.smb_engine.specs.Refusals.{server_after, EventOutOfMemory}

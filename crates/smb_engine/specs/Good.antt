@@ -1,13 +1,13 @@
 -- What holds of a share between calls.
 use Rattle.std.specs.Prelude.{◌≡◌, ◌+◌, ◌≤◌, ◌<◌, true, false, length, map}
 use Rattle.std.specs.List.{AllByRecursion}
+use Rattle.smb_wire.specs.Limits.{longest_payload, most_connections}
 use Rattle.smb_session.specs.Window.{GoodWindow}
 use Rattle.smb_session.specs.Good.{GoodTable}
 use Rattle.smb_opens.specs.Good.{GoodStore}
 use Rattle.smb_request.specs.Settings.{is_lawful}
 use Rattle.smb_request.specs.Owners.{AreOwned}
 use Rattle.smb_engine.specs.State.{StreamState, ShareState, new_stream}
-use Rattle.smb_engine.specs.Stream.{longest_payload}
 
 -- a connection between calls: at most 131,075 bytes are unread, and its window is good; and while no payload came it is
 -- as it was opened, without a dialect and with the window {0}
@@ -23,7 +23,7 @@ pub record GoodState {S : Type 0} (s : ShareState S) : Type 0 where
   pub lawful : is_lawful s.server.settings ≡ true
   pub named : s.server.sessions.share ≡ s.server.settings.share
   pub room : s.server.store.tree.capacity ≡ s.server.settings.capacity
-  pub few : length s.streams ≤ 64
+  pub few : length s.streams ≤ most_connections
   pub given : AllByRecursion (λ entry. (0 < entry.0) × (entry.0 < s.next)) s.streams
   pub next : 0 < s.next
   pub good : AllByRecursion (λ entry. IsGoodStream entry.1) s.streams

@@ -2,11 +2,11 @@
 -- What the code holds of the definitions' values.
 use Rattle.std.specs.Prelude.{◌≡◌, ℕ, ◌++◌, ◌≤◌, ◌<◌, Bool, false, None, List, length, map, IsTrue}
 use Rattle.std.specs.List.{AllByRecursion}
+use Rattle.smb_wire.specs.Limits.{longest_payload, most_connections}
 use Rattle.smb_frame.specs.Reading.{first, fault_of, rest}
 use Rattle.smb_session.specs.Window.{GoodWindow}
 use Rattle.smb_request.specs.State.{ServerState}
 use Rattle.smb_engine.specs.State.{StreamState, new_stream}
-use Rattle.smb_engine.specs.Stream.{longest_payload}
 use Rattle.smb_engine.specs.Run.{Step}
 use Rattle.smb_engine.specs.Refusals.{server_after}
 
@@ -25,7 +25,7 @@ AllWait = AllByRecursion (λ entry. Waits entry.1)
 -- 1 on, and these connections may have sessions
 pub record AreKept (connections : List ℕ) (streams : List (ℕ × StreamState)) (next : ℕ) : Type 0 where
   pub waits : AllWait streams
-  pub few : length streams ≤ 64
+  pub few : length streams ≤ most_connections
   pub given : AllByRecursion (λ entry. entry.0 < next) streams
   pub from_one : (0 < next) × AllByRecursion (λ entry. 0 < entry.0) streams
   pub known : connections ≡ map (λ entry. entry.0) streams

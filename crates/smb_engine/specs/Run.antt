@@ -3,6 +3,7 @@
 use Rattle.std.specs.Prelude.{ℕ, suc, Bool, true, false, ◌&&◌, ◌||◌, ◌==◌, not, nat_lt, nat_le, List, [], ◌∷◌, ◌++◌, length, filter, map, replicate, Option, Some, None, is_none, if◌then◌else◌}
 use Rattle.std.specs.Option.{option_map, option_map_or}
 use Rattle.std.specs.List.{list_any}
+use Rattle.smb_wire.specs.Limits.{longest_payload, most_connections}
 use Rattle.smb_wire.specs.Commands.{code_of}
 use Rattle.smb_wire.specs.Counters.{is_spent}
 use Rattle.smb_wire.specs.declared.command.Command.TheVariants.{Negotiate, Cancel}
@@ -28,7 +29,7 @@ use Rattle.smb_engine.specs.declared.connection.Connection.{Connection}
 use Rattle.smb_engine.specs.declared.fault.ServeFault.{ServeFault}
 use Rattle.smb_engine.specs.declared.fault.ServeFault.TheVariants.{TooManyConnections, BadEvent}
 use Rattle.smb_engine.specs.State.{StreamState, ShareState, stream_of, with_stream, opened, ended}
-use Rattle.smb_engine.specs.Stream.{longest_payload, added_payloads}
+use Rattle.smb_engine.specs.Stream.{added_payloads}
 use Rattle.smb_engine.specs.Event.{EventText, opens, brings, ends}
 use Rattle.smb_engine.specs.Output.{Output, end_of, reply_frame}
 
@@ -162,7 +163,7 @@ module _ {S : Type 0} (authenticator : Meaning S) (arrival : Arrival) where
       (λ answer. record {
         server = server;
         connection = record connection { payload_came = true; dialect = answer.dialect; window = first_window 1 };
-        outputs = reply_frame arrival.connection_id (joined_replies (reply_to_smb1 (negotiate_answer server.settings.guid (hello_of authenticator server) arrival.moment answer.dialect_revision) ∷ []));
+        outputs = reply_frame arrival.connection_id (joined_replies (reply_to_smb1 (negotiate_answer server.settings.guid (hello_of authenticator server) arrival.moment answer.dialect answer.dialect_revision) ∷ []));
         stays_open = true;
         requests = record { before = server; context = first_context; request = None; after = server } ∷ [];
       })
@@ -254,7 +255,7 @@ event_step authenticator s (ends connection) = quiet_step (ended s connection)
 
 -- why no connection opens: 64 are open, or the numbers are spent (3.3.5.1)
 abbrev pub opening_refusal : {S : Type 0} → ShareState S → Option ServeFault
-opening_refusal s = if nat_le 64 (length s.streams) || is_spent 64 s.next then Some TooManyConnections else None
+opening_refusal s = if nat_le most_connections (length s.streams) || is_spent 64 s.next then Some TooManyConnections else None
 
 -- an event on a number that was never opened is refused
 abbrev pub unknown_refusal : {S : Type 0} → ShareState S → ℕ → Option ServeFault

@@ -1,11 +1,8 @@
 -- A connection's stream: the payloads that a piece adds to it, and what of it is unread ([MS-SMB2] 2.1).
 use Rattle.std.specs.Prelude.{ℕ, List, ◌++◌, length, drop, map}
+use Rattle.smb_wire.specs.Limits.{longest_payload}
 use Rattle.smb_frame.specs.Reading.{payloads, rest}
 use Rattle.smb_engine.specs.State.{StreamState, ShareState}
-
--- the longest payload, in bytes
-abbrev pub longest_payload : ℕ
-longest_payload = 131072
 
 -- the payloads that a piece adds to the bytes received before
 abbrev pub added_payloads : List ℕ → List ℕ → List (List ℕ)

@@ -27,13 +27,12 @@ use smb_body::{Smb1Dialects, read_smb1_negotiate};
 use smb_frame::{close_frame, open_frame};
 use smb_head::{Chain, Header, HeaderFlags, ReplyWriter, read_chain};
 use smb_opens::Opens;
+use smb_request::smb1::Smb1Answer;
 use smb_request::{Answered, Context, NoReply, Server, smb1};
 use smb_session::{Authenticator, Window};
 use smb_tree::Tree;
+use smb_wire::limits::MOST_REQUESTS;
 use smb_wire::{Command, Dialect};
-
-/// How many requests a chain has at most.
-const CHAIN_LIMIT: usize = 16;
 
 /// The flags of a response to a request that is not related to the one before it, and of one to a related request.
 const RESPONSE: HeaderFlags = HeaderFlags::SERVER_TO_REDIR;
@@ -75,7 +74,7 @@ fn keeps_negotiate_rule(dialect: Option<Dialect>, chain: &Chain<'_>) -> bool
 }
 
 /// The MessageIds that a chain uses, those of CANCEL left out.
-fn message_ids(chain: &Chain<'_>) -> ArrayVec<u64, CHAIN_LIMIT>
+fn message_ids(chain: &Chain<'_>) -> ArrayVec<u64, MOST_REQUESTS>
     requires { length chain.now ≤ 16 }
     ensures { result.items ≡ message_ids chain.now }
 {
@@ -302,12 +301,12 @@ fn chain_payload<A: Authenticator + Drop, T: Tree + Drop, O: Opens + Drop>(
 fn frame_smb1<A: Authenticator + Drop, T: Tree + Drop, O: Opens + Drop>(
     server: &Server<A, T, O>,
     arrival: Arrival,
-    dialect_revision: u16,
+    answer: Smb1Answer,
     out: &mut Vec<u8>,
 ) -> bool
     ensures ok { OnTrue result (out.new.items ≡ out.old.items
         ++ flat_map output_bytes (reply_frame arrival.connection_id (joined_replies (reply_to_smb1
-        (negotiate_answer server.now.settings.guid (hello_of A.meaning server.now) arrival.moment dialect_revision) ∷ [])))) }
+        (negotiate_answer server.now.settings.guid (hello_of A.meaning server.now) arrival.moment answer.dialect answer.dialect_revision) ∷ [])))) }
     ensures kept { OnFalse result (out.new.items ≡ out.old.items) }
 {
     let Ok(start) = open_frame(out) else {
@@ -318,7 +317,7 @@ fn frame_smb1<A: Authenticator + Drop, T: Tree + Drop, O: Opens + Drop>(
         out.truncate(start);
         return false;
     };
-    let Ok(()) = server.put_smb1_body(arrival.moment, dialect_revision, out) else {
+    let Ok(()) = server.put_smb1_body(arrival.moment, answer, out) else {
         out.truncate(start);
         return false;
     };
@@ -348,7 +347,7 @@ fn first_payload<A: Authenticator + Drop, T: Tree + Drop, O: Opens + Drop>(
     let Some(answer) = smb1::answer(dialects) else {
         return Ok(None);
     };
-    if !frame_smb1(server, arrival, answer.dialect_revision, out) {
+    if !frame_smb1(server, arrival, answer, out) {
         return Err(OutOfMemoryAfter { done: 0 });
     }
     connection.payload_came = true;

@@ -13,9 +13,6 @@ pub struct Connection {
     pub(crate) window: Window,
 }
 
-/// The longest payload of a frame, in bytes.
-pub(crate) const LONGEST_PAYLOAD: u32 = 131_072;
-
 /// A connection with the unread bytes of its stream.
 #[derive(Drop)]
 pub struct ConnectionStream {
@@ -25,11 +22,12 @@ pub struct ConnectionStream {
 
 impl Model for ConnectionStream {
     ghost use Rattle.std.specs.Prelude.{◌≡◌};
+    ghost use Rattle.smb_wire.specs.Limits.{longest_payload};
     ghost use Rattle.smb_engine.specs.State.{StreamState};
 
     ghost Value = { StreamState };
 
     ghost view = { λ s. record { received = s.buffer.bytes; connection = s.connection } };
 
-    ghost invariant = { λ s. s.buffer.limit ≡ 131072 };
+    ghost invariant = { λ s. s.buffer.limit ≡ longest_payload };
 }

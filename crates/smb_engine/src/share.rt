@@ -17,7 +17,7 @@ ghost use Rattle.smb_engine.specs.Stream.{unread};
 ghost use Rattle.smb_engine.specs.Good.{GoodState};
 
 use super::arrival::Arrival;
-use super::connection::{Connection, ConnectionStream, LONGEST_PAYLOAD};
+use super::connection::{Connection, ConnectionStream};
 use super::event::{Event, Fate};
 use super::fault::{OutOfMemoryAfter, RunFault, ServeFault};
 use super::output::{Answer, Sink};
@@ -29,13 +29,11 @@ use smb_opens::Opens;
 use smb_request::{Config, Server};
 use smb_session::{Authenticator, Window};
 use smb_tree::Tree;
+use smb_wire::limits::{LONGEST_PAYLOAD, MOST_CONNECTIONS};
 use std::alloc::{AllocError, Global};
 use std::collections::BTreeMap;
 use std::fmt;
 use std::marker::Model;
-
-/// How many connections may be open.
-const CONNECTION_LIMIT: usize = 64;
 
 /// A share and its open connections. Who may come in, its authenticator decides; its files and their opens are
 /// kept in a tree and a list of opens of any kind.
@@ -208,7 +206,7 @@ impl<A: Authenticator + Drop, T: Tree + Drop, O: Opens + Drop> Share<A, T, O> {
         ensures kept { OnErr result (self.new ≡ self.old) }
     {
         let connection = self.next;
-        if self.streams.len() >= CONNECTION_LIMIT || connection == u64::MAX {
+        if self.streams.len() >= MOST_CONNECTIONS || connection == u64::MAX {
             return Err(ServeFault::TooManyConnections);
         }
         let stream = new_stream(self.server.allocator());

@@ -2,8 +2,8 @@
 
 ghost use Rattle.std.specs.Prelude.{◌≡◌, ◌≤◌, ◌++◌, ◌&&◌, None, OnOk, OnErr, IfOk, IfErr, IfSome, IsTrue, is_none, is_some, length, take};
 ghost use Rattle.std.specs.List.{flat_map};
+ghost use Rattle.smb_wire.specs.Limits.{longest_payload};
 ghost use Rattle.smb_frame.specs.Reading.{first, fault_of, payloads, rest};
-ghost use Rattle.smb_engine.specs.Stream.{longest_payload};
 ghost use Rattle.smb_engine.specs.Run.{payload_step, payload_steps, piece_step};
 ghost use Rattle.smb_engine.specs.Held.{Waits, IsPieceHeld, StoppedAfter};
 ghost use Rattle.smb_engine.specs.InPlace.{step_behind};

@@ -13,7 +13,7 @@ use Rattle.smb_tree.specs.Views.{Shown, entry_shown}
 use Rattle.smb_tree.proofs.Kept.{numbers_kept}
 use Rattle.smb_access.specs.declared.found.Target.{Target}
 use Rattle.smb_access.specs.declared.open_row.OpenRow.{OpenRow}
-use Rattle.smb_entry.specs.declared.rename.Way.{Way}
+use Rattle.smb_entry.specs.declared.rename.RenameLookup.{RenameLookup}
 use Rattle.smb_access.specs.Found.{is_reached, is_marked, is_pending}
 use Rattle.smb_access.specs.Looked.{target_of, is_marked_target}
 use Rattle.smb_access.specs.Opens.{open_on_entry, has_open}
@@ -29,7 +29,7 @@ marked_target (Some entry) = refl
 
 -- what is found, field by field
 pub way_is : (rows : List Row) (from to : Path) (target above : Option Target) (beneath reached pending : Bool) → target ≡ option_map target_of (entry_at rows to) → above ≡ option_map target_of (entry_at rows (parent to)) → beneath ≡ is_beneath from to → reached ≡ is_reached rows to → pending ≡ (is_marked_target target || is_marked_target above) →
-    (let x : Way = record { beneath = beneath; reached = reached; pending = pending; target = target } in x) ≡ way_between rows from to
+    (let x : RenameLookup = record { beneath = beneath; reached = reached; pending = pending; target = target } in x) ≡ way_between rows from to
 way_is rows from to target above beneath reached pending t a b r p =
     let here : is_marked_target target ≡ is_marked (entry_at rows to) = ap is_marked_target t ∙ marked_target (entry_at rows to) in
     let there : is_marked_target above ≡ is_marked (entry_at rows (parent to)) = ap is_marked_target a ∙ marked_target (entry_at rows (parent to)) in

@@ -1,5 +1,6 @@
 -- READ and WRITE of a file, by what an open shows ([MS-SMB2] 3.3.5.12, 3.3.5.13).
 use Rattle.std.specs.Prelude.{ℕ, ◌+◌, ◌-◌, ◌||◌, ◌&&◌, Bool, not, min, nat_lt, nat_le, List, [], ◌∷◌, length}
+use Rattle.smb_wire.specs.Limits.{most_file_bytes}
 use Rattle.smb_wire.specs.Access.{has_any, FILE_WRITE_DATA}
 use Rattle.smb_wire.specs.NtStatus.{STATUS_INVALID_PARAMETER, STATUS_INVALID_DEVICE_REQUEST, STATUS_ACCESS_DENIED, STATUS_END_OF_FILE, STATUS_FILE_LOCK_CONFLICT, STATUS_DISK_FULL}
 use Rattle.smb_tree.specs.declared.entry.Basic.{Basic}
@@ -11,20 +12,16 @@ use Rattle.smb_access.specs.declared.view.View.{View}
 use Rattle.smb_access.specs.Access.{is_reading, is_writing}
 use Rattle.smb_access.specs.StatusRows.{StatusRow}
 
--- the most bytes that one request reads or writes ([MS-SMB2] 3.3.5.4: MaxReadSize, MaxWriteSize)
-abbrev pub most_at_once : ℕ
-most_at_once = 65536
-
 -- how many bytes of a file of this size there are from an offset on, at most so many
 abbrev pub bytes_there : ℕ → ℕ → ℕ → ℕ
 bytes_there size offset count = min count (size - offset)
 
--- the rows of a READ of so many bytes at an offset, by what its open shows, and whether a lock bars the range; in
--- docs/PROFILE.md they have these numbers
-abbrev pub read_rows : View → Bool → ℕ → ℕ → ℕ → List StatusRow
-read_rows view is_barred offset count minimum =
+-- the rows of a READ of so many bytes at an offset, by the most that one request may ask for, what its open shows, and
+-- whether a lock bars the range; in docs/PROFILE.md they have these numbers
+abbrev pub read_rows : ℕ → View → Bool → ℕ → ℕ → ℕ → List StatusRow
+read_rows most view is_barred offset count minimum =
     -- 1. more is asked for than one request reads ([MS-SMB2] 3.3.5.12)
-    (nat_lt most_at_once count, STATUS_INVALID_PARAMETER)
+    (nat_lt most count, STATUS_INVALID_PARAMETER)
     -- 2. the entry is a folder ([MS-FSA] 2.1.5.2)
     ∷ (is_folder_kind view.kind, STATUS_INVALID_DEVICE_REQUEST)
     -- 3. the open was granted neither FILE_READ_DATA nor FILE_EXECUTE ([MS-SMB2] 3.3.5.12)
@@ -49,12 +46,12 @@ abbrev pub may_not_write : View → ℕ → Bool
 may_not_write view offset =
     not (is_writing view.access) || not (has_any view.access.0 FILE_WRITE_DATA) && nat_lt offset view.size
 
--- the rows of a WRITE of so many bytes at an offset, by what its open shows, whether a lock bars the range, and whether
--- there is no room for the bytes; in docs/PROFILE.md they have these numbers
-abbrev pub write_rows : View → Bool → ℕ → ℕ → Bool → List StatusRow
-write_rows view is_barred offset count is_full =
+-- the rows of a WRITE of so many bytes at an offset, by the most that one request may bring, what its open shows, whether
+-- a lock bars the range, and whether there is no room for the bytes; in docs/PROFILE.md they have these numbers
+abbrev pub write_rows : ℕ → View → Bool → ℕ → ℕ → Bool → List StatusRow
+write_rows most view is_barred offset count is_full =
     -- 1. more is given than one request writes ([MS-SMB2] 3.3.5.13)
-    (nat_lt most_at_once count, STATUS_INVALID_PARAMETER)
+    (nat_lt most count, STATUS_INVALID_PARAMETER)
     -- 2. the entry is a folder ([MS-FSA] 2.1.5.3)
     ∷ (is_folder_kind view.kind, STATUS_INVALID_DEVICE_REQUEST)
     -- 3. the open may not write there ([MS-SMB2] 3.3.5.13)
@@ -69,7 +66,7 @@ write_rows view is_barred offset count is_full =
 -- files use pass the capacity
 abbrev pub has_no_room : Content → ℕ → ℕ → List ℕ → Bool
 has_no_room tree entry offset buffer =
-    nat_lt 16777216 (offset + length buffer)
+    nat_lt most_file_bytes (offset + length buffer)
     || nat_lt tree.capacity (used_space (with_bytes tree entry offset buffer).rows)
 
 -- a lock of its file bars an open from writing so many bytes at an offset

@@ -1,6 +1,7 @@
 -- SET_INFO of a file or a folder, by what an open shows ([MS-SMB2] 3.3.5.21.1, [MS-FSA] 2.1.5.15).
 use Rattle.std.specs.Prelude.{ℕ, ◌-◌, ◌^◌, ◌==◌, ◌||◌, ◌&&◌, Bool, false, not, nat_lt, nat_le, List, [], ◌∷◌, length, if◌then◌else◌}
 use Rattle.std.specs.Option.{option_map_or}
+use Rattle.smb_wire.specs.Limits.{most_file_bytes}
 use Rattle.smb_wire.specs.Access.{has_any, FILE_WRITE_DATA}
 use Rattle.smb_wire.specs.Attributes.{FILE_ATTRIBUTE_READONLY, FILE_ATTRIBUTE_DIRECTORY}
 use Rattle.smb_wire.specs.NtStatus.{STATUS_INVALID_PARAMETER, STATUS_ACCESS_DENIED, STATUS_CANNOT_DELETE, STATUS_DIRECTORY_NOT_EMPTY, STATUS_DISK_FULL}
@@ -54,7 +55,7 @@ delete_set is_deleted entry = record entry { mark = is_deleted }
 -- pass the capacity
 abbrev pub has_no_space : Content → ℕ → ℕ → Bool
 has_no_space tree entry size =
-    nat_lt 16777216 size || nat_lt tree.capacity (used_space (with_size tree entry size).rows)
+    nat_lt most_file_bytes size || nat_lt tree.capacity (used_space (with_size tree entry size).rows)
 
 -- the rows, by what the open shows, and whether there is no room
 abbrev pub size_rows : View → Bool → List StatusRow

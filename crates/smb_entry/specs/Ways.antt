@@ -11,7 +11,7 @@ use Rattle.smb_access.specs.declared.fault.StoreFault.{StoreFault}
 use Rattle.smb_access.specs.declared.fault.StoreFault.TheVariants.{Status, NoMemory as NoRoom}
 use Rattle.smb_access.specs.declared.open_row.OpenRow.{OpenRow}
 use Rattle.smb_access.specs.declared.found.Target.{Target}
-use Rattle.smb_entry.specs.declared.rename.Way.{Way}
+use Rattle.smb_entry.specs.declared.rename.RenameLookup.{RenameLookup}
 use Rattle.smb_access.specs.declared.view.View.{View}
 use Rattle.smb_access.specs.Access.{is_deleting}
 use Rattle.smb_access.specs.StatusRows.{StatusRow}
@@ -21,7 +21,7 @@ use Rattle.smb_access.specs.Opens.{has_open}
 use Rattle.smb_entry.specs.Rename.{is_beneath, path_numbered, has_open_beneath}
 
 -- what is found between two paths
-abbrev pub way_between : List Row → Path → Path → Way
+abbrev pub way_between : List Row → Path → Path → RenameLookup
 way_between rows from to = record {
   beneath = is_beneath from to;
   reached = is_reached rows to;
@@ -50,7 +50,7 @@ name_rows name =
     ∷ []
 
 -- rows 9 to 11
-abbrev pub target_rows : List OpenRow → Way → Bool → List StatusRow
+abbrev pub target_rows : List OpenRow → RenameLookup → Bool → List StatusRow
 target_rows opens way replace =
     (way.pending, STATUS_DELETE_PENDING)
     ∷ (is_some way.target && not replace, STATUS_OBJECT_NAME_COLLISION)
@@ -58,7 +58,7 @@ target_rows opens way replace =
     ∷ []
 
 -- rows 3 to 11
-abbrev pub way_rows : List Row → List OpenRow → View → Way → Bool → List StatusRow
+abbrev pub way_rows : List Row → List OpenRow → View → RenameLookup → Bool → List StatusRow
 way_rows rows opens view way replace =
     (not (is_deleting view.access) || view.entry == 1, STATUS_ACCESS_DENIED)
     ∷ (view.mark, STATUS_DELETE_PENDING)

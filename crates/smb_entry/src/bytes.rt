@@ -21,9 +21,6 @@ use smb_wire::nt_status::{
     STATUS_INVALID_DEVICE_REQUEST, STATUS_INVALID_PARAMETER,
 };
 
-/// The most bytes that one request reads or writes.
-const MOST_AT_ONCE: u32 = 65_536;
-
 /// How many bytes of a file of this size there are from an offset on, at most `count`.
 pub fn bytes_there(size: u64, offset: u64, count: u32) -> u32
     ensures { result ≡ bytes_there size offset count }
@@ -36,21 +33,22 @@ pub fn bytes_there(size: u64, offset: u64, count: u32) -> u32
     }
 }
 
-/// Whether a READ through an open that shows this is answered by bytes, or the status that refuses it. A lock bars it or
-/// not.
+/// Whether a READ through an open that shows this is answered by bytes, or the status that refuses it. One request may ask
+/// for `most` bytes; a lock bars it or not.
 pub fn may_read(
+    most: u32,
     view: &View,
     is_barred: bool,
     offset: u64,
     count: u32,
     minimum: u32,
 ) -> Result<(), u32>
-    ensures lawful { OnOk result (first_status (read_rows view.now is_barred offset count minimum) ≡ STATUS_SUCCESS) }
+    ensures lawful { OnOk result (first_status (read_rows most view.now is_barred offset count minimum) ≡ STATUS_SUCCESS) }
     ensures file { OnOk result (is_folder_kind view.now.kind ≡ false) }
-    ensures why { IfErr result (λ status. first_status (read_rows view.now is_barred offset count minimum) ≡ status) }
+    ensures why { IfErr result (λ status. first_status (read_rows most view.now is_barred offset count minimum) ≡ status) }
     ensures refused { IfErr result (λ status. status ≢ STATUS_SUCCESS) }
 {
-    if count > MOST_AT_ONCE {
+    if count > most {
         return Err(STATUS_INVALID_PARAMETER);
     }
     if view.kind.is_folder() {
@@ -75,15 +73,21 @@ fn may_not_write(view: &View, offset: u64) -> bool
     !is_writing(view.access) || !view.access.intersects(Access::WRITE_DATA) && offset < view.size
 }
 
-/// Whether a WRITE through an open that shows this goes on, which the room then decides, or the status that refuses it. A
-/// lock bars it or not.
-pub fn may_write(view: &View, is_barred: bool, offset: u64, count: usize) -> Result<(), u32>
-    ensures goes_on { OnOk result ((is_full : Bool) → first_status (write_rows view.now is_barred offset count is_full) ≡ (if nat_lt 0 count && is_full then STATUS_DISK_FULL else STATUS_SUCCESS)) }
+/// Whether a WRITE through an open that shows this goes on, which the room then decides, or the status that refuses it. One
+/// request may bring `most` bytes; a lock bars it or not.
+pub fn may_write(
+    most: u32,
+    view: &View,
+    is_barred: bool,
+    offset: u64,
+    count: usize,
+) -> Result<(), u32>
+    ensures goes_on { OnOk result ((is_full : Bool) → first_status (write_rows most view.now is_barred offset count is_full) ≡ (if nat_lt 0 count && is_full then STATUS_DISK_FULL else STATUS_SUCCESS)) }
     ensures file { OnOk result (is_folder_kind view.now.kind ≡ false) }
-    ensures why { IfErr result (λ status. (is_full : Bool) → first_status (write_rows view.now is_barred offset count is_full) ≡ status) }
+    ensures why { IfErr result (λ status. (is_full : Bool) → first_status (write_rows most view.now is_barred offset count is_full) ≡ status) }
     ensures refused { IfErr result (λ status. status ≢ STATUS_SUCCESS) }
 {
-    if count > MOST_AT_ONCE as usize {
+    if count > most as usize {
         return Err(STATUS_INVALID_PARAMETER);
     }
     if view.kind.is_folder() {

@@ -31,7 +31,7 @@ use smb_wire::{PathFault, PathView, Units, split_path};
 
 /// What a rename finds where it leads.
 #[derive(Clone, Copy, Debug)]
-pub struct Way {
+pub struct RenameLookup {
     /// The new path lies beneath the entry.
     pub beneath: bool,
     /// Each entry above the new path is a folder.
@@ -60,14 +60,14 @@ pub fn path_named(name: Units<'_>) -> Result<PathView<'_>, u32>
 }
 
 /// What is found between an entry, which exists, and the path that it is to get.
-pub fn find_way<T: Tree>(tree: &T, entry: EntryNo, path: &PathView<'_>) -> Way
+pub fn look_up_rename<T: Tree>(tree: &T, entry: EntryNo, path: &PathView<'_>) -> RenameLookup
     requires good { GoodContent (T.content tree.now) }
     requires there { is_some (numbered (T.content tree.now).rows entry) ≡ true }
     ensures { result ≡ way_between (T.content tree.now).rows (path_numbered (T.content tree.now).rows entry) (folded_path (parts_of path.now)) }
 {
     let target = find_target(tree, path);
     let above = find_above(tree, path);
-    Way {
+    RenameLookup {
         beneath: is_path_beneath(tree, entry, path),
         reached: is_folder_target(&above),
         pending: is_pending(&target, &above),
@@ -113,7 +113,7 @@ fn is_kept_target<O: Opens>(opens: &O, target: &Option<Target>) -> bool
 }
 
 /// The status by what exists at the new path.
-fn target_status<O: Opens>(opens: &O, way: &Way, replace: bool) -> u32
+fn target_status<O: Opens>(opens: &O, way: &RenameLookup, replace: bool) -> u32
     ensures { result ≡ first_status (target_rows (O.content opens.now) way.now replace) }
 {
     if way.pending {
@@ -134,7 +134,7 @@ pub fn way_status<T: Tree, O: Opens>(
     tree: &T,
     opens: &O,
     view: &View,
-    way: &Way,
+    way: &RenameLookup,
     replace: bool,
 ) -> u32
     requires good { GoodContent (T.content tree.now) }

@@ -16,7 +16,8 @@ use bitflags::Flags;
 use smb_access::access::{is_deleting, is_writing_attributes};
 use smb_access::found::ROOT;
 use smb_access::{StoreFault, View};
-use smb_tree::{Basic, EntryNo, MOST_BYTES, Tree, allocation_size};
+use smb_tree::{Basic, EntryNo, Tree, allocation_size};
+use smb_wire::limits::MOST_FILE_BYTES;
 use smb_wire::nt_status::{
     STATUS_ACCESS_DENIED, STATUS_CANNOT_DELETE, STATUS_DIRECTORY_NOT_EMPTY, STATUS_DISK_FULL,
     STATUS_INVALID_PARAMETER,
@@ -84,7 +85,7 @@ pub fn mark_entry<T: Tree>(tree: &mut T, entry: EntryNo, mark: bool)
 /// Whether a file of this size passes the capacity beside the others.
 fn passes_capacity(capacity: u64, others: u64, size: u64) -> bool
     requires others { others ≤ capacity }
-    requires small { size ≤ 16777216 }
+    requires small { size ≤ MOST_FILE_BYTES }
     ensures { result ≡ nat_lt capacity (others + allocation_size size) }
 {
     capacity - others < allocation_size(size)
@@ -99,7 +100,7 @@ pub fn has_no_space<T: Tree>(tree: &T, entry: EntryNo, size: u64) -> bool
     let Some(seen) = tree.entry(entry) else {
         unreachable!();
     };
-    if size > MOST_BYTES {
+    if size > MOST_FILE_BYTES {
         return true;
     }
     let others = tree.used() - allocation_size(seen.size);

@@ -7,13 +7,13 @@ use Rattle.std.specs.BTreeMap.{BTreeMap, IsUnchanged, Updates, WritesThrough, ge
 use Rattle.std.specs.Map.{lookup}
 use Rattle.smb_access.specs.Sharing.{uses, is_shared_access}
 use Rattle.smb_access.specs.declared.open_row.OpenRow.{OpenRow}
-use Rattle.smb_access.specs.declared.use_kind.UseKind.{UseKind}
-use Rattle.smb_access.specs.declared.use_kind.UseKind.TheVariants.{Reads, Writes, Deletes, SharesNoRead, SharesNoWrite, SharesNoDelete}
+use Rattle.smb_access.specs.declared.use_kind.SharingUse.{SharingUse}
+use Rattle.smb_access.specs.declared.use_kind.SharingUse.TheVariants.{Reads, Writes, Deletes, SharesNoRead, SharesNoWrite, SharesNoDelete}
 use Rattle.smb_handles.specs.declared.uses.UseCounts.{UseCounts}
 use Rattle.smb_handles.specs.Uses.{once, count_in, is_zero, KeepsNoZero}
 
 -- what fits with one more fits with an open's part of it
-pub once_fits : (kind : UseKind) (row : OpenRow) (n m : ℕ) → m ≡ once kind row → n + 1 < 2 ^ 64 → Fits w64 (n + m)
+pub once_fits : (kind : SharingUse) (row : OpenRow) (n m : ℕ) → m ≡ once kind row → n + 1 < 2 ^ 64 → Fits w64 (n + m)
 once_fits kind row n m e h =
     elim (uses kind row) as (λ b. m ≡ cond b 1 0 → Fits w64 (n + m)) [ true ↦ λ f. omega (arith, f, h) | false ↦ λ f. omega (arith, f, h) ] e
 
@@ -33,7 +33,7 @@ not_true true h = h refl
 not_true false h = refl
 
 -- with an open more they still are not
-pub grown_not_zero : (old new : UseCounts) (row : OpenRow) → ((kind : UseKind) → count_in new kind ≡ count_in old kind + once kind row) → is_zero old ≡ false → is_zero new ≡ false
+pub grown_not_zero : (old new : UseCounts) (row : OpenRow) → ((kind : SharingUse) → count_in new kind ≡ count_in old kind + once kind row) → is_zero old ≡ false → is_zero new ≡ false
 grown_not_zero old new row e h =
     not_true (is_zero new) (λ t.
     let none : total new ≡ 0 = six_zero new.reads new.writes new.deletes new.shares_no_read new.shares_no_write new.shares_no_delete t in
@@ -41,12 +41,12 @@ grown_not_zero old new row e h =
     let zero : is_zero old ≡ true = zero_six old.reads old.writes old.deletes old.shares_no_read old.shares_no_write old.shares_no_delete less in
     absurd (let both : true ≡ false = sym zero ∙ h in cc))
 
-once_none : (kind : UseKind) (row : OpenRow) (n m : ℕ) → n ≡ m + once kind row → n ≡ 0 → uses kind row ≡ false
+once_none : (kind : SharingUse) (row : OpenRow) (n m : ℕ) → n ≡ m + once kind row → n ≡ 0 → uses kind row ≡ false
 once_none kind row n m e z =
     elim (uses kind row) as (λ b. n ≡ m + cond b 1 0 → b ≡ false) [ true ↦ λ f. absurd (omega (arith, f, z)) | false ↦ λ f. refl ] e
 
 -- with an open of which sharing speaks they are not
-pub shared_not_zero : (old new : UseCounts) (row : OpenRow) → ((kind : UseKind) → count_in new kind ≡ count_in old kind + once kind row) → is_shared_access row.access ≡ true → is_zero new ≡ false
+pub shared_not_zero : (old new : UseCounts) (row : OpenRow) → ((kind : SharingUse) → count_in new kind ≡ count_in old kind + once kind row) → is_shared_access row.access ≡ true → is_zero new ≡ false
 shared_not_zero old new row e s =
     not_true (is_zero new) (λ t.
     let none : total new ≡ 0 = six_zero new.reads new.writes new.deletes new.shares_no_read new.shares_no_write new.shares_no_delete t in

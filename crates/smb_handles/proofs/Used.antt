@@ -7,13 +7,13 @@ use Rattle.smb_access.specs.Opens.{is_on_entry, open_numbers, open_of, with_scan
 use Rattle.smb_access.specs.Sharing.{uses, has_use}
 use Rattle.smb_access.specs.declared.open_row.OpenRow.{OpenRow}
 use Rattle.smb_access.specs.declared.scan.Scan.{Scan}
-use Rattle.smb_access.specs.declared.use_kind.UseKind.{UseKind}
-use Rattle.smb_access.specs.declared.use_kind.UseKind.TheVariants.{Reads, Writes, Deletes, SharesNoRead, SharesNoWrite, SharesNoDelete}
+use Rattle.smb_access.specs.declared.use_kind.SharingUse.{SharingUse}
+use Rattle.smb_access.specs.declared.use_kind.SharingUse.TheVariants.{Reads, Writes, Deletes, SharesNoRead, SharesNoWrite, SharesNoDelete}
 use Rattle.smb_handles.specs.Table.{rows_of}
 use Rattle.smb_handles.specs.Uses.{once, uses_in, more, less}
 use Rattle.smb_handles.proofs.Live.{kept_above}
 
-abbrev is_use : ℕ → UseKind → OpenRow → Bool
+abbrev is_use : ℕ → SharingUse → OpenRow → Bool
 is_use entry kind row = is_on_entry entry row && uses kind row
 
 -- ---- lists of which those are counted that pass a test
@@ -76,16 +76,16 @@ counted_once true true m = refl
 counted_once true false m = omega arith
 counted_once false so m = refl
 
-pub uses_pushed : (rows : List OpenRow) (row : OpenRow) (entry : ℕ) (kind : UseKind) → uses_in (rows ++ row ∷ []) entry kind ≡ more (uses_in rows) row entry kind
+pub uses_pushed : (rows : List OpenRow) (row : OpenRow) (entry : ℕ) (kind : SharingUse) → uses_in (rows ++ row ∷ []) entry kind ≡ more (uses_in rows) row entry kind
 uses_pushed rows row entry kind =
     length_pushed (is_use entry kind) rows row ∙ counted_once (is_on_entry entry row) (uses kind row) (uses_in rows entry kind)
 
 -- the opens are those that are left and the one that goes
-pub uses_removed : (rows : List OpenRow) (n : ℕ) (row : OpenRow) (entry : ℕ) (kind : UseKind) → AreRising (open_numbers rows) → open_of rows n ≡ Some row → uses_in rows entry kind ≡ more (uses_in (without_open n rows)) row entry kind
+pub uses_removed : (rows : List OpenRow) (n : ℕ) (row : OpenRow) (entry : ℕ) (kind : SharingUse) → AreRising (open_numbers rows) → open_of rows n ≡ Some row → uses_in rows entry kind ≡ more (uses_in (without_open n rows)) row entry kind
 uses_removed rows n row entry kind r f =
     length_removed (is_use entry kind) rows n row r f ∙ counted_once (is_on_entry entry row) (uses kind row) (uses_in (without_open n rows) entry kind)
 
-use_scanned : (kind : UseKind) (x : OpenRow) (scan : Scan) → uses kind (record x { scan = scan }) ≡ uses kind x
+use_scanned : (kind : SharingUse) (x : OpenRow) (scan : Scan) → uses kind (record x { scan = scan }) ≡ uses kind x
 use_scanned Reads x scan = refl
 use_scanned Writes x scan = refl
 use_scanned Deletes x scan = refl
@@ -93,11 +93,11 @@ use_scanned SharesNoRead x scan = refl
 use_scanned SharesNoWrite x scan = refl
 use_scanned SharesNoDelete x scan = refl
 
-pub uses_scanned : (rows : List OpenRow) (n : ℕ) (scan : Scan) (entry : ℕ) (kind : UseKind) → uses_in (with_scan n scan rows) entry kind ≡ uses_in rows entry kind
+pub uses_scanned : (rows : List OpenRow) (n : ℕ) (scan : Scan) (entry : ℕ) (kind : SharingUse) → uses_in (with_scan n scan rows) entry kind ≡ uses_in rows entry kind
 uses_scanned rows n scan entry kind =
     length_scanned (is_use entry kind) scan (λ x. ap (λ b. is_on_entry entry x && b) (use_scanned kind x scan)) rows n
 
-pub some_use : (rows : List OpenRow) (entry : ℕ) (kind : UseKind) → nat_lt 0 (uses_in rows entry kind) ≡ has_use rows entry kind
+pub some_use : (rows : List OpenRow) (entry : ℕ) (kind : SharingUse) → nat_lt 0 (uses_in rows entry kind) ≡ has_use rows entry kind
 some_use rows entry kind = some_pass (is_use entry kind) rows
 
 shorter : (o : Option OpenRow) (rows : List OpenRow) (n : ℕ) → length rows ≤ n → length (cons_option o rows) ≤ n + 1
@@ -109,7 +109,7 @@ rows_within slots [] = omega arith
 rows_within slots (e ∷ es) = (let more_by_one = shorter (slots e.1) (rows_of slots es) (length es) (rows_within slots es) in omega (arith, more_by_one))
 
 -- there are no more of them than the index has numbers
-pub uses_within : (slots : ℕ → Option OpenRow) (es : List (ℕ × ℕ)) (entry : ℕ) (kind : UseKind) → uses_in (rows_of slots es) entry kind ≤ length es
+pub uses_within : (slots : ℕ → Option OpenRow) (es : List (ℕ × ℕ)) (entry : ℕ) (kind : SharingUse) → uses_in (rows_of slots es) entry kind ≤ length es
 uses_within slots es entry kind = omega (arith, length_within (is_use entry kind) (rows_of slots es), rows_within slots es)
 
 -- ---- counts with an open more, and with one less
@@ -119,7 +119,7 @@ less_more true m one = omega arith
 less_more false m one = refl
 
 -- an open's part of a count is taken away again
-pub taken_back : (f g h : ℕ → UseKind → ℕ) (row : OpenRow) (entry : ℕ) (kind : UseKind) → g entry kind ≡ more f row entry kind → h entry kind ≡ less g row entry kind → h entry kind ≡ f entry kind
+pub taken_back : (f g h : ℕ → SharingUse → ℕ) (row : OpenRow) (entry : ℕ) (kind : SharingUse) → g entry kind ≡ more f row entry kind → h entry kind ≡ less g row entry kind → h entry kind ≡ f entry kind
 taken_back f g h row entry kind e d =
     d ∙ ap (λ (n : ℕ). cond (is_on_entry entry row) (n - once kind row) n) e ∙ less_more (is_on_entry entry row) (f entry kind) (once kind row)
 
@@ -127,7 +127,7 @@ itself : (n : ℕ) → (n == n) ≡ true
 itself n = grind (arith, nat_tests)
 
 -- and it is in it
-pub part_within : (f g : ℕ → UseKind → ℕ) (row : OpenRow) (kind : UseKind) → g row.entry kind ≡ more f row row.entry kind → once kind row ≤ g row.entry kind
+pub part_within : (f g : ℕ → SharingUse → ℕ) (row : OpenRow) (kind : SharingUse) → g row.entry kind ≡ more f row row.entry kind → once kind row ≤ g row.entry kind
 part_within f g row kind e =
     let here : g row.entry kind ≡ f row.entry kind + once kind row = e ∙ ap (λ b. cond b (f row.entry kind + once kind row) (f row.entry kind)) (itself row.entry) in
     omega (arith, here)

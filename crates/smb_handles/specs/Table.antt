@@ -4,7 +4,7 @@ use Rattle.std.specs.Prelude.{ℕ, ◌≡◌, ◌<◌, List, [], ◌∷◌, Opti
 use Rattle.std.specs.List.{AllByRecursion}
 use Rattle.smb_access.specs.declared.open_row.OpenRow.{OpenRow}
 use Rattle.smb_access.specs.declared.scan.Scan.{Scan}
-use Rattle.smb_access.specs.declared.use_kind.UseKind.{UseKind}
+use Rattle.smb_access.specs.declared.use_kind.SharingUse.{SharingUse}
 use Rattle.smb_handles.specs.Groups.{numbers_in}
 use Rattle.smb_handles.specs.Uses.{uses_in}
 use Rattle.smb_handles.specs.declared.key.GroupKey.{GroupKey}
@@ -24,7 +24,7 @@ AreLive slots (entry ∷ index) =
     IsSomeAnd (slots entry.1) (λ row. row.number ≡ entry.0) × AllByRecursion (λ later. entry.0 < later.0) index × AreLive slots index
 
 -- and each group has the numbers of its opens, and each count is that of an entry's opens that use it so
-pub record IsTable (slots : ℕ → Option OpenRow) (index : List (ℕ × ℕ)) (groups : GroupKey → List ℕ) (counts : ℕ → UseKind → ℕ) : Type 0 where
+pub record IsTable (slots : ℕ → Option OpenRow) (index : List (ℕ × ℕ)) (groups : GroupKey → List ℕ) (counts : ℕ → SharingUse → ℕ) : Type 0 where
   pub live : AreLive slots index
   pub grouped : (key : GroupKey) → groups key ≡ numbers_in (rows_of slots index) key
-  pub counted : (entry : ℕ) (kind : UseKind) → counts entry kind ≡ uses_in (rows_of slots index) entry kind
+  pub counted : (entry : ℕ) (kind : SharingUse) → counts entry kind ≡ uses_in (rows_of slots index) entry kind

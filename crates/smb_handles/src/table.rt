@@ -9,13 +9,13 @@ ghost use Rattle.smb_handles.specs.Groups.{members, noted};
 ghost use Rattle.smb_handles.specs.Uses.{counted, more};
 ghost use Rattle.smb_handles.specs.Table.{scanned};
 ghost use Rattle.smb_handles.specs.declared.key.GroupKey.{GroupKey};
-ghost use Rattle.smb_access.specs.declared.use_kind.UseKind.{UseKind};
+ghost use Rattle.smb_access.specs.declared.use_kind.SharingUse.{SharingUse};
 
 use super::groups::Groups;
 use super::key::GroupKey;
 use super::uses::Uses;
 use slab::Slab;
-use smb_access::{OpenNo, OpenRow, Opens, Owner, Scan, UseKind};
+use smb_access::{OpenNo, OpenRow, Opens, Owner, Scan, SharingUse};
 use smb_tree::EntryNo;
 use smb_wire::FoldedName;
 use std::alloc::{AllocError, Global};
@@ -111,13 +111,13 @@ fn enter(
 ) -> Result<(), AllocError>
     requires above { AllByRecursion (λ (entry : ℕ × ℕ). entry.0 < row.now.number) index.old.entries }
     requires below { (key : GroupKey) → AreNumbersBelow row.now.number (members groups.old.sets key) }
-    requires few { (kind : UseKind) → counted uses.old.counts row.now.entry kind ≤ length index.old.entries }
+    requires few { (kind : SharingUse) → counted uses.old.counts row.now.entry kind ≤ length index.old.entries }
     ensures index { OnOk result (index.new.entries ≡ index.old.entries ++ (row.now.number, slot) ∷ []) }
     ensures groups { OnOk result ((key : GroupKey) → members groups.new.sets key ≡ noted (members groups.old.sets) row.now key) }
-    ensures uses { OnOk result ((entry : ℕ) (kind : UseKind) → counted uses.new.counts entry kind ≡ more (counted uses.old.counts) row.now entry kind) }
+    ensures uses { OnOk result ((entry : ℕ) (kind : SharingUse) → counted uses.new.counts entry kind ≡ more (counted uses.old.counts) row.now entry kind) }
     ensures err_index { OnErr result (index.new.entries ≡ index.old.entries) }
     ensures err_groups { OnErr result ((key : GroupKey) → members groups.new.sets key ≡ members groups.old.sets key) }
-    ensures err_uses { OnErr result ((entry : ℕ) (kind : UseKind) → counted uses.new.counts entry kind ≡ counted uses.old.counts entry kind) }
+    ensures err_uses { OnErr result ((entry : ℕ) (kind : SharingUse) → counted uses.new.counts entry kind ≡ counted uses.old.counts entry kind) }
 {
     // So no count of opens overflows.
     let can_count = index.len() < usize::MAX;
@@ -207,7 +207,7 @@ impl Opens for HandleTable {
         self.groups.after(GroupKey::Entry(entry), number)
     }
 
-    fn has_use(&self, entry: EntryNo, kind: UseKind) -> bool {
+    fn has_use(&self, entry: EntryNo, kind: SharingUse) -> bool {
         self.uses.has(entry, kind)
     }
 

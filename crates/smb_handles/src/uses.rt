@@ -1,11 +1,11 @@
 //! For each entry how many of its opens use it in each way.
 
 ghost use Rattle.std.specs.Prelude.{◌≡◌, ◌+◌, ◌-◌, ◌^◌, ◌<◌, ◌≤◌, ℕ, OnOk, OnErr, nat_lt};
-ghost use Rattle.smb_access.specs.declared.use_kind.UseKind.{UseKind};
+ghost use Rattle.smb_access.specs.declared.use_kind.SharingUse.{SharingUse};
 ghost use Rattle.smb_handles.specs.Uses.{once, count_in, is_zero, KeepsNoZero, counted, more, less};
 
 use smb_access::sharing::is_shared_access;
-use smb_access::{OpenRow, UseKind};
+use smb_access::{OpenRow, SharingUse};
 use smb_tree::EntryNo;
 use std::alloc::{AllocError, Global};
 use std::collections::BTreeMap;
@@ -22,7 +22,7 @@ pub struct UseCounts {
 }
 
 // 1 where an open uses its entry so, else 0.
-fn once(kind: UseKind, row: &OpenRow) -> u64
+fn once(kind: SharingUse, row: &OpenRow) -> u64
     ensures { result ≡ once kind row.now }
 {
     if kind.is_of(row) { 1 } else { 0 }
@@ -31,7 +31,7 @@ fn once(kind: UseKind, row: &OpenRow) -> u64
 impl UseCounts {
     // Those of an entry without opens.
     fn zero() -> UseCounts
-        ensures { (kind : UseKind) → count_in result kind ≡ 0 }
+        ensures { (kind : SharingUse) → count_in result kind ≡ 0 }
     {
         UseCounts {
             reads: 0,
@@ -44,46 +44,46 @@ impl UseCounts {
     }
 
     // That of a way.
-    fn of(self, kind: UseKind) -> u64
+    fn of(self, kind: SharingUse) -> u64
         ensures { result ≡ count_in self kind }
     {
         match kind {
-            UseKind::Reads => self.reads,
-            UseKind::Writes => self.writes,
-            UseKind::Deletes => self.deletes,
-            UseKind::SharesNoRead => self.shares_no_read,
-            UseKind::SharesNoWrite => self.shares_no_write,
-            UseKind::SharesNoDelete => self.shares_no_delete,
+            SharingUse::Reads => self.reads,
+            SharingUse::Writes => self.writes,
+            SharingUse::Deletes => self.deletes,
+            SharingUse::SharesNoRead => self.shares_no_read,
+            SharingUse::SharesNoWrite => self.shares_no_write,
+            SharingUse::SharesNoDelete => self.shares_no_delete,
         }
     }
 
     // Those with an open more.
     fn with(self, row: &OpenRow) -> UseCounts
-        requires { (kind : UseKind) → count_in self kind + 1 < 2 ^ 64 }
-        ensures { (kind : UseKind) → count_in result kind ≡ count_in self kind + once kind row.now }
+        requires { (kind : SharingUse) → count_in self kind + 1 < 2 ^ 64 }
+        ensures { (kind : SharingUse) → count_in result kind ≡ count_in self kind + once kind row.now }
     {
         UseCounts {
-            reads: self.reads + once(UseKind::Reads, row),
-            writes: self.writes + once(UseKind::Writes, row),
-            deletes: self.deletes + once(UseKind::Deletes, row),
-            shares_no_read: self.shares_no_read + once(UseKind::SharesNoRead, row),
-            shares_no_write: self.shares_no_write + once(UseKind::SharesNoWrite, row),
-            shares_no_delete: self.shares_no_delete + once(UseKind::SharesNoDelete, row),
+            reads: self.reads + once(SharingUse::Reads, row),
+            writes: self.writes + once(SharingUse::Writes, row),
+            deletes: self.deletes + once(SharingUse::Deletes, row),
+            shares_no_read: self.shares_no_read + once(SharingUse::SharesNoRead, row),
+            shares_no_write: self.shares_no_write + once(SharingUse::SharesNoWrite, row),
+            shares_no_delete: self.shares_no_delete + once(SharingUse::SharesNoDelete, row),
         }
     }
 
     // Those with an open less, which was one of theirs.
     fn without(self, row: &OpenRow) -> UseCounts
-        requires { (kind : UseKind) → once kind row.now ≤ count_in self kind }
-        ensures { (kind : UseKind) → count_in result kind ≡ count_in self kind - once kind row.now }
+        requires { (kind : SharingUse) → once kind row.now ≤ count_in self kind }
+        ensures { (kind : SharingUse) → count_in result kind ≡ count_in self kind - once kind row.now }
     {
         UseCounts {
-            reads: self.reads - once(UseKind::Reads, row),
-            writes: self.writes - once(UseKind::Writes, row),
-            deletes: self.deletes - once(UseKind::Deletes, row),
-            shares_no_read: self.shares_no_read - once(UseKind::SharesNoRead, row),
-            shares_no_write: self.shares_no_write - once(UseKind::SharesNoWrite, row),
-            shares_no_delete: self.shares_no_delete - once(UseKind::SharesNoDelete, row),
+            reads: self.reads - once(SharingUse::Reads, row),
+            writes: self.writes - once(SharingUse::Writes, row),
+            deletes: self.deletes - once(SharingUse::Deletes, row),
+            shares_no_read: self.shares_no_read - once(SharingUse::SharesNoRead, row),
+            shares_no_write: self.shares_no_write - once(SharingUse::SharesNoWrite, row),
+            shares_no_delete: self.shares_no_delete - once(SharingUse::SharesNoDelete, row),
         }
     }
 
@@ -112,7 +112,7 @@ pub struct Uses {
 impl Uses {
     /// No uses. It takes no memory.
     pub fn new(alloc: Global) -> Uses
-        ensures { (entry : ℕ) (kind : UseKind) → counted result.counts entry kind ≡ 0 }
+        ensures { (entry : ℕ) (kind : SharingUse) → counted result.counts entry kind ≡ 0 }
     {
         Uses {
             counts: BTreeMap::new(alloc),
@@ -121,9 +121,9 @@ impl Uses {
 
     /// Counts an open. An allocation that is refused changes nothing.
     pub fn note(&mut self, row: &OpenRow) -> Result<(), AllocError>
-        requires { (kind : UseKind) → counted self.old.counts row.now.entry kind + 1 < 2 ^ 64 }
-        ensures ok { OnOk result ((entry : ℕ) (kind : UseKind) → counted self.new.counts entry kind ≡ more (counted self.old.counts) row.now entry kind) }
-        ensures err { OnErr result ((entry : ℕ) (kind : UseKind) → counted self.new.counts entry kind ≡ counted self.old.counts entry kind) }
+        requires { (kind : SharingUse) → counted self.old.counts row.now.entry kind + 1 < 2 ^ 64 }
+        ensures ok { OnOk result ((entry : ℕ) (kind : SharingUse) → counted self.new.counts entry kind ≡ more (counted self.old.counts) row.now entry kind) }
+        ensures err { OnErr result ((entry : ℕ) (kind : SharingUse) → counted self.new.counts entry kind ≡ counted self.old.counts entry kind) }
     {
         if let Some(counts) = self.counts.get_mut(&row.entry) {
             *counts = counts.with(row);
@@ -137,8 +137,8 @@ impl Uses {
 
     /// Counts an open no more that was counted.
     pub fn forget(&mut self, row: &OpenRow)
-        requires { (kind : UseKind) → once kind row.now ≤ counted self.old.counts row.now.entry kind }
-        ensures { (entry : ℕ) (kind : UseKind) → counted self.new.counts entry kind ≡ less (counted self.old.counts) row.now entry kind }
+        requires { (kind : SharingUse) → once kind row.now ≤ counted self.old.counts row.now.entry kind }
+        ensures { (entry : ℕ) (kind : SharingUse) → counted self.new.counts entry kind ≡ less (counted self.old.counts) row.now entry kind }
     {
         let Some(counts) = self.counts.get_mut(&row.entry) else {
             return;
@@ -150,7 +150,7 @@ impl Uses {
     }
 
     /// Whether an open of an entry uses it so.
-    pub fn has(&self, entry: EntryNo, kind: UseKind) -> bool
+    pub fn has(&self, entry: EntryNo, kind: SharingUse) -> bool
         ensures { result ≡ nat_lt 0 (counted self.now.counts entry kind) }
     {
         match self.counts.get(&entry) {

@@ -3,6 +3,7 @@ use Rattle.std.specs.Prelude.{◌≡◌, ℕ, zero, suc, ◌+◌, ◌%◌, ◌�
 use Rattle.std.specs.List.{concat, AllByRecursion}
 use Rattle.std.specs.Option.{option_or, option_map_or}
 use Rattle.std.specs.Result.{result_ok, result_err}
+use Rattle.smb_wire.specs.Limits.{most_requests}
 use Rattle.smb_head.specs.declared.fault.HeadFault.{HeadFault}
 use Rattle.smb_head.specs.declared.fault.HeadFault.TheVariants.{Next, TooMany, FromServer, RelatedFirst}
 use Rattle.smb_head.specs.Headers.{SpellsHeader, header_of, header_fault}
@@ -38,7 +39,7 @@ AreLinked (request ∷ next ∷ requests) = (next_of request ≡ length request)
 -- the payload is these requests one after the other, 1 to 16
 pub record Chained (payload : List ℕ) (requests : List (List ℕ)) : Type 0 where
   pub whole : payload ≡ concat requests
-  pub most : length requests ≤ 16
+  pub most : length requests ≤ most_requests
   pub each : AllByRecursion IsRequest requests
   pub unrelated : BeginsUnrelated requests
   pub linked : AreLinked requests
@@ -68,7 +69,7 @@ AreFollowed (request ∷ requests) rest =
 -- what is wrong with the request that stands first in the rest, behind so many others: that it is the 17th,
 -- whatever it is, or its own fault
 abbrev pub fault_behind : ℕ → List ℕ → Option HeadFault
-fault_behind count rest = if count == 16 then Some TooMany else request_fault (count == 0) rest
+fault_behind count rest = if count == most_requests then Some TooMany else request_fault (count == 0) rest
 
 -- the payload's first fault is this: requests without a fault come first, each followed by another, and then
 -- one with this fault
@@ -76,7 +77,7 @@ pub record Faulty (payload : List ℕ) (fault : HeadFault) : Type 0 where
   pub before : List (List ℕ)
   pub rest : List ℕ
   pub whole : payload ≡ concat before ++ rest
-  pub most : length before ≤ 16
+  pub most : length before ≤ most_requests
   pub each : AllByRecursion IsRequest before
   pub unrelated : BeginsUnrelated before
   pub followed : AreFollowed before rest
@@ -97,11 +98,11 @@ requests_in (suc n) first rest =
 
 -- the requests of a payload; none where it is no chain
 unfoldable pub chain_of : List ℕ → Option (List (List ℕ))
-chain_of payload = result_ok (requests_in 16 true payload)
+chain_of payload = result_ok (requests_in most_requests true payload)
 
 -- the first fault of a payload; none where it is a chain
 unfoldable pub chain_fault : List ℕ → Option HeadFault
-chain_fault payload = result_err (requests_in 16 true payload)
+chain_fault payload = result_err (requests_in most_requests true payload)
 
 -- a payload is the requests of its reading, and no others
 abbrev pub EachChainHasOneReading : Type 0

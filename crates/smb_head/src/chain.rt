@@ -8,17 +8,19 @@ ghost use Rattle.smb_head.specs.Chains.{chain_fault, chain_of, is_next_right, re
 use super::fault::{ChainFault, HeadFault};
 use super::header::{Header, HeaderFlags, NO_HEADER, read_header};
 use bitflags::Flags;
+use smb_wire::limits::MOST_REQUESTS;
 use std::marker::Model;
 
 /// The requests of a payload, 1 to 16, which it borrows, and their headers.
 #[derive(Drop)]
 pub struct Chain<'a> {
-    headers: [Header; 16],
-    requests: [&'a [u8]; 16],
+    headers: [Header; MOST_REQUESTS],
+    requests: [&'a [u8]; MOST_REQUESTS],
     count: usize,
 }
 
 impl<'a> Model for Chain<'a> {
+    ghost use Rattle.smb_wire.specs.Limits.{most_requests};
     ghost use Rattle.std.specs.Prelude.{ℕ, List, map, take, length, ◌≡◌, ◌≤◌};
     ghost use Rattle.std.specs.List.{AllByRecursion};
     ghost use Rattle.smb_head.specs.Headers.{header_of};
@@ -27,7 +29,7 @@ impl<'a> Model for Chain<'a> {
 
     ghost view = { λ chain. map (λ request. request.now) (take chain.count chain.requests) };
 
-    ghost invariant = { λ chain. (1 ≤ chain.count) × (chain.count ≤ 16)
+    ghost invariant = { λ chain. (1 ≤ chain.count) × (chain.count ≤ most_requests)
         × AllByRecursion (λ request. 64 ≤ length request.now) (take chain.count chain.requests)
         × (take chain.count chain.headers ≡ map (λ request. header_of request.now) (take chain.count chain.requests)) };
 }
@@ -37,7 +39,7 @@ impl Chain<'_> {
     pub fn len(&self) -> usize
         ensures len { result ≡ length self.now }
         ensures least { 1 ≤ result }
-        ensures most { result ≤ 16 }
+        ensures most { result ≤ MOST_REQUESTS }
     {
         self.count
     }
@@ -86,10 +88,10 @@ pub fn read_chain(payload: &[u8]) -> Result<Chain<'_>, ChainFault>
     ensures err { IfErr result (λ fault. chain_fault payload.now ≡ Some fault) }
     ensures none { OnErr result (chain_of payload.now ≡ None) }
 {
-    let mut headers = [NO_HEADER; 16];
-    let mut requests = [payload; 16];
+    let mut headers = [NO_HEADER; MOST_REQUESTS];
+    let mut requests = [payload; MOST_REQUESTS];
     let mut rest = payload;
-    for i in 0..16 {
+    for i in 0..MOST_REQUESTS {
         let header = read_request(rest, i == 0)?;
         headers[i] = header;
         let next = header.next_command as usize;

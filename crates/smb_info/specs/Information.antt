@@ -2,8 +2,8 @@
 use Rattle.std.specs.Prelude.{ℕ, List, [], ◌++◌, length, take, nat_lt, if◌then◌else◌, Option, None, Some}
 use Rattle.smb_wire.specs.Fields.{Field, joined, width_of, AllStand}
 use Rattle.smb_info.specs.Written.{written_of}
-use Rattle.smb_info.specs.declared.written.Written.{Written}
-use Rattle.smb_info.specs.declared.written.Written.TheVariants.{Whole}
+use Rattle.smb_info.specs.declared.written.Truncation.{Truncation}
+use Rattle.smb_info.specs.declared.written.Truncation.TheVariants.{Whole}
 use Rattle.smb_info.specs.declared.fault.InfoFault.{InfoFault}
 use Rattle.smb_info.specs.declared.fault.InfoFault.TheVariants.{BadClass, TooSmall}
 
@@ -31,7 +31,7 @@ told None room = []
 told (Some info) room = take room (whole info)
 
 -- whether that is all
-abbrev pub information_written : Option Information → ℕ → Written
+abbrev pub information_written : Option Information → ℕ → Truncation
 information_written None room = Whole
 information_written (Some info) room = written_of room (length (whole info))
 

@@ -1,6 +1,7 @@
 //! An entry that may be listed.
 
 ghost use Rattle.std.specs.Prelude.{◌≤◌};
+ghost use Rattle.smb_wire.specs.Limits.{most_file_bytes};
 
 use smb_access::ScanLast;
 use smb_tree::EntryView;
@@ -14,5 +15,5 @@ pub struct CandidateView<'a> {
     /// The name under which it is listed.
     pub name: Units<'a>,
     pub entry: EntryView<'a>,
-    pub ghost few: { entry.size ≤ 16777216 },
+    pub ghost few: { entry.size ≤ most_file_bytes },
 }

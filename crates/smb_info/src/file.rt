@@ -9,7 +9,7 @@ ghost use Rattle.smb_info.specs.declared.fault.InfoFault.TheVariants.{NoMemory};
 use super::fault::InfoFault;
 use super::file_class::FileInformationClass;
 use super::file_fields::put_information;
-use super::written::{Written, cut};
+use super::written::{Truncation, cut};
 use smb_tree::EntryCopy;
 use smb_wire::Access;
 
@@ -25,7 +25,7 @@ pub fn file_info(
     access: Access,
     room: usize,
     out: &mut Vec<u8>,
-) -> Result<Written, InfoFault>
+) -> Result<Truncation, InfoFault>
     ensures ok { OnOk result (out.new.items ≡
         out.old.items ++ told (file_information class (copied entry.now) access.0) room) }
     ensures stand { OnOk result

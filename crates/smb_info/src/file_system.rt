@@ -10,7 +10,7 @@ use super::fault::InfoFault;
 use super::file_system_class::FileSystemInformationClass;
 use super::file_system_fields::put_information;
 use super::volume::Volume;
-use super::written::{Written, cut};
+use super::written::{Truncation, cut};
 
 /// Adds what a class tells of a volume, by the class's number, and at most `room` bytes of it. It tells whether
 /// that is all. Its cost grows with the label's length, which is small.
@@ -23,7 +23,7 @@ pub fn fs_info(
     volume: &Volume<'_>,
     room: usize,
     out: &mut Vec<u8>,
-) -> Result<Written, InfoFault>
+) -> Result<Truncation, InfoFault>
     requires label { is_volume_label volume.now.label.now ≡ true }
     requires used { volume.now.used ≤ volume.now.capacity }
     ensures ok { OnOk result (out.new.items ≡

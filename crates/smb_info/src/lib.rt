@@ -45,4 +45,4 @@ pub use scan::ListAsk;
 pub use set_info::{SetAsk, read_set_info};
 pub use smb_patterns::{Pattern, laws_of_patterns, matches};
 pub use volume::Volume;
-pub use written::Written;
+pub use written::Truncation;

@@ -1,6 +1,7 @@
 -- What holds of the locks between calls.
 use Rattle.std.specs.Prelude.{◌≡◌, ◌≢◌, ℕ, ◌<◌, ◌≤◌, false, List, [], ◌∷◌, length, map}
 use Rattle.std.specs.List.{AllByRecursion}
+use Rattle.smb_wire.specs.Limits.{most_locks}
 use Rattle.smb_locks.specs.declared.lock.Lock.{Lock}
 use Rattle.smb_locks.specs.Ranges.{Overlap, is_past_the_end}
 use Rattle.smb_locks.specs.Table.{Table}
@@ -18,7 +19,7 @@ AreAllCompatible (lock ∷ locks) = AllByRecursion (AreCompatible lock) locks ×
 -- no range reaches past the end
 pub record GoodLocks (locks : List Lock) : Type 0 where
   pub compatible : AreAllCompatible locks
-  pub few : length locks ≤ 256
+  pub few : length locks ≤ most_locks
   pub within : AllByRecursion (λ lock. is_past_the_end lock.range ≡ false) locks
 
 -- each number is below those behind it

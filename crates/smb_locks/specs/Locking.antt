@@ -2,6 +2,7 @@
 use Rattle.std.specs.Prelude.{ℕ, ◌++◌, ◌∷◌, [], List, length, not, nat_le, if◌then◌else◌, Option, None, Some}
 use Rattle.std.specs.List.{list_any}
 use Rattle.std.specs.Option.{option_or}
+use Rattle.smb_wire.specs.Limits.{most_locks}
 use Rattle.smb_locks.specs.declared.ask.LockAsk.{LockAsk}
 use Rattle.smb_locks.specs.declared.fault.LockFault.{LockFault}
 use Rattle.smb_locks.specs.declared.fault.LockFault.TheVariants.{BadFlags, BadRange, Full, NotGranted}
@@ -15,7 +16,7 @@ use Rattle.smb_locks.specs.Ranges.{is_past_the_end}
 abbrev pub lock_fault : List Lock → Lock → Option LockFault
 lock_fault locks asked =
     if is_past_the_end asked.range then Some BadRange else
-    if nat_le 256 (length locks) then Some Full else
+    if nat_le most_locks (length locks) then Some Full else
     if list_any (conflicts asked) locks then Some NotGranted else None
 
 -- why some locks are refused: the first of them that is refused beside those before it

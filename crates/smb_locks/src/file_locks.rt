@@ -12,11 +12,9 @@ use super::ask::LockAsk;
 use super::fault::{LockFault, UnlockError};
 use super::lock::Lock;
 use super::range::ByteRange;
+use smb_wire::limits::MOST_LOCKS;
 use std::alloc::Global;
 use std::marker::Model;
-
-/// How many locks a file has at most, of all opens.
-pub const LOCK_LIMIT: usize = 256;
 
 // The locks of one file, oldest first.
 #[derive(Drop)]
@@ -80,7 +78,7 @@ impl FileLocks {
     fn is_full(&self) -> bool
         ensures { result ≡ nat_le 256 (length self.now) }
     {
-        self.locks.len() >= LOCK_LIMIT
+        self.locks.len() >= MOST_LOCKS
     }
 
     // Why a lock can't be added.

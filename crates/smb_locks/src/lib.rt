@@ -20,7 +20,6 @@ mod table;
 
 pub use ask::LockAsk;
 pub use fault::{LockFault, UnlockError};
-pub use file_locks::LOCK_LIMIT;
 pub use laws::laws_of_locks;
 pub use lock::Lock;
 pub use range::ByteRange;

@@ -41,7 +41,7 @@ settled old slot x z folder spelling at entry parent children =
       ] refl;
     }
 
--- what `rehang` leaves: the child of the new folder first, then none in the old one, then the node
+-- what `reparent` leaves: the child of the new folder first, then none in the old one, then the node
 pub rehung : (g h k f : Heap) (m up2 : ℕ) (c2 spelling : List ℕ) → Childed g h up2 c2 (Some m) → Childed h k (up_in (g m)) (name_of_slot g m) None → Settled k f m up2 c2 spelling → (up_in (g m) == up2 && is_same_component c2 (name_of_slot g m)) ≡ false → Rehung g f m up2 c2 spelling
 rehung g h k f m up2 c2 spelling w v u apart = record {
   names = λ s. u.names s ∙ ap (λ (o : Option (List ℕ)). if s == m then Some c2 else o) (v.names s ∙ w.names s);

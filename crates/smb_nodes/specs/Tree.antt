@@ -2,6 +2,7 @@
 -- A tree of nodes as a content.
 use Rattle.std.specs.Prelude.{◌≡◌, ℕ, ◌≤◌, List, length}
 use Rattle.std.specs.List.{AllByRecursion}
+use Rattle.smb_wire.specs.Limits.{most_components}
 use Rattle.smb_tree.specs.Content.{Row, Content, used_space}
 use Rattle.smb_nodes.specs.Nodes.{rows_in, levels, IsTree}
 use Rattle.smb_nodes.specs.Seen.{heap_of}
@@ -17,7 +18,7 @@ content_kept tree = record {
 
 -- no path of the rows has more components than so many, which are at most 32
 pub record IsBound (most : ℕ) (rows : List Row) : Type 0 where
-  pub few : most ≤ 32
+  pub few : most ≤ most_components
   pub short : AllByRecursion (λ row. length row.0 ≤ most) rows
 
 -- the nodes are a tree, the used space is kept beside the entries that use it, and no path is longer than the bound

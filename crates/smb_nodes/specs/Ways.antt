@@ -1,6 +1,7 @@
 -- For the proofs; nothing here need be believed.
 -- How far a node lies beneath another one.
 use Rattle.std.specs.Prelude.{◌≡◌, ℕ, zero, suc, ◌+◌, ◌≤◌, ◌==◌, nat_lt, Bool, true, false, if◌then◌else◌, Option, None, Some, is_some}
+use Rattle.smb_wire.specs.Limits.{most_components}
 use Rattle.smb_nodes.specs.Nodes.{Heap, up_in, levels}
 
 abbrev pub one_more : Option ℕ → Option ℕ
@@ -16,7 +17,7 @@ levels_below nodes (suc steps) top slot =
 -- whether so many levels beneath a path of so many components are too many
 abbrev pub is_deep_by : ℕ → Option ℕ → Bool
 is_deep_by count None = false
-is_deep_by count (Some below) = nat_lt 32 (count + below)
+is_deep_by count (Some below) = nat_lt most_components (count + below)
 
 -- whether a node would have too many components, if the one in `top` had so many
 abbrev pub is_deep : Heap → ℕ → ℕ → ℕ → Bool

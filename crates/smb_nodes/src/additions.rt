@@ -18,12 +18,11 @@ use super::paths::around;
 use slab::Slab;
 use smb_tree::{EntryNo, TreeFault};
 use smb_wire::PathView;
+use smb_wire::limits::MOST_ENTRIES;
 use std::alloc::AllocError;
 use std::collections::BTreeMap;
 
 // The most entries besides the root.
-const MOST_ENTRIES: usize = 4096;
-
 // Whether a path leads to a folder.
 pub fn is_folder_at(nodes: &Slab<Node>, path: &PathView<'_>) -> bool
     ensures { result ≡ is_folder (entry_down (heap_of nodes.now) (folded_path (parts_of path.now))) }
@@ -43,7 +42,7 @@ fn is_taken(nodes: &Slab<Node>, path: &PathView<'_>) -> bool
 
 // Whether no entry can be added to so many, the root among them, because of their number or the next one's.
 fn is_full(count: usize, next: EntryNo) -> bool
-    ensures { result ≡ (nat_le 4096 (count - 1) || is_spent 64 next) }
+    ensures { result ≡ (nat_le MOST_ENTRIES (count - 1) || is_spent 64 next) }
 {
     count > MOST_ENTRIES || next == EntryNo::MAX
 }

@@ -1,6 +1,7 @@
 //! The target of a move, and why it is refused.
 
 ghost use Rattle.std.specs.Prelude.{◌≡◌, ◌≤◌, ℕ, List, Some, true, is_some};
+ghost use Rattle.smb_wire.specs.Limits.{most_components};
 ghost use Rattle.smb_wire.specs.Paths.{folded_path};
 ghost use Rattle.smb_wire.specs.PathViews.{parts_of};
 ghost use Rattle.smb_tree.specs.Content.{parent};
@@ -72,7 +73,7 @@ pub fn move_fault(
     requires live { is_some (heap_of nodes.now slot) ≡ true }
     requires folder { walk (heap_of nodes.now) (Some 0) (parent (folded_path (parts_of path.now))) ≡ Some folder }
     requires target { target ≡ walk (heap_of nodes.now) (Some 0) (folded_path (parts_of path.now)) }
-    requires few { below ≤ 32 }
+    requires few { below ≤ most_components }
     requires below { NoneBelow (heap_of nodes.now) slot below }
     ensures { (index : List (ℕ × ℕ)) (next : ℕ) → IsTree (heap_of nodes.now) index next → result ≡ move_fault_between (rows_in (heap_of nodes.now) levels index) number (row_in (heap_of nodes.now) levels slot).0 (folded_path (parts_of path.now)) }
 {

@@ -50,7 +50,7 @@ pub fn settle(nodes: &mut Slab<Node>, slot: usize, folder: usize, spelling: Vec<
 
 // Puts a node into a folder, spelled so, in place of what stands there under its name, and takes it out of its own. Only
 // a name that is new in the folder takes memory; without it all stays.
-pub fn rehang(
+pub fn reparent(
     nodes: &mut Slab<Node>,
     slot: usize,
     folder: usize,

@@ -8,7 +8,8 @@ ghost use Rattle.smb_nodes.specs.Seen.{heap_of};
 
 use super::node::Node;
 use slab::Slab;
-use smb_tree::{MOST_BYTES, TreeFault, allocation_size};
+use smb_tree::{TreeFault, allocation_size};
+use smb_wire::limits::MOST_FILE_BYTES;
 
 // The space that the file in a slot uses.
 pub fn space_of(nodes: &Slab<Node>, slot: usize) -> u64
@@ -27,12 +28,12 @@ pub fn size_fault(
     size: u64,
 ) -> Option<TreeFault>
     requires { is_some (heap_of nodes.now slot) ≡ true }
-    ensures { result ≡ (if is_folder_kind (entry_of_slot (heap_of nodes.now) slot).kind then Some Absent else if nat_lt 16777216 size || nat_lt capacity (others + allocation_size size) then Some Full else None) }
+    ensures { result ≡ (if is_folder_kind (entry_of_slot (heap_of nodes.now) slot).kind then Some Absent else if nat_lt MOST_FILE_BYTES size || nat_lt capacity (others + allocation_size size) then Some Full else None) }
 {
     if nodes[slot].kind.is_folder() {
         return Some(TreeFault::Absent);
     }
-    if size > MOST_BYTES || capacity < others || capacity - others < allocation_size(size) {
+    if size > MOST_FILE_BYTES || capacity < others || capacity - others < allocation_size(size) {
         return Some(TreeFault::Full);
     }
     None

@@ -12,7 +12,7 @@ use super::moves::{is_within, move_fault, target_in};
 use super::next::next_child;
 use super::node::Node;
 use super::paths::{around, last_spelling};
-use super::places::{evict, is_slot, rehang, settle};
+use super::places::{evict, is_slot, reparent, settle};
 use super::removals::{has_child, unhang};
 use super::sizes::{size_fault, size_written, space_of};
 use super::ways::{bound_for, deepest_with, levels_beneath};
@@ -306,7 +306,7 @@ impl Tree for NodeTree {
             self.deepest = deepest;
             return Ok(());
         }
-        rehang(&mut self.nodes, slot, folder, spelling)?;
+        reparent(&mut self.nodes, slot, folder, spelling)?;
         self.deepest = deepest;
         let Some(other) = target else {
             return Ok(());

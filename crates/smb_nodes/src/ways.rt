@@ -10,10 +10,9 @@ use super::node::Node;
 use super::removals::has_child;
 use super::whole_names::most_levels;
 use slab::Slab;
+use smb_wire::limits::MOST_COMPONENTS;
 
 // The most components of a path.
-const MOST_COMPONENTS: usize = 32;
-
 // The slot of the folder in which the node in a slot stands.
 pub fn folder_of(nodes: &Slab<Node>, slot: usize) -> usize
     ensures { result ≡ up_in (heap_of nodes.now slot) }
@@ -44,7 +43,7 @@ pub fn levels_below(nodes: &Slab<Node>, steps: usize, top: usize, slot: usize) -
 
 // Whether a node would have too many components, if the one in `top` had so many.
 fn is_deep(nodes: &Slab<Node>, top: usize, count: usize, slot: usize) -> bool
-    requires { count ≤ 32 }
+    requires { count ≤ MOST_COMPONENTS }
     ensures { result ≡ is_deep (heap_of nodes.now) top count slot }
 {
     match levels_below(nodes, most_levels(), top, slot) {
@@ -55,7 +54,7 @@ fn is_deep(nodes: &Slab<Node>, top: usize, count: usize, slot: usize) -> bool
 
 // Whether some node would: it goes through all slots.
 fn some_deep(nodes: &Slab<Node>, top: usize, count: usize) -> bool
-    requires { count ≤ 32 }
+    requires { count ≤ MOST_COMPONENTS }
     ensures some { result ≡ true → SomeDeep (heap_of nodes.now) top count }
     ensures none { result ≡ false → NoneDeep (heap_of nodes.now) top count }
 {
@@ -70,7 +69,7 @@ fn some_deep(nodes: &Slab<Node>, top: usize, count: usize) -> bool
 // Of how many components the path of a node is; 0 where it leads nowhere.
 fn depth_of(nodes: &Slab<Node>, slot: usize) -> usize
     ensures depth { result ≡ unwrap_or (levels_below (heap_of nodes.now) levels 0 slot) 0 }
-    ensures few { result ≤ 32 }
+    ensures few { result ≤ MOST_COMPONENTS }
 {
     levels_below(nodes, most_levels(), 0, slot).unwrap_or(0)
 }
@@ -91,8 +90,8 @@ pub fn levels_beneath(nodes: &Slab<Node>, top: usize, deepest: usize) -> usize
 // Whether some node would have too many components, if the one in `top` had so many and no other lies more levels
 // beneath it. It goes through all slots where that bound doesn't say that none would.
 pub fn gets_deep(nodes: &Slab<Node>, top: usize, count: usize, below: usize) -> bool
-    requires short { count ≤ 32 }
-    requires few { below ≤ 32 }
+    requires short { count ≤ MOST_COMPONENTS }
+    requires few { below ≤ MOST_COMPONENTS }
     requires below { NoneBelow (heap_of nodes.now) top below }
     ensures some { result ≡ true → SomeDeep (heap_of nodes.now) top count }
     ensures none { result ≡ false → NoneDeep (heap_of nodes.now) top count }
@@ -106,16 +105,16 @@ pub fn gets_deep(nodes: &Slab<Node>, top: usize, count: usize, below: usize) -> 
 // The most components that a path has in a tree where none had more than `deepest`, once a node has so many and no other
 // lies more levels beneath it.
 pub fn deepest_with(deepest: usize, count: usize, below: usize) -> usize
-    requires short { count ≤ 32 }
-    requires few { below ≤ 32 }
-    ensures { result ≡ min (max deepest (count + below)) 32 }
+    requires short { count ≤ MOST_COMPONENTS }
+    requires few { below ≤ MOST_COMPONENTS }
+    ensures { result ≡ min (max deepest (count + below)) MOST_COMPONENTS }
 {
     deepest.max(count + below).min(MOST_COMPONENTS)
 }
 
 // Of how many components the longest path is. It goes through all slots.
 fn count_deepest(nodes: &Slab<Node>) -> usize
-    ensures few { result ≤ 32 }
+    ensures few { result ≤ MOST_COMPONENTS }
     ensures all { (slot : ℕ) → is_some (heap_of nodes.now slot) ≡ true → unwrap_or (levels_below (heap_of nodes.now) levels 0 slot) 0 ≤ result }
 {
     let mut most = 0;
@@ -131,8 +130,8 @@ fn count_deepest(nodes: &Slab<Node>) -> usize
 // has so many, it is counted anew.
 pub fn bound_for(nodes: &Slab<Node>, top: usize, count: usize, deepest: usize) -> usize
     requires live { is_some (heap_of nodes.now top) ≡ true }
-    requires short { count ≤ 32 }
-    requires few { deepest ≤ 32 }
+    requires short { count ≤ MOST_COMPONENTS }
+    requires few { deepest ≤ MOST_COMPONENTS }
     ensures { (index : List (ℕ × ℕ)) (next : ℕ) → IsTree (heap_of nodes.now) index next → IsBound deepest (rows_in (heap_of nodes.now) levels index) → IsBound result (rows_in (heap_of nodes.now) levels index) }
 {
     if count + levels_beneath(nodes, top, deepest) <= MOST_COMPONENTS {

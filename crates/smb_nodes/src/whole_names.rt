@@ -1,6 +1,7 @@
 //! The whole names of entries.
 
 ghost use Rattle.std.specs.Prelude.{◌≡◌, ◌≤◌, ◌+◌, ◌-◌, ◌*◌, ◌++◌, [], IfOk, OnOk, length};
+ghost use Rattle.smb_wire.specs.Limits.{most_components};
 ghost use Rattle.smb_wire.specs.Pairs.{unit_bytes};
 ghost use Rattle.smb_wire.specs.Paths.{joined_by_separators};
 ghost use Rattle.smb_wire.specs.Units.{units_of};
@@ -65,7 +66,7 @@ pub fn most_levels() -> usize
 
 // How the nodes on the way from the root down to a slot are spelled, with a separator between each two.
 pub fn whole_name(alloc: Global, nodes: &Slab<Node>, slot: usize) -> Result<Vec<u8>, AllocError>
-    requires { length (spellings_up (heap_of nodes.now) levels slot) ≤ 32 }
+    requires { length (spellings_up (heap_of nodes.now) levels slot) ≤ most_components }
     ensures name { IfOk result (λ name. name.items ≡ unit_bytes (joined_by_separators (spellings_up (heap_of nodes.now) levels slot))) }
     ensures short { IfOk result (λ name. length name.items ≤ 16382) }
 {

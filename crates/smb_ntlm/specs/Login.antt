@@ -2,6 +2,7 @@
 use Rattle.std.specs.Prelude.{ℕ, nat_lt, ◌==◌, not, ◌&&◌, ◌||◌, if◌then◌else◌, Bool, true, false, List, [], ◌∷◌, ◌++◌, length, codes, Option, is_some, is_none, unwrap_or}
 use Rattle.std.specs.Option.{option_map_or}
 use Rattle.std.specs.Fmt.{decimal}
+use Rattle.smb_wire.specs.Limits.{longest_token}
 use Rattle.smb_session.specs.Authenticator.{Answered, continues, accepts, denies, Meaning}
 use Rattle.smb_ntlm.specs.Messages.{LoginAsked, is_message, message_type, asked_flags, has_unicode, login_in, challenge_message}
 use Rattle.smb_ntlm.specs.Accounts.{KnownAccount}
@@ -74,7 +75,7 @@ no_token = record { wrapping = Raw; message = [] }
 abbrev pub token_rows : NtlmState → ℕ → List ℕ → List AnswerRow
 token_rows state session token =
     let read = unwrap_or (wrapped_in token) no_token in
-    (nat_lt 4096 (length token) || is_none (wrapped_in token), denies)
+    (nat_lt longest_token (length token) || is_none (wrapped_in token), denies)
     ∷ (prefers_another read, continues ask_token)
     ∷ message_rows state session read.wrapping read.message
 

@@ -17,10 +17,8 @@ use super::token::{Token, Wrapping, ask_token};
 use md5::{Digest, Md5};
 use smb_session::Answer;
 use smb_wire::WireFault;
+use smb_wire::limits::LONGEST_TOKEN;
 use std::alloc::{AllocError, Global};
-
-/// The longest token that is read, in bytes.
-const LONGEST_TOKEN: usize = 4096;
 
 /// The session flag of a guest ([MS-SMB2] 2.2.6).
 const IS_GUEST: u16 = 1;

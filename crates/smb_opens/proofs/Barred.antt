@@ -48,35 +48,35 @@ write_barred state number offset count view lock c bar =
     test_from_some (bars_write number (record { offset = offset; length = count })) (BarsWrite number (record { offset = offset; length = count })) (write_test_from_bar number (record { offset = offset; length = count }))
     (locks_on state.locks view.entry) (c.0, lock, c.1, c.2, bar)
 
-read_refused : (state : StoreState) (number offset count minimum : ℕ) (row : OpenRow) (lock : Lock) (view : Option View) → view ≡ open_view state number → open_of state.opens number ≡ Some row → Contains (locks_on state.locks row.entry) lock →
+read_refused : (state : StoreState) (most number offset count minimum : ℕ) (row : OpenRow) (lock : Lock) (view : Option View) → view ≡ open_view state number → open_of state.opens number ≡ Some row → Contains (locks_on state.locks row.entry) lock →
     BarsRead number (record { offset = offset; length = count }) lock →
-    option_map_or (λ view. first_status (read_rows view (keeps_from_reading state.locks number view offset count) offset count minimum)) view STATUS_FILE_CLOSED ≢ STATUS_SUCCESS
-read_refused state number offset count minimum row lock None v opened c bar = λ e. cc
-read_refused state number offset count minimum row lock (Some view) v opened c bar =
+    option_map_or (λ view. first_status (read_rows most view (keeps_from_reading state.locks number view offset count) offset count minimum)) view STATUS_FILE_CLOSED ≢ STATUS_SUCCESS
+read_refused state most number offset count minimum row lock None v opened c bar = λ e. cc
+read_refused state most number offset count minimum row lock (Some view) v opened c bar =
     let here : Contains (locks_on state.locks view.entry) lock = subst (λ (n : ℕ). Contains (locks_on state.locks n) lock) (sym (same_entry state number row view opened v)) c in
     rw (read_barred state number offset count view lock here bar) (barred_row _ _ _)
 
-write_refused : (state : StoreState) (number offset : ℕ) (buffer : List ℕ) (row : OpenRow) (lock : Lock) (view : Option View) → view ≡ open_view state number → open_of state.opens number ≡ Some row → Contains (locks_on state.locks row.entry) lock →
+write_refused : (state : StoreState) (most number offset : ℕ) (buffer : List ℕ) (row : OpenRow) (lock : Lock) (view : Option View) → view ≡ open_view state number → open_of state.opens number ≡ Some row → Contains (locks_on state.locks row.entry) lock →
     BarsWrite number (record { offset = offset; length = length buffer }) lock →
-    option_map_or (λ view. first_status (write_rows view (keeps_from_writing state.locks number view offset (length buffer)) offset (length buffer) (has_no_room state.tree view.entry offset buffer))) view STATUS_FILE_CLOSED ≢ STATUS_SUCCESS
-write_refused state number offset buffer row lock None v opened c bar = λ e. cc
-write_refused state number offset buffer row lock (Some view) v opened c bar =
+    option_map_or (λ view. first_status (write_rows most view (keeps_from_writing state.locks number view offset (length buffer)) offset (length buffer) (has_no_room state.tree view.entry offset buffer))) view STATUS_FILE_CLOSED ≢ STATUS_SUCCESS
+write_refused state most number offset buffer row lock None v opened c bar = λ e. cc
+write_refused state most number offset buffer row lock (Some view) v opened c bar =
     let here : Contains (locks_on state.locks view.entry) lock = subst (λ (n : ℕ). Contains (locks_on state.locks n) lock) (sym (same_entry state number row view opened v)) c in
     rw (write_barred state number offset (length buffer) view lock here bar) (barred_row _ _ _)
 
-pub kept_out : (state : StoreState) (number offset count minimum : ℕ) (buffer : List ℕ) (row : OpenRow) (lock : Lock) → open_of state.opens number ≡ Some row →
+pub kept_out : (state : StoreState) (most number offset count minimum : ℕ) (buffer : List ℕ) (row : OpenRow) (lock : Lock) → open_of state.opens number ≡ Some row →
     Contains (locks_on state.locks row.entry) lock → lock.exclusive ≡ true → lock.holder ≢ number →
-    (Overlap lock.range (record { offset = offset; length = count }) → read_status state number offset count minimum ≢ STATUS_SUCCESS)
-    × (Overlap lock.range (record { offset = offset; length = length buffer }) → write_status state number offset buffer ≢ STATUS_SUCCESS)
-kept_out state number offset count minimum buffer row lock opened c exclusive other = (
-  λ overlap. read_refused state number offset count minimum row lock (open_view state number) refl opened c (overlap, exclusive, other),
-  λ overlap. write_refused state number offset buffer row lock (open_view state number) refl opened c (overlap, inr other),
+    (Overlap lock.range (record { offset = offset; length = count }) → read_status state most number offset count minimum ≢ STATUS_SUCCESS)
+    × (Overlap lock.range (record { offset = offset; length = length buffer }) → write_status state most number offset buffer ≢ STATUS_SUCCESS)
+kept_out state most number offset count minimum buffer row lock opened c exclusive other = (
+  λ overlap. read_refused state most number offset count minimum row lock (open_view state number) refl opened c (overlap, exclusive, other),
+  λ overlap. write_refused state most number offset buffer row lock (open_view state number) refl opened c (overlap, inr other),
 )
 
-pub writers_out : (state : StoreState) (number offset : ℕ) (buffer : List ℕ) (row : OpenRow) (lock : Lock) → open_of state.opens number ≡ Some row →
+pub writers_out : (state : StoreState) (most number offset : ℕ) (buffer : List ℕ) (row : OpenRow) (lock : Lock) → open_of state.opens number ≡ Some row →
     Contains (locks_on state.locks row.entry) lock → lock.exclusive ≡ false → Overlap lock.range (record { offset = offset; length = length buffer }) →
-    write_status state number offset buffer ≢ STATUS_SUCCESS
-writers_out state number offset buffer row lock opened c shared overlap = write_refused state number offset buffer row lock (open_view state number) refl opened c (overlap, inl shared)
+    write_status state most number offset buffer ≢ STATUS_SUCCESS
+writers_out state most number offset buffer row lock opened c shared overlap = write_refused state most number offset buffer row lock (open_view state number) refl opened c (overlap, inl shared)
 
 pub no_two_locks : (state : StoreState) (file : ℕ) (one other : Lock) → GoodStore state → Contains (locks_on state.locks file) one → Contains (locks_on state.locks file) other → one.holder ≢ other.holder →
     Overlap one.range other.range → (one.exclusive ≡ false) × (other.exclusive ≡ false)

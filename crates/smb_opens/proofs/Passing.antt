@@ -13,7 +13,7 @@ use Rattle.smb_tree.specs.Faults.{add_fault}
 use Rattle.smb_access.specs.declared.fault.StoreFault.{StoreFault}
 use Rattle.smb_access.specs.declared.fault.StoreFault.TheVariants.{NoMemory}
 use Rattle.smb_access.specs.declared.open_row.OpenRow.{OpenRow}
-use Rattle.smb_access.specs.declared.found.Found.{Found}
+use Rattle.smb_access.specs.declared.found.CreateLookup.{CreateLookup}
 use Rattle.smb_access.specs.Asked.{FileAsked, asks_file}
 use Rattle.smb_wire.specs.NtStatus.{STATUS_SUCCESS, STATUS_SHARING_VIOLATION}
 use Rattle.smb_access.specs.declared.found.Target.{Target}
@@ -44,7 +44,7 @@ pass_all (row ∷ rows) n e =
     let p = pass_at row.0 row.1 (first_status rows) n.0 e in
     (p.0, pass_all rows n.1 p.1)
 
-pub record Passed (rows : List OpenRow) (ask : FileAsked) (found : Found) : Type 0 where
+pub record Passed (rows : List OpenRow) (ask : FileAsked) (found : CreateLookup) : Type 0 where
   pub reached : found.reached ≡ true
   pub pending : found.pending ≡ false
   pub file : (is_folder_target found.target && (asks_file ask || overwrites_by ask.disposition)) ≡ false
@@ -52,7 +52,7 @@ pub record Passed (rows : List OpenRow) (ask : FileAsked) (found : Found) : Type
   pub opens : found.opens_full ≡ false
   pub entries : (is_none found.target && found.entries_full) ≡ false
 
-pub passed : (opens : List OpenRow) (ask : FileAsked) (found : Found) → first_status (found_rows opens ask found) ≡ STATUS_SUCCESS → Passed opens ask found
+pub passed : (opens : List OpenRow) (ask : FileAsked) (found : CreateLookup) → first_status (found_rows opens ask found) ≡ STATUS_SUCCESS → Passed opens ask found
 passed opens ask found e =
     let refuses : AllByRecursion (λ row. row.1 ≢ STATUS_SUCCESS) (found_rows opens ask found) =
     ((λ q. omega (arith, q)), ((λ q. omega (arith, q)), ((λ q. omega (arith, q)), ((λ q. omega (arith, q)), ((λ q. omega (arith, q)), ((λ q. omega (arith, q)), ((λ q. omega (arith, q)), ((λ q. omega (arith, q)), ((λ q. omega (arith, q)), ((λ q. omega (arith, q)), ((λ q. omega (arith, q)), ((λ q. omega (arith, q)), tt)))))))))))) in
@@ -72,22 +72,22 @@ rows_by state ask None = refl
 rows_by state ask (Some entry) = refl
 
 -- the table's rest, where the rows of the place and of the kind do not hold
-pub conflicting : (opens : List OpenRow) (ask : FileAsked) (found : Found) → ((rows : List StatusRow) → first_status (place_rows ask found ++ rows) ≡ first_status rows) → ((rows : List StatusRow) → first_status (kind_rows ask found.target ++ rows) ≡ first_status rows) → target_conflicts opens ask found.target ≡ true → STATUS_SHARING_VIOLATION ≡ first_status (found_rows opens ask found)
+pub conflicting : (opens : List OpenRow) (ask : FileAsked) (found : CreateLookup) → ((rows : List StatusRow) → first_status (place_rows ask found ++ rows) ≡ first_status rows) → ((rows : List StatusRow) → first_status (kind_rows ask found.target ++ rows) ≡ first_status rows) → target_conflicts opens ask found.target ≡ true → STATUS_SHARING_VIOLATION ≡ first_status (found_rows opens ask found)
 conflicting opens ask found p k c =
     let rest : List StatusRow = (target_conflicts opens ask found.target, STATUS_SHARING_VIOLATION) ∷ room_rows found in
     let last : first_status rest ≡ STATUS_SHARING_VIOLATION = rw c refl in
     sym (p (kind_rows ask found.target ++ rest) ∙ k rest ∙ last)
 
-pub roomy : (opens : List OpenRow) (ask : FileAsked) (found : Found) (code : ℕ) → ((rows : List StatusRow) → first_status (place_rows ask found ++ rows) ≡ first_status rows) → ((rows : List StatusRow) → first_status (kind_rows ask found.target ++ rows) ≡ first_status rows) → target_conflicts opens ask found.target ≡ false → code ≡ first_status (room_rows found) → code ≡ first_status (found_rows opens ask found)
+pub roomy : (opens : List OpenRow) (ask : FileAsked) (found : CreateLookup) (code : ℕ) → ((rows : List StatusRow) → first_status (place_rows ask found ++ rows) ≡ first_status rows) → ((rows : List StatusRow) → first_status (kind_rows ask found.target ++ rows) ≡ first_status rows) → target_conflicts opens ask found.target ≡ false → code ≡ first_status (room_rows found) → code ≡ first_status (found_rows opens ask found)
 roomy opens ask found code p k c e =
     let rest : List StatusRow = (target_conflicts opens ask found.target, STATUS_SHARING_VIOLATION) ∷ room_rows found in
     let last : first_status rest ≡ first_status (room_rows found) = rw c refl in
     e ∙ sym (p (kind_rows ask found.target ++ rest) ∙ k rest ∙ last)
 
 -- the status is that of what was found
-pub status_told : (state : StoreState) (ask : FileAsked) (path : Path) (found : Found) (code : ℕ) → found ≡ found_at state path → path ≡ path_asked ask → code ≡ first_status (found_rows state.opens ask found) → ((rows : List StatusRow) → first_status (asked_rows ask ++ rows) ≡ first_status rows) → code ≡ create_status state ask
+pub status_told : (state : StoreState) (ask : FileAsked) (path : Path) (found : CreateLookup) (code : ℕ) → found ≡ found_at state path → path ≡ path_asked ask → code ≡ first_status (found_rows state.opens ask found) → ((rows : List StatusRow) → first_status (asked_rows ask ++ rows) ≡ first_status rows) → code ≡ create_status state ask
 status_told state ask path found code f p e l =
-    e ∙ ap (λ (x : Found). first_status (found_rows state.opens ask x)) (f ∙ ap (found_at state) p) ∙ sym (l (found_rows state.opens ask (found_by state ask)))
+    e ∙ ap (λ (x : CreateLookup). first_status (found_rows state.opens ask x)) (f ∙ ap (found_at state) p) ∙ sym (l (found_rows state.opens ask (found_by state ask)))
     ∙ ap first_status (sym (rows_by state ask (entry_asked state ask)))
 
 pub refused_memory : {X : Type 0} (r : Result X StoreFault) (status : ℕ) → status ≡ STATUS_SUCCESS → IfErr r (λ fault. fault ≡ NoMemory) → IfErr r (λ fault. IsRefusal status fault)
@@ -107,7 +107,7 @@ marked_target None = refl
 marked_target (Some entry) = refl
 
 -- what is found, field by field
-pub found_is : (state : StoreState) (path : Path) (target above : Option Target) (reached pending opens entries : Bool) → target ≡ option_map target_of (entry_at state.tree.rows path) → above ≡ option_map target_of (entry_at state.tree.rows (parent path)) → reached ≡ is_reached state.tree.rows path → pending ≡ (is_marked_target target || is_marked_target above) → opens ≡ has_all_opens state → entries ≡ has_all_entries state → (let x : Found = record { target = target; reached = reached; pending = pending; opens_full = opens; entries_full = entries } in x) ≡ found_at state path
+pub found_is : (state : StoreState) (path : Path) (target above : Option Target) (reached pending opens entries : Bool) → target ≡ option_map target_of (entry_at state.tree.rows path) → above ≡ option_map target_of (entry_at state.tree.rows (parent path)) → reached ≡ is_reached state.tree.rows path → pending ≡ (is_marked_target target || is_marked_target above) → opens ≡ has_all_opens state → entries ≡ has_all_entries state → (let x : CreateLookup = record { target = target; reached = reached; pending = pending; opens_full = opens; entries_full = entries } in x) ≡ found_at state path
 found_is state path target above reached pending opens entries t a r p o e =
     let here : is_marked_target target ≡ is_marked (entry_at state.tree.rows path) = ap is_marked_target t ∙ marked_target (entry_at state.tree.rows path) in
     let there : is_marked_target above ≡ is_marked (entry_at state.tree.rows (parent path)) = ap is_marked_target a ∙ marked_target (entry_at state.tree.rows (parent path)) in
@@ -115,40 +115,40 @@ found_is state path target above reached pending opens entries t a r p o e =
     λ i. record { target = t i; reached = r i; pending = due i; opens_full = o i; entries_full = e i }
 
 -- an entry may be added where none was found
-pub free_found : (state : StoreState) (ask : FileAsked) (parts : List (List ℕ)) (found : Found) → GoodStore state → found ≡ found_at state (folded_path parts) → parts ≡ path_spelled ask.name → path_fault ask.name ≡ None → first_status (found_rows state.opens ask found) ≡ STATUS_SUCCESS → found.target ≡ None → add_fault state.tree (folded_path parts) ≡ None
+pub free_found : (state : StoreState) (ask : FileAsked) (parts : List (List ℕ)) (found : CreateLookup) → GoodStore state → found ≡ found_at state (folded_path parts) → parts ≡ path_spelled ask.name → path_fault ask.name ≡ None → first_status (found_rows state.opens ask found) ≡ STATUS_SUCCESS → found.target ≡ None → add_fault state.tree (folded_path parts) ≡ None
 free_found state ask parts found good f p n e t =
     let fine = passed state.opens ask found e in
-    let absent : entry_at state.tree.rows (folded_path parts) ≡ None = absent_target _ (ap (λ (x : Found). x.target) (sym f) ∙ t) in
-    let reached : is_reached state.tree.rows (folded_path parts) ≡ true = ap (λ (x : Found). x.reached) (sym f) ∙ fine.reached in
+    let absent : entry_at state.tree.rows (folded_path parts) ≡ None = absent_target _ (ap (λ (x : CreateLookup). x.target) (sym f) ∙ t) in
+    let reached : is_reached state.tree.rows (folded_path parts) ≡ true = ap (λ (x : CreateLookup). x.reached) (sym f) ∙ fine.reached in
     let above : is_folder (entry_at state.tree.rows (parent (folded_path parts))) ≡ true = reached_folder state.tree good.tree (folded_path parts) reached absent in
-    let room : has_all_entries state ≡ false = (let same = ap (λ (x : Found). x.entries_full) f in grind (arith, fine.entries, t, same)) in
+    let room : has_all_entries state ≡ false = (let same = ap (λ (x : CreateLookup). x.entries_full) f in grind (arith, fine.entries, t, same)) in
     grind (arith, nat_tests, common_steps, absent, above, room)
 
-pub room_found : (state : StoreState) (ask : FileAsked) (path : Path) (found : Found) → found ≡ found_at state path → first_status (found_rows state.opens ask found) ≡ STATUS_SUCCESS → has_all_opens state ≡ false
-room_found state ask path found f e = ap (λ (x : Found). x.opens_full) (sym f) ∙ (passed state.opens ask found e).opens
+pub room_found : (state : StoreState) (ask : FileAsked) (path : Path) (found : CreateLookup) → found ≡ found_at state path → first_status (found_rows state.opens ask found) ≡ STATUS_SUCCESS → has_all_opens state ≡ false
+room_found state ask path found f e = ap (λ (x : CreateLookup). x.opens_full) (sym f) ∙ (passed state.opens ask found e).opens
 
 -- the folder of an entry that may be added is not marked
-pub above_found : (state : StoreState) (ask : FileAsked) (path : Path) (found : Found) → found ≡ found_at state path → first_status (found_rows state.opens ask found) ≡ STATUS_SUCCESS → is_marked (entry_at state.tree.rows (parent path)) ≡ false
+pub above_found : (state : StoreState) (ask : FileAsked) (path : Path) (found : CreateLookup) → found ≡ found_at state path → first_status (found_rows state.opens ask found) ≡ STATUS_SUCCESS → is_marked (entry_at state.tree.rows (parent path)) ≡ false
 above_found state ask path found f e =
-    let none : is_pending state.tree.rows path ≡ false = ap (λ (x : Found). x.pending) (sym f) ∙ (passed state.opens ask found e).pending in
+    let none : is_pending state.tree.rows path ≡ false = ap (λ (x : CreateLookup). x.pending) (sym f) ∙ (passed state.opens ask found e).pending in
     second_off (is_marked (entry_at state.tree.rows path)) (is_marked (entry_at state.tree.rows (parent path))) none
 
 -- what is overwritten is a file
 no_folder : (folder file over : Bool) → over ≡ true → (folder && (file || over)) ≡ false → folder ≡ false
 no_folder folder file over o h = grind (arith, o, h)
 
-pub file_found : (state : StoreState) (ask : FileAsked) (found : Found) (target : Target) → first_status (found_rows state.opens ask found) ≡ STATUS_SUCCESS → found.target ≡ Some target → overwrites_by ask.disposition ≡ true → is_folder_kind target.kind ≡ false
+pub file_found : (state : StoreState) (ask : FileAsked) (found : CreateLookup) (target : Target) → first_status (found_rows state.opens ask found) ≡ STATUS_SUCCESS → found.target ≡ Some target → overwrites_by ask.disposition ≡ true → is_folder_kind target.kind ≡ false
 file_found state ask found target e t o =
     let none : (is_folder_kind target.kind && (asks_file ask || overwrites_by ask.disposition)) ≡ false = ap (λ (x : Option Target). is_folder_target x && (asks_file ask || overwrites_by ask.disposition)) (sym t) ∙ (passed state.opens ask found e).file in
     no_folder (is_folder_kind target.kind) (asks_file ask) (overwrites_by ask.disposition) o none
 
 -- where no target was found no entry is there
-pub absent_found : (state : StoreState) (ask : FileAsked) (path : Path) (found : Found) → found ≡ found_at state path → path ≡ path_asked ask → found.target ≡ None → entry_asked state ask ≡ None
+pub absent_found : (state : StoreState) (ask : FileAsked) (path : Path) (found : CreateLookup) → found ≡ found_at state path → path ≡ path_asked ask → found.target ≡ None → entry_asked state ask ≡ None
 absent_found state ask path found f p t =
-    absent_target (entry_asked state ask) (ap (λ (q : Path). option_map target_of (entry_at state.tree.rows q)) (sym p) ∙ ap (λ (x : Found). x.target) (sym f) ∙ t)
+    absent_target (entry_asked state ask) (ap (λ (q : Path). option_map target_of (entry_at state.tree.rows q)) (sym p) ∙ ap (λ (x : CreateLookup). x.target) (sym f) ∙ t)
 
 -- no open conflicts with the target that was found
-pub alone_found : (state : StoreState) (ask : FileAsked) (found : Found) (target : Target) → first_status (found_rows state.opens ask found) ≡ STATUS_SUCCESS → found.target ≡ Some target → target_conflicts state.opens ask (Some target) ≡ false
+pub alone_found : (state : StoreState) (ask : FileAsked) (found : CreateLookup) (target : Target) → first_status (found_rows state.opens ask found) ≡ STATUS_SUCCESS → found.target ≡ Some target → target_conflicts state.opens ask (Some target) ≡ false
 alone_found state ask found target e t = ap (target_conflicts state.opens ask) (sym t) ∙ (passed state.opens ask found e).alone
 
 read_only_same : (o : Option Entry) → is_read_only_target (option_map target_of o) ≡ is_read_only_file o
@@ -156,7 +156,7 @@ read_only_same None = refl
 read_only_same (Some entry) = refl
 
 -- the access that is granted on the target that was found
-pub access_found : (state : StoreState) (ask : FileAsked) (path : Path) (found : Found) (target : Target) → found ≡ found_at state path → path ≡ path_asked ask → found.target ≡ Some target → granted ask.access (is_read_only_target (Some target)) ≡ access_granted state ask
+pub access_found : (state : StoreState) (ask : FileAsked) (path : Path) (found : CreateLookup) (target : Target) → found ≡ found_at state path → path ≡ path_asked ask → found.target ≡ Some target → granted ask.access (is_read_only_target (Some target)) ≡ access_granted state ask
 access_found state ask path found target f p t =
-    ap (λ (o : Option Target). granted ask.access (is_read_only_target o)) (sym t ∙ ap (λ (x : Found). x.target) f ∙ ap (λ (q : Path). option_map target_of (entry_at state.tree.rows q)) p)
+    ap (λ (o : Option Target). granted ask.access (is_read_only_target o)) (sym t ∙ ap (λ (x : CreateLookup). x.target) f ∙ ap (λ (q : Path). option_map target_of (entry_at state.tree.rows q)) p)
     ∙ ap (granted ask.access) (read_only_same (entry_asked state ask))

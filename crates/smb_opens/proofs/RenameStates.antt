@@ -10,7 +10,7 @@ use Rattle.smb_tree.specs.Faults.{move_fault}
 use Rattle.smb_tree.specs.Moves.{moved}
 use Rattle.smb_access.specs.declared.found.Target.{Target}
 use Rattle.smb_access.specs.declared.open_row.OpenRow.{OpenRow}
-use Rattle.smb_entry.specs.declared.rename.Way.{Way}
+use Rattle.smb_entry.specs.declared.rename.RenameLookup.{RenameLookup}
 use Rattle.smb_access.specs.declared.view.View.{View}
 use Rattle.smb_access.specs.StatusRows.{StatusRow, first_status}
 use Rattle.smb_opens.specs.Good.{IsKept}
@@ -41,7 +41,7 @@ refused_name state number view name replace status e h =
     status_named state.tree.rows state.opens view name replace (path_numbered state.tree.rows view.entry) (path_named name) status h ∙ status_by_view state number view name replace e
 
 -- what is found, by the rows of the table
-pub record IsWay (state : StoreState) (view : View) (way : Way) (name : List ℕ) (parts : List (List ℕ)) : Type 0 where
+pub record IsWay (state : StoreState) (view : View) (way : RenameLookup) (name : List ℕ) (parts : List (List ℕ)) : Type 0 where
   pub found : way ≡ way_between state.tree.rows (path_numbered state.tree.rows view.entry) (folded_path parts)
   pub spelled : parts ≡ path_spelled name
   pub lawful : (rest : List StatusRow) → first_status (name_rows name ++ rest) ≡ first_status rest
@@ -51,14 +51,14 @@ abbrev rows_of_state : StoreState → View → Row → List ℕ → Bool → Lis
 rows_of_state state view row name replace =
     rows_by state.tree.rows state.opens view row.0 (path_named name) replace (is_same_path row.0 (path_named name)) (is_some (entry_at state.tree.rows (path_named name))) (is_not_replaced state.opens (entry_at state.tree.rows (path_named name)))
 
-found_rows : (state : StoreState) (number : ℕ) (view : View) (way : Way) (name : List ℕ) (parts : List (List ℕ)) (replace : Bool) (status opens_count entries_count : ℕ) → (s : ShownBy state number view) → IsWay state view way name parts →
+found_rows : (state : StoreState) (number : ℕ) (view : View) (way : RenameLookup) (name : List ℕ) (parts : List (List ℕ)) (replace : Bool) (status opens_count entries_count : ℕ) → (s : ShownBy state number view) → IsWay state view way name parts →
     IsKept state.tree state.opens state.locks state.next opens_count entries_count → status ≡ first_status (way_rows state.tree.rows state.opens view way replace) →
     status ≡ first_status (rows_of_state state view s.row name replace)
 found_rows state number view way name parts replace status opens_count entries_count s is kept e =
     let at = at_shown state number view s in
     let from : path_numbered state.tree.rows view.entry ≡ s.row.0 = path_found state.tree.rows view.entry s.row at in
     let way_is : way ≡ way_between state.tree.rows s.row.0 (path_named name) = is.found ∙ (λ i. way_between state.tree.rows (from i) (folded_path (is.spelled i))) in
-    e ∙ ap (λ (w : Way). first_status (way_rows state.tree.rows state.opens view w replace)) way_is
+    e ∙ ap (λ (w : RenameLookup). first_status (way_rows state.tree.rows state.opens view w replace)) way_is
     ∙ ap first_status (way_told state.tree.rows state.opens view s.row (path_named name) replace kept.good.tree.apart at from)
 
 from_shown : (state : StoreState) (number : ℕ) (view : View) (name : List ℕ) (replace : Bool) → (s : ShownBy state number view) →
@@ -66,7 +66,7 @@ from_shown : (state : StoreState) (number : ℕ) (view : View) (name : List ℕ)
 from_shown state number view name replace s =
     ap (λ (p : Path). first_status (rename_rows state.tree.rows state.opens view name replace p (path_named name))) (sym (path_found state.tree.rows view.entry s.row (at_shown state number view s)))
 
-pub refused_way : (state : StoreState) (number : ℕ) (view : View) (way : Way) (name : List ℕ) (parts : List (List ℕ)) (replace : Bool) (status opens_count entries_count : ℕ) → ShownBy state number view → Some view ≡ open_view state number → IsWay state view way name parts →
+pub refused_way : (state : StoreState) (number : ℕ) (view : View) (way : RenameLookup) (name : List ℕ) (parts : List (List ℕ)) (replace : Bool) (status opens_count entries_count : ℕ) → ShownBy state number view → Some view ≡ open_view state number → IsWay state view way name parts →
     IsKept state.tree state.opens state.locks state.next opens_count entries_count → status ≡ first_status (way_rows state.tree.rows state.opens view way replace) → (status ≡ STATUS_SUCCESS → ⊥) →
     status ≡ rename_status state number name replace
 refused_way state number view way name parts replace status opens_count entries_count s shows is kept e bad =
@@ -75,7 +75,7 @@ refused_way state number view way name parts replace status opens_count entries_
     ∙ from_shown state number view name replace s ∙ status_by_view state number view name replace shows
 
 -- the status of a rename that is left to the tree
-pub status_left : (state : StoreState) (number : ℕ) (view : View) (way : Way) (name : List ℕ) (parts : List (List ℕ)) (replace : Bool) (status opens_count entries_count : ℕ) → ShownBy state number view → Some view ≡ open_view state number → IsWay state view way name parts →
+pub status_left : (state : StoreState) (number : ℕ) (view : View) (way : RenameLookup) (name : List ℕ) (parts : List (List ℕ)) (replace : Bool) (status opens_count entries_count : ℕ) → ShownBy state number view → Some view ≡ open_view state number → IsWay state view way name parts →
     IsKept state.tree state.opens state.locks state.next opens_count entries_count → status ≡ first_status (way_rows state.tree.rows state.opens view way replace) → status ≡ STATUS_SUCCESS →
     rename_status state number name replace ≡ code_of (move_fault state.tree view.entry (folded_path parts))
 status_left state number view way name parts replace status opens_count entries_count s shows is kept e fine =
@@ -85,7 +85,7 @@ status_left state number view way name parts replace status opens_count entries_
     ∙ ap (λ (ps : List (List ℕ)). code_of (move_fault state.tree view.entry (folded_path ps))) (sym is.spelled)
 
 -- what is known of the move
-moving : (state : StoreState) (number : ℕ) (view : View) (way : Way) (name : List ℕ) (parts : List (List ℕ)) (replace : Bool) (status opens_count entries_count : ℕ) → (s : ShownBy state number view) → IsWay state view way name parts →
+moving : (state : StoreState) (number : ℕ) (view : View) (way : RenameLookup) (name : List ℕ) (parts : List (List ℕ)) (replace : Bool) (status opens_count entries_count : ℕ) → (s : ShownBy state number view) → IsWay state view way name parts →
     IsKept state.tree state.opens state.locks state.next opens_count entries_count → status ≡ first_status (way_rows state.tree.rows state.opens view way replace) → status ≡ STATUS_SUCCESS → move_fault state.tree view.entry (folded_path parts) ≡ None →
     IsMoving state.tree state.opens view.entry parts s.row × IsEither state.tree state.opens parts s.row
 moving state number view way name parts replace status opens_count entries_count s is kept e fine free =
@@ -107,13 +107,13 @@ count_by None n c = omega arith
 count_by (Some x) n c = elim (x.number == n) as (λ b. c - (if not b then 1 else 0) ≡ (if not b then c - 1 else c)) [ true ↦ omega arith | false ↦ refl ]
 
 -- a good store is left
-pub kept_renamed : (state : StoreState) (number : ℕ) (view : View) (way : Way) (name : List ℕ) (parts : List (List ℕ)) (replace : Bool) (status opens_count entries_count moment replaced : ℕ) (after : Content) → ShownBy state number view → IsWay state view way name parts →
+pub kept_renamed : (state : StoreState) (number : ℕ) (view : View) (way : RenameLookup) (name : List ℕ) (parts : List (List ℕ)) (replace : Bool) (status opens_count entries_count moment replaced : ℕ) (after : Content) → ShownBy state number view → IsWay state view way name parts →
     IsKept state.tree state.opens state.locks state.next opens_count entries_count → status ≡ first_status (way_rows state.tree.rows state.opens view way replace) → status ≡ STATUS_SUCCESS → move_fault state.tree view.entry (folded_path parts) ≡ None →
     list_all is_lawful_component parts ≡ true → replaced ≡ count_replaced view.entry way.target → after ≡ renamed_tree state.tree view.entry parts moment →
     IsKept after state.opens state.locks state.next opens_count (entries_count - replaced)
 kept_renamed state number view way name parts replace status opens_count entries_count moment replaced after s is kept e fine free names count done =
     let m = moving state number view way name parts replace status opens_count entries_count s is kept e fine free in
-    let target : way.target ≡ option_map target_of (entry_at state.tree.rows (folded_path parts)) = ap (λ (w : Way). w.target) is.found in
+    let target : way.target ≡ option_map target_of (entry_at state.tree.rows (folded_path parts)) = ap (λ (w : RenameLookup). w.target) is.found in
     let left = ap (λ (r : ℕ). entries_count - r) (count ∙ ap (count_replaced view.entry) target) ∙ count_by (entry_at state.tree.rows (folded_path parts)) view.entry entries_count in
     let before = kept_moved state view.entry parts s.row opens_count entries_count (entries_count - replaced) m.0 m.1 names left kept in
     let there = moved_there state.tree view.entry parts s.row kept.good.tree (at_shown state number view s) free in

@@ -112,35 +112,35 @@ room_shown state number view offset buffer good s file =
     fault_room state.tree view.entry offset buffer s.row at (kind_shown state number view s file) (of_number (λ row. length row.1.bytes ≤ 16777216) state.tree.rows view.entry s.row good.small at)
 
 -- the status of a WRITE of an open that shows this
-abbrev pub written_status : Content → Table → ℕ → View → ℕ → List ℕ → ℕ
-written_status tree locks number view offset buffer =
-    first_status (write_rows view (keeps_from_writing locks number view offset (length buffer)) offset (length buffer) (has_no_room tree view.entry offset buffer))
+abbrev pub written_status : ℕ → Content → Table → ℕ → View → ℕ → List ℕ → ℕ
+written_status most tree locks number view offset buffer =
+    first_status (write_rows most view (keeps_from_writing locks number view offset (length buffer)) offset (length buffer) (has_no_room tree view.entry offset buffer))
 
 -- whether a lock bars it decides its row
-rows_barred : (tree : Content) (locks : Table) (number : ℕ) (view : View) (is_barred : Bool) (offset : ℕ) (buffer : List ℕ) → is_barred ≡ keeps_from_writing locks number view offset (length buffer) →
-    first_status (write_rows view is_barred offset (length buffer) (has_no_room tree view.entry offset buffer)) ≡ written_status tree locks number view offset buffer
-rows_barred tree locks number view is_barred offset buffer bar =
-    ap (λ (b : Bool). first_status (write_rows view b offset (length buffer) (has_no_room tree view.entry offset buffer))) bar
+rows_barred : (most : ℕ) (tree : Content) (locks : Table) (number : ℕ) (view : View) (is_barred : Bool) (offset : ℕ) (buffer : List ℕ) → is_barred ≡ keeps_from_writing locks number view offset (length buffer) →
+    first_status (write_rows most view is_barred offset (length buffer) (has_no_room tree view.entry offset buffer)) ≡ written_status most tree locks number view offset buffer
+rows_barred most tree locks number view is_barred offset buffer bar =
+    ap (λ (b : Bool). first_status (write_rows most view b offset (length buffer) (has_no_room tree view.entry offset buffer))) bar
 
 -- a WRITE that is done had room
-pub lawful_written : {X : Type 0} (r : Result X StoreFault) (tree : Content) (locks : Table) (number : ℕ) (view : View) (is_barred : Bool) (offset : ℕ) (buffer : List ℕ) → is_barred ≡ keeps_from_writing locks number view offset (length buffer) →
-    ((is_full : Bool) → first_status (write_rows view is_barred offset (length buffer) is_full) ≡ (if nat_lt 0 (length buffer) && is_full then STATUS_DISK_FULL else STATUS_SUCCESS)) →
+pub lawful_written : {X : Type 0} (r : Result X StoreFault) (most : ℕ) (tree : Content) (locks : Table) (number : ℕ) (view : View) (is_barred : Bool) (offset : ℕ) (buffer : List ℕ) → is_barred ≡ keeps_from_writing locks number view offset (length buffer) →
+    ((is_full : Bool) → first_status (write_rows most view is_barred offset (length buffer) is_full) ≡ (if nat_lt 0 (length buffer) && is_full then STATUS_DISK_FULL else STATUS_SUCCESS)) →
     is_some (write_fault tree view.entry offset (length buffer)) ≡ has_no_room tree view.entry offset buffer →
-    OnOk r (write_fault tree view.entry offset (length buffer) ≡ None) → OnOk r (written_status tree locks number view offset buffer ≡ STATUS_SUCCESS)
-lawful_written (Ok x) tree locks number view is_barred offset buffer bar goes same none =
+    OnOk r (write_fault tree view.entry offset (length buffer) ≡ None) → OnOk r (written_status most tree locks number view offset buffer ≡ STATUS_SUCCESS)
+lawful_written (Ok x) most tree locks number view is_barred offset buffer bar goes same none =
     let room : has_no_room tree view.entry offset buffer ≡ false = sym same ∙ ap (λ (o : Option TreeFault). is_some o) none in
-    sym (rows_barred tree locks number view is_barred offset buffer bar) ∙ goes (has_no_room tree view.entry offset buffer) ∙ grind (arith, nat_tests, room)
-lawful_written (Err e) tree locks number view is_barred offset buffer bar goes same none = tt
+    sym (rows_barred most tree locks number view is_barred offset buffer bar) ∙ goes (has_no_room tree view.entry offset buffer) ∙ grind (arith, nat_tests, room)
+lawful_written (Err e) most tree locks number view is_barred offset buffer bar goes same none = tt
 
 -- a WRITE for which there is no room is refused for that
-pub why_written : {X : Type 0} (r : Result X StoreFault) (tree : Content) (locks : Table) (number : ℕ) (view : View) (is_barred : Bool) (offset : ℕ) (buffer : List ℕ) → (length buffer == 0) ≡ false → is_barred ≡ keeps_from_writing locks number view offset (length buffer) →
-    ((is_full : Bool) → first_status (write_rows view is_barred offset (length buffer) is_full) ≡ (if nat_lt 0 (length buffer) && is_full then STATUS_DISK_FULL else STATUS_SUCCESS)) →
+pub why_written : {X : Type 0} (r : Result X StoreFault) (most : ℕ) (tree : Content) (locks : Table) (number : ℕ) (view : View) (is_barred : Bool) (offset : ℕ) (buffer : List ℕ) → (length buffer == 0) ≡ false → is_barred ≡ keeps_from_writing locks number view offset (length buffer) →
+    ((is_full : Bool) → first_status (write_rows most view is_barred offset (length buffer) is_full) ≡ (if nat_lt 0 (length buffer) && is_full then STATUS_DISK_FULL else STATUS_SUCCESS)) →
     is_some (write_fault tree view.entry offset (length buffer)) ≡ has_no_room tree view.entry offset buffer →
     IfErr r (λ fault. fault ≢ NoMemory → (fault ≡ Status STATUS_DISK_FULL) × (is_some (write_fault tree view.entry offset (length buffer)) ≡ true)) →
-    IfErr r (λ fault. fault ≢ NoMemory → IsRefusal (written_status tree locks number view offset buffer) fault)
-why_written (Ok x) tree locks number view is_barred offset buffer some bar goes same h = tt
-why_written (Err fault) tree locks number view is_barred offset buffer some bar goes same h = λ q.
+    IfErr r (λ fault. fault ≢ NoMemory → IsRefusal (written_status most tree locks number view offset buffer) fault)
+why_written (Ok x) most tree locks number view is_barred offset buffer some bar goes same h = tt
+why_written (Err fault) most tree locks number view is_barred offset buffer some bar goes same h = λ q.
     let told = h q in
     let full : has_no_room tree view.entry offset buffer ≡ true = sym same ∙ told.1 in
-    let status : written_status tree locks number view offset buffer ≡ STATUS_DISK_FULL = sym (rows_barred tree locks number view is_barred offset buffer bar) ∙ goes (has_no_room tree view.entry offset buffer) ∙ grind (arith, nat_tests, some, full) in
-    subst (λ (f : StoreFault). IsRefusal (written_status tree locks number view offset buffer) f) (sym told.0) (sym status, λ e. cc)
+    let status : written_status most tree locks number view offset buffer ≡ STATUS_DISK_FULL = sym (rows_barred most tree locks number view is_barred offset buffer bar) ∙ goes (has_no_room tree view.entry offset buffer) ∙ grind (arith, nat_tests, some, full) in
+    subst (λ (f : StoreFault). IsRefusal (written_status most tree locks number view offset buffer) f) (sym told.0) (sym status, λ e. cc)

@@ -8,20 +8,20 @@ use Rattle.smb_opens.specs.State.{StoreState}
 use Rattle.smb_opens.specs.Views.{status_through}
 use Rattle.smb_entry.specs.Bytes.{keeps_from_reading, read_rows, keeps_from_writing, has_no_room, write_rows, written_tree}
 
--- the status of a READ of the open of a number
-abbrev pub read_status : StoreState → ℕ → ℕ → ℕ → ℕ → ℕ
-read_status state number offset count minimum = status_through state number
-    (λ view. read_rows view (keeps_from_reading state.locks number view offset count) offset count minimum)
+-- the status of a READ of the open of a number, by the most bytes that one request may ask for
+abbrev pub read_status : StoreState → ℕ → ℕ → ℕ → ℕ → ℕ → ℕ
+read_status state most number offset count minimum = status_through state number
+    (λ view. read_rows most view (keeps_from_reading state.locks number view offset count) offset count minimum)
 
 -- the bytes that it reads: those of the file from the offset on, at most so many
 abbrev pub file_bytes : StoreState → ℕ → ℕ → ℕ → List ℕ
 file_bytes state number offset count =
     option_map_or (λ (row : OpenRow). bytes_read state.tree.rows row.entry offset count) (open_of state.opens number) []
 
--- the status of a WRITE through the open of a number
-abbrev pub write_status : StoreState → ℕ → ℕ → List ℕ → ℕ
-write_status state number offset buffer = status_through state number
-    (λ view. write_rows view (keeps_from_writing state.locks number view offset (length buffer)) offset (length buffer) (has_no_room state.tree view.entry offset buffer))
+-- the status of a WRITE through the open of a number, by the most bytes that one request may bring
+abbrev pub write_status : StoreState → ℕ → ℕ → ℕ → List ℕ → ℕ
+write_status state most number offset buffer = status_through state number
+    (λ view. write_rows most view (keeps_from_writing state.locks number view offset (length buffer)) offset (length buffer) (has_no_room state.tree view.entry offset buffer))
 
 -- the store after a WRITE that succeeds; no bytes change nothing
 abbrev pub written_to : StoreState → ℕ → ℕ → List ℕ → ℕ → StoreState

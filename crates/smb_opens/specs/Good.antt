@@ -2,6 +2,7 @@
 use Rattle.std.specs.Prelude.{◌≡◌, ℕ, ◌≤◌, true, List, length, false, Some, Contains, bit_and}
 use Rattle.std.specs.List.{AllByRecursion}
 use Rattle.std.specs.Option.{option_map}
+use Rattle.smb_wire.specs.Limits.{most_opens}
 use Rattle.smb_wire.specs.Access.{FILE_ALL_ACCESS, FILE_SHARE_ALL}
 use Rattle.smb_tree.specs.Content.{Row, Content}
 use Rattle.smb_tree.specs.Good.{GoodContent, AreLawful}
@@ -51,7 +52,7 @@ pub record GoodStore (state : StoreState) : Type 0 where
   pub present : ArePresent state.tree.rows state.opens
   pub rising : AreRising (open_numbers state.opens)
   pub below : AreAllBelow state.next state.opens
-  pub few : length state.opens ≤ 1024
+  pub few : length state.opens ≤ most_opens
   pub masked : AreMasked state.opens
   pub compatible : AreCompatible state.opens
   pub marked : AreMarksDue state.tree.rows state.opens

@@ -99,17 +99,17 @@ AWriteIsOfOneFile =
 -- what an open has locked as its own alone, no other open of the file reads or writes, as long as the lock is held
 abbrev pub ALockKeepsOthersOut : Type 0
 ALockKeepsOthersOut =
-    (state : StoreState) (number offset count minimum : ℕ) (buffer : List ℕ) (row : OpenRow) (lock : Lock) → open_of state.opens number ≡ Some row →
+    (state : StoreState) (most number offset count minimum : ℕ) (buffer : List ℕ) (row : OpenRow) (lock : Lock) → open_of state.opens number ≡ Some row →
     Contains (locks_on state.locks row.entry) lock → lock.exclusive ≡ true → lock.holder ≢ number →
-    (Overlap lock.range (record { offset = offset; length = count }) → read_status state number offset count minimum ≢ STATUS_SUCCESS)
-    × (Overlap lock.range (record { offset = offset; length = length buffer }) → write_status state number offset buffer ≢ STATUS_SUCCESS)
+    (Overlap lock.range (record { offset = offset; length = count }) → read_status state most number offset count minimum ≢ STATUS_SUCCESS)
+    × (Overlap lock.range (record { offset = offset; length = length buffer }) → write_status state most number offset buffer ≢ STATUS_SUCCESS)
 
 -- what is under a shared lock, no open of the file writes, the one that holds it neither
 abbrev pub ASharedLockKeepsWritersOut : Type 0
 ASharedLockKeepsWritersOut =
-    (state : StoreState) (number offset : ℕ) (buffer : List ℕ) (row : OpenRow) (lock : Lock) → open_of state.opens number ≡ Some row →
+    (state : StoreState) (most number offset : ℕ) (buffer : List ℕ) (row : OpenRow) (lock : Lock) → open_of state.opens number ≡ Some row →
     Contains (locks_on state.locks row.entry) lock → lock.exclusive ≡ false → Overlap lock.range (record { offset = offset; length = length buffer }) →
-    write_status state number offset buffer ≢ STATUS_SUCCESS
+    write_status state most number offset buffer ≢ STATUS_SUCCESS
 
 -- of two locks of a file that different opens hold and that overlap, none is exclusive
 abbrev pub NoTwoLocksConflict : Type 0

@@ -2,7 +2,7 @@
 -- What the code looks at once for a CREATE, in a store.
 use Rattle.std.specs.Option.{option_map}
 use Rattle.smb_tree.specs.Content.{Path, entry_at}
-use Rattle.smb_access.specs.declared.found.Found.{Found}
+use Rattle.smb_access.specs.declared.found.CreateLookup.{CreateLookup}
 use Rattle.smb_access.specs.Asked.{FileAsked}
 use Rattle.smb_access.specs.Found.{path_asked, is_reached, is_pending}
 use Rattle.smb_opens.specs.Found.{has_all_opens, has_all_entries}
@@ -11,7 +11,7 @@ use Rattle.smb_access.specs.Looked.{target_of}
 
 -- what is found at a path: the entry, if any, whether the way to it is one of folders, whether it or its folder is
 -- marked, and whether an open and an entry may be added
-abbrev pub found_at : StoreState → Path → Found
+abbrev pub found_at : StoreState → Path → CreateLookup
 found_at state path = record {
   target = option_map target_of (entry_at state.tree.rows path);
   reached = is_reached state.tree.rows path;
@@ -21,5 +21,5 @@ found_at state path = record {
 }
 
 -- what a request finds
-abbrev pub found_by : StoreState → FileAsked → Found
+abbrev pub found_by : StoreState → FileAsked → CreateLookup
 found_by state ask = found_at state (path_asked ask)

@@ -33,34 +33,37 @@ impl<T: Tree + Drop, O: Opens + Drop> Store<T, O> {
     }
 
     /// How many bytes a READ through the open of a number gives ([MS-SMB2] 3.3.5.12): of those from `offset` on at most
-    /// `count`; or the status that refuses it.
+    /// `count`; or the status that refuses it. One request may ask for `most` bytes.
     pub fn read_length(
         &self,
+        most: u32,
         number: OpenNo,
         offset: u64,
         count: u32,
         minimum: u32,
     ) -> Result<u32, u32>
         ensures length { IfOk result (λ there. there ≡ length (file_bytes self.now number offset count)) }
-        ensures lawful { OnOk result (read_status self.now number offset count minimum ≡ STATUS_SUCCESS) }
-        ensures why { IfErr result (λ status. read_status self.now number offset count minimum ≡ status) }
+        ensures lawful { OnOk result (read_status self.now most number offset count minimum ≡ STATUS_SUCCESS) }
+        ensures why { IfErr result (λ status. read_status self.now most number offset count minimum ≡ status) }
         ensures refused { IfErr result (λ status. status ≢ STATUS_SUCCESS) }
     {
         let Some(view) = self.view(number) else {
             return Err(STATUS_FILE_CLOSED);
         };
         let is_barred = self.is_kept_from_reading(&view, number, offset, count);
-        may_read(&view, is_barred, offset, count, minimum)?;
+        may_read(most, &view, is_barred, offset, count, minimum)?;
         Ok(bytes_there(view.size, offset, count))
     }
 
     /// Answers a READ through the open of a number ([MS-SMB2] 3.3.5.12): adds the bytes of its file from `offset` on, at
-    /// most `count`, behind those of a vector. They are copied once. After a refusal the vector holds what it held.
+    /// most `count`, behind those of a vector. They are copied once. One request may ask for `most` bytes. After a refusal the
+    /// vector holds what it held.
     ///
     /// [`Status`](StoreFault::Status) tells the first row of the table that holds, and
     /// [`NoMemory`](StoreFault::NoMemory) that an allocation was refused where none does.
     pub fn read(
         &self,
+        most: u32,
         number: OpenNo,
         offset: u64,
         count: u32,
@@ -68,15 +71,15 @@ impl<T: Tree + Drop, O: Opens + Drop> Store<T, O> {
         bytes: &mut Vec<u8>,
     ) -> Result<(), StoreFault>
         ensures ok { OnOk result (bytes.new.items ≡ bytes.old.items ++ file_bytes self.now number offset count) }
-        ensures lawful { OnOk result (read_status self.now number offset count minimum ≡ STATUS_SUCCESS) }
+        ensures lawful { OnOk result (read_status self.now most number offset count minimum ≡ STATUS_SUCCESS) }
         ensures err { OnErr result (bytes.new.items ≡ bytes.old.items) }
-        ensures why { IfErr result (λ fault. IsRefusal (read_status self.now number offset count minimum) fault) }
+        ensures why { IfErr result (λ fault. IsRefusal (read_status self.now most number offset count minimum) fault) }
     {
         let Some(view) = self.view(number) else {
             return Err(StoreFault::Status(STATUS_FILE_CLOSED));
         };
         let is_barred = self.is_kept_from_reading(&view, number, offset, count);
-        if let Err(status) = may_read(&view, is_barred, offset, count, minimum) {
+        if let Err(status) = may_read(most, &view, is_barred, offset, count, minimum) {
             return Err(StoreFault::Status(status));
         }
         match self.tree.read(view.entry, offset, u64::from(count), bytes) {
@@ -86,28 +89,29 @@ impl<T: Tree + Drop, O: Opens + Drop> Store<T, O> {
     }
 
     /// Answers a WRITE through the open of a number at a moment, in units of 100 ns since 1601 ([MS-SMB2] 3.3.5.13): puts
-    /// the bytes into its file from `offset` on, and sets the file's times of the last write and change. No bytes change
-    /// nothing.
+    /// the bytes into its file from `offset` on, and sets the file's times of the last write and change. One request may bring
+    /// `most` bytes. No bytes change nothing.
     ///
     /// [`Status`](StoreFault::Status) tells the first row of the table that holds, and
     /// [`NoMemory`](StoreFault::NoMemory) that an allocation was refused, which may be where a row holds too.
     pub fn write(
         &mut self,
+        most: u32,
         number: OpenNo,
         offset: u64,
         buffer: &[u8],
         moment: u64,
     ) -> Result<(), StoreFault>
         ensures store { OnOk result (self.new ≡ written_to self.old number offset buffer.now moment) }
-        ensures lawful { OnOk result (write_status self.old number offset buffer.now ≡ STATUS_SUCCESS) }
+        ensures lawful { OnOk result (write_status self.old most number offset buffer.now ≡ STATUS_SUCCESS) }
         ensures err { OnErr result (self.new ≡ self.old) }
-        ensures why { IfErr result (λ fault. fault ≢ NoMemory → IsRefusal (write_status self.old number offset buffer.now) fault) }
+        ensures why { IfErr result (λ fault. fault ≢ NoMemory → IsRefusal (write_status self.old most number offset buffer.now) fault) }
     {
         let Some(view) = self.view(number) else {
             return Err(StoreFault::Status(STATUS_FILE_CLOSED));
         };
         let is_barred = self.is_kept_from_writing(&view, number, offset, buffer.len());
-        if let Err(status) = may_write(&view, is_barred, offset, buffer.len()) {
+        if let Err(status) = may_write(most, &view, is_barred, offset, buffer.len()) {
             return Err(StoreFault::Status(status));
         }
         if buffer.is_empty() {

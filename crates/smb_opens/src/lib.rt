@@ -41,7 +41,7 @@ mod store;
 pub use laws::laws_of_stores;
 pub use smb_access::{
     Closed, CreateAsk, Created, OpenNo, OpenRow, Opens, Owner, PlainOpens, Scan, ScanLast,
-    StoreFault, UseKind, View,
+    SharingUse, StoreFault, View,
 };
 pub use smb_entry::BasicAsk;
 pub use store::Store;

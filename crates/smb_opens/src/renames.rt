@@ -8,7 +8,7 @@ ghost use Rattle.smb_opens.specs.Renames.{rename_status, renamed_through};
 
 use super::store::Store;
 use smb_access::{OpenNo, Opens, StoreFault};
-use smb_entry::rename::{count_replaced, find_way, move_to, path_named, way_status};
+use smb_entry::rename::{count_replaced, look_up_rename, move_to, path_named, way_status};
 use smb_tree::Tree;
 use smb_wire::Units;
 use smb_wire::nt_status::{STATUS_FILE_CLOSED, STATUS_SUCCESS};
@@ -40,7 +40,7 @@ impl<T: Tree + Drop, O: Opens + Drop> Store<T, O> {
             Ok(path) => path,
             Err(status) => return Err(StoreFault::Status(status)),
         };
-        let way = find_way(&self.tree, view.entry, &path);
+        let way = look_up_rename(&self.tree, view.entry, &path);
         let status = way_status(&self.tree, &self.opens, &view, &way, replace);
         if status != STATUS_SUCCESS {
             return Err(StoreFault::Status(status));

@@ -31,23 +31,20 @@ use smb_access::checks::{
     asked_path, check_kind, check_place, is_folder_target, is_pending, is_read_only_target,
     room_status,
 };
-use smb_access::close::{clear, mark_closed};
-use smb_access::effect::{action_on, affect, attributes_asked, kind_asked, opened_by};
+use smb_access::close::{mark_closed, remove_if_delete_pending};
+use smb_access::effect::{action_on, attributes_asked, kind_asked, opened_by, overwrite_if_asked};
 use smb_access::fault::refusal_of;
-use smb_access::found::{Found, Target};
+use smb_access::found::{CreateLookup, Target};
 use smb_access::look::{count_entries, entry_view, find_above, find_target};
 use smb_access::sharing::conflicts;
 use smb_access::{Closed, CreateAsk, Created, OpenNo, Opens, Owner, StoreFault, View};
 use smb_locks::LockTable;
 use smb_tree::{EntryNo, Tree};
+use smb_wire::limits::{MOST_ENTRIES, MOST_OPENS};
 use smb_wire::nt_status::{STATUS_SHARING_VIOLATION, STATUS_SUCCESS};
 use smb_wire::{CreateAction, CreateDisposition, PathView};
 use std::alloc::Global;
 use std::marker::Model;
-
-const MOST_OPENS: usize = 1024;
-
-const MOST_ENTRIES: usize = 4096;
 
 /// A tree, the opens of its entries, and their locks. Its state is the tree's content, the list of the opens in rising
 /// number, the locks of each file, and the number of the next open.
@@ -157,12 +154,12 @@ impl<T: Tree + Drop, O: Opens + Drop> Store<T, O> {
     }
 
     // What stands at a path.
-    fn find(&self, path: &PathView<'_>) -> Found
+    fn find(&self, path: &PathView<'_>) -> CreateLookup
         ensures { result ≡ found_at self.now (folded_path (parts_of path.now)) }
     {
         let target = find_target(&self.tree, path);
         let above = find_above(&self.tree, path);
-        Found {
+        CreateLookup {
             target,
             reached: is_folder_target(&above),
             pending: is_pending(&target, &above),
@@ -190,7 +187,7 @@ impl<T: Tree + Drop, O: Opens + Drop> Store<T, O> {
         &self,
         ask: &CreateAsk<'_>,
         disposition: CreateDisposition,
-        found: &Found,
+        found: &CreateLookup,
     ) -> u32
         requires { disposition_code disposition ≡ ask.now.disposition.0 }
         ensures { result ≡ first_status (found_rows self.now.opens (asked ask.now) found.now) }
@@ -272,7 +269,7 @@ impl<T: Tree + Drop, O: Opens + Drop> Store<T, O> {
         let access = granted(ask.access, is_read_only_target(&Some(target)));
         self.opens
             .add(opened_by(ask, number, target.number, access))?;
-        if let Err(fault) = affect(&mut self.tree, ask, disposition, target, moment) {
+        if let Err(fault) = overwrite_if_asked(&mut self.tree, ask, disposition, target, moment) {
             self.opens.remove(number);
             return Err(fault);
         }
@@ -308,7 +305,7 @@ impl<T: Tree + Drop, O: Opens + Drop> Store<T, O> {
         self.opens_count -= 1;
         self.locks.drop_open_on(row.entry, number);
         mark_closed(&mut self.tree, &row);
-        let removed = clear(&mut self.tree, &self.opens, row.entry);
+        let removed = remove_if_delete_pending(&mut self.tree, &self.opens, row.entry);
         if removed {
             self.entries_count -= 1;
         }

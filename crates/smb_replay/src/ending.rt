@@ -7,12 +7,10 @@ use smb_frame::{FrameBuffer, FrameFault};
 use smb_head::{Chain, HeadFault, Header, read_chain};
 use smb_request::smb1;
 use smb_session::Window;
+use smb_wire::limits::LONGEST_PAYLOAD;
 use smb_wire::{Command, Dialect};
 use std::alloc::{AllocError, Global};
 use std::fmt;
-
-/// The longest payload of a frame, in bytes.
-const LONGEST_PAYLOAD: u32 = 131_072;
 
 /// How an SMB_COM_NEGOTIATE begins: 0xFF, the letters SMB, and its command.
 const SMB1_NEGOTIATE: &[u8] = b"\xffSMB\x72";

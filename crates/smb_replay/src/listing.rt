@@ -13,7 +13,7 @@ use std::alloc::{AllocError, Global};
 use std::io::{Read, Write};
 
 /// The most messages that a payload has.
-const CHAIN_LIMIT: usize = 16;
+const MOST_REQUESTS: usize = 16;
 
 /// A listing, and whether nothing is wrong in what it lists.
 #[derive(Drop)]
@@ -149,7 +149,7 @@ fn put_replies(
     let Some((_, mut payload)) = frame.split_at_checked(4) else {
         return Ok(false);
     };
-    for _ in 0..CHAIN_LIMIT {
+    for _ in 0..MOST_REQUESTS {
         let Ok(header) = read_header(payload) else {
             return Ok(false);
         };

@@ -14,12 +14,10 @@ use hex::FromHexError;
 use smb_body::{read_body, read_smb1_negotiate};
 use smb_frame::{FrameBuffer, FrameFault};
 use smb_head::{Chain, Header, read_chain};
+use smb_wire::limits::LONGEST_PAYLOAD;
 use smb_wire::{Command, CommandCode};
 use std::alloc::{AllocError, Global};
 use std::io::{Read, Write};
-
-/// The longest payload of a frame, in bytes.
-const LONGEST_PAYLOAD: u32 = 131_072;
 
 /// The lines of a stream, and whether nothing is wrong in it.
 #[derive(Drop)]

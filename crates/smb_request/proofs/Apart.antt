@@ -2,6 +2,7 @@
 use Rattle.std.proofs.Common.{◌≡◌, ◌==◌, ℕ, Bool, true, false, if◌then◌else◌, List, [], ◌∷◌, length, filter, ◌⊎◌, Option, None, Some, is_some, refl, sym, ap, subst, arith, ◌∙◌}
 use Rattle.std.proofs.lemmas.Bool.Decides.{nat_tests}
 use Rattle.std.specs.Option.{option_map_or, option_and_then}
+use Rattle.smb_wire.specs.Limits.{most_at_once}
 use Rattle.smb_session.specs.Session.{SessionState}
 use Rattle.smb_session.specs.Setup.{setup_number}
 use Rattle.smb_body.specs.SessionSetup.{SessionSetupAsked}
@@ -261,17 +262,17 @@ module _ {S : Type 0} (may : ℕ → SessionState → Type 0) (acts : ℕ → Bo
   -- READ and WRITE
   read_left : (asked : ReadRequest) → Left (file_read server call asked).server
   unfolding file_read
-  read_left asked = where_done _ _ (read_status server.store k asked.offset asked.length asked.minimum_count == STATUS_SUCCESS) same
+  read_left asked = where_done _ _ (read_status server.store (most_at_once call.dialect) k asked.offset asked.length asked.minimum_count == STATUS_SUCCESS) same
 
   written_left : (asked : WriteAsked) → Left (file_written server call asked).server
   unfolding file_written
   written_left asked =
-      where_done _ _ (write_status server.store k asked.offset asked.buffer == STATUS_SUCCESS)
+      where_done _ _ (write_status server.store (most_at_once call.dialect) k asked.offset asked.buffer == STATUS_SUCCESS)
       (opens_kept (written_to server.store k asked.offset asked.buffer call.moment) (opens_left server.store k asked.offset asked.buffer call.moment) (written_next server.store k asked.offset asked.buffer call.moment))
 
   -- NEGOTIATE
   negotiated_at : (m : Meaning S) (best : Option Dialect) →
-      Left (option_map_or (λ best. let x : CommandStep S = record { server = server; response = success call.ids (negotiate_answer server.settings.guid (hello_of m server) call.moment (revision_of best)) } in x) best (refused server call.ids NotSupported)).server
+      Left (option_map_or (λ best. let x : CommandStep S = record { server = server; response = success call.ids (negotiate_answer server.settings.guid (hello_of m server) call.moment (Some best) (revision_of best)) } in x) best (refused server call.ids NotSupported)).server
   negotiated_at m None = same
   negotiated_at m (Some best) = same
 
@@ -348,8 +349,8 @@ module _ {S : Type 0} (may : ℕ → SessionState → Type 0) (acts : ℕ → Bo
       ((n : ℕ) (session : SessionState) → ReplacesSession m server context request n session → may n session) → LeavesSharedBut may acts server (performed m c moment server dialect context request).server
   unfolding performed
   request_left_but m moment dialect context request replaces =
-      let call = call_of c moment context request in
-      let left = performed_left may acts call a server o m (body_of call.command request) (call_read c moment context request)
+      let call = call_of c moment dialect context request in
+      let left = performed_left may acts call a server o m (body_of call.command request) (call_read c moment dialect context request)
       (λ value says setup is user flags token session accepted same_user. replaces setup.previous_session_id session (record {
         asked = setup;
         user = user;

@@ -5,6 +5,7 @@ use Rattle.std.proofs.Math.Nat.{min-le_left}
 use Rattle.std.specs.Prelude.{option_and_then}
 use Rattle.std.specs.List.{AllByRecursion}
 use Rattle.std.specs.Option.{option_map_or}
+use Rattle.smb_wire.specs.Limits.{most_at_once, most_in_any_dialect, longest_body}
 use Rattle.smb_body.specs.QueryDirectory.{QueryDirectoryAsked}
 use Rattle.smb_access.specs.declared.scan.Scan.{Scan}
 use Rattle.smb_opens.specs.Scans.{scan_set}
@@ -58,7 +59,7 @@ module _ {S : Type 0} (Left : ServerState S → Type 0) (server : ServerState S)
 
   pub listed_left : (asked : QueryDirectoryAsked) → Left (directory_queried server call asked).server
   unfolding directory_queried
-  listed_left asked = by_refusal (list_asked_by asked) (directory_refusal (open_view server.store call.open_number) asked)
+  listed_left asked = by_refusal (list_asked_by asked) (directory_refusal (most_at_once call.dialect) (open_view server.store call.open_number) asked)
 
 -- each open is owned as before
 owned_by : (table : TableState) (scan : Scan) (row : OpenRow) (b : Bool) → is_owned table (let x : OpenRow = if b then record row { scan = scan } else row in x) ≡ is_owned table row
@@ -125,12 +126,12 @@ why_status information room fault status why e =
     same_refusal information room ∙ ap (option_and_then fault_status) (why there) ∙ e
 
 -- where a QUERY_INFO is refused by what its class says
-refused_for : {S : Type 0} (server : ServerState S) (call : Call) (asked : QueryInfoRequest) (status : Status) → request_refusal asked ≡ None →
+refused_for : {S : Type 0} (server : ServerState S) (call : Call) (asked : QueryInfoRequest) (status : Status) → request_refusal (most_at_once call.dialect) asked ≡ None →
     room_refusal (information_asked server call.open_number asked) asked.output_buffer_length ≡ Some status → refused server call.ids status ≡ information_queried server call asked
 unfolding information_queried
 refused_for server call asked status h e = rw (h, e) refl
 
-query_refused : {S : Type 0} (m : Meaning S) (server : ServerState S) (call : Call) (asked : QueryInfoRequest) (fault : InfoFault) (refusal : Refusal) → request_refusal asked ≡ None →
+query_refused : {S : Type 0} (m : Meaning S) (server : ServerState S) (call : Call) (asked : QueryInfoRequest) (fault : InfoFault) (refusal : Refusal) → request_refusal (most_at_once call.dialect) asked ≡ None →
     IsWhy (information_asked server call.open_number asked) asked.output_buffer_length fault → refusal ≡ info_refusal fault →
     IfSome (result_step m server call (Err refusal)) (λ step. step ≡ information_queried server call asked)
 query_refused m server call asked BadClass refusal h why e = rw e (refused_for server call asked _ h (why_status _ asked.output_buffer_length BadClass _ why refl))
@@ -141,20 +142,20 @@ query_refused m server call asked NoMore refusal h why e = rw e (refused_for ser
 query_refused m server call asked Unreadable refusal h why e = rw e (refused_for server call asked _ h (why_status _ asked.output_buffer_length Unreadable _ why refl))
 query_refused m server call asked NoMemory refusal h why e = rw e tt
 
-pub query_failed : {S : Type 0} (m : Meaning S) (server : ServerState S) (call : Call) (asked : QueryInfoRequest) (fault : InfoFault) (result : Result Response Refusal) → request_refusal asked ≡ None →
+pub query_failed : {S : Type 0} (m : Meaning S) (server : ServerState S) (call : Call) (asked : QueryInfoRequest) (fault : InfoFault) (result : Result Response Refusal) → request_refusal (most_at_once call.dialect) asked ≡ None →
     IsWhy (information_asked server call.open_number asked) asked.output_buffer_length fault → IsErrAnd result (λ refusal. refusal ≡ info_refusal fault) →
     IfSome (result_step m server call result) (λ step. step ≡ information_queried server call asked)
 query_failed m server call asked fault (Ok response) h why e = absurd e
 query_failed m server call asked fault (Err refusal) h why e = query_refused m server call asked fault refusal h why e
 
 -- what a QUERY_INFO returns is short enough
-pub told_short : (information : Option Information) (asked : QueryInfoRequest) (bytes : List ℕ) → request_refusal asked ≡ None → bytes ≡ told information asked.output_buffer_length → length bytes ≤ 65536
-told_short information asked bytes h e =
-    let small : nat_lt 65536 asked.output_buffer_length ≡ false = grind (arith, h) in
-    let room : asked.output_buffer_length ≤ 65536 = grind (arith, nat_tests, small) in
+pub told_short : (most : ℕ) (information : Option Information) (asked : QueryInfoRequest) (bytes : List ℕ) → most ≤ most_in_any_dialect → request_refusal most asked ≡ None → bytes ≡ told information asked.output_buffer_length → length bytes ≤ most_in_any_dialect
+told_short most information asked bytes few h e =
+    let small : nat_lt most asked.output_buffer_length ≡ false = grind (arith, h) in
+    let room : asked.output_buffer_length ≤ most = grind (arith, nat_tests, small) in
     let short = told_within information asked.output_buffer_length in
     let same = ap length e in
-    omega (arith, room, short, same)
+    omega (arith, room, short, same, few)
   where
     told_within : (information : Option Information) (room : ℕ) → length (told information room) ≤ room
     told_within None room = omega arith
@@ -184,8 +185,8 @@ listed_within store n ask =
     ]
 
 -- the response fits behind its fixed part
-pub fits_behind : (before opened listed after : List ℕ) (start room : ℕ) → opened ≡ before ++ replicate 8 0 → start ≡ length before → after ≡ opened ++ listed → length listed ≤ room → room ≤ 65536 →
-    (length after < start + 8 + 2 ^ 32) × (length after ≤ length before + 65552)
+pub fits_behind : (before opened listed after : List ℕ) (start room : ℕ) → opened ≡ before ++ replicate 8 0 → start ≡ length before → after ≡ opened ++ listed → length listed ≤ room → room ≤ most_in_any_dialect →
+    (length after < start + 8 + 2 ^ 32) × (length after ≤ length before + longest_body)
 fits_behind before opened listed after start room o s a l r =
     let one : length opened ≡ length before + 8 = ap length o ∙ length-append before (replicate 8 0) in
     let two : length after ≡ length opened + length listed = ap length a ∙ length-append opened listed in

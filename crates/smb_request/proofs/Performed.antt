@@ -35,11 +35,11 @@ unsupported_unread None request e = cc
 unsupported_unread (Some command) request e = unread command request e
 
 -- what was read of a request
-pub call_read : (connection moment : ℕ) (context : Context) (request : List ℕ) → IsCallOf (call_of connection moment context request) (body_of (call_of connection moment context request).command request)
-call_read connection moment context request = record {
+pub call_read : (connection moment : ℕ) (dialect : Option Dialect) (context : Context) (request : List ℕ) → IsCallOf (call_of connection moment dialect context request) (body_of (call_of connection moment dialect context request).command request)
+call_read connection moment dialect context request = record {
   file_id = refl;
   open_number = refl;
-  unsupported = λ e. unsupported_unread (call_of connection moment context request).command request e;
+  unsupported = λ e. unsupported_unread (call_of connection moment dialect context request).command request e;
 }
 
 -- where no response could be written: a listing was not performed, and left the dialect
@@ -54,12 +54,12 @@ pub reply_dialect : {X : Type 0} (result : Result X NoReply) (response : Respons
 reply_dialect (Ok x) response before after is e f g = tt
 reply_dialect (Err no_reply) response before after is e f g = dialect_unwritten response no_reply before after is e f g
 
-module _ {S : Type 0} (m : Meaning S) (connection moment : ℕ) (server : ServerState S) (dialect : Option Dialect) (context : Context) (request : List ℕ) (call : Call) (is : call ≡ call_of connection moment context request) where
+module _ {S : Type 0} (m : Meaning S) (connection moment : ℕ) (server : ServerState S) (dialect : Option Dialect) (context : Context) (request : List ℕ) (call : Call) (is : call ≡ call_of connection moment dialect context request) where
   pub cancelled : is_cancel_command call.command ≡ true → performed m connection moment server dialect context request
       ≡ record { server = server; dialect = dialect; context = record { ids = call.ids; last_open = named_on call.inherited call.file_id }; response = None }
   unfolding performed
   cancelled e =
-      let cancel : is_cancel_command (call_of connection moment context request).command ≡ true = ap (λ (c : Call). is_cancel_command c.command) (sym is) ∙ e in
+      let cancel : is_cancel_command (call_of connection moment dialect context request).command ≡ true = ap (λ (c : Call). is_cancel_command c.command) (sym is) ∙ e in
       rw (cancel, is) refl
 
   answered : is_cancel_command call.command ≡ false → performed m connection moment server dialect context request
@@ -74,7 +74,7 @@ module _ {S : Type 0} (m : Meaning S) (connection moment : ℕ) (server : Server
       } in x)
   unfolding performed
   answered e =
-      let cancel : is_cancel_command (call_of connection moment context request).command ≡ false = ap (λ (c : Call). is_cancel_command c.command) (sym is) ∙ e in
+      let cancel : is_cancel_command (call_of connection moment dialect context request).command ≡ false = ap (λ (c : Call). is_cancel_command c.command) (sym is) ∙ e in
       rw (cancel, is) refl
 
   -- a request with its response, whose body is behind what was in the vector

@@ -1,6 +1,7 @@
 -- For the proofs; nothing here need be believed.
 -- What the code's responses and refusals come to.
 use Rattle.std.specs.Prelude.{◌≡◌, ◌≤◌, Bool, true, false, length, Option, None, Some, IsSome, Result, Ok, Err}
+use Rattle.smb_wire.specs.Limits.{most_at_once, most_in_any_dialect, longest_token}
 use Rattle.smb_body.specs.Replies.{ReplyValue, answers_error, answers_session_setup, answers_logoff, answers_tree_connect, answers_tree_disconnect, answers_create, answers_close, answers_flush, answers_read, answers_write, answers_lock, answers_echo, answers_query_info, answers_set_info}
 use Rattle.smb_body.specs.QueryDirectory.{query_directory_asked}
 use Rattle.smb_access.specs.Opens.{open_of}
@@ -27,7 +28,7 @@ use Rattle.smb_request.specs.Response.{CommandStep, with_body, success, refused}
 -- the value of each body
 abbrev pub body_value : {S : Type 0} → Meaning S → ServerState S → Call → Body → ReplyValue
 body_value authenticator server call Error = answers_error
-body_value authenticator server call (Negotiate dialect) = negotiate_answer server.settings.guid (hello_of authenticator server) call.moment (revision_of dialect)
+body_value authenticator server call (Negotiate dialect) = negotiate_answer server.settings.guid (hello_of authenticator server) call.moment (Some dialect) (revision_of dialect)
 body_value authenticator server call (SessionSetup flags token) = answers_session_setup (record { session_flags = flags; security_buffer = token.items })
 body_value authenticator server call Logoff = answers_logoff
 body_value authenticator server call TreeConnect = answers_tree_connect tree_response
@@ -55,13 +56,13 @@ result_step authenticator server call (Err NoMemory) = None
 
 -- a body that is short enough for a response
 abbrev pub IsShort : Body → Type 0
-IsShort (SessionSetup flags token) = length token.items ≤ 4096
-IsShort (QueryInfo bytes) = length bytes.items ≤ 65536
+IsShort (SessionSetup flags token) = length token.items ≤ longest_token
+IsShort (QueryInfo bytes) = length bytes.items ≤ most_in_any_dialect
 IsShort other = Unit {0}
 
 -- a READ is answered by so many bytes
 pub record IsReadable {S : Type 0} (server : ServerState S) (call : Call) (range : FileRange) : Type 0 where
-  pub lawful : read_status server.store call.open_number range.offset range.length range.minimum_count ≡ STATUS_SUCCESS
+  pub lawful : read_status server.store (most_at_once call.dialect) call.open_number range.offset range.length range.minimum_count ≡ STATUS_SUCCESS
   pub there : range.there ≡ length (file_bytes server.store call.open_number range.offset range.length)
 
 -- a response can be put: its body is short enough, its bytes are there, or the open that is listed exists

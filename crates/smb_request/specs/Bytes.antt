@@ -1,5 +1,6 @@
 -- READ and WRITE ([MS-SMB2] 3.3.5.12, 3.3.5.13).
 use Rattle.std.specs.Prelude.{length}
+use Rattle.smb_wire.specs.Limits.{most_at_once}
 use Rattle.smb_body.specs.declared.read.ReadRequest.{ReadRequest}
 use Rattle.smb_body.specs.Write.{WriteAsked}
 use Rattle.smb_body.specs.Replies.{answers_read, answers_write}
@@ -11,7 +12,7 @@ use Rattle.smb_request.specs.Response.{CommandStep, success, by_status}
 -- READ (3.3.5.12) of the open of a number: it is answered by the bytes of its file
 unfoldable pub file_read : {S : Type 0} → ServerState S → Call → ReadRequest → CommandStep S
 file_read server call asked = by_status server call.ids
-    (read_status server.store call.open_number asked.offset asked.length asked.minimum_count)
+    (read_status server.store (most_at_once call.dialect) call.open_number asked.offset asked.length asked.minimum_count)
     (record {
       server = server;
       response = success call.ids (answers_read (file_bytes server.store call.open_number asked.offset asked.length));
@@ -20,7 +21,7 @@ file_read server call asked = by_status server call.ids
 -- WRITE (3.3.5.13) of the open of a number: it is answered by how many bytes were written
 unfoldable pub file_written : {S : Type 0} → ServerState S → Call → WriteAsked → CommandStep S
 file_written server call asked = by_status server call.ids
-    (write_status server.store call.open_number asked.offset asked.buffer)
+    (write_status server.store (most_at_once call.dialect) call.open_number asked.offset asked.buffer)
     (record {
       server = with_store server (written_to server.store call.open_number asked.offset asked.buffer call.moment);
       response = success call.ids (answers_write (record { count = length asked.buffer }));

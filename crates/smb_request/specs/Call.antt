@@ -5,6 +5,7 @@ use Rattle.smb_head.specs.Headers.{header_of}
 use Rattle.smb_head.specs.Chains.{is_related}
 use Rattle.smb_wire.specs.Commands.{code_of, known_command}
 use Rattle.smb_wire.specs.declared.command.Command.{Command}
+use Rattle.smb_wire.specs.declared.dialect.Dialect.{Dialect}
 use Rattle.smb_body.specs.Requests.{RequestValue, file_id_of, request_of}
 use Rattle.smb_request.specs.declared.call.Call.{Call}
 use Rattle.smb_request.specs.declared.context.HeaderIds.{HeaderIds}
@@ -31,15 +32,16 @@ body_of command request = option_and_then (λ known. request_of (code_of known) 
 abbrev pub named_open : Call → Option ContextOpen
 named_open call = option_map (open_named call.inherited) call.file_id
 
--- a request on a connection at a moment, but for its body
-abbrev pub call_of : ℕ → ℕ → Context → List ℕ → Call
-call_of connection moment context request =
+-- a request on a connection of a dialect at a moment, but for its body
+abbrev pub call_of : ℕ → ℕ → Option Dialect → Context → List ℕ → Call
+call_of connection moment dialect context request =
     let command = known_command (header_of request).command.0 in
     let inherited = inherited_open context request in
     let file_id = option_and_then file_id_of (body_of command request) in
     record {
       connection = connection;
       moment = moment;
+      dialect = dialect;
       command = command;
       ids = request_ids context request;
       inherited = inherited;

@@ -1,6 +1,7 @@
 -- QUERY_DIRECTORY ([MS-SMB2] 3.3.5.18).
-use Rattle.std.specs.Prelude.{not, nat_lt, Option, None, Some, option_and_then, if◌then◌else◌}
+use Rattle.std.specs.Prelude.{ℕ, not, nat_lt, Option, None, Some, option_and_then, if◌then◌else◌}
 use Rattle.std.specs.Option.{option_map_or}
+use Rattle.smb_wire.specs.Limits.{most_at_once}
 use Rattle.smb_wire.specs.Access.{has_any, FILE_READ_DATA}
 use Rattle.smb_tree.specs.Entries.{is_folder_kind}
 use Rattle.smb_body.specs.QueryDirectory.{QueryDirectoryAsked}
@@ -35,10 +36,10 @@ view_refusal view =
     if not (is_folder_kind view.kind) then Some InvalidParameter else
     if not (has_any view.access.0 FILE_READ_DATA) then Some AccessDenied else None
 
--- why a query is refused before its class is looked at: room for more than MaxTransactSize, or as above
-abbrev pub directory_refusal : Option View → QueryDirectoryAsked → Option Status
-directory_refusal view asked =
-    if nat_lt 65536 asked.output_buffer_length then Some InvalidParameter else
+-- why a query is refused before its class is looked at: room for more bytes than it may ask for, or as above
+abbrev pub directory_refusal : ℕ → Option View → QueryDirectoryAsked → Option Status
+directory_refusal most view asked =
+    if nat_lt most asked.output_buffer_length then Some InvalidParameter else
     option_map_or view_refusal view (Some InvalidParameter)
 
 -- what a refusal of the listing comes to: its status, and the open's scan where this query started it, though no name is
@@ -77,5 +78,5 @@ listed_as_asked server call ask = option_map_or
 unfoldable pub directory_queried : {S : Type 0} → ServerState S → Call → QueryDirectoryAsked → CommandStep S
 directory_queried server call asked = option_map_or
     (λ status. refused server call.ids status)
-    (directory_refusal (open_view server.store call.open_number) asked)
+    (directory_refusal (most_at_once call.dialect) (open_view server.store call.open_number) asked)
     (listed_as_asked server call (list_asked_by asked))

@@ -1,12 +1,13 @@
 -- QUERY_INFO ([MS-SMB2] 3.3.5.20).
 use Rattle.std.specs.Prelude.{ℕ, ◌==◌, ◌||◌, not, nat_lt, Option, Some, None, option_and_then, if◌then◌else◌}
 use Rattle.std.specs.Option.{option_map_or}
+use Rattle.smb_wire.specs.Limits.{most_at_once}
 use Rattle.smb_tree.specs.Content.{used_space}
 use Rattle.smb_tree.specs.WholeNames.{entry_copied}
 use Rattle.smb_body.specs.declared.query_info.QueryInfoRequest.{QueryInfoRequest}
 use Rattle.smb_body.specs.Replies.{answers_query_info}
-use Rattle.smb_info.specs.declared.written.Written.{Written}
-use Rattle.smb_info.specs.declared.written.Written.TheVariants.{Whole, Cut}
+use Rattle.smb_info.specs.declared.written.Truncation.{Truncation}
+use Rattle.smb_info.specs.declared.written.Truncation.TheVariants.{Whole, Cut}
 use Rattle.smb_info.specs.Information.{Information, fixed_length, told, information_written}
 use Rattle.smb_info.specs.FileInformation.{file_information}
 use Rattle.smb_info.specs.FileSystemInformation.{VolumeFacts, fs_information}
@@ -47,18 +48,19 @@ abbrev pub room_refusal : Option Information → ℕ → Option Status
 room_refusal None room = Some InvalidInfoClass
 room_refusal (Some information) room = if nat_lt room (fixed_length information) then Some InfoLengthMismatch else None
 
--- why a request is refused whatever information it asks for: the first row that holds
-abbrev pub request_refusal : QueryInfoRequest → Option Status
-request_refusal asked =
+-- why a request is refused whatever information it asks for, by the most bytes that it may ask for: the first row that
+-- holds
+abbrev pub request_refusal : ℕ → QueryInfoRequest → Option Status
+request_refusal most asked =
     -- a security descriptor, or quotas (3.3.5.20.3, 3.3.5.20.4)
     if asked.info_type.0 == SECURITY || asked.info_type.0 == QUOTA then Some NotSupported else
     -- no InfoType (2.2.37)
     if not (asked.info_type.0 == FILE || asked.info_type.0 == FILESYSTEM) then Some InvalidParameter else
     -- room for more than MaxTransactSize (3.3.5.20)
-    if nat_lt 65536 asked.output_buffer_length then Some InvalidParameter else None
+    if nat_lt most asked.output_buffer_length then Some InvalidParameter else None
 
 -- the status of information that is returned: where it is cut, BUFFER_OVERFLOW, which is no failure (3.3.4.4)
-abbrev pub written_status : Written → Status
+abbrev pub written_status : Truncation → Status
 written_status Whole = Success
 written_status Cut = BufferOverflow
 
@@ -75,6 +77,6 @@ information_queried server call asked = record {
   server = server;
   response = option_map_or
       (failure call.ids)
-      (request_refusal asked)
+      (request_refusal (most_at_once call.dialect) asked)
       (informed call.ids (information_asked server call.open_number asked) asked.output_buffer_length);
 }

@@ -35,7 +35,7 @@ unfoldable pub negotiated : {S : Type 0} → Meaning S → ServerState S → Cal
 negotiated authenticator server call dialects = option_map_or
     (λ best. record {
       server = server;
-      response = success call.ids (negotiate_answer server.settings.guid (hello_of authenticator server) call.moment (revision_of best));
+      response = success call.ids (negotiate_answer server.settings.guid (hello_of authenticator server) call.moment (Some best) (revision_of best));
     })
     (best_of dialects)
     (refused server call.ids NotSupported)
@@ -103,7 +103,7 @@ performed_by authenticator server call body =
 -- (3.3.5.2.7.2); behind a CANCEL under those of the CANCEL (3.3.5.16)
 unfoldable pub performed : {S : Type 0} → Meaning S → ℕ → ℕ → ServerState S → Option Dialect → Context → List ℕ → Performed S
 performed authenticator connection moment server dialect context request =
-    let call = call_of connection moment context request in
+    let call = call_of connection moment dialect context request in
     let body = body_of call.command request in
     let step = performed_by authenticator server call body in
     if is_cancel_command call.command

@@ -1,6 +1,7 @@
 //! READ and WRITE ([MS-SMB2] 3.3.5.12, 3.3.5.13).
 
 ghost use Rattle.std.specs.Prelude.{◌≡◌, ◌≤◌, ◌+◌, ◌++◌, IfOk, IfErr, IfSome, OnOk, OnErr, length, take};
+ghost use Rattle.smb_wire.specs.Limits.{longest_body};
 ghost use Rattle.smb_body.specs.Replies.{answers_read};
 ghost use Rattle.smb_body.specs.Write.{write_asked};
 ghost use Rattle.smb_opens.specs.Bytes.{file_bytes};
@@ -36,9 +37,10 @@ impl<A: Authenticator + Drop, T: Tree + Drop, O: Opens + Drop> Server<A, T, O> {
             request.length,
             request.minimum_count,
         );
+        let most = call.most_at_once();
         let there = self
             .store
-            .read_length(call.open_number, offset, length, minimum_count)?;
+            .read_length(most, call.open_number, offset, length, minimum_count)?;
         Ok(Response::Bytes(FileRange {
             offset,
             length,
@@ -60,8 +62,13 @@ impl<A: Authenticator + Drop, T: Tree + Drop, O: Opens + Drop> Server<A, T, O> {
         ensures known { self.new.sessions.table.connections ≡ self.old.sessions.table.connections }
     {
         let (offset, buffer) = (request.offset, request.buffer);
-        self.store
-            .write(call.open_number, offset, buffer, call.moment)?;
+        self.store.write(
+            call.most_at_once(),
+            call.open_number,
+            offset,
+            buffer,
+            call.moment,
+        )?;
         let count = buffer.len() as u32;
         Ok(Response::success(call.ids, Body::Write(WriteResponse { count })))
     }
@@ -77,13 +84,14 @@ impl<A: Authenticator + Drop, T: Tree + Drop, O: Opens + Drop> Server<A, T, O> {
         requires { IsReadable self.now call range.now }
         ensures ok { IfOk result (λ r. answer_held r out.new.items ≡ answer_behind out.old.items
             (success call.ids (answers_read (file_bytes self.now.store call.open_number range.now.offset range.now.length)))) }
-        ensures len { OnOk result (length out.new.items ≤ length out.old.items + 65552) }
+        ensures len { OnOk result (length out.new.items ≤ length out.old.items + longest_body) }
         ensures err { OnErr result (out.new.items ≡ out.old.items) }
         ensures kept { take (length out.old.items) out.new.items ≡ out.old.items }
     {
         let start = out.len();
         put_read_head(range.there, out)?;
         match self.store.read(
+            call.most_at_once(),
             call.open_number,
             range.offset,
             range.length,

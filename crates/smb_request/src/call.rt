@@ -1,7 +1,8 @@
 //! A request as it was read: what its header, the requests before it in its chain and its body say ([MS-SMB2] 3.3.5.2).
 
-ghost use Rattle.std.specs.Prelude.{ℕ, List, ◌≡◌};
+ghost use Rattle.std.specs.Prelude.{ℕ, List, ◌≡◌, ◌≤◌};
 ghost use Rattle.std.specs.Option.{option_map, option_and_then};
+ghost use Rattle.smb_wire.specs.Limits.{most_at_once, most_in_any_dialect};
 ghost use Rattle.smb_head.specs.Chains.{is_related};
 ghost use Rattle.smb_head.specs.Headers.{header_of};
 ghost use Rattle.smb_wire.specs.Commands.{known_command};
@@ -16,7 +17,7 @@ use super::status::Status;
 use bitflags::Flags;
 use smb_body::{Request, read_body};
 use smb_head::{Header, HeaderFlags};
-use smb_wire::{Command, FileId};
+use smb_wire::{Command, Dialect, FileId, limits};
 
 /// A request, but for its body.
 #[derive(Clone, Copy, Debug)]
@@ -24,6 +25,8 @@ pub(crate) struct Call {
     pub(crate) connection: u64,
     /// When it came, in units of 100 ns since 1601.
     pub(crate) moment: u64,
+    /// That of its connection as it came; None where none is established.
+    pub(crate) dialect: Option<Dialect>,
     /// None where there is no such command.
     pub(crate) command: Option<Command>,
     /// The session and the tree connect that it acts under.
@@ -89,29 +92,39 @@ fn file_id_in(body: &Option<Request<'_>>) -> Option<FileId>
 }
 
 impl Call {
-    /// A request of a header and a body, on a connection at a moment, behind the requests of a context.
+    /// A request of a header and a body, on a connection of a dialect at a moment, behind the requests of a context.
     pub(crate) fn of(
         connection: u64,
         moment: u64,
+        dialect: Option<Dialect>,
         context: Context,
         header: &Header,
         body: &Option<Request<'_>>,
     ) -> Call
         ensures { (request : List ℕ) → header.now ≡ header_of request →
             option_map request_value body.now ≡ body_of (known_command header.now.command.0) request →
-            result ≡ call_of connection moment context request }
+            result ≡ call_of connection moment dialect context request }
     {
         let inherited = inherited_open(context, header);
         let file_id = file_id_in(body);
         Call {
             connection,
             moment,
+            dialect,
             command: header.command.known(),
             ids: request_ids(context, header),
             inherited,
             file_id,
             open_number: number_named(named_by(inherited, file_id)),
         }
+    }
+
+    /// How many bytes it may ask for, or bring.
+    pub(crate) fn most_at_once(self) -> u32
+        ensures value { result ≡ most_at_once self.dialect }
+        ensures most { result ≤ most_in_any_dialect }
+    {
+        limits::most_at_once(self.dialect)
     }
 
     /// The open that it names.

@@ -6,15 +6,15 @@ ghost use Rattle.smb_request.specs.QueryInfo.{written_status};
 
 use super::query_directory::listing_refusal;
 use super::status::Status;
-use smb_info::{InfoFault, Written};
+use smb_info::{InfoFault, Truncation};
 
 /// The status of a response with information: where it was cut, one that is no failure ([MS-SMB2] 3.3.4.4).
-pub(crate) fn written_status(written: Written) -> Status
+pub(crate) fn written_status(written: Truncation) -> Status
     ensures { result ≡ written_status written }
 {
     match written {
-        Written::Whole => Status::Success,
-        Written::Cut => Status::BufferOverflow,
+        Truncation::Whole => Status::Success,
+        Truncation::Cut => Status::BufferOverflow,
     }
 }
 

@@ -5,24 +5,29 @@ ghost use Rattle.smb_body.specs.Replies.{reply_value};
 ghost use Rattle.smb_request.specs.Negotiate.{negotiate_answer};
 
 use smb_body::{Capabilities, DialectRevision, Guid, NegotiateResponse, Reply, SecurityMode};
+use smb_wire::Dialect;
+use smb_wire::limits::most_at_once;
 
-/// The response that tells a dialect's revision, with the authenticator's hello.
+/// The response that says a dialect's revision and what one request may ask for in the dialect that is established, with
+/// the authenticator's hello.
 pub(crate) fn response<'a>(
     guid: [u8; 16],
     hello: &'a [u8],
     moment: u64,
+    dialect: Option<Dialect>,
     dialect_revision: u16,
 ) -> Reply<'a>
-    ensures { reply_value result ≡ negotiate_answer guid hello.now moment dialect_revision }
+    ensures { reply_value result ≡ negotiate_answer guid hello.now moment dialect dialect_revision }
 {
+    let most = most_at_once(dialect);
     Reply::Negotiate(NegotiateResponse {
         security_mode: SecurityMode(1),
         dialect_revision: DialectRevision(dialect_revision),
         server_guid: Guid(guid),
         capabilities: Capabilities(0),
-        max_transact_size: 65_536,
-        max_read_size: 65_536,
-        max_write_size: 65_536,
+        max_transact_size: most,
+        max_read_size: most,
+        max_write_size: most,
         system_time: moment,
         server_start_time: 0,
         security_buffer: hello,

@@ -1,6 +1,7 @@
 //! QUERY_DIRECTORY ([MS-SMB2] 3.3.5.18).
 
 ghost use Rattle.std.specs.Prelude.{◌≡◌, ◌≤◌, ◌+◌, Some, IfOk, OnOk, OnErr, IsSome, length, take};
+ghost use Rattle.smb_wire.specs.Limits.{longest_body, most_at_once, most_in_any_dialect};
 ghost use Rattle.smb_access.specs.Opens.{open_of};
 ghost use Rattle.smb_body.specs.QueryDirectory.{query_directory_asked};
 ghost use Rattle.smb_info.specs.Asks.{list_asked};
@@ -20,9 +21,6 @@ use smb_session::Authenticator;
 use smb_tree::{Kind, Tree};
 use smb_wire::Access;
 use std::alloc::AllocError;
-
-/// The most bytes that one request is answered by.
-const MOST_AT_ONCE: u32 = 65_536;
 
 /// What a refusal of a listing comes to.
 #[derive(Clone, Copy)]
@@ -72,17 +70,13 @@ fn view_refusal(view: &View) -> Option<Status>
 
 impl<A: Authenticator + Drop, T: Tree + Drop, O: Opens + Drop> Server<A, T, O> {
     /// Why a query is refused before its class is looked at, or None.
-    fn directory_refusal(
-        &self,
-        open_number: u64,
-        request: &QueryDirectoryRequest<'_>,
-    ) -> Option<Status>
-        ensures { result ≡ directory_refusal (open_view self.now.store open_number) (query_directory_asked request.now) }
+    fn directory_refusal(&self, call: Call, request: &QueryDirectoryRequest<'_>) -> Option<Status>
+        ensures { result ≡ directory_refusal (most_at_once call.dialect) (open_view self.now.store call.open_number) (query_directory_asked request.now) }
     {
-        if request.output_buffer_length > MOST_AT_ONCE {
+        if request.output_buffer_length > call.most_at_once() {
             return Some(Status::InvalidParameter);
         }
-        match self.store.view(open_number) {
+        match self.store.view(call.open_number) {
             Some(view) => view_refusal(&view),
             None => Some(Status::InvalidParameter),
         }
@@ -99,7 +93,7 @@ impl<A: Authenticator + Drop, T: Tree + Drop, O: Opens + Drop> Server<A, T, O> {
         ensures server { OnOk result (self.new ≡ (listing_refused self.old call refusal.now).server) }
         ensures ok { IfOk result (λ r. answer_held r out.new.items
             ≡ answer_behind out.old.items (listing_refused self.old call refusal.now).response) }
-        ensures len { OnOk result (length out.new.items ≤ length out.old.items + 65552) }
+        ensures len { OnOk result (length out.new.items ≤ length out.old.items + longest_body) }
         ensures err { OnErr result (self.new ≡ self.old) }
         ensures out { OnErr result (out.new.items ≡ out.old.items) }
         ensures kept { take (length out.old.items) out.new.items ≡ out.old.items }
@@ -121,11 +115,11 @@ impl<A: Authenticator + Drop, T: Tree + Drop, O: Opens + Drop> Server<A, T, O> {
         out: &mut Vec<u8>,
     ) -> Result<Answered, AllocError>
         requires open { IsSome (open_of self.old.store.opens call.open_number) }
-        requires room { (query_directory_asked asked.now).output_buffer_length ≤ 65536 }
+        requires room { (query_directory_asked asked.now).output_buffer_length ≤ most_in_any_dialect }
         ensures server { OnOk result (self.new ≡ (listed_as_asked self.old call (list_asked_by (query_directory_asked asked.now))).server) }
         ensures ok { IfOk result (λ r. answer_held r out.new.items ≡ answer_behind out.old.items
             (listed_as_asked self.old call (list_asked_by (query_directory_asked asked.now))).response) }
-        ensures len { OnOk result (length out.new.items ≤ length out.old.items + 65552) }
+        ensures len { OnOk result (length out.new.items ≤ length out.old.items + longest_body) }
         ensures err { OnErr result (self.new ≡ self.old) }
         ensures out { OnErr result (out.new.items ≡ out.old.items) }
         ensures kept { take (length out.old.items) out.new.items ≡ out.old.items }
@@ -171,14 +165,14 @@ impl<A: Authenticator + Drop, T: Tree + Drop, O: Opens + Drop> Server<A, T, O> {
         ensures server { OnOk result (self.new ≡ (directory_queried self.old call (query_directory_asked asked.now)).server) }
         ensures ok { IfOk result (λ r. answer_held r out.new.items ≡ answer_behind out.old.items
             (directory_queried self.old call (query_directory_asked asked.now)).response) }
-        ensures len { OnOk result (length out.new.items ≤ length out.old.items + 65552) }
+        ensures len { OnOk result (length out.new.items ≤ length out.old.items + longest_body) }
         ensures err { OnErr result (self.new ≡ self.old) }
         ensures out { OnErr result (out.new.items ≡ out.old.items) }
         ensures kept { take (length out.old.items) out.new.items ≡ out.old.items }
         ensures known { self.new.sessions.table.connections ≡ self.old.sessions.table.connections }
     {
         let _ = &self.sessions;
-        if let Some(status) = self.directory_refusal(call.open_number, asked) {
+        if let Some(status) = self.directory_refusal(call, asked) {
             return put_response(status, call.ids, &Reply::Error, out);
         }
         self.list_directory(call, asked, out)

@@ -14,25 +14,22 @@ use super::response::{Answered, Body, Response};
 use super::server::Server;
 use super::status::Status;
 use smb_body::{InfoType, QueryInfoRequest};
-use smb_info::{InfoFault, Written, file_info, fs_info};
+use smb_info::{InfoFault, Truncation, file_info, fs_info};
 use smb_opens::Opens;
 use smb_session::Authenticator;
 use smb_tree::{Tree, TreeFault};
 
-/// The most bytes that one request is answered by.
-const MOST_AT_ONCE: u32 = 65_536;
-
 /// Information of a class: whether that is all, and its bytes, as many as there is room for.
 #[derive(Debug, Drop)]
 pub(crate) struct InformationBytes {
-    pub(crate) written: Written,
+    pub(crate) written: Truncation,
     pub(crate) bytes: Vec<u8>,
 }
 
-/// Checks what does not depend on the information that is asked for.
-fn check_request(request: &QueryInfoRequest) -> Result<(), Status>
-    ensures ok { OnOk result (request_refusal request.now ≡ None) }
-    ensures err { IfErr result (λ status. request_refusal request.now ≡ Some status) }
+/// Checks what does not depend on the information that is asked for. One request may ask for `most` bytes.
+fn check_request(most: u32, request: &QueryInfoRequest) -> Result<(), Status>
+    ensures ok { OnOk result (request_refusal most request.now ≡ None) }
+    ensures err { IfErr result (λ status. request_refusal most request.now ≡ Some status) }
 {
     let info_type = request.info_type;
     if info_type == InfoType::SECURITY || info_type == InfoType::QUOTA {
@@ -41,7 +38,7 @@ fn check_request(request: &QueryInfoRequest) -> Result<(), Status>
     if info_type != InfoType::FILE && info_type != InfoType::FILESYSTEM {
         return Err(Status::InvalidParameter);
     }
-    if request.output_buffer_length > MOST_AT_ONCE {
+    if request.output_buffer_length > most {
         return Err(Status::InvalidParameter);
     }
     Ok(())
@@ -115,7 +112,7 @@ impl<A: Authenticator + Drop, T: Tree + Drop, O: Opens + Drop> Server<A, T, O> {
         ensures ok { IfSome (result_step A.meaning self.now call result) (λ step. step ≡ information_queried self.now call request.now) }
         ensures put { IfOk result (IsReadyAfter self.now self.now call) }
     {
-        check_request(request)?;
+        check_request(call.most_at_once(), request)?;
         let information = self.information_asked(call.open_number, request)?;
         let answered = Answered {
             status: written_status(information.written),

@@ -2,6 +2,7 @@
 
 ghost use Rattle.std.specs.Prelude.{◌≡◌, ◌≤◌, ◌+◌, true, IfOk, IfErr, IfSome, IfNone, IsSome, is_some, Some, None, OnOk, OnErr, length, take, if◌then◌else◌};
 ghost use Rattle.std.specs.Option.{option_map, option_map_or};
+ghost use Rattle.smb_wire.specs.Limits.{longest_body};
 ghost use Rattle.smb_head.specs.Headers.{header_of};
 ghost use Rattle.smb_body.specs.Dialects.{dialects_of};
 ghost use Rattle.smb_body.specs.Requests.{request_value, file_id_of};
@@ -178,7 +179,7 @@ impl<A: Authenticator + Drop, T: Tree + Drop, O: Opens + Drop> Server<A, T, O> {
         ensures ok { IfOk result (λ r. answer_held r out.new.items
             ≡ answer_behind out.old.items (performed_by A.meaning self.old call (option_map request_value body.now)).response) }
         ensures dialect { OnOk result (dialect.new ≡ option_map_or (dialect_after dialect.old) (option_map request_value body.now) dialect.old) }
-        ensures len { OnOk result (length out.new.items ≤ length out.old.items + 65552) }
+        ensures len { OnOk result (length out.new.items ≤ length out.old.items + longest_body) }
         ensures err { IfErr result (λ no_reply. self.new
             ≡ (if is_performed no_reply then (performed_by A.meaning self.old call (option_map request_value body.now)).server else self.old)) }
         ensures err_dialect { IfErr result (λ no_reply. dialect.new
@@ -217,7 +218,7 @@ impl<A: Authenticator + Drop, T: Tree + Drop, O: Opens + Drop> Server<A, T, O> {
         ensures ok { IfOk result (λ r. record { server = self.new; dialect = dialect.new; context = context.new; response = option_map (λ a. answer_held a out.new.items) r }
             ≡ performed_behind out.old.items (performed A.meaning connection moment self.old dialect.old context.old request.now)) }
         ensures none { IfOk result (λ r. IfNone r (out.new.items ≡ out.old.items)) }
-        ensures len { OnOk result (length out.new.items ≤ length out.old.items + 65552) }
+        ensures len { OnOk result (length out.new.items ≤ length out.old.items + longest_body) }
         ensures err { IfErr result (λ no_reply. self.new
             ≡ (if is_performed no_reply then (performed A.meaning connection moment self.old dialect.old context.old request.now).server else self.old)) }
         ensures dialect { IfErr result (λ no_reply. dialect.new
@@ -227,7 +228,7 @@ impl<A: Authenticator + Drop, T: Tree + Drop, O: Opens + Drop> Server<A, T, O> {
         ensures known { self.new.sessions.table.connections ≡ self.old.sessions.table.connections }
     {
         let body = body_of(header.command.known(), request);
-        let call = Call::of(connection, moment, *context, header, &body);
+        let call = Call::of(connection, moment, *dialect, *context, header, &body);
         if is_cancel_command(call.command) {
             *context = call.context_without_response();
             return Ok(None);

@@ -1,6 +1,7 @@
 //! The response to a request, before and behind the writing of its body.
 
 ghost use Rattle.std.specs.Prelude.{◌≡◌, ◌≤◌, ◌+◌, ◌++◌, OnOk, OnErr, IfOk, IfErr, length, take};
+ghost use Rattle.smb_wire.specs.Limits.{longest_body};
 ghost use Rattle.smb_body.specs.Replies.{reply_value, reply_length, reply_spelling};
 ghost use Rattle.smb_request.specs.Bodies.{body_value, response_step, IsShort, CanBePut, no_reply_of};
 ghost use Rattle.smb_request.specs.InPlace.{answer_held, answer_behind};
@@ -98,9 +99,9 @@ pub(crate) fn put_response(
     reply: &Reply<'_>,
     out: &mut Vec<u8>,
 ) -> Result<Answered, AllocError>
-    requires { reply_length (reply_value reply.now) ≤ 65552 }
+    requires { reply_length (reply_value reply.now) ≤ longest_body }
     ensures ok { IfOk result (λ r. answer_held r out.new.items ≡ answer_behind out.old.items (with_body ids status (reply_value reply.now))) }
-    ensures len { OnOk result (length out.new.items ≤ length out.old.items + 65552) }
+    ensures len { OnOk result (length out.new.items ≤ length out.old.items + longest_body) }
     ensures err { OnErr result (out.new.items ≡ out.old.items) }
     ensures kept { take (length out.old.items) out.new.items ≡ out.old.items }
 {
@@ -115,11 +116,15 @@ impl<A: Authenticator + Drop, T: Tree + Drop, O: Opens + Drop> Server<A, T, O> {
     fn reply_of<'a>(&'a self, call: Call, body: &'a Body) -> Reply<'a>
         requires { IsShort body.now }
         ensures value { reply_value result ≡ body_value A.meaning self.now call body.now }
-        ensures short { reply_length (reply_value result) ≤ 65552 }
+        ensures short { reply_length (reply_value result) ≤ longest_body }
     {
         match body {
             Body::Error => Reply::Error,
-            Body::Negotiate(dialect) => self.negotiate_response(call.moment, dialect.revision()),
+            Body::Negotiate(dialect) => self.negotiate_response(
+                call.moment,
+                Some(*dialect),
+                dialect.revision(),
+            ),
             Body::SessionSetup { flags, token } => Reply::SessionSetup(SessionSetupResponse {
                 session_flags: *flags,
                 security_buffer: token,
@@ -151,7 +156,7 @@ impl<A: Authenticator + Drop, T: Tree + Drop, O: Opens + Drop> Server<A, T, O> {
         ensures server { OnOk result (self.new ≡ (response_step A.meaning self.old call response.now).server) }
         ensures ok { IfOk result (λ r. answer_held r out.new.items
             ≡ answer_behind out.old.items (response_step A.meaning self.old call response.now).response) }
-        ensures len { OnOk result (length out.new.items ≤ length out.old.items + 65552) }
+        ensures len { OnOk result (length out.new.items ≤ length out.old.items + longest_body) }
         ensures err { IfErr result (λ no_reply. no_reply ≡ no_reply_of response.now) }
         ensures state { OnErr result (self.new ≡ self.old) }
         ensures out { OnErr result (out.new.items ≡ out.old.items) }

@@ -2,6 +2,7 @@
 
 ghost use Rattle.std.specs.Prelude.{◌≡◌, ◌<◌, ◌≤◌, ◌+◌, [], ◌++◌, true, OnOk, OnErr, IfOk, length, take};
 ghost use Rattle.std.specs.Bool.{OnTrue, OnFalse};
+ghost use Rattle.smb_wire.specs.Limits.{longest_body, longest_token};
 ghost use Rattle.smb_wire.specs.Number.{spelling};
 ghost use Rattle.smb_wire.specs.Pairs.{unit_bytes, AreUnits};
 ghost use Rattle.smb_session.specs.Table.{numbers_on};
@@ -20,12 +21,13 @@ ghost use Rattle.smb_request.specs.Owners.{AreOwned};
 
 use super::config::Config;
 use super::negotiate;
+use super::smb1::Smb1Answer;
 use smb_body::{Reply, write_reply};
 use smb_info::Volume;
 use smb_opens::{Opens, Owner, Store};
 use smb_session::{Authenticator, Sessions};
 use smb_tree::Tree;
-use smb_wire::{Units, put_u16};
+use smb_wire::{Dialect, Units, put_u16};
 use std::alloc::{AllocError, Global};
 use std::marker::Model;
 
@@ -119,15 +121,21 @@ impl<A: Authenticator + Drop, T: Tree + Drop, O: Opens + Drop> Server<A, T, O> {
         self.alloc
     }
 
-    /// A NEGOTIATE response that tells a dialect's revision.
-    pub(crate) fn negotiate_response(&self, moment: u64, dialect_revision: u16) -> Reply<'_>
-        ensures response { reply_value result ≡ negotiate_answer self.now.settings.guid (hello_of A.meaning self.now) moment dialect_revision }
-        ensures short { length (hello_of A.meaning self.now) ≤ 4096 }
+    /// A NEGOTIATE response that says a dialect's revision, where this dialect is established.
+    pub(crate) fn negotiate_response(
+        &self,
+        moment: u64,
+        dialect: Option<Dialect>,
+        dialect_revision: u16,
+    ) -> Reply<'_>
+        ensures response { reply_value result ≡ negotiate_answer self.now.settings.guid (hello_of A.meaning self.now) moment dialect dialect_revision }
+        ensures short { length (hello_of A.meaning self.now) ≤ longest_token }
     {
         negotiate::response(
             self.config.guid,
             self.sessions.hello(),
             moment,
+            dialect,
             dialect_revision,
         )
     }
@@ -182,21 +190,21 @@ impl<A: Authenticator + Drop, T: Tree + Drop, O: Opens + Drop> Server<A, T, O> {
         while self.end_one(connection) {}
     }
 
-    /// Adds the body of the response to an SMB_COM_NEGOTIATE to `out`: an SMB2 NEGOTIATE response. After an error `out`
-    /// is as it was.
+    /// Adds the body of this response to an SMB_COM_NEGOTIATE to `out`: an SMB2 NEGOTIATE response. After an error `out` is
+    /// as it was.
     pub fn put_smb1_body(
         &self,
         moment: u64,
-        dialect_revision: u16,
+        answer: Smb1Answer,
         out: &mut Vec<u8>,
     ) -> Result<(), AllocError>
         ensures ok { OnOk result (out.new.items
-            ≡ out.old.items ++ reply_spelling (negotiate_answer self.now.settings.guid (hello_of A.meaning self.now) moment dialect_revision)) }
-        ensures len { OnOk result (length out.new.items ≤ length out.old.items + 65552) }
+            ≡ out.old.items ++ reply_spelling (negotiate_answer self.now.settings.guid (hello_of A.meaning self.now) moment answer.dialect answer.dialect_revision)) }
+        ensures len { OnOk result (length out.new.items ≤ length out.old.items + longest_body) }
         ensures err { OnErr result (out.new.items ≡ out.old.items) }
         ensures kept { take (length out.old.items) out.new.items ≡ out.old.items }
     {
-        let reply = self.negotiate_response(moment, dialect_revision);
+        let reply = self.negotiate_response(moment, answer.dialect, answer.dialect_revision);
         match write_reply(&reply, out) {
             Ok(()) => Ok(()),
             Err(_) => Err(AllocError),

@@ -1,5 +1,6 @@
 -- A session ([MS-SMB2] 3.3.1.8).
 use Rattle.std.specs.Prelude.{ℕ, ◌+◌, Bool, ◌||◌, nat_le, length, List, [], ◌∷◌, ◌++◌, Option, None, Some}
+use Rattle.smb_wire.specs.Limits.{most_tree_connects}
 use Rattle.smb_wire.specs.Counters.{is_spent}
 use Rattle.smb_session.specs.Numbers.{without_number}
 
@@ -28,4 +29,4 @@ without_tree tree session = record session { trees = without_number session.tree
 
 -- a session that can be given no tree more: it has 16, or the numbers are spent
 abbrev pub has_all_trees : SessionState → Bool
-has_all_trees session = nat_le 16 (length session.trees) || is_spent 32 session.next_tree
+has_all_trees session = nat_le most_tree_connects (length session.trees) || is_spent 32 session.next_tree

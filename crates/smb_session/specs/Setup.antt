@@ -2,6 +2,7 @@
 use Rattle.std.specs.Prelude.{ℕ, Bool, false, ◌||◌, ◌==◌, not, nat_le, bit_and, List, [], length, Option, None, Some, is_some, if◌then◌else◌}
 use Rattle.std.specs.Option.{option_map_or, option_eq}
 use Rattle.std.specs.Str.{bytes_eq}
+use Rattle.smb_wire.specs.Limits.{most_sessions}
 use Rattle.smb_wire.specs.Counters.{is_spent}
 use Rattle.smb_session.specs.declared.fault.SessionFault.{SessionFault}
 use Rattle.smb_session.specs.declared.fault.SessionFault.TheVariants.{UnknownSession, NotAccepted}
@@ -16,7 +17,7 @@ use Rattle.smb_session.specs.Authenticator.{Answered, continues, accepts, denies
 abbrev pub has_all_sessions : TableState → ℕ → Bool
 has_all_sessions table connection =
     not (contains table.connections connection)
-    || nat_le 16 (length (numbers_on table.sessions connection))
+    || nat_le most_sessions (length (numbers_on table.sessions connection))
     || is_spent 64 table.next
 
 -- why a session that stands is not set up further: it is another connection's, or finished

@@ -1,6 +1,7 @@
 -- The message window of a connection: the MessageIds that its client may use ([MS-SMB2] 3.3.1.1, 3.3.5.2.3).
 use Rattle.std.specs.Prelude.{ℕ, zero, suc, ◌+◌, ◌-◌, ◌<◌, ◌≤◌, Bool, true, ◌&&◌, not, List, [], ◌∷◌, ◌++◌, length, filter, min, max}
 use Rattle.std.specs.List.{list_all, AllByRecursion}
+use Rattle.smb_wire.specs.Limits.{most_credits}
 pub use Rattle.smb_session.specs.Numbers.{contains}
 use Rattle.smb_session.specs.Numbers.{IsRising}
 
@@ -29,7 +30,7 @@ without_ids window numbers = record window { usable = filter (λ n. not (contain
 -- how many numbers a request for credits is granted: as many as asked and 1 at least, as far as the window
 -- then has at most 256, and none past 2 ^ 64 - 2
 abbrev pub credits_granted : Numbers → ℕ → ℕ
-credits_granted window credits = min (max credits 1) (min (256 - length window.usable) (18446744073709551615 - window.next))
+credits_granted window credits = min (max credits 1) (min (most_credits - length window.usable) (18446744073709551615 - window.next))
 
 -- so many numbers from the first upward
 abbrev pub upward : ℕ → ℕ → List ℕ
@@ -42,6 +43,6 @@ with_more window count = record { usable = window.usable ++ upward window.next c
 
 -- what holds of every window between calls: at most 256 numbers may be used, they rise, and all are below the next
 pub record GoodWindow (window : Numbers) : Type 0 where
-  pub few : length window.usable ≤ 256
+  pub few : length window.usable ≤ most_credits
   pub rising : IsRising window.usable
   pub below : AllByRecursion (λ n. n < window.next) window.usable

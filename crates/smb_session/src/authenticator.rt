@@ -1,6 +1,7 @@
 //! Who finds out who a client is ([MS-SMB2] 3.3.5.5.3).
 
 ghost use Rattle.std.specs.Prelude.{◌≡◌, ◌≤◌, length, IfOk, OnOk, OnErr};
+ghost use Rattle.smb_wire.specs.Limits.{longest_token};
 ghost use Rattle.smb_session.specs.Authenticator.{IsLawful};
 ghost use Rattle.smb_session.specs.Answers.{answered_by};
 
@@ -36,7 +37,7 @@ pub trait Authenticator {
     /// The token that it offers before any exchange, in each NEGOTIATE response.
     fn hello(&self) -> &[u8]
         ensures value { result.now ≡ meaning.hello self.now }
-        ensures short { length result.now ≤ 4096 };
+        ensures short { length result.now ≤ longest_token };
 
     /// Takes a client's token in the exchange for a session. Want of memory changes nothing.
     fn step(&mut self, session: u64, token: &[u8]) -> Result<Answer, AllocError>

@@ -4,15 +4,13 @@ ghost use Rattle.std.specs.Prelude.{◌≡◌, ◌<◌, ◌≤◌, ◌++◌, ◌
 ghost use Rattle.smb_session.specs.Numbers.{without_number};
 
 use arrayvec::ArrayVec;
+use smb_wire::limits::MOST_SESSIONS;
 use std::marker::Model;
-
-/// How many sessions a connection has at most.
-pub(crate) const SESSION_LIMIT: usize = 16;
 
 /// The numbers of a connection's sessions, in rising order ([MS-SMB2] 3.3.1.7).
 #[derive(Drop)]
 pub(crate) struct SessionNumbers {
-    numbers: ArrayVec<u64, SESSION_LIMIT>,
+    numbers: ArrayVec<u64, MOST_SESSIONS>,
 }
 
 impl Model for SessionNumbers {

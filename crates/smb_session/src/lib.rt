@@ -38,4 +38,4 @@ pub use scripted::Scripted;
 pub use sessions::Sessions;
 pub use setup::{SetupAsk, SetupDone, SetupStatus};
 pub use tokens::{Tokens, User};
-pub use window::{WINDOW_LIMIT, Window};
+pub use window::Window;

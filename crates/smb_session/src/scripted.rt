@@ -2,6 +2,7 @@
 
 ghost use Rattle.std.specs.Prelude.{◌≡◌, ◌≤◌, [], length, map, IfOk};
 ghost use Rattle.std.specs.List.{AllByRecursion};
+ghost use Rattle.smb_wire.specs.Limits.{longest_token};
 ghost use Rattle.smb_session.specs.Authenticator.{IsLawful};
 ghost use Rattle.smb_session.specs.Answers.{answered_by};
 
@@ -18,6 +19,7 @@ pub struct Scripted {
 }
 
 impl Model for Scripted {
+    ghost use Rattle.smb_wire.specs.Limits.{longest_token};
     ghost use Rattle.smb_session.specs.Scripted.{Script};
 
     ghost Value = { Script };
@@ -29,7 +31,7 @@ impl Model for Scripted {
 
     ghost view = { λ s. record { hello = s.hello.items; left = map answered_by s.answers.items } };
 
-    ghost invariant = { λ s. (length s.hello.items ≤ 4096) × AllByRecursion (λ answer. IsLawful (answered_by answer)) s.answers.items };
+    ghost invariant = { λ s. (length s.hello.items ≤ longest_token) × AllByRecursion (λ answer. IsLawful (answered_by answer)) s.answers.items };
 }
 
 impl Scripted {
@@ -37,7 +39,7 @@ impl Scripted {
     ///
     /// Fails where the first token cannot be copied.
     pub fn new(alloc: Global, hello: &[u8], answers: Vec<Answer>) -> Result<Self, AllocError>
-        requires hello { length hello.now ≤ 4096 }
+        requires hello { length hello.now ≤ longest_token }
         requires answers { AllByRecursion (λ answer. IsLawful (answered_by answer)) answers.items }
         ensures { IfOk result (λ scripted. scripted ≡ record { hello = hello.now; left = map answered_by answers.items }) }
     {

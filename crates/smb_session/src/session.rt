@@ -7,17 +7,15 @@ ghost use Rattle.smb_session.specs.Numbers.{contains, without_number};
 ghost use Rattle.smb_session.specs.Session.{fresh_session, finished_by, with_tree, without_tree, has_all_trees};
 
 use arrayvec::ArrayVec;
+use smb_wire::limits::MOST_TREE_CONNECTS;
 use std::marker::Model;
-
-/// How many trees a session has at most.
-const TREE_LIMIT: usize = 16;
 
 /// A session ([MS-SMB2] 3.3.1.8).
 #[derive(Drop)]
 pub(crate) struct Session {
     connection: u64,
     user: Option<Vec<u8>>,
-    trees: ArrayVec<u32, TREE_LIMIT>,
+    trees: ArrayVec<u32, MOST_TREE_CONNECTS>,
     next_tree: u32,
 }
 
@@ -83,7 +81,7 @@ impl Session {
     pub(crate) fn has_all_trees(&self) -> bool
         ensures { result ≡ has_all_trees self.now }
     {
-        self.trees.len() >= TREE_LIMIT || self.next_tree == u32::MAX
+        self.trees.len() >= MOST_TREE_CONNECTS || self.next_tree == u32::MAX
     }
 
     /// Finishes the session, by a user.

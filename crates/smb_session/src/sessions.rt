@@ -2,6 +2,7 @@
 
 ghost use Rattle.std.specs.Prelude.{◌≡◌, ◌≤◌, true, false, Some, None, OnOk, OnErr, IfOk, IfErr, length, if◌then◌else◌};
 ghost use Rattle.std.specs.Option.{option_map_or};
+ghost use Rattle.smb_wire.specs.Limits.{longest_token};
 ghost use Rattle.smb_wire.specs.Pairs.{units_in};
 ghost use Rattle.smb_wire.specs.Units.{units_of};
 ghost use Rattle.smb_session.specs.Negotiate.{best_of};
@@ -88,7 +89,7 @@ impl<A: Authenticator + Drop> Sessions<A> {
     /// The token that the authenticator offers, of at most 4,096 bytes.
     pub fn hello(&self) -> &[u8]
         ensures value { result.now ≡ A.meaning.hello self.now.authenticator }
-        ensures short { length result.now ≤ 4096 }
+        ensures short { length result.now ≤ longest_token }
     {
         self.authenticator.hello()
     }
@@ -105,7 +106,7 @@ impl<A: Authenticator + Drop> Sessions<A> {
     fn ask(&mut self, session: u64, ask: &SetupAsk<'_>) -> Result<SetupDone, AllocError>
         ensures step { IfOk result (λ done. record { state = self.new; told = setup_result_of done } ≡ asked_step A.meaning self.old session ask.now.previous_session ask.now.token.now) }
         ensures flags { IfOk result (λ done. done.flags ≤ 3) }
-        ensures token { IfOk result (λ done. length done.token.items ≤ 4096) }
+        ensures token { IfOk result (λ done. length done.token.items ≤ longest_token) }
         ensures kept { OnErr result (self.new ≡ self.old) }
     {
         match self.authenticator.step(session, ask.token)? {
@@ -145,7 +146,7 @@ impl<A: Authenticator + Drop> Sessions<A> {
         ensures step { IfOk result (λ done. record { state = self.new; told = setup_result_of done }
             ≡ asked_step A.meaning (record self.old { table = begun self.old.table connection }) self.old.table.next ask.now.previous_session ask.now.token.now) }
         ensures flags { IfOk result (λ done. done.flags ≤ 3) }
-        ensures token { IfOk result (λ done. length done.token.items ≤ 4096) }
+        ensures token { IfOk result (λ done. length done.token.items ≤ longest_token) }
         ensures kept { OnErr result (self.new ≡ self.old) }
     {
         let session = self.table.begin(connection)?;
@@ -177,7 +178,7 @@ impl<A: Authenticator + Drop> Sessions<A> {
         ensures step { IfOk result (λ done. record { state = self.new; told = setup_result_of done }
             ≡ setup_step A.meaning self.old connection session ask.now.previous_session ask.now.token.now) }
         ensures flags { IfOk result (λ done. done.flags ≤ 3) }
-        ensures token { IfOk result (λ done. length done.token.items ≤ 4096) }
+        ensures token { IfOk result (λ done. length done.token.items ≤ longest_token) }
         ensures err { IfErr result (IsRefused (setup_refusal self.old.table connection session ask.now.flags)) }
         ensures kept { OnErr result (self.new ≡ self.old) }
     {

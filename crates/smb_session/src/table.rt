@@ -13,8 +13,9 @@ ghost use Rattle.smb_session.specs.Good.{GoodTable};
 ghost use Rattle.smb_session.specs.Held.{index_without, withdrawn};
 
 use super::fault::SessionFault;
-use super::index::{SESSION_LIMIT, SessionNumbers};
+use super::index::SessionNumbers;
 use super::session::Session;
+use smb_wire::limits::{LONGEST_USER_NAME, MOST_SESSIONS};
 use std::alloc::{AllocError, Global};
 use std::collections::BTreeMap;
 use std::marker::Model;
@@ -66,7 +67,7 @@ fn put_session(
 
 /// Adds a number to those of a connection, where it is known; it has room.
 fn add_number(index: &mut BTreeMap<u64, SessionNumbers>, connection: u64, number: u64)
-    requires { ForSome (lookup (is_at (nat_cmp connection)) index.old.entries) (λ numbers. length numbers < 16) }
+    requires { ForSome (lookup (is_at (nat_cmp connection)) index.old.entries) (λ numbers. length numbers < MOST_SESSIONS) }
     ensures { index.new.entries ≡ changed_at (λ numbers. numbers ++ number ∷ []) connection index.old.entries }
 {
     if let Some(numbers) = index.get_mut(&connection) {
@@ -159,7 +160,7 @@ impl Table {
             Some(numbers) => numbers,
             None => return true,
         };
-        numbers.len() >= SESSION_LIMIT || self.next == u64::MAX
+        numbers.len() >= MOST_SESSIONS || self.next == u64::MAX
     }
 
     /// Why a session is not set up further, or begun.
@@ -236,7 +237,7 @@ impl Table {
 
     /// Finishes a session by a user, and ends the previous one where it is to end, which is told.
     pub(crate) fn accept(&mut self, number: u64, user: Vec<u8>, previous: u64) -> Option<u64>
-        requires { length user.items ≤ 256 }
+        requires { length user.items ≤ LONGEST_USER_NAME }
         ensures ended { result ≡ previous_ended self.old user.items previous }
         ensures state { self.new ≡ accepted self.old number user.items previous }
     {
@@ -250,7 +251,7 @@ impl Table {
 
     /// Finishes a session.
     fn finish(&mut self, number: u64, user: Vec<u8>)
-        requires { length user.items ≤ 256 }
+        requires { length user.items ≤ LONGEST_USER_NAME }
         ensures { self.new ≡ session_changed (finished_by user.items) self.old number }
     {
         finish(&mut self.sessions, number, user);

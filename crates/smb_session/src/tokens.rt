@@ -3,6 +3,7 @@
 ghost use Rattle.std.specs.Prelude.{◌≡◌, ◌≤◌, [], length, map, find, option_copied, IfOk};
 ghost use Rattle.std.specs.List.{AllByRecursion};
 ghost use Rattle.std.specs.Str.{bytes_eq};
+ghost use Rattle.smb_wire.specs.Limits.{longest_token, longest_user_name};
 ghost use Rattle.smb_session.specs.Authenticator.{accepts, IsLawful};
 ghost use Rattle.smb_session.specs.Tokens.{TokenList, token_answer, HaveOwnTokens};
 ghost use Rattle.smb_session.specs.Answers.{answered_by, known_user};
@@ -29,6 +30,7 @@ pub struct Tokens {
 }
 
 impl Model for Tokens {
+    ghost use Rattle.smb_wire.specs.Limits.{longest_token, longest_user_name};
     ghost use Rattle.smb_session.specs.Tokens.{TokenList};
 
     ghost Value = { TokenList };
@@ -39,7 +41,7 @@ impl Model for Tokens {
 
     ghost view = { λ t. record { hello = t.hello.items; guest = t.guest; users = map known_user t.users.items } };
 
-    ghost invariant = { λ t. (length t.hello.items ≤ 4096) × AllByRecursion (λ user. length user.name.items ≤ 256) t.users.items };
+    ghost invariant = { λ t. (length t.hello.items ≤ longest_token) × AllByRecursion (λ user. length user.name.items ≤ longest_user_name) t.users.items };
 }
 
 /// The user of a token.
@@ -51,7 +53,7 @@ fn find_user<'a>(users: &'a [User], token: &[u8]) -> Option<&'a User>
 
 /// A user accepted, with a copy of its name and no token.
 fn accept(alloc: Global, user: &[u8], flags: u16) -> Result<Answer, AllocError>
-    requires user { length user.now ≤ 256 }
+    requires user { length user.now ≤ longest_user_name }
     requires flags { flags ≤ 3 }
     ensures answer { IfOk result (λ answer. answered_by answer ≡ accepts user.now flags []) }
     ensures lawful { IfOk result (λ answer. IsLawful (answered_by answer)) }
@@ -66,7 +68,7 @@ fn accept(alloc: Global, user: &[u8], flags: u16) -> Result<Answer, AllocError>
 /// What a token is answered.
 #[tactic(auto, using(crate::proofs::Users::known_found, crate::proofs::Users::known_absent, crate::proofs::Users::name_found))]
 fn answer_to(alloc: Global, guest: bool, users: &[User], token: &[u8]) -> Result<Answer, AllocError>
-    requires { AllByRecursion (λ user. length user.name.items ≤ 256) users.now }
+    requires { AllByRecursion (λ user. length user.name.items ≤ longest_user_name) users.now }
     ensures answer { IfOk result (λ answer. answered_by answer ≡ token_answer guest (map known_user users.now) token.now) }
     ensures lawful { IfOk result (λ answer. IsLawful (answered_by answer)) }
 {
@@ -88,8 +90,8 @@ impl Tokens {
         guest: bool,
         users: Vec<User>,
     ) -> Result<Self, AllocError>
-        requires hello { length hello.now ≤ 4096 }
-        requires names { AllByRecursion (λ user. length user.name.items ≤ 256) users.items }
+        requires hello { length hello.now ≤ longest_token }
+        requires names { AllByRecursion (λ user. length user.name.items ≤ longest_user_name) users.items }
         requires tokens { HaveOwnTokens (map known_user users.items) }
         ensures { IfOk result (λ tokens. tokens ≡ record { hello = hello.now; guest = guest; users = map known_user users.items }) }
     {

@@ -7,15 +7,13 @@ ghost use Rattle.arrayvec.specs.ArrayVec.{array_vec_len};
 ghost use Rattle.smb_session.specs.Window.{first_window, contains, are_distinct, may_use, without_ids, credits_granted, with_more, upward, GoodWindow};
 
 use arrayvec::ArrayVec;
+use smb_wire::limits::MOST_CREDITS;
 use std::marker::Model;
-
-/// How many numbers a window has at most.
-pub const WINDOW_LIMIT: usize = 256;
 
 /// The MessageIds that a client may use: a set of at most 256 numbers, and the next number to be granted.
 #[derive(Drop)]
 pub struct Window {
-    usable: ArrayVec<u64, WINDOW_LIMIT>,
+    usable: ArrayVec<u64, MOST_CREDITS>,
     next: u64,
 }
 
@@ -44,22 +42,22 @@ fn all_distinct(numbers: &[u64]) -> bool
 }
 
 /// Whether each number is among the usable ones.
-fn has_all(usable: &ArrayVec<u64, WINDOW_LIMIT>, numbers: &[u64]) -> bool
+fn has_all(usable: &ArrayVec<u64, MOST_CREDITS>, numbers: &[u64]) -> bool
     ensures { result ≡ list_all (contains usable.now.items) numbers.now }
 {
     numbers.iter().all(|number| usable.contains(number))
 }
 
 /// Takes numbers out, in one pass.
-fn take_out(usable: &mut ArrayVec<u64, WINDOW_LIMIT>, numbers: &[u64])
+fn take_out(usable: &mut ArrayVec<u64, MOST_CREDITS>, numbers: &[u64])
     ensures { usable.new.items ≡ filter (λ n. not (contains numbers.now n)) usable.old.items }
 {
     usable.retain(|number| !numbers.contains(number));
 }
 
 /// Adds the numbers from `first` upward.
-fn add_upward(usable: &mut ArrayVec<u64, WINDOW_LIMIT>, first: u64, count: usize)
-    requires room { array_vec_len usable.old + count ≤ 256 }
+fn add_upward(usable: &mut ArrayVec<u64, MOST_CREDITS>, first: u64, count: usize)
+    requires room { array_vec_len usable.old + count ≤ MOST_CREDITS }
     requires fits { first + count < 18446744073709551616 }
     ensures items { usable.new.items ≡ usable.old.items ++ upward first count }
     ensures len { array_vec_len usable.new ≡ array_vec_len usable.old + count }
@@ -110,7 +108,7 @@ impl Window {
         ensures more { self.new ≡ with_more self.old result }
     {
         let next = self.next;
-        let room = WINDOW_LIMIT - self.usable.len();
+        let room = MOST_CREDITS - self.usable.len();
         let left = u64::MAX - next;
         let count = u64::from(credits.max(1)).min(room as u64).min(left);
         add_upward(&mut self.usable, next, count as usize);

@@ -1,6 +1,7 @@
 -- Why a change of a tree is refused: the first reason that holds. Want of memory stands apart.
 use Rattle.std.specs.Prelude.{ℕ, ◌+◌, ◌-◌, max, not, ◌&&◌, ◌||◌, ◌==◌, false, Bool, nat_le, nat_lt, is_some, if◌then◌else◌, List, length, Option, None, Some}
 use Rattle.std.specs.List.{list_any}
+use Rattle.smb_wire.specs.Limits.{most_entries, most_file_bytes, most_components}
 use Rattle.smb_wire.specs.Counters.{is_spent}
 use Rattle.smb_tree.specs.declared.fault.TreeFault.{TreeFault}
 use Rattle.smb_tree.specs.declared.fault.TreeFault.TheVariants.{Absent, ParentAbsent, Exists, NotEmpty, TooDeep, Full}
@@ -15,7 +16,7 @@ abbrev pub add_fault_by : (Path → Option Entry) → ℕ → ℕ → Path → O
 add_fault_by entry_at_path count next path =
     if not (is_folder (entry_at_path (parent path))) then Some ParentAbsent else
     if is_some (entry_at_path path) then Some Exists else
-    if nat_le 4096 (count - 1) || is_spent 64 next then Some Full else None
+    if nat_le most_entries (count - 1) || is_spent 64 next then Some Full else None
 
 abbrev pub add_fault : Content → Path → Option TreeFault
 add_fault content path = add_fault_by (entry_at content.rows) (length content.rows) content.next path
@@ -26,7 +27,7 @@ abbrev pub size_fault_of : Content → ℕ → ℕ → Option Row → Option Tre
 size_fault_of content number size None = Some Absent
 size_fault_of content number size (Some row) =
     if is_folder_kind row.1.kind then Some Absent else
-    if nat_lt 16777216 size || nat_lt content.capacity (used_space (with_size content number size).rows) then Some Full else None
+    if nat_lt most_file_bytes size || nat_lt content.capacity (used_space (with_size content number size).rows) then Some Full else None
 
 abbrev pub size_fault : Content → ℕ → ℕ → Option TreeFault
 size_fault content number size = size_fault_of content number size (numbered content.rows number)
@@ -71,7 +72,7 @@ is_other_folder number (Some entry) = is_folder_kind entry.kind && not (entry.nu
 
 -- whether what is within `from` would have a path of more than 32 components once it was moved to `to`
 abbrev pub would_be_too_deep : List Row → Path → Path → Bool
-would_be_too_deep rows from to = list_any (λ row. is_within from row.0 && nat_lt 32 (length (replaced from to row.0))) rows
+would_be_too_deep rows from to = list_any (λ row. is_within from row.0 && nat_lt most_components (length (replaced from to row.0))) rows
 
 -- of the entry of a number at `from` that would be moved to `to`: the folder around `to` is there and outside of what
 -- is moved, and no folder is replaced ([MS-FSA] 2.1.5.15.11)

@@ -1,6 +1,7 @@
 -- Good contents: what a store keeps of its tree, and what a move keeps.
-use Rattle.std.specs.Prelude.{◌≡◌, ◌<◌, ◌≤◌, ◌^◌, true, List, [], length, Some}
+use Rattle.std.specs.Prelude.{◌≡◌, ◌<◌, ◌≤◌, ◌+◌, ◌^◌, true, List, [], length, Some}
 use Rattle.std.specs.List.{AllByRecursion, list_all}
+use Rattle.smb_wire.specs.Limits.{most_entries, most_components, most_file_bytes}
 use Rattle.smb_wire.specs.Names.{folded}
 use Rattle.smb_wire.specs.Paths.{folded_path, is_lawful_component}
 use Rattle.smb_tree.specs.Entries.{is_folder, is_folder_kind, kept_attributes, last_part}
@@ -17,9 +18,9 @@ pub record GoodContent (content : Content) : Type 0 where
   pub apart : AreApart content.rows
   pub below : AreBelow content.rows content.next
   pub counted : content.next < 2 ^ 64
-  pub few : length content.rows ≤ 4097
-  pub shallow : AllByRecursion (λ row. length row.0 ≤ 32) content.rows
-  pub small : AllByRecursion (λ row. length row.1.bytes ≤ 16777216) content.rows
+  pub few : length content.rows ≤ most_entries + 1
+  pub shallow : AllByRecursion (λ row. length row.0 ≤ most_components) content.rows
+  pub small : AllByRecursion (λ row. length row.1.bytes ≤ most_file_bytes) content.rows
   pub bare : AllByRecursion (λ row. is_folder_kind row.1.kind ≡ true → length row.1.bytes ≡ 0) content.rows
   pub fits : used_space content.rows ≤ content.capacity
 

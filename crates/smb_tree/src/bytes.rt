@@ -1,6 +1,7 @@
 //! The bytes of a stored file.
 
 ghost use Rattle.std.specs.Prelude.{◌≡◌, ◌+◌, ◌≤◌, ◌++◌, max, OnOk, OnErr, length, take, drop};
+ghost use Rattle.smb_wire.specs.Limits.{most_file_bytes};
 ghost use Rattle.smb_tree.specs.Content.{part, resized, written};
 
 use std::alloc::AllocError;
@@ -42,7 +43,7 @@ fn set_bytes(bytes: &mut Vec<u8>, offset: usize, buffer: &[u8])
 
 // Puts bytes at an offset, behind zeros where it is past the end.
 pub fn put_at(bytes: &mut Vec<u8>, offset: usize, buffer: &[u8]) -> Result<(), AllocError>
-    requires { offset + length buffer.now ≤ 16777216 }
+    requires { offset + length buffer.now ≤ most_file_bytes }
     ensures ok { OnOk result (bytes.new.items ≡ written offset buffer.now bytes.old.items) }
     ensures err { OnErr result (bytes.new.items ≡ bytes.old.items) }
 {

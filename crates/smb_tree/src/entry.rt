@@ -1,6 +1,7 @@
 //! What an entry is.
 
 ghost use Rattle.std.specs.Prelude.{◌≡◌, ◌≤◌};
+ghost use Rattle.smb_wire.specs.Limits.{most_file_bytes};
 ghost use Rattle.smb_tree.specs.Entries.{allocation_size, is_folder_kind, kept_attributes, shown_attributes, kept_basic, new_basic};
 
 use smb_wire::{FileAttributes, Units};
@@ -8,15 +9,12 @@ use smb_wire::{FileAttributes, Units};
 /// The number of an entry: the root has 1, the entries that are added 2, 3 and so on, each once.
 pub type EntryNo = u64;
 
-/// The most bytes of a file.
-pub const MOST_BYTES: u64 = 16_777_216;
-
 // The size of a cluster.
 const CLUSTER: u64 = 4096;
 
 /// The space that a file of so many bytes takes: whole clusters of 4,096 bytes.
 pub fn allocation_size(size: u64) -> u64
-    requires { size ≤ 16777216 }
+    requires { size ≤ most_file_bytes }
     ensures { result ≡ allocation_size size }
 {
     size.div_ceil(CLUSTER) * CLUSTER

@@ -35,7 +35,7 @@ mod texts;
 mod tree;
 mod whole_names;
 
-pub use entry::{Basic, EntryNo, EntryView, KEPT_ATTRIBUTES, Kind, MOST_BYTES, allocation_size};
+pub use entry::{Basic, EntryNo, EntryView, KEPT_ATTRIBUTES, Kind, allocation_size};
 pub use entry_copy::EntryCopy;
 pub use fault::TreeFault;
 pub use laws::{laws_of_contents, laws_of_moves};

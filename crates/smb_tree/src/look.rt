@@ -16,11 +16,10 @@ use super::entry::{EntryNo, EntryView};
 use super::fault::TreeFault;
 use super::stored::Stored;
 use super::texts::{last_begin, text_of};
+use smb_wire::limits::MOST_ENTRIES;
 use smb_wire::{PathView, Units, same_name};
 
 // The most entries besides the root.
-const MOST_ENTRIES: usize = 4096;
-
 // The entry at the path that a text spells.
 pub fn stored_at<'a>(entries: &'a Vec<Stored>, text: Units<'_>) -> Option<&'a Stored>
     ensures { option_map (λ stored. (row_of stored.now).1) result ≡ entry_at (rows_of entries.now.items) (folded_path (components (units_of text.entry))) }
@@ -95,7 +94,7 @@ pub fn view_of<'a>(entries: &Vec<Stored>, stored: &'a Stored) -> EntryView<'a>
 
 // Whether no entry can be added to so many, the root among them, because of their number or the next one's.
 fn is_full(count: usize, next: EntryNo) -> bool
-    ensures { result ≡ (nat_le 4096 (count - 1) || is_spent 64 next) }
+    ensures { result ≡ (nat_le MOST_ENTRIES (count - 1) || is_spent 64 next) }
 {
     count > MOST_ENTRIES || next == EntryNo::MAX
 }

@@ -16,14 +16,13 @@ use super::look::{is_folder_at, place_of, stored_at};
 use super::paths::{is_within, new_text, path_of};
 use super::stored::{NewText, Stored};
 use smb_wire::PathView;
+use smb_wire::limits::MOST_COMPONENTS;
 use std::alloc::{AllocError, Global};
 
 // The most components of a path.
-const MOST_COMPONENTS: usize = 32;
-
 // Whether a stored entry would have too many components once what is within `from` was moved to `to`.
 fn would_be_deep(stored: &Stored, from: &PathView<'_>, to: &PathView<'_>) -> bool
-    ensures { result ≡ (is_within (folded_path (parts_of from.now)) (row_of stored.now).0 && nat_lt 32 (length (replaced (folded_path (parts_of from.now)) (folded_path (parts_of to.now)) (row_of stored.now).0))) }
+    ensures { result ≡ (is_within (folded_path (parts_of from.now)) (row_of stored.now).0 && nat_lt MOST_COMPONENTS (length (replaced (folded_path (parts_of from.now)) (folded_path (parts_of to.now)) (row_of stored.now).0))) }
 {
     let path = path_of(stored);
     is_within(from, &path) && to.len() + (path.len() - from.len()) > MOST_COMPONENTS
@@ -93,7 +92,7 @@ fn text_moved(
     from: &PathView<'_>,
     to: &PathView<'_>,
 ) -> Result<Option<NewText>, AllocError>
-    requires { (is_within (folded_path (parts_of from.now)) (row_of stored.now).0 && nat_lt 32 (length (replaced (folded_path (parts_of from.now)) (folded_path (parts_of to.now)) (row_of stored.now).0))) ≡ false }
+    requires { (is_within (folded_path (parts_of from.now)) (row_of stored.now).0 && nat_lt MOST_COMPONENTS (length (replaced (folded_path (parts_of from.now)) (folded_path (parts_of to.now)) (row_of stored.now).0))) ≡ false }
     ensures { IfOk result (λ new. parts_new new ≡ parts_moved (parts_of from.now) (parts_of to.now) stored.now) }
 {
     let path = path_of(stored);

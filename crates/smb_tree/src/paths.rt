@@ -1,6 +1,7 @@
 //! The paths of stored entries.
 
 ghost use Rattle.std.specs.Prelude.{◌≡◌, ◌≤◌, ◌+◌, ◌-◌, ◌++◌, IfOk, OnOk, length, drop};
+ghost use Rattle.smb_wire.specs.Limits.{most_components};
 ghost use Rattle.smb_wire.specs.Pairs.{units_in, unit_bytes};
 ghost use Rattle.smb_wire.specs.Paths.{components, folded_path};
 ghost use Rattle.smb_wire.specs.PathViews.{parts_of};
@@ -50,7 +51,7 @@ pub fn new_text(
     count: usize,
 ) -> Result<NewText, AllocError>
     requires within { count ≤ length (parts_of path.now) }
-    requires shallow { length (parts_of to.now) + (length (parts_of path.now) - count) ≤ 32 }
+    requires shallow { length (parts_of to.now) + (length (parts_of path.now) - count) ≤ most_components }
     ensures { IfOk result (λ new. components (units_in new.text.items) ≡ parts_of to.now ++ drop count (parts_of path.now)) }
 {
     let mut text = Vec::from_slice(alloc, to.text().bytes())?;

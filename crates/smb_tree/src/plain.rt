@@ -9,7 +9,7 @@ ghost use Rattle.smb_tree.specs.declared.fault.TreeFault.TheVariants.{NoMemory, 
 
 use super::bytes::{add_part, put_at};
 use super::children::{has_children, name_of, next_child};
-use super::entry::{Basic, EntryNo, EntryView, Kind, MOST_BYTES, allocation_size};
+use super::entry::{Basic, EntryNo, EntryView, Kind, allocation_size};
 use super::entry_copy::EntryCopy;
 use super::fault::TreeFault;
 use super::look::{add_fault, place_of, stored_at, view_of};
@@ -19,6 +19,7 @@ use super::stored::Stored;
 use super::texts::text_of;
 use super::tree::Tree;
 use super::whole_names::whole_name;
+use smb_wire::limits::MOST_FILE_BYTES;
 use smb_wire::{FileAttributes, FoldedName, PathView};
 use std::alloc::{AllocError, Global};
 use std::fmt;
@@ -101,12 +102,12 @@ fn put(entries: &mut Vec<Stored>, stored: Stored) -> Result<(), AllocError>
 
 // The first fault of a size that a stored entry would get, where the other entries use so much space.
 fn size_fault(stored: &Stored, others: u64, capacity: u64, size: u64) -> Option<TreeFault>
-    ensures { result ≡ (if is_folder_kind stored.now.kind then Some Absent else if nat_lt 16777216 size || nat_lt capacity (others + allocation_size size) then Some Full else None) }
+    ensures { result ≡ (if is_folder_kind stored.now.kind then Some Absent else if nat_lt MOST_FILE_BYTES size || nat_lt capacity (others + allocation_size size) then Some Full else None) }
 {
     if stored.kind.is_folder() {
         return Some(TreeFault::Absent);
     }
-    if size > MOST_BYTES || capacity < others || capacity - others < allocation_size(size) {
+    if size > MOST_FILE_BYTES || capacity < others || capacity - others < allocation_size(size) {
         return Some(TreeFault::Full);
     }
     None
@@ -114,7 +115,7 @@ fn size_fault(stored: &Stored, others: u64, capacity: u64, size: u64) -> Option<
 
 // Gives a stored entry another size.
 fn resize(stored: &mut Stored, size: u64) -> Result<(), AllocError>
-    requires { size ≤ 16777216 }
+    requires { size ≤ MOST_FILE_BYTES }
     ensures ok { OnOk result (row_of stored.new ≡ ((row_of stored.old).0, record (row_of stored.old).1 { bytes = resized size stored.old.bytes.items })) }
     ensures err { OnErr result (row_of stored.new ≡ row_of stored.old) }
 {
@@ -146,7 +147,7 @@ fn size_written(stored: &Stored, offset: u64, buffer: &[u8]) -> u64
 
 // Puts bytes into a stored file.
 fn overwrite(stored: &mut Stored, offset: u64, buffer: &[u8]) -> Result<(), AllocError>
-    requires { offset + length buffer.now ≤ 16777216 }
+    requires { offset + length buffer.now ≤ MOST_FILE_BYTES }
     ensures ok { OnOk result (row_of stored.new ≡ ((row_of stored.old).0, record (row_of stored.old).1 { bytes = written offset buffer.now stored.old.bytes.items })) }
     ensures err { OnErr result (row_of stored.new ≡ row_of stored.old) }
 {

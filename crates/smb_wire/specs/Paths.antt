@@ -2,6 +2,7 @@
 use Rattle.std.specs.Prelude.{◌≡◌, ◌≢◌, ℕ, ◌-◌, List, [], ◌∷◌, length, map, take, slice_index, All, Bool, false, not, nat_le, nat_lt, nat_eq, ◌==◌, ◌&&◌, ◌||◌, if◌then◌else◌, Option, None, Some}
 use Rattle.std.specs.List.{slice_split, join_with_byte, list_all, list_any}
 use Rattle.std.specs.Cmp.Lexicographic.{pointwise}
+use Rattle.smb_wire.specs.Limits.{most_components}
 use Rattle.smb_wire.specs.Names.{folded}
 use Rattle.smb_wire.specs.declared.fault.PathFault.{PathFault}
 use Rattle.smb_wire.specs.declared.fault.PathFault.TheVariants.{LeadingSeparator, TooDeep, BadName}
@@ -48,7 +49,7 @@ is_lawful_component part =
 abbrev pub path_fault : List ℕ → Option PathFault
 path_fault name =
     if is_separator (slice_index name 0) then Some LeadingSeparator else
-    if nat_lt 32 (length (path_spelled name)) then Some TooDeep else
+    if nat_lt most_components (length (path_spelled name)) then Some TooDeep else
     if not (list_all is_lawful_component (path_spelled name)) then Some BadName else None
 
 -- a path as paths are compared: each component folded

@@ -2,14 +2,13 @@
 
 ghost use Rattle.std.specs.Prelude.{◌≡◌, ◌<◌, ◌≤◌, length, is_some, nat_le, IfSome, slice_index, slice_index_or, [], List, ℕ};
 ghost use Rattle.std.specs.List.{list_all};
+ghost use Rattle.smb_wire.specs.Limits.{most_components};
 ghost use Rattle.smb_wire.specs.Paths.{is_separator, components, without_trailing, is_lawful_unit, is_dots, is_lawful_component};
 ghost use Rattle.smb_wire.specs.PathEnds.{HasEnds, front_end_in};
 ghost use Rattle.smb_wire.specs.Units.{units_of};
 
+use super::limits::MOST_COMPONENTS;
 use super::units::Units;
-
-/// The most components that a path has.
-pub const MOST_COMPONENTS: usize = 32;
 
 // A backslash.
 const SEPARATOR: u16 = 0x5c;
@@ -42,7 +41,7 @@ pub fn without_trailing(text: Units<'_>) -> Units<'_>
 
 // Where the components of a text end, or None where there are more than 32.
 pub fn ends_of(text: Units<'_>) -> Option<Ends>
-    ensures some { is_some result ≡ nat_le (length (components (units_of text.entry))) 32 }
+    ensures some { is_some result ≡ nat_le (length (components (units_of text.entry))) most_components }
     ensures ends { IfSome result (λ ends. HasEnds (units_of text.entry) ends.places ends.count) }
 {
     let mut places = [0usize; MOST_COMPONENTS];
@@ -85,7 +84,7 @@ pub fn component<'a>(text: Units<'a>, ends: &Ends, i: usize) -> Units<'a>
 
 // Where the first `n` components end, by where each ends.
 pub fn front_end(ends: &Ends, n: usize) -> usize
-    requires { n ≤ 32 }
+    requires { n ≤ most_components }
     ensures { result ≡ front_end_in ends.now.places n }
 {
     if n == 0 {

@@ -18,12 +18,13 @@ impl<'a> PathView<'a> {
     ghost use Rattle.std.specs.Prelude.{◌≡◌, ◌<◌, ◌≤◌, length, take, true, slice_index_or, []};
     ghost use Rattle.std.specs.List.{list_all};
     ghost use Rattle.smb_wire.specs.Paths.{components, joined_by_separators, is_lawful_component};
+    ghost use Rattle.smb_wire.specs.Limits.{most_components};
     ghost use Rattle.smb_wire.specs.PathViews.{parts_of};
 
     /// How many components there are, at most 32.
     pub fn len(&self) -> usize
         ensures len { result ≡ length (parts_of self.now) }
-        ensures few { result ≤ 32 }
+        ensures few { result ≤ most_components }
     {
         self.ends.count
     }

@@ -1,5 +1,5 @@
 use Rattle.std.proofs.Common.{◌≡◌, ◌&&◌, ◌||◌, false, sym, arith, ◌∙◌}
-use Rattle.smb_access.specs.declared.use_kind.UseKind.TheVariants.{SharesNoRead, SharesNoWrite}
+use Rattle.smb_access.specs.declared.use_kind.SharingUse.TheVariants.{SharesNoRead, SharesNoWrite}
 use Rattle.smb_access.specs.Access.{is_reading, is_writing}
 use Rattle.smb_access.specs.Sharing.{has_use}
 use Rattle.smb_access.proofs.Uses.{kept_out_last}

@@ -10,7 +10,7 @@ pub returns-clause-ok : goal.returns-clause-ok
 unfolding joined_replies
 returns-clause-ok g c =
     let before : List ℕ = c.open_frame.new.out.items in
-    let response = negotiate_answer c.args.server.now.settings.guid (hello_of g.A.Authenticator.meaning c.args.server.now) c.args.arrival.moment c.args.dialect_revision in
+    let response = negotiate_answer c.args.server.now.settings.guid (hello_of g.A.Authenticator.meaning c.args.server.now) c.args.arrival.moment c.args.answer.dialect c.args.answer.dialect_revision in
     let none : before ≡ replies_written before [] = sym (append-nil before) in
     let opened = c.in-Ok-open_reply.ensures.opened before [] c.begin-writer.ensures.placed none in
     let place = c.in-Ok-open_reply.ensures.place before [] c.begin-writer.ensures.placed none in

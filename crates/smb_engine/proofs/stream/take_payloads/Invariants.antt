@@ -1,5 +1,5 @@
 use Rattle.std.proofs.Common.{◌≡◌, length, take}
-use Rattle.smb_engine.specs.Stream.{longest_payload}
+use Rattle.smb_wire.specs.Limits.{longest_payload}
 use Rattle.smb_engine.proofs.Steps.{StepsSoFar}
 use Rattle.smb_engine.proofs.stream.take_payloads.Given as goal
 

@@ -20,9 +20,9 @@ passes_capacity-requires g c =
     let used = c.used.ensures in
     let fits = c.requires.good.fits in
     let there = c.capacity.ensures in
-    record { others = omega (arith, used, fits, there); small = c.if-size-gt-MOST_BYTES.false }
+    record { others = omega (arith, used, fits, there); small = c.if-size-gt-MOST_FILE_BYTES.false }
 
 pub returns : goal.returns
 returns g c =
     c.passes_capacity.ensures ∙ (λ i. nat_lt (c.capacity.ensures i) (c.used.result - c.allocation_size.ensures i + allocation_size c.args.size))
-    ∙ no_space_told (g.T.Tree.content c.args.tree.now) c.args.entry c.args.size c.used.result (shown c.in-Some.seen) c.in-Some.ensures c.requires.good c.if-size-gt-MOST_BYTES.false c.used.ensures
+    ∙ no_space_told (g.T.Tree.content c.args.tree.now) c.args.entry c.args.size c.used.result (shown c.in-Some.seen) c.in-Some.ensures c.requires.good c.if-size-gt-MOST_FILE_BYTES.false c.used.ensures

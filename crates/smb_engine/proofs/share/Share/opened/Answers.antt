@@ -4,6 +4,6 @@ use Rattle.smb_engine.proofs.share.Share.opened.Goals as goal
 
 pub invariant_of-self-2 : goal.invariant_of-self-2
 invariant_of-self-2 g c =
-    let room : length c.self.inside.streams.entries < 64 = omega (arith, c.len.ensures.len, c.if-len-ge-CONNECTION_LIMIT.false) in
+    let room : length c.self.inside.streams.entries < 64 = omega (arith, c.len.ensures.len, c.if-len-ge-MOST_CONNECTIONS.false) in
     rw (c.in-Ok.ensures.streams, c.in-Ok.ensures.server, c.new_stream-stream.ensures)
     (kept_insert c.self.inside.server.sessions.table c.self.inside.streams.entries _ c.self.inside.next new_waits room c.self.invariant)

@@ -2,7 +2,7 @@ use Rattle.std.proofs.Common.{◌≡◌, ◌∷◌, [], ◌++◌, ◌∙◌, ℕ
 use Rattle.slab.specs.Slab.{Slab, get}
 use Rattle.smb_access.specs.Opens.{AreAllBelow}
 use Rattle.smb_access.specs.declared.open_row.OpenRow.{OpenRow}
-use Rattle.smb_access.specs.declared.use_kind.UseKind.{UseKind}
+use Rattle.smb_access.specs.declared.use_kind.SharingUse.{SharingUse}
 use Rattle.smb_handles.specs.Groups.{members}
 use Rattle.smb_handles.specs.Uses.{counted}
 use Rattle.smb_handles.specs.Table.{rows_of, IsTable}
@@ -14,7 +14,7 @@ use Rattle.smb_handles.proofs.table.HandleTableOpens.add.Goals as goal
 room : (s t : Slab OpenRow) → t ≡ record s { capacity = t.capacity } → get t ≡ get s
 room s t e = ap (λ (x : Slab OpenRow). get x) e
 
-with_room : (s t : Slab OpenRow) → t ≡ record s { capacity = t.capacity } → (es : List (ℕ × ℕ)) (groups : GroupKey → List ℕ) (counts : ℕ → UseKind → ℕ) → IsTable (get s) es groups counts → IsTable (get t) es groups counts
+with_room : (s t : Slab OpenRow) → t ≡ record s { capacity = t.capacity } → (es : List (ℕ × ℕ)) (groups : GroupKey → List ℕ) (counts : ℕ → SharingUse → ℕ) → IsTable (get s) es groups counts → IsTable (get t) es groups counts
 with_room s t e es groups counts h = subst (λ (f : ℕ → Option OpenRow). IsTable f es groups counts) (sym (room s t e)) h
 
 rows_with_room : (s t : Slab OpenRow) → t ≡ record s { capacity = t.capacity } → (es : List (ℕ × ℕ)) → rows_of (get t) es ≡ rows_of (get s) es

@@ -1,5 +1,5 @@
 use Rattle.std.proofs.Common.{ℕ, ◌-◌, ap}
-use Rattle.smb_access.specs.declared.use_kind.UseKind.TheVariants.{Reads, Writes, Deletes, SharesNoRead, SharesNoWrite, SharesNoDelete}
+use Rattle.smb_access.specs.declared.use_kind.SharingUse.TheVariants.{Reads, Writes, Deletes, SharesNoRead, SharesNoWrite, SharesNoDelete}
 use Rattle.smb_handles.proofs.uses.UseCounts.without.Goals as goal
 
 pub returns : goal.returns

@@ -12,8 +12,8 @@ use Rattle.smb_access.specs.declared.found.Target.{Target}
 use Rattle.smb_opens.proofs.Made.{alone_opened, masked_open, undone, kept_undone, target_entry, target_numbered, good_standing, shown_standing, kept_standing, told_standing, made_standing, no_view}
 use Rattle.smb_opens.proofs.store.Store.open_standing.Goals as goal
 
-pub affect-requires-clause-target : goal.affect-requires-clause-target
-affect-requires-clause-target g c =
+pub overwrite_if_asked-requires-clause-target : goal.overwrite_if_asked-requires-clause-target
+overwrite_if_asked-requires-clause-target g c =
     target_numbered (g.T.Tree.content c.self.inside.tree).rows (path_asked (asked c.args.ask.now)) c.args.target c.self.invariant.good.tree.apart
     (ap (λ (s : StoreState). option_map target_of (entry_asked s (asked c.args.ask.now))) c.self.view_is ∙ c.requires.target)
 
@@ -40,7 +40,7 @@ pub unreachable-requires : goal.unreachable-requires
 unreachable-requires g c =
     let t = target_entry (g.T.Tree.content c.self.inside.tree).rows (path_asked (asked c.args.ask.now)) c.args.target c.self.invariant.good.tree.apart
     (ap (λ (s : StoreState). option_map target_of (entry_asked s (asked c.args.ask.now))) c.self.view_is ∙ c.requires.target) in
-    no_view _ _ c.in_default-entry_view.ensures (shown_standing (g.T.Tree.content c.self.inside.tree) (g.T.Tree.content c.affect.new.tree) (asked c.args.ask.now) c.args.moment c.args.target.number c.granted-access.result (path_asked (asked c.args.ask.now)) t.0 c.in_default.ensures.ok t.3)
+    no_view _ _ c.in_default-entry_view.ensures (shown_standing (g.T.Tree.content c.self.inside.tree) (g.T.Tree.content c.overwrite_if_asked.new.tree) (asked c.args.ask.now) c.args.moment c.args.target.number c.granted-access.result (path_asked (asked c.args.ask.now)) t.0 c.in_default.ensures.ok t.3)
 
 pub invariant_of-self-2 : goal.invariant_of-self-2
 invariant_of-self-2 g c =
@@ -69,4 +69,4 @@ returns-clause-told g c =
     (ap (λ (s : StoreState). option_map target_of (entry_asked s (asked c.args.ask.now))) c.self.view_is ∙ c.requires.target) in
     let action = c.action_on.ensures ∙ ap action_on c.requires.disposition in
     rw (← c.self.view_is) (told_standing state (asked c.args.ask.now) c.args.moment _ c.granted-access.result (entry_asked state (asked c.args.ask.now)) t.0 c.action_on.result c.in-Some.view _ t.1 action (c.granted-access.ensures ∙ ap (granted c.args.ask.now.access.0) c.is_read_only_target.ensures) c.in-Some.ensures
-    (shown_standing (g.T.Tree.content c.self.inside.tree) (g.T.Tree.content c.affect.new.tree) (asked c.args.ask.now) c.args.moment c.args.target.number c.granted-access.result (path_asked (asked c.args.ask.now)) t.0 c.in_default.ensures.ok t.3))
+    (shown_standing (g.T.Tree.content c.self.inside.tree) (g.T.Tree.content c.overwrite_if_asked.new.tree) (asked c.args.ask.now) c.args.moment c.args.target.number c.granted-access.result (path_asked (asked c.args.ask.now)) t.0 c.in_default.ensures.ok t.3))

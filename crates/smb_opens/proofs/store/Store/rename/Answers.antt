@@ -14,8 +14,8 @@ pub returns-in-Err-clause-why : goal.returns-in-Err-clause-why
 returns-in-Err-clause-why g c =
     (refused_name c.args.self.now c.args.number c.in-Some.view (units_of c.args.name) c.args.replace c.in-Err.status c.in-Some.ensures.value c.in-Err.ensures.err, c.in-Err.ensures.refused)
 
-pub find_way-way-requires-clause-there : goal.find_way-way-requires-clause-there
-find_way-way-requires-clause-there g c =
+pub look_up_rename-way-requires-clause-there : goal.look_up_rename-way-requires-clause-there
+look_up_rename-way-requires-clause-there g c =
     let state : StoreState = record { tree = g.T.Tree.content c.self.inside.tree; opens = g.O.Opens.content c.self.inside.opens; locks = c.self.inside.locks; next = c.self.inside.next } in
     let shows = c.in-Some.ensures.value ∙ sym (ap (λ (s : StoreState). open_view s c.args.number) c.self.view_is) in
     let shown = shown_by state c.args.number c.in-Some.view shows in
@@ -40,8 +40,8 @@ returns-then-status-ne-STATUS_SUCCESS-clause-why g c =
     let state : StoreState = record { tree = g.T.Tree.content c.self.inside.tree; opens = g.O.Opens.content c.self.inside.opens; locks = c.self.inside.locks; next = c.self.inside.next } in
     let shows = c.in-Some.ensures.value ∙ sym (ap (λ (s : StoreState). open_view s c.args.number) c.self.view_is) in
     let shown = shown_by state c.args.number c.in-Some.view shows in
-    let is : IsWay state c.in-Some.view c.find_way-way.result (units_of c.args.name) (parts_of c.in-Ok.path) = record { found = c.find_way-way.ensures; spelled = c.in-Ok.ensures.path; lawful = c.in-Ok.ensures.lawful } in
-    let told = refused_way state c.args.number c.in-Some.view c.find_way-way.result (units_of c.args.name) (parts_of c.in-Ok.path) c.args.replace c.way_status-status.result _ _ shown shows is c.self.invariant c.way_status-status.ensures c.if-status-ne-STATUS_SUCCESS.true in
+    let is : IsWay state c.in-Some.view c.look_up_rename-way.result (units_of c.args.name) (parts_of c.in-Ok.path) = record { found = c.look_up_rename-way.ensures; spelled = c.in-Ok.ensures.path; lawful = c.in-Ok.ensures.lawful } in
+    let told = refused_way state c.args.number c.in-Some.view c.look_up_rename-way.result (units_of c.args.name) (parts_of c.in-Ok.path) c.args.replace c.way_status-status.result _ _ shown shows is c.self.invariant c.way_status-status.ensures c.if-status-ne-STATUS_SUCCESS.true in
     (told ∙ ap (λ (s : StoreState). rename_status s c.args.number (units_of c.args.name) c.args.replace) c.self.view_is, c.if-status-ne-STATUS_SUCCESS.true)
 
 pub returns-in-Err-move_to-clause-why : goal.returns-in-Err-move_to-clause-why
@@ -49,8 +49,8 @@ returns-in-Err-move_to-clause-why g c =
     let state : StoreState = record { tree = g.T.Tree.content c.self.inside.tree; opens = g.O.Opens.content c.self.inside.opens; locks = c.self.inside.locks; next = c.self.inside.next } in
     let shows = c.in-Some.ensures.value ∙ sym (ap (λ (s : StoreState). open_view s c.args.number) c.self.view_is) in
     let shown = shown_by state c.args.number c.in-Some.view shows in
-    let is : IsWay state c.in-Some.view c.find_way-way.result (units_of c.args.name) (parts_of c.in-Ok.path) = record { found = c.find_way-way.ensures; spelled = c.in-Ok.ensures.path; lawful = c.in-Ok.ensures.lawful } in
-    let left = status_left state c.args.number c.in-Some.view c.find_way-way.result (units_of c.args.name) (parts_of c.in-Ok.path) c.args.replace c.way_status-status.result _ _ shown shows is c.self.invariant c.way_status-status.ensures c.if-status-ne-STATUS_SUCCESS.false in
+    let is : IsWay state c.in-Some.view c.look_up_rename-way.result (units_of c.args.name) (parts_of c.in-Ok.path) = record { found = c.look_up_rename-way.ensures; spelled = c.in-Ok.ensures.path; lawful = c.in-Ok.ensures.lawful } in
+    let left = status_left state c.args.number c.in-Some.view c.look_up_rename-way.result (units_of c.args.name) (parts_of c.in-Ok.path) c.args.replace c.way_status-status.result _ _ shown shows is c.self.invariant c.way_status-status.ensures c.if-status-ne-STATUS_SUCCESS.false in
     let told = sym (ap (λ (s : StoreState). rename_status s c.args.number (units_of c.args.name) c.args.replace) c.self.view_is) ∙ left in
     refusal_by _ (rename_status c.args.self.now c.args.number (units_of c.args.name) c.args.replace) c.in-Err-move_to.fault told c.in-Err-move_to.ensures.why
 
@@ -59,15 +59,15 @@ overflow_sub-self g c =
     let state : StoreState = record { tree = g.T.Tree.content c.self.inside.tree; opens = g.O.Opens.content c.self.inside.opens; locks = c.self.inside.locks; next = c.self.inside.next } in
     let shows = c.in-Some.ensures.value ∙ sym (ap (λ (s : StoreState). open_view s c.args.number) c.self.view_is) in
     let shown = shown_by state c.args.number c.in-Some.view shows in
-    enough state c.args.number c.in-Some.view _ _ _ c.find_way-way.result.target shown c.self.invariant c.count_replaced.ensures
+    enough state c.args.number c.in-Some.view _ _ _ c.look_up_rename-way.result.target shown c.self.invariant c.count_replaced.ensures
 
 pub invariant_of-self-2 : goal.invariant_of-self-2
 invariant_of-self-2 g c =
     let state : StoreState = record { tree = g.T.Tree.content c.self.inside.tree; opens = g.O.Opens.content c.self.inside.opens; locks = c.self.inside.locks; next = c.self.inside.next } in
     let shows = c.in-Some.ensures.value ∙ sym (ap (λ (s : StoreState). open_view s c.args.number) c.self.view_is) in
     let shown = shown_by state c.args.number c.in-Some.view shows in
-    let is : IsWay state c.in-Some.view c.find_way-way.result (units_of c.args.name) (parts_of c.in-Ok.path) = record { found = c.find_way-way.ensures; spelled = c.in-Ok.ensures.path; lawful = c.in-Ok.ensures.lawful } in
-    kept_renamed state c.args.number c.in-Some.view c.find_way-way.result (units_of c.args.name) (parts_of c.in-Ok.path) c.args.replace c.way_status-status.result _ _ c.args.moment _ _ shown is c.self.invariant c.way_status-status.ensures c.if-status-ne-STATUS_SUCCESS.false c.in_default-move_to.ensures.lawful c.in-Ok.path.kept.lawful c.count_replaced.ensures c.in_default-move_to.ensures.ok
+    let is : IsWay state c.in-Some.view c.look_up_rename-way.result (units_of c.args.name) (parts_of c.in-Ok.path) = record { found = c.look_up_rename-way.ensures; spelled = c.in-Ok.ensures.path; lawful = c.in-Ok.ensures.lawful } in
+    kept_renamed state c.args.number c.in-Some.view c.look_up_rename-way.result (units_of c.args.name) (parts_of c.in-Ok.path) c.args.replace c.way_status-status.result _ _ c.args.moment _ _ shown is c.self.invariant c.way_status-status.ensures c.if-status-ne-STATUS_SUCCESS.false c.in_default-move_to.ensures.lawful c.in-Ok.path.kept.lawful c.count_replaced.ensures c.in_default-move_to.ensures.ok
 
 pub returns-clause-store : goal.returns-clause-store
 returns-clause-store g c =
@@ -81,7 +81,7 @@ returns-clause-lawful g c =
     let state : StoreState = record { tree = g.T.Tree.content c.self.inside.tree; opens = g.O.Opens.content c.self.inside.opens; locks = c.self.inside.locks; next = c.self.inside.next } in
     let shows = c.in-Some.ensures.value ∙ sym (ap (λ (s : StoreState). open_view s c.args.number) c.self.view_is) in
     let shown = shown_by state c.args.number c.in-Some.view shows in
-    let is : IsWay state c.in-Some.view c.find_way-way.result (units_of c.args.name) (parts_of c.in-Ok.path) = record { found = c.find_way-way.ensures; spelled = c.in-Ok.ensures.path; lawful = c.in-Ok.ensures.lawful } in
-    let left = status_left state c.args.number c.in-Some.view c.find_way-way.result (units_of c.args.name) (parts_of c.in-Ok.path) c.args.replace c.way_status-status.result _ _ shown shows is c.self.invariant c.way_status-status.ensures c.if-status-ne-STATUS_SUCCESS.false in
+    let is : IsWay state c.in-Some.view c.look_up_rename-way.result (units_of c.args.name) (parts_of c.in-Ok.path) = record { found = c.look_up_rename-way.ensures; spelled = c.in-Ok.ensures.path; lawful = c.in-Ok.ensures.lawful } in
+    let left = status_left state c.args.number c.in-Some.view c.look_up_rename-way.result (units_of c.args.name) (parts_of c.in-Ok.path) c.args.replace c.way_status-status.result _ _ shown shows is c.self.invariant c.way_status-status.ensures c.if-status-ne-STATUS_SUCCESS.false in
     let told = sym (ap (λ (s : StoreState). rename_status s c.args.number (units_of c.args.name) c.args.replace) c.self.view_is) ∙ left in
     told ∙ ap code_of c.in_default-move_to.ensures.lawful

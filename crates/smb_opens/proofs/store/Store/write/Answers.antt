@@ -31,7 +31,7 @@ returns-clause-lawful g c =
     let room = room_shown state c.args.number c.in-Some.view c.args.offset c.args.buffer.now c.self.invariant.good.tree shown c.in_default-may_write.ensures.file in
     rw (← c.self.view_is)
     (rw (ap (λ (s : StoreState). open_view s c.args.number) c.self.view_is ∙ sym c.in-Some.ensures.value)
-    (lawful_written c.write_file.result state.tree state.locks c.args.number c.in-Some.view c.is_kept_from_writing-is_barred.result c.args.offset c.args.buffer.now (c.is_kept_from_writing-is_barred.ensures ∙ sym (ap (λ (s : StoreState). keeps_from_writing s.locks c.args.number c.in-Some.view c.args.offset (length c.args.buffer.now)) c.self.view_is)) c.in_default-may_write.ensures.goes_on room c.write_file.ensures.room))
+    (lawful_written c.write_file.result c.args.most state.tree state.locks c.args.number c.in-Some.view c.is_kept_from_writing-is_barred.result c.args.offset c.args.buffer.now (c.is_kept_from_writing-is_barred.ensures ∙ sym (ap (λ (s : StoreState). keeps_from_writing s.locks c.args.number c.in-Some.view c.args.offset (length c.args.buffer.now)) c.self.view_is)) c.in_default-may_write.ensures.goes_on room c.write_file.ensures.room))
 
 pub returns-clause-why : goal.returns-clause-why
 returns-clause-why g c =
@@ -40,4 +40,4 @@ returns-clause-why g c =
     let room = room_shown state c.args.number c.in-Some.view c.args.offset c.args.buffer.now c.self.invariant.good.tree shown c.in_default-may_write.ensures.file in
     rw (← c.self.view_is)
     (rw (ap (λ (s : StoreState). open_view s c.args.number) c.self.view_is ∙ sym c.in-Some.ensures.value)
-    (why_written c.write_file.result state.tree state.locks c.args.number c.in-Some.view c.is_kept_from_writing-is_barred.result c.args.offset c.args.buffer.now (sym c.is_empty.ensures ∙ c.if-is_empty.false) (c.is_kept_from_writing-is_barred.ensures ∙ sym (ap (λ (s : StoreState). keeps_from_writing s.locks c.args.number c.in-Some.view c.args.offset (length c.args.buffer.now)) c.self.view_is)) c.in_default-may_write.ensures.goes_on room c.write_file.ensures.why))
+    (why_written c.write_file.result c.args.most state.tree state.locks c.args.number c.in-Some.view c.is_kept_from_writing-is_barred.result c.args.offset c.args.buffer.now (sym c.is_empty.ensures ∙ c.if-is_empty.false) (c.is_kept_from_writing-is_barred.ensures ∙ sym (ap (λ (s : StoreState). keeps_from_writing s.locks c.args.number c.in-Some.view c.args.offset (length c.args.buffer.now)) c.self.view_is)) c.in_default-may_write.ensures.goes_on room c.write_file.ensures.why))

@@ -5,7 +5,7 @@ use Rattle.smb_nodes.specs.declared.node.Node.{Node}
 use Rattle.smb_nodes.specs.Nodes.{name_in, name_of_slot}
 use Rattle.smb_nodes.specs.Seen.{heap_of, seen}
 use Rattle.smb_nodes.proofs.Replacing.{rehung, still}
-use Rattle.smb_nodes.proofs.places.rehang.Goals as goal
+use Rattle.smb_nodes.proofs.places.reparent.Goals as goal
 
 pub take_child-requires : goal.take_child-requires
 take_child-requires c =

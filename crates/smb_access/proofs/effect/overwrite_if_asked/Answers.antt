@@ -5,7 +5,7 @@ use Rattle.smb_wire.specs.Dispositions.{overwrites_by}
 use Rattle.smb_access.specs.Asked.{asked}
 use Rattle.smb_access.specs.Looked.{refusal_of}
 use Rattle.smb_access.proofs.Overwrites.{only_memory, size_free, basic_free, overwritten_done, standing_over}
-use Rattle.smb_access.proofs.effect.affect.Goals as goal
+use Rattle.smb_access.proofs.effect.overwrite_if_asked.Goals as goal
 
 pub returns-in-Err-clause-memory : goal.returns-in-Err-clause-memory
 returns-in-Err-clause-memory g c =

@@ -1,6 +1,6 @@
 use Rattle.std.proofs.Common.{sym, ◌∙◌}
 use Rattle.smb_access.proofs.Closing.{due_not, due_so, cleared_not, cleared_so, deletable_not_root}
-use Rattle.smb_access.proofs.close.clear.Goals as goal
+use Rattle.smb_access.proofs.close.remove_if_delete_pending.Goals as goal
 
 pub returns-then-is_some-clause-removed : goal.returns-then-is_some-clause-removed
 returns-then-is_some-clause-removed g c =

@@ -1,0 +1,75 @@
+-- The limits of the share, each once. Those of sizes are this server's choice ([MS-SMB2] 3.3.1, 3.3.5.4).
+use Rattle.std.specs.Prelude.{ℕ, ◌+◌, ◌*◌, Option, None, Some}
+use Rattle.smb_wire.specs.declared.dialect.Dialect.{Dialect}
+use Rattle.smb_wire.specs.declared.dialect.Dialect.TheVariants.{Smb202, Smb210}
+
+-- how many bytes one READ, WRITE, QUERY_INFO or QUERY_DIRECTORY may ask for, by the dialect of its connection: what a
+-- NEGOTIATE response says as MaxReadSize, MaxWriteSize and MaxTransactSize ([MS-SMB2] 2.2.4)
+abbrev pub most_at_once : Option Dialect → ℕ
+most_at_once None = 65536
+most_at_once (Some Smb202) = 65536
+most_at_once (Some Smb210) = 65536
+
+-- the greatest of these
+abbrev pub most_in_any_dialect : ℕ
+most_in_any_dialect = 65536
+
+-- the most bytes of a response's body: the longest fixed part in front of data, and the data
+abbrev pub longest_body : ℕ
+longest_body = most_in_any_dialect + 16
+
+-- the most bytes of a response payload: 16 responses, each with its header
+abbrev pub longest_reply : ℕ
+longest_reply = 16 * (64 + longest_body)
+
+-- the most bytes of a frame's payload, from a client
+abbrev pub longest_payload : ℕ
+longest_payload = 131072
+
+-- the most requests of a chain
+abbrev pub most_requests : ℕ
+most_requests = 16
+
+-- the most MessageIds that a window holds ([MS-SMB2] 3.3.1.1)
+abbrev pub most_credits : ℕ
+most_credits = 256
+
+-- the most connections of a share
+abbrev pub most_connections : ℕ
+most_connections = 64
+
+-- the most sessions of a connection, finished or not
+abbrev pub most_sessions : ℕ
+most_sessions = 16
+
+-- the most tree connects of a session
+abbrev pub most_tree_connects : ℕ
+most_tree_connects = 16
+
+-- the most opens of a share
+abbrev pub most_opens : ℕ
+most_opens = 1024
+
+-- the most locks of a file
+abbrev pub most_locks : ℕ
+most_locks = 256
+
+-- the most entries of a share, without its root
+abbrev pub most_entries : ℕ
+most_entries = 4096
+
+-- the most components of a path
+abbrev pub most_components : ℕ
+most_components = 32
+
+-- the most bytes of a file
+abbrev pub most_file_bytes : ℕ
+most_file_bytes = 16777216
+
+-- the most bytes of a token of an authenticator
+abbrev pub longest_token : ℕ
+longest_token = 4096
+
+-- the most bytes of a user's name
+abbrev pub longest_user_name : ℕ
+longest_user_name = 256
