@@ -8,6 +8,7 @@ ghost use Rattle.smb_head.specs.Placed.{placed, replies_written};
 ghost use Rattle.smb_session.specs.Window.{without_ids};
 ghost use Rattle.smb_request.specs.Request.{performed};
 ghost use Rattle.std.specs.Bool.{OnTrue, OnFalse};
+ghost use Rattle.smb_wire.specs.Limits.{longest_response};
 ghost use Rattle.smb_head.specs.Replies.{joined_replies};
 ghost use Rattle.smb_request.specs.Negotiate.{negotiate_answer};
 ghost use Rattle.smb_request.specs.State.{hello_of};
@@ -165,7 +166,7 @@ fn perform_one<A: Authenticator + Drop, T: Tree + Drop, O: Opens + Drop>(
     requires header { header.now ≡ header_of request.now }
     requires order { progress.old.writer.base ≤ progress.old.writer.last }
     requires within { progress.old.writer.last ≤ length out.old.items }
-    requires room { rounded_up (length out.old.items - progress.old.writer.base) + 65616 < 2 ^ 24 }
+    requires room { rounded_up (length out.old.items - progress.old.writer.base) + longest_response < 2 ^ 24 }
     ensures ok { (front : List ℕ) (before : List Reply) →
         progress.old.writer ≡ placed front before → out.old.items ≡ replies_written front before →
         OnOk result (record {
@@ -182,7 +183,7 @@ fn perform_one<A: Authenticator + Drop, T: Tree + Drop, O: Opens + Drop>(
     ensures base { progress.new.writer.base ≡ progress.old.writer.base }
     ensures within { OnOk result (progress.new.writer.last ≤ length out.new.items) }
     ensures len { OnOk result (rounded_up (length out.new.items - progress.old.writer.base)
-        ≤ rounded_up (length out.old.items - progress.old.writer.base) + 65616) }
+        ≤ rounded_up (length out.old.items - progress.old.writer.base) + longest_response) }
     ensures kept { take progress.old.writer.base out.new.items ≡ take progress.old.writer.base out.old.items }
     ensures known { server.new.sessions.table.connections ≡ server.old.sessions.table.connections }
     ensures err { IfErr result (λ no_reply. server.new ≡ (if is_performed no_reply
@@ -217,7 +218,7 @@ fn perform_one<A: Authenticator + Drop, T: Tree + Drop, O: Opens + Drop>(
 
 /// How many requests of a chain were performed, where memory ran out in the one behind so many others.
 fn done_behind(others: usize, no_reply: NoReply) -> usize
-    requires { others < 16 }
+    requires { others < MOST_REQUESTS }
     ensures { result ≡ (if is_performed no_reply then others + 1 else others) }
 {
     match no_reply {

@@ -258,13 +258,13 @@ impl<A: Authenticator + Drop, T: Tree + Drop, O: Opens + Drop> Share<A, T, O> {
             Ok(false) => {
                 self.server.good();
                 self.server.disconnect(connection);
-                self.streams.remove(&connection);
+                remove_stream(&mut self.streams, connection);
                 Ok(Fate::Ended)
             }
             Err(ran_out) => {
                 self.server.good();
                 self.server.disconnect(connection);
-                self.streams.remove(&connection);
+                remove_stream(&mut self.streams, connection);
                 Err(ran_out)
             }
         }
@@ -278,7 +278,7 @@ impl<A: Authenticator + Drop, T: Tree + Drop, O: Opens + Drop> Share<A, T, O> {
     {
         self.server.good();
         self.server.disconnect(connection);
-        let _ = self.streams.remove(&connection);
+        remove_stream(&mut self.streams, connection);
         self.good();
     }
 

@@ -1,5 +1,5 @@
 -- The limits of the share, each once. Those of sizes are this server's choice ([MS-SMB2] 3.3.1, 3.3.5.4).
-use Rattle.std.specs.Prelude.{ℕ, ◌+◌, ◌*◌, Option, None, Some}
+use Rattle.std.specs.Prelude.{ℕ, ◌+◌, Option, None, Some}
 use Rattle.smb_wire.specs.declared.dialect.Dialect.{Dialect}
 use Rattle.smb_wire.specs.declared.dialect.Dialect.TheVariants.{Smb202, Smb210}
 
@@ -18,9 +18,9 @@ most_in_any_dialect = 65536
 abbrev pub longest_body : ℕ
 longest_body = most_in_any_dialect + 16
 
--- the most bytes of a response payload: 16 responses, each with its header
-abbrev pub longest_reply : ℕ
-longest_reply = 16 * (64 + longest_body)
+-- the most bytes of a response: its header, and its body
+abbrev pub longest_response : ℕ
+longest_response = 64 + longest_body
 
 -- the most bytes of a frame's payload, from a client
 abbrev pub longest_payload : ℕ

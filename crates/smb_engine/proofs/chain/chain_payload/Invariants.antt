@@ -1,4 +1,5 @@
 use Rattle.std.proofs.Common.{◌≡◌, ◌≤◌, ◌*◌, ◌-◌, length, take}
+use Rattle.smb_wire.specs.Limits.{longest_response}
 use Rattle.smb_head.specs.Replies.{rounded_up}
 use Rattle.smb_engine.proofs.Chains.{ChainSoFar, first_chain}
 use Rattle.smb_engine.proofs.chain.chain_payload.Given as goal
@@ -12,5 +13,5 @@ invariant-loop-i g l = record {
   order : l.progress.writer.base ≤ l.progress.writer.last;
   within : l.progress.writer.last ≤ length l.out.items;
   kept : take (length l.initial.out.items) l.out.items ≡ l.initial.out.items;
-  room : rounded_up (length l.out.items - length l.initial.out.items) ≤ 65616 * l.i;
+  room : rounded_up (length l.out.items - length l.initial.out.items) ≤ longest_response * l.i;
 }

@@ -22,11 +22,11 @@ invariant_of-self-in-Ok-true g c =
 
 pub invariant_of-self-in-Ok-false : goal.invariant_of-self-in-Ok-false
 invariant_of-self-in-Ok-false g c =
-    rw (c.remove.ensures.entries, (c.get_mut.follows.holds c.take_piece.new.stream).0, remove-set) (kept_over _ _ c.args.connection c.self.inside.streams.entries c.self.inside.next c.disconnect.ensures.ended c.good.ensures.sessions.connections (rw c.take_piece.ensures.known c.self.invariant))
+    rw (c.remove_stream.ensures, (c.get_mut.follows.holds c.take_piece.new.stream).0, remove-set) (kept_over _ _ c.args.connection c.self.inside.streams.entries c.self.inside.next c.disconnect.ensures.ended c.good.ensures.sessions.connections (rw c.take_piece.ensures.known c.self.invariant))
 
 pub invariant_of-self-in-Err : goal.invariant_of-self-in-Err
 invariant_of-self-in-Err g c =
-    rw (c.remove-in-Err.ensures.entries, (c.get_mut.follows.holds c.take_piece.new.stream).0, remove-set) (kept_over _ _ c.args.connection c.self.inside.streams.entries c.self.inside.next c.disconnect-in-Err.ensures.ended c.good-in-Err.ensures.sessions.connections (rw c.take_piece.ensures.known c.self.invariant))
+    rw (c.remove_stream-in-Err.ensures, (c.get_mut.follows.holds c.take_piece.new.stream).0, remove-set) (kept_over _ _ c.args.connection c.self.inside.streams.entries c.self.inside.next c.disconnect-in-Err.ensures.ended c.good-in-Err.ensures.sessions.connections (rw c.take_piece.ensures.known c.self.invariant))
 
 pub returns-in-Ok-true-clause-state : goal.returns-in-Ok-true-clause-state
 returns-in-Ok-true-clause-state g c =
@@ -37,12 +37,12 @@ returns-in-Ok-true-clause-state g c =
 pub returns-in-Ok-false-clause-state : goal.returns-in-Ok-false-clause-state
 returns-in-Ok-false-clause-state g c =
     let t = c.in-Ok-false.ensures.ok in
-    rw (← c.self.view_is, c.remove.ensures.entries, (c.get_mut.follows.holds c.take_piece.new.stream).0, remove-set, c.disconnect.ensures.ended)
+    rw (← c.self.view_is, c.remove_stream.ensures, (c.get_mut.follows.holds c.take_piece.new.stream).0, remove-set, c.disconnect.ensures.ended)
     (take_over g.A.Authenticator.meaning _ _ _ _ _ _ _ c.self.invariant.waits (sym c.in-Some.ensures.value) (rw c.in-Ok-false.field-0-test at t))
 
 pub returns-in-Err-clause-err : goal.returns-in-Err-clause-err
 returns-in-Err-clause-err g c =
-    rw (← c.self.view_is, c.remove-in-Err.ensures.entries, (c.get_mut.follows.holds c.take_piece.new.stream).0, remove-set, c.disconnect-in-Err.ensures.ended)
+    rw (← c.self.view_is, c.remove_stream-in-Err.ensures, (c.get_mut.follows.holds c.take_piece.new.stream).0, remove-set, c.disconnect-in-Err.ensures.ended)
     (take_stopped g.A.Authenticator.meaning _ _ _ _ _ _ _ c.self.invariant.waits (sym c.in-Some.ensures.value) c.in-Err.ensures.err.state c.in-Err.ensures.err.within)
 
 pub returns-in-Ok-true-clause-fate : goal.returns-in-Ok-true-clause-fate
@@ -52,6 +52,6 @@ returns-in-Ok-true-clause-fate g c =
 
 pub returns-in-Ok-false-clause-fate : goal.returns-in-Ok-false-clause-fate
 returns-in-Ok-false-clause-fate g c =
-    rw (c.remove.ensures.entries, (c.get_mut.follows.holds c.take_piece.new.stream).0, remove-set)
+    rw (c.remove_stream.ensures, (c.get_mut.follows.holds c.take_piece.new.stream).0, remove-set)
     (ap (λ b. if b then Open else Ended) (sym (ap is_some (stream_of-without c.args.connection c.self.inside.streams.entries
     (subst IsRising (c.take_piece.ensures.known ∙ c.self.invariant.known) c.good.ensures.sessions.connections)))))
