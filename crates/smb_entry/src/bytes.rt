@@ -1,6 +1,6 @@
 //! READ and WRITE of a file, by what an open shows ([MS-SMB2] 3.3.5.12, 3.3.5.13).
 
-ghost use Rattle.std.specs.Prelude.{◌≡◌, ◌≢◌, Bool, true, false, None, Some, is_some, IfErr, OnOk, OnErr, nat_lt, ◌&&◌, length, if◌then◌else◌};
+ghost use Rattle.std.specs.Prelude.{◌≡◌, ◌≢◌, ◌≤◌, Bool, true, false, None, Some, is_some, IfErr, OnOk, OnErr, nat_lt, ◌&&◌, length, if◌then◌else◌};
 ghost use Rattle.std.specs.Option.{option_map};
 ghost use Rattle.smb_wire.specs.NtStatus.{STATUS_SUCCESS, STATUS_DISK_FULL};
 ghost use Rattle.smb_tree.specs.Content.{numbered};
@@ -45,6 +45,7 @@ pub fn may_read(
 ) -> Result<(), u32>
     ensures lawful { OnOk result (first_status (read_rows most view.now is_barred offset count minimum) ≡ STATUS_SUCCESS) }
     ensures file { OnOk result (is_folder_kind view.now.kind ≡ false) }
+    ensures few { OnOk result (count ≤ most) }
     ensures why { IfErr result (λ status. first_status (read_rows most view.now is_barred offset count minimum) ≡ status) }
     ensures refused { IfErr result (λ status. status ≢ STATUS_SUCCESS) }
 {

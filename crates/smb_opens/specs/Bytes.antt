@@ -5,6 +5,7 @@ use Rattle.smb_tree.specs.Content.{bytes_read}
 use Rattle.smb_access.specs.declared.open_row.OpenRow.{OpenRow}
 use Rattle.smb_access.specs.Opens.{open_of}
 use Rattle.smb_opens.specs.State.{StoreState}
+use Rattle.smb_opens.specs.declared.bytes.FilePart.{FilePart}
 use Rattle.smb_opens.specs.Views.{status_through}
 use Rattle.smb_entry.specs.Bytes.{keeps_from_reading, read_rows, keeps_from_writing, has_no_room, write_rows, written_tree}
 
@@ -17,6 +18,10 @@ read_status state most number offset count minimum = status_through state number
 abbrev pub file_bytes : StoreState → ℕ → ℕ → ℕ → List ℕ
 file_bytes state number offset count =
     option_map_or (λ (row : OpenRow). bytes_read state.tree.rows row.entry offset count) (open_of state.opens number) []
+
+-- the bytes of a part of a file
+abbrev pub part_bytes : StoreState → FilePart → List ℕ
+part_bytes state part = bytes_read state.tree.rows part.entry part.offset part.count
 
 -- the status of a WRITE through the open of a number, by the most bytes that one request may bring
 abbrev pub write_status : StoreState → ℕ → ℕ → ℕ → List ℕ → ℕ

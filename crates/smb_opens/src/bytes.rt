@@ -1,9 +1,9 @@
 //! READ, WRITE and FLUSH of a file through an open ([MS-SMB2] 3.3.5.11 to 3.3.5.13).
 
-ghost use Rattle.std.specs.Prelude.{◌≡◌, ◌≢◌, ◌++◌, IsSome, IfOk, IfErr, OnOk, OnErr, length};
+ghost use Rattle.std.specs.Prelude.{◌≡◌, ◌≢◌, ◌≤◌, ◌++◌, IsSome, IfOk, IfErr, OnOk, OnErr, length};
 ghost use Rattle.smb_wire.specs.NtStatus.{STATUS_SUCCESS};
 ghost use Rattle.smb_entry.specs.Bytes.{keeps_from_reading, keeps_from_writing};
-ghost use Rattle.smb_opens.specs.Bytes.{read_status, file_bytes, write_status, written_to};
+ghost use Rattle.smb_opens.specs.Bytes.{read_status, part_bytes, file_bytes, write_status, written_to};
 ghost use Rattle.smb_access.specs.Faults.{IsRefusal};
 ghost use Rattle.smb_access.specs.Opens.{open_of};
 ghost use Rattle.smb_access.specs.declared.fault.StoreFault.TheVariants.{NoMemory};
@@ -12,8 +12,20 @@ use super::store::Store;
 use smb_access::fault::refusal_of;
 use smb_access::{OpenNo, Opens, StoreFault, View};
 use smb_entry::bytes::{bytes_there, may_read, may_write, write_file};
-use smb_tree::Tree;
+use smb_tree::{EntryNo, Tree};
 use smb_wire::nt_status::STATUS_FILE_CLOSED;
+use std::alloc::AllocError;
+
+/// Bytes of a file by which a READ is answered: of those from `offset` on at most `count`.
+#[derive(Clone, Copy, Debug)]
+pub struct FilePart {
+    /// The number of the file.
+    pub entry: EntryNo,
+    pub offset: u64,
+    pub count: u32,
+    /// How many bytes there are.
+    pub length: u32,
+}
 
 impl<T: Tree + Drop, O: Opens + Drop> Store<T, O> {
     // Whether a lock bars the open of a number, which shows this, from reading a range: a pass over the locks of its file.
@@ -32,17 +44,20 @@ impl<T: Tree + Drop, O: Opens + Drop> Store<T, O> {
             .bars_write(view.entry, number, offset, count as u64)
     }
 
-    /// How many bytes a READ through the open of a number gives ([MS-SMB2] 3.3.5.12): of those from `offset` on at most
-    /// `count`; or the status that refuses it. One request may ask for `most` bytes.
-    pub fn read_length(
+    /// Finds the bytes that a READ through the open of a number gives ([MS-SMB2] 3.3.5.12): of those from `offset` on at most
+    /// `count`; or the status that refuses it. One request may ask for `most` bytes. The open and its entry are looked up
+    /// once; [`add_part`](Self::add_part) adds the bytes.
+    pub fn find_bytes(
         &self,
         most: u32,
         number: OpenNo,
         offset: u64,
         count: u32,
         minimum: u32,
-    ) -> Result<u32, u32>
-        ensures length { IfOk result (λ there. there ≡ length (file_bytes self.now number offset count)) }
+    ) -> Result<FilePart, u32>
+        ensures bytes { IfOk result (λ part. part_bytes self.now part ≡ file_bytes self.now number offset count) }
+        ensures length { IfOk result (λ part. part.length ≡ length (file_bytes self.now number offset count)) }
+        ensures few { IfOk result (λ part. part.length ≤ most) }
         ensures lawful { OnOk result (read_status self.now most number offset count minimum ≡ STATUS_SUCCESS) }
         ensures why { IfErr result (λ status. read_status self.now most number offset count minimum ≡ status) }
         ensures refused { IfErr result (λ status. status ≢ STATUS_SUCCESS) }
@@ -52,7 +67,29 @@ impl<T: Tree + Drop, O: Opens + Drop> Store<T, O> {
         };
         let is_barred = self.is_kept_from_reading(&view, number, offset, count);
         may_read(most, &view, is_barred, offset, count, minimum)?;
-        Ok(bytes_there(view.size, offset, count))
+        Ok(FilePart {
+            entry: view.entry,
+            offset,
+            count,
+            length: bytes_there(view.size, offset, count),
+        })
+    }
+
+    /// Adds a part of a file behind the bytes of a vector, as [`find_bytes`](Self::find_bytes) found it in the store as it is.
+    /// They are copied once. After an error, where an allocation was refused or no file has the number, the vector holds
+    /// what it held.
+    pub fn add_part(&self, part: &FilePart, bytes: &mut Vec<u8>) -> Result<(), AllocError>
+        ensures ok { OnOk result (bytes.new.items ≡ bytes.old.items ++ part_bytes self.now part.now) }
+        ensures err { OnErr result (bytes.new.items ≡ bytes.old.items) }
+    {
+        let _ = &self.next;
+        match self
+            .tree
+            .read(part.entry, part.offset, u64::from(part.count), bytes)
+        {
+            Ok(()) => Ok(()),
+            Err(_) => Err(AllocError),
+        }
     }
 
     /// Answers a READ through the open of a number ([MS-SMB2] 3.3.5.12): adds the bytes of its file from `offset` on, at

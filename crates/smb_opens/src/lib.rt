@@ -38,6 +38,7 @@ mod scans;
 mod set_info;
 mod store;
 
+pub use bytes::FilePart;
 pub use laws::laws_of_stores;
 pub use smb_access::{
     Closed, CreateAsk, Created, OpenNo, OpenRow, Opens, Owner, PlainOpens, Scan, ScanLast,

@@ -1,18 +1,18 @@
 -- For the proofs; nothing here need be believed.
 -- What the code's responses and refusals come to.
 use Rattle.std.specs.Prelude.{◌≡◌, ◌≤◌, Bool, true, false, length, Option, None, Some, IsSome, Result, Ok, Err}
-use Rattle.smb_wire.specs.Limits.{most_at_once, most_in_any_dialect, longest_token}
+use Rattle.smb_wire.specs.Limits.{most_in_any_dialect, longest_token}
 use Rattle.smb_body.specs.Replies.{ReplyValue, answers_error, answers_session_setup, answers_logoff, answers_tree_connect, answers_tree_disconnect, answers_create, answers_close, answers_flush, answers_read, answers_write, answers_lock, answers_echo, answers_query_info, answers_set_info}
 use Rattle.smb_body.specs.QueryDirectory.{query_directory_asked}
 use Rattle.smb_access.specs.Opens.{open_of}
 use Rattle.smb_session.specs.Authenticator.{Meaning}
 use Rattle.smb_wire.specs.NtStatus.{STATUS_SUCCESS}
 use Rattle.smb_wire.specs.Dialects.{revision_of}
-use Rattle.smb_opens.specs.Bytes.{read_status, file_bytes}
+use Rattle.smb_opens.specs.Bytes.{part_bytes}
 use Rattle.smb_request.specs.declared.call.Call.{Call}
 use Rattle.smb_request.specs.declared.refusal.Refusal.{Refusal}
 use Rattle.smb_request.specs.declared.refusal.Refusal.TheVariants.{Status as ByStatus, NoMemory}
-use Rattle.smb_request.specs.declared.response.FileRange.{FileRange}
+use Rattle.smb_opens.specs.declared.bytes.FilePart.{FilePart}
 use Rattle.smb_request.specs.declared.response.Body.{Body}
 use Rattle.smb_request.specs.declared.response.Body.TheVariants.{Error, Negotiate, SessionSetup, Logoff, TreeConnect, TreeDisconnect, Create, Close, Flush, Write, Lock, Echo, QueryInfo, SetInfo}
 use Rattle.smb_request.specs.declared.response.Response.{Response}
@@ -45,7 +45,7 @@ body_value authenticator server call SetInfo = answers_set_info
 -- what a response comes to, from the server after its command: a listing is still to be performed
 abbrev pub response_step : {S : Type 0} → Meaning S → ServerState S → Call → Response → CommandStep S
 response_step authenticator server call (Ready answered body) = record { server = server; response = with_body answered.ids answered.status (body_value authenticator server call body) }
-response_step authenticator server call (Bytes range) = record { server = server; response = success call.ids (answers_read (file_bytes server.store call.open_number range.offset range.length)) }
+response_step authenticator server call (Bytes part) = record { server = server; response = success call.ids (answers_read (part_bytes server.store part)) }
 response_step authenticator server call (Listing asked) = directory_queried server call (query_directory_asked asked)
 
 -- what a command comes to; None where memory ran out
@@ -60,21 +60,21 @@ IsShort (SessionSetup flags token) = length token.items ≤ longest_token
 IsShort (QueryInfo bytes) = length bytes.items ≤ most_in_any_dialect
 IsShort other = Unit {0}
 
--- a READ is answered by so many bytes
-pub record IsReadable {S : Type 0} (server : ServerState S) (call : Call) (range : FileRange) : Type 0 where
-  pub lawful : read_status server.store (most_at_once call.dialect) call.open_number range.offset range.length range.minimum_count ≡ STATUS_SUCCESS
-  pub there : range.there ≡ length (file_bytes server.store call.open_number range.offset range.length)
+-- a READ is answered by as many bytes as the part has, and no more than one may ask for
+pub record IsReadable {S : Type 0} (server : ServerState S) (part : FilePart) : Type 0 where
+  pub there : part.length ≡ length (part_bytes server.store part)
+  pub few : part.length ≤ most_in_any_dialect
 
 -- a response can be put: its body is short enough, its bytes are there, or the open that is listed exists
 abbrev pub CanBePut : {S : Type 0} → ServerState S → Call → Response → Type 0
 CanBePut server call (Ready answered body) = IsShort body
-CanBePut server call (Bytes range) = IsReadable server call range
+CanBePut server call (Bytes part) = IsReadable server part
 CanBePut server call (Listing asked) = IsSome (open_of server.store.opens call.open_number)
 
 -- where a listing is still to be performed, nothing was changed
 abbrev pub IsStill : {S : Type 0} → ServerState S → ServerState S → Response → Type 0
 IsStill before after (Ready answered body) = Unit {0}
-IsStill before after (Bytes range) = Unit {0}
+IsStill before after (Bytes part) = Unit {0}
 IsStill before after (Listing asked) = after ≡ before
 
 abbrev pub IsReadyAfter : {S : Type 0} → ServerState S → ServerState S → Call → Response → Type 0
@@ -83,11 +83,11 @@ IsReadyAfter before after call response = CanBePut after call response × IsStil
 -- a listing is still to be performed
 abbrev pub is_listing : Response → Bool
 is_listing (Ready answered body) = false
-is_listing (Bytes range) = false
+is_listing (Bytes part) = false
 is_listing (Listing asked) = true
 
 -- where memory ran out as a response was put: a listing was not performed then
 abbrev pub no_reply_of : Response → NoReply
 no_reply_of (Ready answered body) = Performed
-no_reply_of (Bytes range) = Performed
+no_reply_of (Bytes part) = Performed
 no_reply_of (Listing asked) = NotPerformed

@@ -4,7 +4,7 @@ ghost use Rattle.std.specs.Prelude.{◌≡◌, ◌≤◌, ◌+◌, ◌++◌, IfO
 ghost use Rattle.smb_wire.specs.Limits.{longest_body};
 ghost use Rattle.smb_body.specs.Replies.{answers_read};
 ghost use Rattle.smb_body.specs.Write.{write_asked};
-ghost use Rattle.smb_opens.specs.Bytes.{file_bytes};
+ghost use Rattle.smb_opens.specs.Bytes.{part_bytes};
 ghost use Rattle.smb_request.specs.Bodies.{result_step, IsReadable, IsReadyAfter};
 ghost use Rattle.smb_request.specs.Bytes.{file_read, file_written};
 ghost use Rattle.smb_request.specs.InPlace.{answer_held, answer_behind};
@@ -12,11 +12,11 @@ ghost use Rattle.smb_request.specs.Response.{success};
 
 use super::call::Call;
 use super::refusal::Refusal;
-use super::response::{Answered, Body, FileRange, Response};
+use super::response::{Answered, Body, Response};
 use super::server::Server;
 use super::status::Status;
 use smb_body::{ReadRequest, WriteRequest, WriteResponse, put_read_head};
-use smb_opens::Opens;
+use smb_opens::{FilePart, Opens};
 use smb_session::Authenticator;
 use smb_tree::Tree;
 use std::alloc::AllocError;
@@ -38,15 +38,10 @@ impl<A: Authenticator + Drop, T: Tree + Drop, O: Opens + Drop> Server<A, T, O> {
             request.minimum_count,
         );
         let most = call.most_at_once();
-        let there = self
+        let part = self
             .store
-            .read_length(most, call.open_number, offset, length, minimum_count)?;
-        Ok(Response::Bytes(FileRange {
-            offset,
-            length,
-            minimum_count,
-            there,
-        }))
+            .find_bytes(most, call.open_number, offset, length, minimum_count)?;
+        Ok(Response::Bytes(part))
     }
 
     /// WRITE ([MS-SMB2] 3.3.5.13). The bytes go from the request straight into the file.
@@ -78,31 +73,24 @@ impl<A: Authenticator + Drop, T: Tree + Drop, O: Opens + Drop> Server<A, T, O> {
     pub(crate) fn put_bytes(
         &self,
         call: Call,
-        range: &FileRange,
+        part: &FilePart,
         out: &mut Vec<u8>,
     ) -> Result<Answered, AllocError>
-        requires { IsReadable self.now call range.now }
+        requires { IsReadable self.now part.now }
         ensures ok { IfOk result (λ r. answer_held r out.new.items ≡ answer_behind out.old.items
-            (success call.ids (answers_read (file_bytes self.now.store call.open_number range.now.offset range.now.length)))) }
+            (success call.ids (answers_read (part_bytes self.now.store part.now)))) }
         ensures len { OnOk result (length out.new.items ≤ length out.old.items + longest_body) }
         ensures err { OnErr result (out.new.items ≡ out.old.items) }
         ensures kept { take (length out.old.items) out.new.items ≡ out.old.items }
     {
         let start = out.len();
-        put_read_head(range.there, out)?;
-        match self.store.read(
-            call.most_at_once(),
-            call.open_number,
-            range.offset,
-            range.length,
-            range.minimum_count,
-            out,
-        ) {
+        put_read_head(part.length, out)?;
+        match self.store.add_part(part, out) {
             Ok(()) => Ok(Answered {
                 status: Status::Success,
                 ids: call.ids,
             }),
-            Err(_) => {
+            Err(AllocError) => {
                 out.truncate(start);
                 Err(AllocError)
             }

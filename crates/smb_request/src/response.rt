@@ -16,7 +16,7 @@ use smb_body::{
     CloseResponse, CreateResponse, QueryDirectoryRequest, QueryResponse, Reply, SessionFlags,
     SessionSetupResponse, WriteResponse, write_reply,
 };
-use smb_opens::Opens;
+use smb_opens::{FilePart, Opens};
 use smb_session::Authenticator;
 use smb_tree::Tree;
 use smb_wire::Dialect;
@@ -39,16 +39,6 @@ pub enum NoReply {
     /// As its response was written: what it does is done.
     #[error("no memory for the response to a request that was performed")]
     Performed,
-}
-
-/// Bytes of a file by which a READ is answered.
-#[derive(Clone, Copy, Debug)]
-pub(crate) struct FileRange {
-    pub(crate) offset: u64,
-    pub(crate) length: u32,
-    pub(crate) minimum_count: u32,
-    /// How many bytes there are.
-    pub(crate) there: u32,
 }
 
 /// What the body of a response is made of.
@@ -77,7 +67,7 @@ pub(crate) enum Response<'a> {
     /// A status and ids, with a body.
     Ready(Answered, Body),
     /// Success with bytes of a file, which go from the file tree straight into the response.
-    Bytes(FileRange),
+    Bytes(FilePart),
     /// A query of a directory, which is performed where its listing is written.
     Listing(QueryDirectoryRequest<'a>),
 }
@@ -171,7 +161,7 @@ impl<A: Authenticator + Drop, T: Tree + Drop, O: Opens + Drop> Server<A, T, O> {
                     Err(_) => Err(NoReply::Performed),
                 }
             }
-            Response::Bytes(range) => match self.put_bytes(call, range, out) {
+            Response::Bytes(part) => match self.put_bytes(call, part, out) {
                 Ok(answered) => Ok(answered),
                 Err(_) => Err(NoReply::Performed),
             },

@@ -1,19 +1,36 @@
-use Rattle.std.proofs.Common.{◌≡◌, ◌∙◌, Option, None, Some, is_some, IsSome, true, false, sym, ap, subst, arith}
+use Rattle.std.proofs.Common.{◌≡◌, ◌∙◌, ◌&&◌, not, Bool, Option, None, Some, is_some, IsSome, true, false, sym, ap, subst, if◌then◌else◌}
 use Rattle.std.specs.Option.{option_map, option_map_or, option_and_then}
 use Rattle.smb_access.specs.Opens.{open_of}
 use Rattle.smb_body.specs.Requests.{RequestValue, request_value, file_id_of}
+use Rattle.smb_session.specs.Table.{knows_session, knows_tree}
+use Rattle.smb_request.specs.declared.status.Status.{Status}
+use Rattle.smb_request.specs.declared.status.Status.TheVariants.{UserSessionDeleted, NetworkNameDeleted}
 use Rattle.smb_request.specs.Call.{named_open}
 use Rattle.smb_request.specs.Context.{open_named}
-use Rattle.smb_request.specs.Needs.{is_unsupported}
+use Rattle.smb_request.specs.Needs.{needs_of, needs_session, needs_tree, is_unsupported}
 use Rattle.smb_request.specs.Request.{open_refusal, dialect_after}
 use Rattle.smb_request.proofs.Handed.{named_there, mapped_there}
 use Rattle.smb_request.proofs.server.Server.respond.Goals as goal
+
+-- what passes three checks passes the last
+last_passed : (a b : Bool) (x y : Status) (z : Option Status) → (if a then Some x else if b then Some y else z) ≡ None → z ≡ None
+last_passed true b x y z e = absurd (cc)
+last_passed false true x y z e = absurd (cc)
+last_passed false false x y z e = e
 
 -- the open of a request that passed its checks exists
 pub act-requires-clause-open : goal.act-requires-clause-open
 act-requires-clause-open g c f =
     let opens = c.args.self.now.store.opens in
-    let unrefused : option_and_then (open_refusal opens c.args.call.ids) (named_open c.args.call) ≡ None = grind (arith, c.in_ok-check_session_tree_and_open.ensures.ok) in
+    let table = c.args.self.now.sessions.table in
+    let asked = request_value c.in-Some-body.request in
+    let unrefused : option_and_then (open_refusal opens c.args.call.ids) (named_open c.args.call) ≡ None =
+    last_passed
+    (needs_session (needs_of asked) && not (knows_session table c.args.call.connection c.args.call.ids.session_id))
+    (needs_tree (needs_of asked) && not (knows_tree table c.args.call.ids.session_id c.args.call.ids.tree_id))
+    UserSessionDeleted NetworkNameDeleted
+    (option_and_then (open_refusal opens c.args.call.ids) (named_open c.args.call))
+    c.in_ok-check_session_tree_and_open.ensures.ok in
     let body : option_map request_value c.args.body.now ≡ Some (request_value c.in-Some-body.request) = ap (option_map request_value) c.in-Some-body.is in
     let file : c.args.call.file_id ≡ file_id_of (request_value c.in-Some-body.request) = c.requires.file_id ∙ ap (option_and_then file_id_of) body in
     let some = mapped_there (open_named c.args.call.inherited) c.args.call.file_id (ap is_some file ∙ f) in
