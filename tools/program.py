@@ -8,6 +8,8 @@ tools/refuse_allocation.c refuses the first allocation that the program makes, t
 makes fewer. The last line is 'program: N passed, M failed'. With --unproved the tests of memory are left out: the
 run-time checks of an unproved program have memory of their own.
 """
+import contextlib
+import hashlib
 import os
 import pty
 import resource
@@ -19,6 +21,8 @@ import tempfile
 
 sys.path.insert(0, os.path.dirname(os.path.abspath(__file__)))
 import frame as frame_tool
+from refusals import (ACCOUNTS, BAD_EVENTS, BROKEN, BROKEN_ACCOUNTS, ENDINGS, HASH, NEGOTIATE, SHARE_RULE, UNREADABLE,
+                      frame, request, session_setup_body)
 
 TOP = os.path.dirname(os.path.dirname(os.path.abspath(__file__)))
 PATIENCE = 60
@@ -27,122 +31,12 @@ CONFIG_LIMIT = 1_048_576
 NO_MEMORY = (3, b'no memory\n')
 REFUSED = b'config: refused\n'
 NOT_TEXT = b'\xff'
+ACCOUNTS_REFUSED = b'accounts: refused\n'
+# Words of a login by NTLM that a replay takes.
+BY_NTLM = ('replay', '--login', 'ntlm', '--seed', '000102030405060708090A0B0C0D0E0F')
 
 with open(os.path.join(TOP, 'share.toml'), encoding='utf-8') as example:
     SHARE = example.read()
-
-SHARE_RULE = 'share: a text of 1 to 80 characters from ! to ~, none of them one of " * / : < > ? \\ |'
-TOKEN_RULE = 'user.token: at most 4096 bytes in hex, as a text'
-
-# A text of the example, another in its place, and what is said of it.
-BROKEN = (
-    ('share = "data"', 'share = ""', f'{SHARE_RULE}; line 2: ""'),
-    ('share = "data"', 'share = "a:b"', f'{SHARE_RULE}; line 2: "a:b"'),
-    ('share = "data"', "'share' = 'a:b'", f"{SHARE_RULE}; line 2: 'a:b'"),
-    ('share = "data"', 'share = 1', f'{SHARE_RULE}; line 2: 1'),
-    ('share = "data"', f'share = "{"s" * 81}"', f'{SHARE_RULE}; line 2: "{"s" * 60}.."'),
-    ('label = "DATA"', 'label = "\\t"',
-     'label: a text of at most 32 characters from blank to ~; line 3: "\\t"'),
-    ('label = "DATA"', '',
-     'label: a text of at most 32 characters from blank to ~; missing, usually: label = "DATA"'),
-    ('guid = "00', 'guid = "0',
-     'guid: a text of 32 hex digits; line 4: "00102030405060708090a0b0c0d0e0f"'),
-    ('guid = "000102030405060708090a0b0c0d0e0f"', '',
-     'guid: a text of 32 hex digits; missing, usually: guid = "000102030405060708090a0b0c0d0e0f"'),
-    ('guid = "0', 'grid = "0', 'keys: none but share, label, guid, capacity, created, hello, guest and user; line 4: grid'),
-    ('capacity = 67108864', 'capacity = 4097',
-     'capacity: a multiple of 4096 from 4096 to 67108864; line 5: 4097'),
-    ('capacity = 67108864', 'capacity = -1',
-     'capacity: a multiple of 4096 from 4096 to 67108864; line 5: -1'),
-    ('capacity = 67108864', '',
-     'capacity: a multiple of 4096 from 4096 to 67108864; missing, usually: capacity = 67108864'),
-    ('created = 116444736000000000', 'created = -1',
-     'created: a number of 0 or more, in units of 100 ns since 1601; line 6: -1'),
-    ('created = 116444736000000000', '',
-     'created: a number of 0 or more, in units of 100 ns since 1601; missing, usually: created = 116444736000000000'),
-    ('hello = ""', 'hello = "0"', 'hello: at most 4096 bytes in hex, as a text; line 7: "0"'),
-    ('hello = ""', '', 'hello: at most 4096 bytes in hex, as a text; missing, usually: hello = ""'),
-    ('hello = ""', f'hello = "{"00" * 4097}"',
-     f'hello: at most 4096 bytes in hex, as a text; line 7: "{"0" * 60}.."'),
-    ('guest = false', 'guest = 0', 'guest: true or false; line 8: 0'),
-    ('guest = false', '', 'guest: true or false; missing, usually: guest = false'),
-    ('guest = false', 'guest = false\nother = 1',
-     'keys: none but share, label, guid, capacity, created, hello, guest and user; line 9: other'),
-    ('guest = false', 'guest', 'file: a text in TOML, no key given twice; line 8'),
-    ('guest = false', 'guest = false\nguest = false', 'file: a text in TOML, no key given twice; line 9'),
-    ('label = "DATA"', 'label = """\nlabel = 1"""\nlabel = 3', 'file: a text in TOML, no key given twice; line 5'),
-    ('label = "DATA"', 'other = """\ncapacity = 1"""', 'keys: none but share, label, guid, capacity, created, '
-     'hello, guest and user; line 3: other'),
-    ('capacity = 67108864', 'label2 = """\nhello = 1"""', 'keys: none but share, label, guid, capacity, created, '
-     'hello, guest and user; line 5: label2'),
-    ('[[user]]', '[user]', 'user: a table [[user]] for each user'),
-    ('name = "ann"', 'name = ""', 'user.name: a text of 1 to 256 bytes; user 1; line 11: ""'),
-    ('name = "ann"', '', 'user.name: a text of 1 to 256 bytes; user 1; missing'),
-    ('token = "61"', 'token = "6"', f'{TOKEN_RULE}; user 1; line 12'),
-    ('token = "61"', '', f'{TOKEN_RULE}; user 1; missing'),
-    ('token = "61"', 'token = "61"\nother = 1', 'user: no keys but name and token; user 1; line 13: other'),
-    ('token = "61"', 'token = "61"\n[[user]]\nname = "bob"\ntoken = "61"',
-     'user.token: no two users have the same token; user 2; line 15'),
-)
-# A line that cannot be read, and how what is said of it begins.
-UNREADABLE = (
-    (b'+ x', b'+ N: '), (b'+1', b'+ N: '), (b'- ', b'- N: '), (b'> 1 0', b'> N MOMENT HEX: '),
-    (b'> 1 0 8', b'> N MOMENT HEX: '), (b'>', b'> N MOMENT HEX: '), (b'?', b'a line that is empty'),
-)
-# A text whose last line is a bad event, and what is said of it.
-BAD_EVENTS = (
-    (b'+ 2\n', 'the next to open is 1, and 0 were opened before'),
-    (b'+ 1\n- 1\n+ 1\n', 'the next to open is 2, and 1 were opened before'),
-    (b'+ 1\n+ 2\n> 3 0 00\n', 'the next to open is 3, and 2 were opened before'),
-    (b'+ 1\n' + 100 * b'- 1\n' + b'+ 2\n- 3\n', 'the next to open is 3, and 2 were opened before'),
-)
-
-
-def request(message_id, command=13, flags=0, next_command=0, body=bytes([4, 0, 0, 0]), size=64):
-    """A request, an ECHO unless it is said otherwise."""
-    head = (b'\xfeSMB', size, 0, 0, command, 1, flags, next_command, message_id, 0, 0, 0, b'')
-    return struct.pack('<4sHHIHHIIQIIQ16s', *head) + body
-
-
-def frame(payload):
-    return struct.pack('>I', len(payload)) + payload
-
-
-def chain(*message_ids):
-    """A payload of ECHOs."""
-    parts = [request(number, next_command=72) + bytes(4) for number in message_ids[:-1]]
-    return b''.join(parts) + request(message_ids[-1])
-
-
-def smb1(texts):
-    listed = b''.join(b'\x02' + text + b'\0' for text in texts)
-    return b'\xffSMB\x72' + bytes(28) + struct.pack('<H', len(listed)) + listed
-
-
-NEGOTIATE = request(0, command=0, body=struct.pack('<HHHHI16sQH', 36, 1, 1, 0, 0, b'', 0, 0x0210))
-# The last frame of a stream that the share ends, those before it, and the rule by which it does.
-ENDINGS = (
-    (b'\x85', (), "F1: a frame's first byte is not 0"),
-    (bytes([0, 2, 0, 1]), (), 'F2: a frame is longer than 131072 bytes'),
-    (frame(bytes(63)), (), 'H1: fewer than 64 bytes are left for a header'),
-    (frame(bytes(64)), (), 'H2: ProtocolId is not 0xFE and the letters SMB'),
-    (frame(request(0, size=65)), (), "H3: the header's StructureSize is not 64"),
-    (frame(request(1, next_command=4)), (NEGOTIATE,), 'H4: NextCommand is neither 0 nor the place of a next header'),
-    (frame(chain(*range(1, 18))), (NEGOTIATE,), 'H5: another request follows the 16th'),
-    (frame(request(1, flags=1)), (NEGOTIATE,), 'H6: SERVER_TO_REDIR is set, as in a reply'),
-    (frame(request(1, flags=4)), (NEGOTIATE,), 'H7: the first request is related to the one before it'),
-    (frame(request(0)), (), 'NEGOTIATE: before a dialect is agreed on, a chain has to be one NEGOTIATE alone'),
-    (frame(NEGOTIATE), (NEGOTIATE,), 'NEGOTIATE: a dialect is agreed on already'),
-    (frame(request(1)), (NEGOTIATE, request(1)), 'window: MessageId 1 is not in the window'),
-    (frame(chain(1, 1)), (NEGOTIATE,), 'window: two requests of a chain have one MessageId'),
-    (frame(smb1([b'SMB 2.002'])), (NEGOTIATE,), 'SMB_COM_NEGOTIATE: it is not the first payload'),
-    (frame(smb1([b'NT LM 0.12'])), (), 'SMB_COM_NEGOTIATE: it lists neither SMB 2.002 nor SMB 2.???'),
-    (frame(smb1([b'SMB 2.002'])[:-1]), (), 'SMB_COM_NEGOTIATE: its bytes are no list of dialects'),
-    (frame(request(1)), (smb1([b'SMB 2.???']),),
-     'NEGOTIATE: before a dialect is agreed on, a chain has to be one NEGOTIATE alone'),
-    (frame(request(3)), (smb1([b'SMB 2.002']), request(1), request(1, command=12)),
-     'window: MessageId 3 is not in the window'),
-)
 
 
 def ran(words, given=b'', **others):
@@ -189,6 +83,15 @@ def wrong_words_end_without_memory():
 
 def replay_ends_without_memory():
     return ends_without_memory('replay', '--config', os.path.join(TOP, 'share.toml'), given=b'+ 1\n- 1\n')
+
+
+def replay_by_ntlm_ends_without_memory():
+    with accounts_file(ACCOUNTS.encode()) as name:
+        return ends_without_memory(*BY_NTLM, '--accounts', name, given=b'+ 1\n- 1\n')
+
+
+def nt_hash_ends_without_memory():
+    return ends_without_memory('nt-hash', given=b'Password')
 
 
 def show_ends_without_memory():
@@ -241,6 +144,25 @@ def with_config(text, *words):
         return ran(('replay', '--config', file.name, *words))
 
 
+@contextlib.contextmanager
+def accounts_file(text, mode=0o600):
+    """The name of a file of accounts with this text, to which there are these rights."""
+    with tempfile.NamedTemporaryFile() as file:
+        file.write(text)
+        file.flush()
+        os.chmod(file.name, mode)
+        yield file.name
+
+
+def with_accounts(text, *words, mode=0o600):
+    """What a replay by accounts of this text gives; what it prints has no hash in it."""
+    with accounts_file(text, mode) as name:
+        found = ran((*BY_NTLM, '--accounts', name, *words))
+    if any(HASH[:-1].encode() in printed.lower() for printed in found[1:]):
+        raise AssertionError(f'a hash is printed: {found}')
+    return found
+
+
 def padded(length):
     """The example, with a comment that makes it this long."""
     text = SHARE.encode() + b'\n#'
@@ -278,6 +200,112 @@ def tokens_are_never_shown():
               secret.replace('xx', '') + '[[user]]\nname = "bob"\ntoken = "5ec4e7"\n']
     found = [with_config(text.encode(), '--explain') for text in broken]
     return all(status == 1 and b'5ec4e7' not in errors for status, _, errors in found)
+
+
+def broken_accounts_are_explained():
+    for old, new, said in BROKEN_ACCOUNTS:
+        if ACCOUNTS.count(old) != 1:
+            raise AssertionError(f'{old!r} is not once in the accounts')
+        text = ACCOUNTS.replace(old, new).encode()
+        status, output, errors = with_accounts(text, '--explain')
+        if (status, output) != (1, b'') or errors != ACCOUNTS_REFUSED + said.encode() + b'\n':
+            print(f'  {new!r}: {status}, {errors!r}')
+            return False
+        if with_accounts(text) != (1, b'', ACCOUNTS_REFUSED):
+            return False
+    return True
+
+
+def accounts_are_read_as_a_configuration_is():
+    """Their length, their text, what cannot be opened, and a name that is no text."""
+    long = ACCOUNTS.encode() + b'#' * (CONFIG_LIMIT - len(ACCOUNTS))
+    with accounts_file(b'') as name:
+        linked = name.encode() + NOT_TEXT
+        os.link(name, linked)
+        try:
+            there = [ran((*BY_NTLM, *words)) for words in (('--accounts', linked), (b'--accounts=' + linked,))]
+        finally:
+            os.unlink(linked)
+    unread = b'accounts: cannot be read\n'
+    return (with_accounts(ACCOUNTS.encode()) == with_accounts(b'') == with_accounts(long) == (0, b'', b'')
+            and there == [(0, b'', b'')] * 2
+            and with_accounts(long + b'#', '--explain') == (1, b'', ACCOUNTS_REFUSED + b'file: at most 1048576 bytes\n')
+            and with_accounts(NOT_TEXT, '--explain') == (1, b'', ACCOUNTS_REFUSED + b'file: a text in UTF-8\n')
+            and ran((*BY_NTLM, '--accounts', '/nowhere')) == (1, b'', unread)
+            and ran((*BY_NTLM, '--explain', '--accounts', '/nowhere'))
+            == (1, b'', unread + b'/nowhere: entity not found\n'))
+
+
+def accounts_are_their_owners_alone():
+    """Whoever else has any right to the file, to read, to write or to run it."""
+    said = ACCOUNTS_REFUSED + b'file: no rights for anyone but its owner, such as mode 600\n'
+    others = [with_accounts(ACCOUNTS.encode(), '--explain', mode=0o600 | 1 << bit) for bit in range(6)]
+    return (others == [(1, b'', said)] * 6
+            and with_accounts(ACCOUNTS.encode(), mode=0o644) == (1, b'', ACCOUNTS_REFUSED)
+            and with_accounts(ACCOUNTS.encode(), mode=0o700) == (0, b'', b''))
+
+
+def serve_takes_accounts_too():
+    """What is wrong with a configuration comes first, and then what is wrong with the accounts."""
+    serve, at = ('serve', '--turns', '1', '--login', 'ntlm', '--explain', '--listen'), '127.0.0.1:0'
+    with accounts_file(ACCOUNTS.encode()) as name, accounts_file(b'[[account]]') as other:
+        served = ran((*serve, at, '--accounts', name))
+        refused = [ran((*serve, where, '--accounts', other)) for where in (at, 'x')]
+        unlistened = ran((*serve, 'x', '--accounts', name))
+        both = ran((*serve, at, '--accounts', other, '--config', other))
+    return (served[0] == 0 and served[2].count(b'\n') == 2 and HASH.encode() not in served[2]
+            and refused == [(1, b'', ACCOUNTS_REFUSED + b'account.name: a text; account 1; missing\n')] * 2
+            and unlistened[2].startswith(b'listen: failed\n') and both[2].startswith(REFUSED))
+
+
+def a_seed_that_is_given_is_said():
+    serve = ('serve', '--turns', '1', '--listen', '127.0.0.1:0', '--login', 'ntlm')
+    given, quiet = ran((*serve, '--seed', '0' * 32)), ran(serve)
+    return (given[0] == quiet[0] == 0 and given[2].count(b'\n') == 3 and b'--seed' in given[2]
+            and quiet[2].count(b'\n') == 2 and b'--seed' not in quiet[2])
+
+
+def words_of_ntlm_go_together():
+    """Accounts and a seed are for NTLM alone, a replay by it has a seed, and a seed is 32 hex digits."""
+    serve, replay, seed = ('serve', '--listen', '127.0.0.1:0', '--turns', '1'), ('replay',), ('--seed', '0' * 32)
+    wrong = [(*words, *more, *login) for words in (serve, replay) for more in (seed, ('--accounts', '/nowhere'))
+             for login in ((), ('--login', 'token'))]
+    wrong += [(*words, '--login', 'ntlm', '--seed', digits) for words in (serve, replay)
+              for digits in ('', '0' * 31, '0' * 33, '0' * 31 + 'x', '0x' + '0' * 30)]
+    wrong += [(*replay, '--login', 'ntlm'), ('nt-hash', 'Password'), ('show', '--login', 'ntlm')]
+    for words in wrong:
+        status, output, errors = ran(words)
+        if (status, output) != (2, b'') or not errors.startswith(b'error: ') or b'Usage: ' not in errors:
+            print(f'  {words}: {status}, {errors!r}')
+            return False
+    return True
+
+
+def replays_by_ntlm_repeat():
+    """By one seed the answers are the same, by another the challenge is another; a guest comes in where they may."""
+    setup = request(1, command=1, body=session_setup_body(b'NTLMSSP\0' + struct.pack('<II', 1, 1)))
+    text = b'+ 1\n> 1 0 ' + (frame(NEGOTIATE) + frame(setup)).hex().encode() + b'\n'
+    first, again, other = ran(BY_NTLM, text), ran(BY_NTLM, text), ran((*BY_NTLM[:-1], 'ff' * 16), text)
+    challenge = hashlib.md5(bytes(range(16)) + struct.pack('<Q', 1)).digest()[:8]
+    return (first[0] == other[0] == 0 and first == again != other
+            and challenge.hex().encode() in first[1] and challenge.hex().encode() not in other[1]
+            and first[1].count(b'\n') == 2 and ran(BY_NTLM, b'?') == (1, b'', b'line 1: unreadable\n'))
+
+
+def passwords_are_hashed():
+    """The hash of [MS-NLMP] 4.2.2.1.2, and of the empty password; one line feed at the end is dropped, and no more."""
+    empty, password = b'31d6cfe0d16ae931b73c59d7e0c089c0', HASH.encode()
+    cases = [ran(('nt-hash',), given) for given in (b'Password', b'Password\n', b'', b'\n')]
+    odd = (b'Password\n\n', b'Password\r\n', b'password', '\u00e4\U0001f511'.encode())
+    others = {ran(('nt-hash',), given)[1] for given in odd}
+    return (cases == [(0, digits + b'\n', b'') for digits in (password, password, empty, empty)]
+            and len(others) == 4 and all(len(line) == 33 for line in others) and password + b'\n' not in others
+            and ran(('nt-hash',), NOT_TEXT) == (1, b'', b'input: unreadable\n'))
+
+
+def a_hash_that_is_not_written_failed():
+    with open('/dev/full', 'wb') as full:
+        return ran(('nt-hash',), b'Password', stdout=full)[::2] == (1, b'output: failed\n')
 
 
 def serve_explains_too():
@@ -445,13 +473,17 @@ def replay_takes_a_small_multiple_of_its_text():
 # Tests of what the program does where it has too little memory.
 TESTS_OF_MEMORY = (
     help_ends_without_memory, version_ends_without_memory, wrong_words_end_without_memory,
-    replay_ends_without_memory, show_ends_without_memory, fields_end_without_memory,
+    replay_ends_without_memory, replay_by_ntlm_ends_without_memory, nt_hash_ends_without_memory,
+    show_ends_without_memory, fields_end_without_memory,
     replay_takes_a_small_multiple_of_its_text,
 )
 TESTS = (
     word_that_is_no_text_is_wrong, name_that_is_no_text_is_opened, help_that_is_not_written_failed,
     help_has_examples_and_what_is_built_in, help_names_explain, configuration_has_a_limit,
-    endless_configuration_is_refused, broken_rules_are_explained, tokens_are_never_shown, serve_explains_too,
+    endless_configuration_is_refused, broken_rules_are_explained, tokens_are_never_shown,
+    broken_accounts_are_explained, accounts_are_read_as_a_configuration_is, accounts_are_their_owners_alone,
+    serve_takes_accounts_too, a_seed_that_is_given_is_said, words_of_ntlm_go_together, replays_by_ntlm_repeat,
+    passwords_are_hashed, a_hash_that_is_not_written_failed, serve_explains_too,
     addresses_are_explained, files_that_are_not_read_are_explained, a_terminal_is_told_more,
     serve_says_that_nobody_can_log_in, unreadable_lines_are_explained, bad_events_are_explained,
     endings_are_explained, fields_of_requests_are_shown, statuses_of_replies_are_shown,

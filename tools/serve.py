@@ -4,7 +4,8 @@
     bash tools/serve.sh                  serves the share `data` to guests on 127.0.0.1:4450, until Ctrl-C
     bash tools/serve.sh --demo           plays stored runs, and a client over TCP, and shows what is asked and answered
     bash tools/serve.sh replay < FILE    does what the program itself does with these words,
-    bash tools/serve.sh show < FILE      its standard input and its exit status; so does
+    bash tools/serve.sh show < FILE      its standard input and its exit status; so do
+    printf %s Password | bash tools/serve.sh nt-hash
     bash tools/serve.sh serve --listen 127.0.0.1:4455 --config guest.toml --login ntlm
     bash tools/serve.sh --proved ..      proves the program first, with any of these words behind it
     bash tools/serve.sh --help           prints this, and what the program says of its words
@@ -97,7 +98,7 @@ def start(words):
     """Does what the words say, and gives the exit status."""
     is_proved = words[:1] == ["--proved"]
     words = words[is_proved:]
-    known = ("replay", "show", "serve", "--demo", "--help", "-h", "--version")
+    known = ("replay", "show", "serve", "nt-hash", "--demo", "--help", "-h", "--version")
     unknown = words[1:] if words[:1] == ["--demo"] else [it for it in words[:1] if it not in known]
     if unknown:
         say(f"{__doc__.strip()}\n\nserve.sh: it does not know {unknown[0]!r}")

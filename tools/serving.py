@@ -8,6 +8,8 @@ port of 127.0.0.1. The last line is 'serving: N passed, M failed'. No test waits
 itself is to wait; where an answer does not come at all, its test fails after 60 seconds. With --unproved the tests of an
 odd system are left out: they load a library before the program, which the checks of an unproved one do not bear.
 """
+import hashlib
+import hmac
 import os
 import resource
 import socket
@@ -296,23 +298,37 @@ UNICODE = 1
 NTLM_NEGOTIATE = b'NTLMSSP\0' + struct.pack('<II', 1, UNICODE)
 
 
-def ntlm_authenticate(user):
-    """The last message of a login by NTLM, without a proof."""
+def ntlm_response(user, nt_hash, challenge, domain=''):
+    """The NT response of NTLM's second version ([MS-NLMP] 3.3.2) to a challenge of 8 bytes."""
+    key = hmac.new(nt_hash, (user.upper() + domain).encode('utf-16-le'), hashlib.md5).digest()
+    blob = b'\1\1' + bytes(6) + bytes(8) + b'a nonce.' + bytes(4) + bytes(4)
+    return hmac.new(key, challenge + blob, hashlib.md5).digest() + blob
+
+
+def ntlm_authenticate(user, response=b''):
+    """The last message of a login by NTLM, with this NT response."""
     name = user.encode('utf-16-le')
     nothing = struct.pack('<HHI', 0, 0, 64)
     named = struct.pack('<HHI', len(name), len(name), 64)
-    return b'NTLMSSP\0' + struct.pack('<I', 3) + nothing * 3 + named + nothing * 2 + struct.pack('<I', UNICODE) + name
+    responded = struct.pack('<HHI', len(response), len(response), 64 + len(name))
+    return (b'NTLMSSP\0' + struct.pack('<I', 3) + nothing + responded + nothing + named + nothing * 2
+            + struct.pack('<I', UNICODE) + name + response)
 
 
-def logs_in_by_ntlm(client, user):
-    """The status that ends a login of two messages, and the flags of the session; none where there is no challenge."""
+def logs_in_by_ntlm(client, user, nt_hash=None):
+    """The status that ends a login of two messages, and the flags of the session; none where there is no challenge.
+
+    Without the hash of a password there is no response in it.
+    """
     if not client.negotiates():
         return None
     first = client.send(session_setup(1, NTLM_NEGOTIATE)).reply()
     session = struct.unpack_from('<Q', first, 40)[0]
     if struct.unpack_from('<I', first, STATUS_AT - 4)[0] != 0xC0000016 or b'NTLMSSP\0\2\0\0\0' not in first:
         return None
-    last = client.send(session_setup(2, ntlm_authenticate(user), session)).reply()
+    challenge = first[first.index(b'NTLMSSP\0\2\0\0\0') + 24:][:8]
+    response = b'' if nt_hash is None else ntlm_response(user, nt_hash, challenge)
+    last = client.send(session_setup(2, ntlm_authenticate(user, response), session)).reply()
     return struct.unpack_from('<I', last, STATUS_AT - 4)[0], struct.unpack_from('<H', last, 66)[0]
 
 
@@ -328,6 +344,56 @@ def guests_log_in_by_ntlm():
     return comes and stays
 
 
+def hash_of(password):
+    """The NT hash of a password, as the program has it."""
+    found = subprocess.run([PROGRAM, 'nt-hash'], input=password.encode(), capture_output=True, timeout=PATIENCE)
+    return bytes.fromhex(found.stdout.decode())
+
+
+def served_to_ann(folder, *words):
+    """A share to which ann logs in by the password `Password`."""
+    name = os.path.join(folder, 'accounts')
+    with open(os.open(name, os.O_CREAT | os.O_WRONLY, 0o600), 'w', encoding='ascii') as file:
+        file.write('[[account]]\nname = "ann"\nnt_hash = "A4F49C406510BDCAB6824EE7C30FD852"\n')
+    return Served('--login', 'ntlm', '--accounts', name, *words)
+
+
+# What a wrong login ends with, and a right one: its status, and the session's flags, which are a guest's.
+DENIED, COMES_IN = 0xC000006D, (0, 1)
+
+
+def an_account_logs_in_by_its_password():
+    """By the right password, in any case of the name; by no other, and nobody else, but guests where they may come."""
+    right, wrong = hash_of('Password'), hash_of('password')
+    with tempfile.TemporaryDirectory() as folder, served_to_ann(folder) as share:
+        for session, user in ((1, 'ann'), (2, 'ANN')):
+            client = share.client()
+            if logs_in_by_ntlm(client, user, right) != COMES_IN or client.asks(tree_connect(3, session)) != 0:
+                return False
+        denied = [logs_in_by_ntlm(share.client(), user, nt_hash)[0]
+                  for user, nt_hash in (('ann', wrong), ('ann', None), ('bob', right), ('', None))]
+    guests = ('--config', os.path.join(TOP, 'guest.toml'))
+    with tempfile.TemporaryDirectory() as folder, served_to_ann(folder, *guests) as share:
+        comes = [logs_in_by_ntlm(share.client(), user, nt_hash)
+                 for user, nt_hash in (('ann', right), ('bob', wrong), ('', None))]
+        stays = logs_in_by_ntlm(share.client(), 'ann', wrong)[0]
+    return denied == [DENIED] * 4 and comes == [COMES_IN] * 3 and stays == DENIED
+
+
+def challenge_of(*words):
+    """The bytes that a new share answers to the first message of the first login."""
+    with Served('--login', 'ntlm', *words) as share:
+        client = share.client()
+        return client.negotiates() and client.send(session_setup(1, NTLM_NEGOTIATE)).reply()[64:]
+
+
+def challenges_come_from_the_seed():
+    """By one seed they are the same in each run; without one they are others each time."""
+    seed = ('--seed', '00112233445566778899aabbccddeeff')
+    given, again, one, other = challenge_of(*seed), challenge_of(*seed), challenge_of(), challenge_of()
+    return b'NTLMSSP\0' in given and given == again and len({given, one, other}) == 3
+
+
 def words_are_refused():
     return all(ran('serve', *words)[0] == 2 for words in ((), ('--listen',), ('--listen', 'x', '--turns', '0'), ('--listen', 'x', '--idle', '-1'),
                                                          ('--listen', 'x', '--login', 'x')))
@@ -336,7 +402,7 @@ def words_are_refused():
 TESTS = (a_client_is_served, a_file_is_written_and_read, bytes_come_one_by_one, an_end_is_told, sixty_four_are_served, others_go_on_beside_ends,
          one_that_never_reads_holds_up_nobody, slow_reader_takes_every_byte, without_descriptors_it_goes_on, silence_is_an_end,
          so_many_turns_are_taken, addresses_are_refused, configurations_are_looked_at_first, two_clients_are_replayed,
-         words_are_refused, guests_log_in_by_ntlm)
+         words_are_refused, guests_log_in_by_ntlm, an_account_logs_in_by_its_password, challenges_come_from_the_seed)
 TESTS_OF_ODD_SYSTEMS = (a_clock_before_1970_is_1970, a_port_that_is_not_allowed_is_refused)
 
 

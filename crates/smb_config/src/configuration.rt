@@ -82,7 +82,7 @@ pub(crate) fn is_known(key: &str, keys: &[&str]) -> bool {
 }
 
 /// Refuses a table with another key than these, by a rule.
-fn only_keys(table: &Table, keys: &[&str], rule: ConfigRule) -> Result<(), ConfigFault> {
+pub(crate) fn only_keys(table: &Table, keys: &[&str], rule: ConfigRule) -> Result<(), ConfigFault> {
     if table.keys().all(|key| is_known(key.as_str(), keys)) {
         Ok(())
     } else {
@@ -91,7 +91,11 @@ fn only_keys(table: &Table, keys: &[&str], rule: ConfigRule) -> Result<(), Confi
 }
 
 /// The text under a key.
-fn text<'a>(table: &'a Table, key: &str, rule: ConfigRule) -> Result<&'a str, ConfigFault> {
+pub(crate) fn text<'a>(
+    table: &'a Table,
+    key: &str,
+    rule: ConfigRule,
+) -> Result<&'a str, ConfigFault> {
     table
         .get(key)
         .and_then(Value::as_str)
@@ -135,11 +139,15 @@ fn read_token(
     Ok(token)
 }
 
-/// The GUID.
-fn read_guid(table: &Table) -> Result<[u8; 16], ConfigFault> {
-    match <[u8; 16] as FromHex>::from_hex(text(table, "guid", ConfigRule::Guid)?) {
-        Ok(guid) => Ok(guid),
-        Err(error) => Err(hex_fault(error, ConfigRule::Guid)),
+/// The 16 bytes that the hex under a key spells.
+pub(crate) fn read_sixteen(
+    table: &Table,
+    key: &str,
+    rule: ConfigRule,
+) -> Result<[u8; 16], ConfigFault> {
+    match <[u8; 16] as FromHex>::from_hex(text(table, key, rule)?) {
+        Ok(bytes) => Ok(bytes),
+        Err(error) => Err(hex_fault(error, rule)),
     }
 }
 
@@ -226,7 +234,7 @@ fn read_share(alloc: Global, table: &Table) -> Result<Config, ConfigFault>
     let mut config = kept(config, ConfigRule::Share)?;
     config.label = String::from_str(alloc, text(table, "label", ConfigRule::Label)?)?;
     let mut config = kept(config, ConfigRule::Label)?;
-    config.guid = read_guid(table)?;
+    config.guid = read_sixteen(table, "guid", ConfigRule::Guid)?;
     config.capacity = number(table, "capacity", ConfigRule::Capacity)?;
     let mut config = kept(config, ConfigRule::Capacity)?;
     config.created = number(table, "created", ConfigRule::Created)?;
@@ -239,18 +247,16 @@ fn line_at(document: &str, place: usize) -> usize {
     lines.count().saturating_add(1)
 }
 
-/// The table of a text, with no key that is not known.
-fn read_table(alloc: Global, document: &str) -> Result<Table, ConfigFault> {
-    let table = match toml::table_from_str(alloc, document) {
-        Ok(table) => table,
-        Err(error) if error.is_memory() => return Err(ConfigFault::NoMemory),
+/// The table of a text.
+pub(crate) fn read_table(alloc: Global, document: &str) -> Result<Table, ConfigFault> {
+    match toml::table_from_str(alloc, document) {
+        Ok(table) => Ok(table),
+        Err(error) if error.is_memory() => Err(ConfigFault::NoMemory),
         Err(error) => {
             let line = error.span().map(|span| line_at(document, span.start));
-            return Err(ConfigFault::Refused(ConfigRule::Toml(line)));
+            Err(ConfigFault::Refused(ConfigRule::Toml(line)))
         }
-    };
-    only_keys(&table, &KEYS, ConfigRule::Keys)?;
-    Ok(table)
+    }
 }
 
 impl Configuration {
@@ -260,6 +266,7 @@ impl Configuration {
         ensures lawful { IfOk result (λ read. is_lawful (settings_of read.config) ≡ true) }
     {
         let table = read_table(alloc, document)?;
+        only_keys(&table, &KEYS, ConfigRule::Keys)?;
         let config = read_share(alloc, &table)?;
         let hello = read_token(alloc, &table, "hello", ConfigRule::Hello)?;
         let guest = table

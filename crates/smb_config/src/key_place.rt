@@ -1,7 +1,9 @@
-//! Where a configuration breaks a rule: the line of the key, and what is there.
+//! Where a configuration or a file of accounts breaks a rule: the line of the key, and what is there.
 
+use crate::accounts::{ACCOUNT_KEYS, ACCOUNTS_KEYS};
 use crate::configuration::{BUILT_IN, KEYS, USER_KEYS, is_known};
 use crate::rule::ConfigRule;
+use smb_ntlm::AccountFault;
 use std::alloc::Global;
 use std::io;
 use std::io::Write;
@@ -13,11 +15,61 @@ const SHOWN: usize = 60;
 /// How many lines are looked at closely at most.
 const MOST_LOOKS: usize = 16;
 
-/// A part of a configuration: the keys before the first header, or those of the user of this number.
+/// A list of tables, of which each begins with a header.
+#[derive(Clone, Copy, Debug, PartialEq, Eq)]
+enum List {
+    Users,
+    Accounts,
+}
+
+impl List {
+    /// The name in the header, which is also the list's key.
+    fn name(self) -> &'static str {
+        match self {
+            List::Users => "user",
+            List::Accounts => "account",
+        }
+    }
+}
+
+/// A part of a text.
 #[derive(Clone, Copy, Debug, PartialEq, Eq)]
 enum Section {
+    /// The keys of a configuration before the first header.
     Share,
-    User(usize),
+    /// Those of a file of accounts.
+    Accounts,
+    /// The keys of the table of this number in a list, counted from 1.
+    Entry(List, usize),
+}
+
+impl Section {
+    /// The keys that it may have.
+    fn known_keys(self) -> &'static [&'static str] {
+        match self {
+            Section::Share => &KEYS,
+            Section::Accounts => &ACCOUNTS_KEYS,
+            Section::Entry(List::Users, _) => &USER_KEYS,
+            Section::Entry(List::Accounts, _) => &ACCOUNT_KEYS,
+        }
+    }
+
+    /// Whether the name of a key that is not known is shown. Of accounts it is not: it may be a hash.
+    fn shows_unknown(self) -> bool {
+        match self {
+            Section::Share | Section::Entry(List::Users, _) => true,
+            Section::Accounts | Section::Entry(List::Accounts, _) => false,
+        }
+    }
+
+    /// Whether the value of a key is shown: none in which a token or a hash may be.
+    fn shows(self, key: &str, value: &Value) -> bool {
+        match self {
+            Section::Share => key != List::Users.name(),
+            Section::Accounts => false,
+            Section::Entry(_, _) => key == "name" && value.is_str(),
+        }
+    }
 }
 
 /// A key in its line: the line's number, counted from 1, and the text behind the equals sign.
@@ -42,25 +94,27 @@ fn value_of<'a>(line: &'a str, key: &str) -> Option<&'a str> {
     }
 }
 
-/// Whether a line is the header of a user.
-fn begins_user(line: &str) -> bool {
+/// Whether a line is the header of a table of a list.
+fn begins_entry(line: &str, list: List) -> bool {
     let name = line
         .strip_prefix("[[")
         .and_then(|name| name.split_once("]]"));
     match name {
-        Some((name, _)) => bare(name) == "user",
+        Some((name, _)) => bare(name) == list.name(),
         None => false,
     }
 }
 
-/// Goes on behind a line: the section, and how many users have begun.
-fn go_on(line: &str, section: &mut Option<Section>, users: &mut usize) {
+/// Goes on behind a line: whether the next one is of the section, and how many tables of its list have begun.
+fn go_on(line: &str, section: Section, is_within: &mut bool, begun: &mut usize) {
     let line = line.trim();
-    if begins_user(line) {
-        *users = users.saturating_add(1);
-        *section = Some(Section::User(*users));
-    } else if line.starts_with('[') {
-        *section = None;
+    match section {
+        Section::Entry(list, number) if begins_entry(line, list) => {
+            *begun = begun.saturating_add(1);
+            *is_within = *begun == number;
+        }
+        _ if line.starts_with('[') => *is_within = false,
+        _ => {}
     }
 }
 
@@ -79,10 +133,10 @@ fn place_of<'a>(
     section: Section,
     key: &str,
 ) -> Option<Place<'a>> {
-    let (mut here, mut users) = (Some(Section::Share), 0usize);
+    let (mut is_within, mut begun) = (!matches!(&section, Section::Entry(_, _)), 0usize);
     let (mut begin, mut looks) = (0usize, 0usize);
     for (above, line) in document.split('\n').enumerate() {
-        if here == Some(section) && looks < MOST_LOOKS {
+        if is_within && looks < MOST_LOOKS {
             if let Some(value) = value_of(line, key) {
                 looks += 1;
                 if is_whole(alloc, document, begin) {
@@ -91,7 +145,7 @@ fn place_of<'a>(
                 }
             }
         }
-        go_on(line, &mut here, &mut users);
+        go_on(line, section, &mut is_within, &mut begun);
         begin = begin.saturating_add(line.len()).saturating_add(1);
     }
     None
@@ -133,10 +187,10 @@ fn write_value<W: Write>(value: &str, output: &mut W) -> io::Result<()> {
 /// The table of a section.
 fn table_of(table: &Table, section: Section) -> Option<&Table> {
     match section {
-        Section::Share => Some(table),
-        Section::User(number) => {
-            let users = table.get("user").and_then(Value::as_array)?;
-            users
+        Section::Share | Section::Accounts => Some(table),
+        Section::Entry(list, number) => {
+            let entries = table.get(list.name()).and_then(Value::as_array)?;
+            entries
                 .get(number.saturating_sub(1))
                 .and_then(Value::as_table)
         }
@@ -151,19 +205,20 @@ fn write_unknown<W: Write>(
     table: &Table,
     output: &mut W,
 ) -> io::Result<()> {
-    let known: &[&str] = match section {
-        Section::Share => &KEYS,
-        Section::User(_) => &USER_KEYS,
-    };
+    let known = section.known_keys();
     let Some(key) = table.keys().find(|key| !is_known(key.as_str(), known)) else {
         return Ok(());
     };
-    if let Some(place) = place_of(alloc, document, section, key.as_str()) {
-        write!(output, "; line {}: ", place.line)?;
-    } else {
-        write!(output, "; here: ")?;
+    match place_of(alloc, document, section, key.as_str()) {
+        Some(place) => write!(output, "; line {}", place.line)?,
+        None if section.shows_unknown() => write!(output, "; here")?,
+        None => {}
     }
-    write_shown(key.as_str(), output)
+    if section.shows_unknown() {
+        write!(output, ": ")?;
+        write_shown(key.as_str(), output)?;
+    }
+    Ok(())
 }
 
 /// Writes where a key is, and with what value; or that it is missing, and the value that it has where nothing else is wanted.
@@ -175,32 +230,65 @@ fn write_key<W: Write>(
     table: &Table,
     output: &mut W,
 ) -> io::Result<()> {
-    if table.get(key).is_none() {
+    let Some(found) = table.get(key) else {
         let usual = match section {
             Section::Share => place_of(alloc, BUILT_IN, section, key),
-            Section::User(_) => None,
+            Section::Accounts | Section::Entry(_, _) => None,
         };
         return match usual {
             Some(usual) => write!(output, "; missing, usually: {key} = {}", usual.value),
             None => write!(output, "; missing"),
         };
-    }
+    };
     let Some(place) = place_of(alloc, document, section, key) else {
         return Ok(());
     };
     write!(output, "; line {}", place.line)?;
-    if key != "token" {
+    if section.shows(key, found) {
         write!(output, ": ")?;
         write_value(place.value, output)?;
     }
     Ok(())
 }
 
+/// The number of the account that a fault is about, counted from 1.
+fn number_of(fault: AccountFault) -> usize {
+    match fault {
+        AccountFault::NameLength(place)
+        | AccountFault::NameCharacter(place)
+        | AccountFault::NameIsGuest(place)
+        | AccountFault::NameTaken(place) => place.saturating_add(1),
+    }
+}
+
+/// The section of the user of a number.
+fn user(number: usize) -> Section {
+    Section::Entry(List::Users, number)
+}
+
+/// The section of the account of a number.
+fn account(number: usize) -> Section {
+    Section::Entry(List::Accounts, number)
+}
+
+/// The same as [`subject_of`], of the rules of a file of accounts.
+fn account_subject_of(rule: ConfigRule) -> Option<(Section, Option<&'static str>)> {
+    match rule {
+        ConfigRule::AccountsKeys => Some((Section::Accounts, None)),
+        ConfigRule::Accounts => Some((Section::Accounts, Some("account"))),
+        ConfigRule::AccountKeys(number) => Some((account(number), None)),
+        ConfigRule::AccountName(number) => Some((account(number), Some("name"))),
+        ConfigRule::AccountHash(number) => Some((account(number), Some("nt_hash"))),
+        ConfigRule::OfAccount(fault) => Some((account(number_of(fault)), Some("name"))),
+        _ => None,
+    }
+}
+
 /// The section and the key that a rule is about; no key where it is about which keys there are. None where it is about the
 /// whole file.
 fn subject_of(rule: ConfigRule) -> Option<(Section, Option<&'static str>)> {
     match rule {
-        ConfigRule::Size | ConfigRule::Text | ConfigRule::Toml(_) => None,
+        ConfigRule::Size | ConfigRule::Text | ConfigRule::Toml(_) | ConfigRule::Mode => None,
         ConfigRule::Keys => Some((Section::Share, None)),
         ConfigRule::Share => Some((Section::Share, Some("share"))),
         ConfigRule::Label => Some((Section::Share, Some("label"))),
@@ -210,16 +298,18 @@ fn subject_of(rule: ConfigRule) -> Option<(Section, Option<&'static str>)> {
         ConfigRule::Hello => Some((Section::Share, Some("hello"))),
         ConfigRule::Guest => Some((Section::Share, Some("guest"))),
         ConfigRule::Users => Some((Section::Share, Some("user"))),
-        ConfigRule::UserKeys(number) => Some((Section::User(number), None)),
-        ConfigRule::UserName(number) => Some((Section::User(number), Some("name"))),
+        ConfigRule::UserKeys(number) => Some((user(number), None)),
+        ConfigRule::UserName(number) => Some((user(number), Some("name"))),
         ConfigRule::UserToken(number) | ConfigRule::OwnTokens(number) => {
-            Some((Section::User(number), Some("token")))
+            Some((user(number), Some("token")))
         }
+        _ => account_subject_of(rule),
     }
 }
 
-/// Writes, behind a rule, where a configuration breaks it, and the value that was found; of a token the place alone. Nothing
-/// where the place cannot be found. Each line that may have the key is looked at by a reading of all before it, at most 16.
+/// Writes, behind a rule, where a text breaks it, and the value that was found; of a token, of a hash and of a key of
+/// accounts that is not known the place alone. Nothing where the place cannot be found. Each line that may have the key
+/// is looked at by a reading of all before it, at most 16.
 pub fn write_place<W: Write>(
     alloc: Global,
     document: &str,
@@ -238,8 +328,8 @@ pub fn write_place<W: Write>(
     let Some(table) = table_of(&whole, section) else {
         return Ok(());
     };
-    if let Section::User(number) = section {
-        write!(output, "; user {number}")?;
+    if let Section::Entry(list, number) = section {
+        write!(output, "; {} {number}", list.name())?;
     }
     match key {
         Some(key) => write_key(alloc, document, section, key, table, output),

@@ -1,18 +1,20 @@
-//! The server's configuration: a TOML text that says what the share is and who may come in.
+//! The server's configuration, a TOML text that says what the share is and who may come in, and a text of accounts.
 //!
-//! [`read_config`] reads a file's text, [`Configuration::read`] the text; [`BUILT_IN`] is a text that is taken. Where one is
-//! refused, [`ConfigFault`] has the first [`ConfigRule`] that it breaks, and [`write_place`] writes where it breaks it, and
-//! what was found there; never of a token.
+//! [`read_config`] reads a file's text, [`Configuration::read`] or [`Accounts::read`] the text; [`BUILT_IN`] is a text
+//! that is taken. Where one is refused, [`ConfigFault`] has the first [`ConfigRule`] that it breaks, and
+//! [`write_place`] writes where it breaks it, and what was found there; never of a token or a hash.
 //!
-//! [`Configuration::read`] has a clause: the share's part of what it takes keeps the share's rules. Which rule is named, and
-//! where, is tested.
+//! [`Configuration::read`] has a clause: the share's part of what it takes keeps the share's rules. [`Accounts`] are
+//! those that a login may have, by their type. Which rule is named, and where, is tested.
 #![tactic(auto)]
 
+mod accounts;
 mod configuration;
 mod file;
 mod key_place;
 mod rule;
 
+pub use accounts::Accounts;
 pub use configuration::{BUILT_IN, ConfigFault, Configuration};
 pub use file::{CONFIG_LIMIT, read_config, read_past};
 pub use key_place::write_place;

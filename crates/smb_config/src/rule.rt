@@ -1,8 +1,9 @@
-//! The rules of a configuration's text, and their words.
+//! The rules of a text that a share is made by, a configuration or accounts, and their words.
 
+use smb_ntlm::AccountFault;
 use std::fmt;
 
-/// A rule of a configuration, by the key that it is about.
+/// A rule of a configuration, or of a file of accounts, by the key that it is about.
 #[derive(Clone, Copy, Debug, PartialEq, Eq)]
 pub enum ConfigRule {
     /// How long the file may be.
@@ -27,6 +28,18 @@ pub enum ConfigRule {
     UserToken(usize),
     /// No two users have one token; the later one has this number.
     OwnTokens(usize),
+    /// Nobody but its owner may read or write a file of accounts.
+    Mode,
+    /// Which keys a file of accounts has.
+    AccountsKeys,
+    Accounts,
+    /// Which keys the account of this number has; accounts are counted from 1.
+    AccountKeys(usize),
+    /// The name is a text.
+    AccountName(usize),
+    AccountHash(usize),
+    /// What a login asks of accounts' names; they are counted from 0.
+    OfAccount(AccountFault),
 }
 
 impl fmt::Display for ConfigRule {
@@ -59,6 +72,27 @@ impl ConfigRule {
             ConfigRule::UserName(_) => "user.name: a text of 1 to 256 bytes",
             ConfigRule::UserToken(_) => "user.token: at most 4096 bytes in hex, as a text",
             ConfigRule::OwnTokens(_) => "user.token: no two users have the same token",
+            ConfigRule::Mode => "file: no rights for anyone but its owner, such as mode 600",
+            ConfigRule::AccountsKeys => "keys: none but account",
+            ConfigRule::Accounts => "account: a table [[account]] for each account",
+            ConfigRule::AccountKeys(_) => "account: no keys but name and nt_hash",
+            ConfigRule::AccountName(_) => "account.name: a text",
+            ConfigRule::AccountHash(_) => "account.nt_hash: a text of 32 hex digits",
+            ConfigRule::OfAccount(fault) => name_text(fault),
+        }
+    }
+}
+
+/// What an account's name is to be.
+fn name_text(fault: AccountFault) -> &'static str {
+    match fault {
+        AccountFault::NameLength(_) => "account.name: 1 to 256 bytes",
+        AccountFault::NameCharacter(_) => "account.name: no character but those from blank to ~",
+        AccountFault::NameIsGuest(_) => {
+            "account.name: not guest, in any case, which is the name of guests"
+        }
+        AccountFault::NameTaken(_) => {
+            "account.name: no two accounts have the same name, in any case"
         }
     }
 }

@@ -42,6 +42,12 @@ pub enum CommandFault {
     /// The configuration breaks this rule; None where the share itself refuses it.
     #[error("config: refused")]
     ConfigRefused(Option<ConfigRule>),
+    /// The file of accounts cannot be opened or read, for a reason of this kind.
+    #[error("accounts: cannot be read")]
+    AccountsUnread(ErrorKind),
+    /// The accounts break this rule.
+    #[error("accounts: refused")]
+    AccountsRefused(ConfigRule),
     #[error("listen: failed")]
     ListenFailed(ListenFault),
     /// The system gave no random bytes for the logins of a served share.
@@ -75,6 +81,10 @@ pub struct Given<'a> {
     pub file: &'a str,
     /// The configuration's text.
     pub document: &'a str,
+    /// The name of the accounts' file, as it can be shown; empty where there is none.
+    pub accounts_file: &'a str,
+    /// The accounts' text; empty where there is none. Of its hashes nothing is printed.
+    pub accounts: &'a str,
     /// Where the share was to listen.
     pub address: &'a str,
 }
@@ -88,7 +98,28 @@ pub enum Detail<'a> {
     Explained(Given<'a>),
 }
 
+/// Writes the rule that a text breaks, and where, in one line.
+fn write_rule<E: Write>(
+    alloc: Global,
+    document: &str,
+    rule: ConfigRule,
+    errors: &mut E,
+) -> io::Result<()> {
+    write!(errors, "{rule}")?;
+    write_place(alloc, document, rule, errors)?;
+    writeln!(errors)
+}
+
 impl CommandFault {
+    /// What a fault of a file of accounts is to a command.
+    pub fn of_accounts(fault: ConfigFault) -> CommandFault {
+        match fault {
+            ConfigFault::Unread(reason) => CommandFault::AccountsUnread(reason),
+            ConfigFault::Refused(rule) => CommandFault::AccountsRefused(rule),
+            ConfigFault::NoMemory => CommandFault::NoMemory,
+        }
+    }
+
     /// The exit status: 3 for want of memory, else 1.
     pub fn status(self) -> u8 {
         match self {
@@ -99,15 +130,15 @@ impl CommandFault {
 
     /// Writes what was wrong, in one line, where there is more to say than the fault's own line.
     fn explain<E: Write>(self, alloc: Global, given: Given<'_>, errors: &mut E) -> io::Result<()> {
-        let (file, address) = (given.file, given.address);
+        let (file, accounts_file) = (given.file, given.accounts_file);
         match self {
             CommandFault::ConfigUnread(reason) => writeln!(errors, "{file}: {reason}"),
             CommandFault::ConfigRefused(Some(rule)) => {
-                write!(errors, "{rule}")?;
-                write_place(alloc, given.document, rule, errors)?;
-                writeln!(errors)
+                write_rule(alloc, given.document, rule, errors)
             }
-            CommandFault::ListenFailed(reason) => writeln!(errors, "{address}: {reason}"),
+            CommandFault::AccountsUnread(reason) => writeln!(errors, "{accounts_file}: {reason}"),
+            CommandFault::AccountsRefused(rule) => write_rule(alloc, given.accounts, rule, errors),
+            CommandFault::ListenFailed(reason) => writeln!(errors, "{}: {reason}", given.address),
             CommandFault::Unreadable(_, expected) => writeln!(errors, "{}", expected.text()),
             CommandFault::BadEvent(_, next) => {
                 let opened = next.saturating_sub(1);

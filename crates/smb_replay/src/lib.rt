@@ -1,10 +1,11 @@
-//! The replay of a text of events on a new share, and the listing of a client's stream: all that the program
-//! `smbshare` does, but for its command line and its files.
+//! The replay of a text of events on a new share, the listing of a client's stream, and the hash of a password: all
+//! that the program `smbshare` does, but for its command line, its files and its network.
 //!
 //! [`replay_text`] reads a configuration and a script, runs the script's events on a [`Share`](smb_engine::Share) and
-//! writes a line for each answer. [`show_text`] lists the requests of a stream, [`show_fields`] with their fields. All are
-//! over any reader and writers, and return an exit status. [`Detail`] is how much is written of a fault: with
-//! [`Detail::Explained`] why it came. The configuration is of the crate smb_config.
+//! writes a line for each answer; [`replay_on_share`] runs them on a share of the caller's. [`show_text`] lists the
+//! requests of a stream, [`show_fields`] with their fields. All are over any reader and writers, and return an exit
+//! status. [`Detail`] is how much is written of a fault: with [`Detail::Explained`] why it came. The configuration is
+//! of the crate smb_config.
 //!
 //! Inside the crate the listing of a stream and the events of a part of a text have clauses (`list_stream`,
 //! `Part::read`). All else that the public calls print and return is tested.
@@ -15,6 +16,7 @@ mod fault;
 mod fields;
 mod input;
 mod listing;
+mod password;
 mod replay;
 mod script;
 mod show;
@@ -22,6 +24,9 @@ mod show;
 pub use fault::{CommandFault, Detail, Given, ListenFault};
 pub use input::INPUT_LIMIT;
 pub use listing::show_fields;
-pub use replay::{new_plain_share, new_share, replay_in_detail, replay_plain_text, replay_text};
+pub use password::hash_password;
+pub use replay::{
+    new_plain_share, new_share, replay_in_detail, replay_on_share, replay_plain_text, replay_text,
+};
 pub use script::Expected;
 pub use show::show_text;

@@ -8,7 +8,7 @@ use crate::fault::{CommandFault, Detail};
 use crate::input::read_input;
 use crate::script::{Part, Script, Unread};
 use smb_config::Configuration;
-use smb_engine::{Answer, Event, RunFault, ServeFault, Share};
+use smb_engine::{Answer, Authenticator, Event, RunFault, ServeFault, Share};
 use smb_handles::HandleTable;
 use smb_nodes::NodeTree;
 use smb_opens::{Opens, PlainOpens};
@@ -22,7 +22,7 @@ use std::io::{Read, Write};
 const HEX_PART: usize = 512;
 
 /// Writes bytes as hex.
-fn write_hex<W: Write>(bytes: &[u8], output: &mut W) -> io::Result<()> {
+pub(crate) fn write_hex<W: Write>(bytes: &[u8], output: &mut W) -> io::Result<()> {
     let mut digits = [0u8; 1_024];
     for part in bytes.chunks(HEX_PART) {
         let length = 2 * part.len().min(HEX_PART);
@@ -166,9 +166,9 @@ impl<'a, E: Write> Beside<'a, E> {
 }
 
 /// Runs the events of a script on a share, and writes what it answers.
-fn run_script<T: Tree + Drop, O: Opens + Drop, W: Write, E: Write>(
+fn run_script<A: Authenticator + Drop, T: Tree + Drop, O: Opens + Drop, W: Write, E: Write>(
     alloc: Global,
-    share: &mut Share<Tokens, T, O>,
+    share: &mut Share<A, T, O>,
     script: &Script,
     output: &mut W,
     beside: &mut Beside<'_, E>,
@@ -189,9 +189,9 @@ fn run_script<T: Tree + Drop, O: Opens + Drop, W: Write, E: Write>(
 }
 
 /// Runs the events of a text on a share, part by part, and writes what it answers.
-fn run_text<T: Tree + Drop, O: Opens + Drop, W: Write, E: Write>(
+fn run_text<A: Authenticator + Drop, T: Tree + Drop, O: Opens + Drop, W: Write, E: Write>(
     alloc: Global,
-    share: &mut Share<Tokens, T, O>,
+    share: &mut Share<A, T, O>,
     text: &[u8],
     output: &mut W,
     beside: &mut Beside<'_, E>,
@@ -226,6 +226,18 @@ fn replay<R: Read + Drop, W: Write, E: Write>(
 ) -> Result<(), CommandFault> {
     let (configuration, text) = read_replay(alloc, config, input)?;
     let mut share = new_share(alloc, configuration)?;
+    run_text(alloc, &mut share, &text, output, &mut beside)
+}
+
+/// Replays a text on a share in which nothing has happened yet, and writes what the share answers.
+fn replay_on<A: Authenticator + Drop, R: Read + Drop, W: Write, E: Write>(
+    alloc: Global,
+    mut share: Share<A, NodeTree, HandleTable>,
+    input: R,
+    output: &mut W,
+    mut beside: Beside<'_, E>,
+) -> Result<(), CommandFault> {
+    let text = read_input(alloc, input)?;
     run_text(alloc, &mut share, &text, output, &mut beside)
 }
 
@@ -285,6 +297,20 @@ pub fn replay_in_detail<R: Read + Drop, W: Write, E: Write>(
 ) -> u8 {
     let beside = Beside::new(alloc, detail, errors);
     let replayed = replay(alloc, config, input, output, beside);
+    status_of(alloc, replayed, detail, errors)
+}
+
+/// The same on a share that the caller made, with an authenticator of its own, in which nothing has happened yet.
+pub fn replay_on_share<A: Authenticator + Drop, R: Read + Drop, W: Write, E: Write>(
+    alloc: Global,
+    share: Share<A, NodeTree, HandleTable>,
+    detail: Detail<'_>,
+    input: R,
+    output: &mut W,
+    errors: &mut E,
+) -> u8 {
+    let beside = Beside::new(alloc, detail, errors);
+    let replayed = replay_on(alloc, share, input, output, beside);
     status_of(alloc, replayed, detail, errors)
 }
 

@@ -1,6 +1,7 @@
 //! A file under a name that need not be text.
 
-use smb_config::ConfigFault;
+use crate::mode::is_private;
+use smb_config::{ConfigFault, ConfigRule};
 use std::io;
 use std::io::Read;
 
@@ -15,13 +16,23 @@ fn last_error() -> io::Error {
 }
 
 impl NamedFile {
-    /// Opens the file of a configuration.
+    /// Opens a file.
     pub fn open(name: &[u8]) -> Result<Self, ConfigFault> {
         let descriptor = os::open_read(name);
         if descriptor >= 0 {
             return Ok(NamedFile { descriptor });
         }
         Err(ConfigFault::from(last_error().kind()))
+    }
+
+    /// Opens a file that nobody but its owner has a right to; any other breaks [`ConfigRule::Mode`].
+    pub fn open_private(name: &[u8]) -> Result<Self, ConfigFault> {
+        let file = Self::open(name)?;
+        match is_private(file.descriptor) {
+            Some(true) => Ok(file),
+            Some(false) => Err(ConfigFault::Refused(ConfigRule::Mode)),
+            None => Err(ConfigFault::from(last_error().kind())),
+        }
     }
 }
 

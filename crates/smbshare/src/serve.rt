@@ -1,14 +1,13 @@
 //! The command `serve`: a share to clients over TCP.
 
-use crate::named_file::NamedFile;
+use crate::login::{Login, new_ntlm_share, read_accounts};
+use crate::texts::Texts;
 use mio::net::TcpListener;
 use smb_config::Configuration;
-use smb_engine::{Authenticator, HandleTable, NodeTree, ServeFault, Share, serve};
-use smb_ntlm::{Ntlm, account_fault};
+use smb_engine::{Authenticator, HandleTable, NodeTree, Share, serve};
 use smb_replay::{CommandFault, ListenFault, new_share};
 use smb_tcp::{SystemClock, TcpPeers};
-use std::alloc::Global;
-use std::io::{ErrorKind, Read};
+use std::io::ErrorKind;
 use std::net::SocketAddr;
 use std::time::Duration;
 use std::{io, net};
@@ -16,25 +15,11 @@ use std::{io, net};
 /// How many seconds a turn waits at most where no client has anything to say.
 const LONGEST_WAIT: u64 = 1;
 
-/// Where the system gives random bytes.
-const RANDOM: &[u8] = b"/dev/urandom";
-
-/// How clients log in.
-#[derive(Clone, Copy, Debug, PartialEq, Eq)]
-pub enum Login {
-    /// By one token, as the configuration's users have them.
-    Token,
-    /// By NTLM, a login of two messages. There are no accounts: guests come in, where the configuration lets them.
-    Ntlm,
-}
-
 /// What the words of the command say.
 #[derive(Drop)]
 pub struct ServeWords<'a> {
-    /// The text of the configuration.
-    pub config: &'a str,
-    /// Whether that is the one that is built in.
-    pub is_built_in: bool,
+    /// The texts of the files that they name.
+    pub texts: &'a Texts,
     pub login: Login,
     /// An IP address with a port.
     pub listen: &'a str,
@@ -70,18 +55,26 @@ const NOBODY: &str =
 const NO_TOKENS: &str =
     "login by NTLM: `hello` and the users' tokens of the configuration are not used; its `guest` says whether guests come in";
 
-/// Says on standard error where a listener is, with the port that the system gave for port 0, and who cannot come in.
+/// What is said where the challenges of NTLM come from a seed that was given.
+const SEED_IS_GIVEN: &str =
+    "login by NTLM: the challenges come from --seed, so a login that was seen once can be played again";
+
+/// Says on standard error where a listener is, with the port that the system gave for port 0, who cannot come in, and
+/// what is wrong with the challenges.
 fn announce(rt: &HostRuntime, listener: &net::TcpListener, words: &ServeWords<'_>) {
     if let Ok(address) = listener.local_addr() {
         let _ = eprintln!(rt; "listening on {address}");
     }
     match words.login {
-        Login::Token if words.is_built_in => {
+        Login::Token if words.texts.is_built_in => {
             let _ = eprintln!(rt; "{NOBODY}");
         }
         Login::Token => {}
-        Login::Ntlm => {
+        Login::Ntlm(seed) => {
             let _ = eprintln!(rt; "{NO_TOKENS}");
+            if seed.is_some() {
+                let _ = eprintln!(rt; "{SEED_IS_GIVEN}");
+            }
         }
     }
 }
@@ -103,41 +96,6 @@ fn peers<'a>(
     }
 }
 
-/// Fills a seed with random bytes of the system.
-fn fill_seed(seed: &mut [u8; 16]) -> Result<(), CommandFault> {
-    let Ok(mut file) = NamedFile::open(RANDOM) else {
-        return Err(CommandFault::SeedFailed);
-    };
-    match file.read_exact(seed) {
-        Ok(()) => Ok(()),
-        Err(_) => Err(CommandFault::SeedFailed),
-    }
-}
-
-/// A login by NTLM, with a seed of its own, and no accounts.
-fn new_ntlm(alloc: Global, guest: bool) -> Result<Ntlm, CommandFault> {
-    let mut seed = [0u8; 16];
-    fill_seed(&mut seed)?;
-    let accounts = Vec::new(alloc);
-    if account_fault(&accounts).is_some() {
-        return Err(CommandFault::SeedFailed);
-    }
-    Ok(Ntlm::new(alloc, seed, accounts, guest)?)
-}
-
-/// A new share of a configuration to which clients log in by NTLM.
-fn new_ntlm_share(
-    alloc: Global,
-    configuration: Configuration,
-) -> Result<Share<Ntlm, NodeTree, HandleTable>, CommandFault> {
-    let ntlm = new_ntlm(alloc, configuration.guest)?;
-    match Share::in_memory(alloc, configuration.config, ntlm) {
-        Ok(share) => Ok(share),
-        Err(ServeFault::NoMemory { done: _ }) => Err(CommandFault::NoMemory),
-        Err(_) => Err(CommandFault::ConfigRefused(None)),
-    }
-}
-
 /// Serves a share, for so many turns.
 fn serve_share_of<A: Authenticator + Drop>(
     rt: &HostRuntime,
@@ -154,15 +112,18 @@ fn serve_share_of<A: Authenticator + Drop>(
 
 /// Serves a new share of a configuration, for so many turns.
 pub fn serve_share(rt: &HostRuntime, words: &ServeWords<'_>) -> Result<(), CommandFault> {
-    let configuration = Configuration::read(rt.alloc(), words.config)?;
-    let listener = listen(rt, words.listen)?;
+    let alloc = rt.alloc();
+    let configuration = Configuration::read(alloc, words.texts.config.as_str())?;
     match words.login {
         Login::Token => {
-            let share = new_share(rt.alloc(), configuration)?;
+            let listener = listen(rt, words.listen)?;
+            let share = new_share(alloc, configuration)?;
             serve_share_of(rt, words, listener, share)
         }
-        Login::Ntlm => {
-            let share = new_ntlm_share(rt.alloc(), configuration)?;
+        Login::Ntlm(seed) => {
+            let accounts = read_accounts(alloc, words.texts.accounts())?;
+            let listener = listen(rt, words.listen)?;
+            let share = new_ntlm_share(alloc, configuration, accounts, seed)?;
             serve_share_of(rt, words, listener, share)
         }
     }

@@ -1,0 +1,177 @@
+//! The words that the command line may have.
+
+use clap::builder::ValueParser;
+use clap::{Arg, ArgAction, Command};
+use std::alloc::{AllocError, Global};
+
+/// The end of the program's help.
+const HELP: &str =
+    "Built in, where no configuration is given: the share `data` with room for 64 MiB, and one user, `ann`,
+whose token is 61 in hex, the letter `a`; guests are not let in. A token is the whole security buffer of a
+SESSION_SETUP and no password: no client of Samba's sends `a`, so serve with --config guest.toml.
+
+Who has an account logs in by NTLM, with a password that nt-hash makes a hash of for the file of accounts.
+
+Examples:
+  smbshare replay --explain < examples/two_clients
+  smbshare serve --listen 127.0.0.1:4450 --config guest.toml --login ntlm
+  smbshare serve --listen 127.0.0.1:4450 --login ntlm --accounts accounts.toml
+  printf %s Password | smbshare nt-hash
+  echo 00000044fe534d42 | smbshare show
+
+With --explain, and always on a terminal, `replay` and `serve` say in a second line what is wrong: of a
+configuration the key, the line and the value, of accounts never a hash, of an address the system's reason, of a
+line what was expected. A replay then says by which rule the share ended a connection.";
+
+/// The end of the help of `replay`.
+const REPLAY_HELP: &str = "Example:
+  smbshare replay --config share.toml --explain < examples/two_clients
+
+By NTLM the challenges come from --seed, so that each run of one text answers the same.";
+
+/// The end of the help of `serve`.
+const SERVE_HELP: &str =
+    "Examples, of a share that lets guests in, and of one that lets in who has an account:
+  smbshare serve --listen 127.0.0.1:4450 --config guest.toml --login ntlm
+  smbshare serve --listen 127.0.0.1:4450 --login ntlm --accounts accounts.toml
+
+A file of accounts has a table for each, and nobody but its owner has a right to it (chmod 600):
+  [[account]]
+  name = \"ann\"
+  nt_hash = \"a4f49c406510bdcab6824ee7c30fd852\"";
+
+/// The end of the help of `nt-hash`.
+const NT_HASH_HELP: &str =
+    "The password is all of standard input, in UTF-8, but for one line feed at its end. Who has its hash can log in.
+
+Example:
+  printf %s Password | smbshare nt-hash";
+
+/// The end of the help of `show`.
+const SHOW_HELP: &str = "No share is made, so nothing is built in.
+
+Examples, of a frame that ends too early, and of what a replay answers:
+  echo 00000044fe534d42 | smbshare show
+  smbshare replay < examples/two_clients | smbshare show --fields";
+
+/// The option for a configuration.
+fn config_option<'a>(alloc: Global) -> Arg<'a> {
+    Arg::new(alloc, "config")
+        .long("config")
+        .value_name("FILE")
+        .help(
+            "The configuration, a TOML file of at most 1 MiB [default: a share `data` of 64 MiB, the user `ann` with the token 61, no guests]",
+        )
+}
+
+/// The option for more words on a fault.
+fn explain_option<'a>(alloc: Global) -> Arg<'a> {
+    Arg::new(alloc, "explain")
+        .long("explain")
+        .action(ArgAction::SetTrue)
+        .help(
+            "Says in a second line what is wrong, and in a replay by which rule a connection was ended; always so on a terminal",
+        )
+}
+
+/// The option for how clients log in.
+fn login_option<'a>(alloc: Global) -> Arg<'a> {
+    Arg::new(alloc, "login")
+        .long("login")
+        .value_name("HOW")
+        .value_parser(ValueParser::Names(&["token", "ntlm"]))
+        .help(
+            "How clients log in: by a token of the configuration, or by NTLM as an account or a guest [default: token]",
+        )
+}
+
+/// The option for accounts.
+fn accounts_option<'a>(alloc: Global) -> Arg<'a> {
+    Arg::new(alloc, "accounts")
+        .long("accounts")
+        .value_name("FILE")
+        .help(
+            "Who may log in by NTLM, a TOML file of at most 1 MiB, its owner's alone [default: guests alone]",
+        )
+}
+
+/// The option for a seed.
+fn seed_option<'a>(alloc: Global) -> Arg<'a> {
+    Arg::new(alloc, "seed").long("seed").value_name("HEX").help(
+        "The seed of NTLM's challenges, 32 hex digits, for tests [default, of `serve` alone: the system's]",
+    )
+}
+
+/// The command that serves.
+fn serve_command<'a>(alloc: Global) -> Result<Command<'a>, AllocError> {
+    let listen = Arg::new(alloc, "listen")
+        .long("listen")
+        .value_name("ADDR")
+        .required(true)
+        .help(
+            "The IP address and port to listen on, such as 127.0.0.1:4450; port 0 for a free one",
+        );
+    let turns = Arg::new(alloc, "turns")
+        .long("turns")
+        .value_name("N")
+        .value_parser(ValueParser::Unsigned(1, u64::MAX))
+        .help("How many turns to serve [default: until it is ended]");
+    let idle = Arg::new(alloc, "idle")
+        .long("idle")
+        .value_name("SECONDS")
+        .value_parser(ValueParser::Unsigned(0, u64::MAX))
+        .help("After how long a client is gone that says nothing, 0 for never [default: 3600]");
+    Command::new(alloc, "serve")
+        .about("Serves a new share over TCP")
+        .after_help(SERVE_HELP)
+        .arg(config_option(alloc))?
+        .arg(explain_option(alloc))?
+        .arg(listen)?
+        .arg(login_option(alloc))?
+        .arg(accounts_option(alloc))?
+        .arg(seed_option(alloc))?
+        .arg(turns)?
+        .arg(idle)
+}
+
+/// The command that replays.
+fn replay_command<'a>(alloc: Global) -> Result<Command<'a>, AllocError> {
+    let seed = seed_option(alloc).required_if_eq("login", "ntlm")?;
+    Command::new(alloc, "replay")
+        .about("Replays the events of standard input on a new share, and prints what it answers")
+        .after_help(REPLAY_HELP)
+        .arg(config_option(alloc))?
+        .arg(explain_option(alloc))?
+        .arg(login_option(alloc))?
+        .arg(accounts_option(alloc))?
+        .arg(seed)
+}
+
+/// The command that lists requests.
+fn show_command<'a>(alloc: Global) -> Result<Command<'a>, AllocError> {
+    let fields = Arg::new(alloc, "fields")
+        .long("fields")
+        .action(ArgAction::SetTrue)
+        .help(
+            "Shows the fields of each request; or, of a replay's output, the status of each reply",
+        );
+    Command::new(alloc, "show")
+        .about("Lists the requests of a client's stream, hex on standard input")
+        .after_help(SHOW_HELP)
+        .arg(fields)
+}
+
+/// The command line.
+pub fn command<'a>(alloc: Global) -> Result<Command<'a>, AllocError> {
+    let nt_hash = Command::new(alloc, "nt-hash")
+        .about("Prints the NT hash of the password on standard input, for a file of accounts")
+        .after_help(NT_HASH_HELP);
+    Command::new(alloc, "smbshare")
+        .version("0.1.0")
+        .about("A proved SMB2 file share. Without a command it replays standard input.")
+        .after_help(HELP)
+        .subcommand(replay_command(alloc)?)?
+        .subcommand(serve_command(alloc)?)?
+        .subcommand(show_command(alloc)?)?
+        .subcommand(nt_hash)
+}

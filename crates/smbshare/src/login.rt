@@ -1,0 +1,98 @@
+//! How clients log in to a share.
+
+use crate::named_file::NamedFile;
+use clap::ArgMatches;
+use hex::FromHex;
+use smb_config::{Accounts, Configuration};
+use smb_engine::{HandleTable, NodeTree, ServeFault, Share};
+use smb_ntlm::Ntlm;
+use smb_replay::CommandFault;
+use std::alloc::Global;
+use std::io::Read;
+
+/// Where the system gives random bytes.
+const RANDOM: &[u8] = b"/dev/urandom";
+
+/// How clients log in.
+#[derive(Clone, Copy)]
+pub enum Login {
+    /// By one token, as the configuration's users have them.
+    Token,
+    /// By NTLM, a login of two messages, whose challenges come from this seed, or from one of the system's.
+    Ntlm(Option<[u8; 16]>),
+}
+
+/// The seed that the words give.
+fn seed_of(words: &ArgMatches<'_>) -> Result<Option<[u8; 16]>, &'static str> {
+    let Some(digits) = words.get_str("seed") else {
+        return Ok(None);
+    };
+    match <[u8; 16] as FromHex>::from_hex(digits) {
+        Ok(seed) => Ok(Some(seed)),
+        Err(_) => Err("the value of --seed is not 32 hex digits"),
+    }
+}
+
+impl Login {
+    /// How the words of a command say that clients log in; where words do not go together, what is wrong with them.
+    pub fn of(words: &ArgMatches<'_>) -> Result<Login, &'static str> {
+        let seed = seed_of(words)?;
+        if words.get_str("login") == Some("ntlm") {
+            return Ok(Login::Ntlm(seed));
+        }
+        if seed.is_some() || words.get_str("accounts").is_some() {
+            return Err("--accounts and --seed are only taken with --login ntlm");
+        }
+        Ok(Login::Token)
+    }
+}
+
+/// The accounts of a text; none where there is no text.
+pub fn read_accounts(alloc: Global, text: Option<&str>) -> Result<Accounts, CommandFault> {
+    match text {
+        Some(text) => Accounts::read(alloc, text).map_err(CommandFault::of_accounts),
+        None => Ok(Accounts::none(alloc)),
+    }
+}
+
+/// A seed of random bytes of the system.
+fn random_seed() -> Result<[u8; 16], CommandFault> {
+    let mut seed = [0u8; 16];
+    let Ok(mut file) = NamedFile::open(RANDOM) else {
+        return Err(CommandFault::SeedFailed);
+    };
+    match file.read_exact(&mut seed) {
+        Ok(()) => Ok(seed),
+        Err(_) => Err(CommandFault::SeedFailed),
+    }
+}
+
+/// A login by NTLM, with a seed of the system's where none is given.
+fn new_ntlm(
+    alloc: Global,
+    accounts: Accounts,
+    seed: Option<[u8; 16]>,
+    guest: bool,
+) -> Result<Ntlm, CommandFault> {
+    let seed = match seed {
+        Some(seed) => seed,
+        None => random_seed()?,
+    };
+    Ok(Ntlm::new(alloc, seed, accounts.list, guest)?)
+}
+
+/// A new share of a configuration to which clients log in by NTLM: as an account, or as a guest where the configuration
+/// lets guests in.
+pub fn new_ntlm_share(
+    alloc: Global,
+    configuration: Configuration,
+    accounts: Accounts,
+    seed: Option<[u8; 16]>,
+) -> Result<Share<Ntlm, NodeTree, HandleTable>, CommandFault> {
+    let ntlm = new_ntlm(alloc, accounts, seed, configuration.guest)?;
+    match Share::in_memory(alloc, configuration.config, ntlm) {
+        Ok(share) => Ok(share),
+        Err(ServeFault::NoMemory { done: _ }) => Err(CommandFault::NoMemory),
+        Err(_) => Err(CommandFault::ConfigRefused(None)),
+    }
+}

@@ -1,0 +1,162 @@
+"""What the program says of what it refuses, for the tests of tools/program.py: of configurations, accounts and lines,
+and of streams that the share ends."""
+import struct
+
+SHARE_RULE = 'share: a text of 1 to 80 characters from ! to ~, none of them one of " * / : < > ? \\ |'
+TOKEN_RULE = 'user.token: at most 4096 bytes in hex, as a text'
+
+# A text of the example, another in its place, and what is said of it.
+BROKEN = (
+    ('share = "data"', 'share = ""', f'{SHARE_RULE}; line 2: ""'),
+    ('share = "data"', 'share = "a:b"', f'{SHARE_RULE}; line 2: "a:b"'),
+    ('share = "data"', "'share' = 'a:b'", f"{SHARE_RULE}; line 2: 'a:b'"),
+    ('share = "data"', 'share = 1', f'{SHARE_RULE}; line 2: 1'),
+    ('share = "data"', f'share = "{"s" * 81}"', f'{SHARE_RULE}; line 2: "{"s" * 60}.."'),
+    ('label = "DATA"', 'label = "\\t"',
+     'label: a text of at most 32 characters from blank to ~; line 3: "\\t"'),
+    ('label = "DATA"', '',
+     'label: a text of at most 32 characters from blank to ~; missing, usually: label = "DATA"'),
+    ('guid = "00', 'guid = "0',
+     'guid: a text of 32 hex digits; line 4: "00102030405060708090a0b0c0d0e0f"'),
+    ('guid = "000102030405060708090a0b0c0d0e0f"', '',
+     'guid: a text of 32 hex digits; missing, usually: guid = "000102030405060708090a0b0c0d0e0f"'),
+    ('guid = "0', 'grid = "0', 'keys: none but share, label, guid, capacity, created, hello, guest and user; line 4: grid'),
+    ('capacity = 67108864', 'capacity = 4097',
+     'capacity: a multiple of 4096 from 4096 to 67108864; line 5: 4097'),
+    ('capacity = 67108864', 'capacity = -1',
+     'capacity: a multiple of 4096 from 4096 to 67108864; line 5: -1'),
+    ('capacity = 67108864', '',
+     'capacity: a multiple of 4096 from 4096 to 67108864; missing, usually: capacity = 67108864'),
+    ('created = 116444736000000000', 'created = -1',
+     'created: a number of 0 or more, in units of 100 ns since 1601; line 6: -1'),
+    ('created = 116444736000000000', '',
+     'created: a number of 0 or more, in units of 100 ns since 1601; missing, usually: created = 116444736000000000'),
+    ('hello = ""', 'hello = "0"', 'hello: at most 4096 bytes in hex, as a text; line 7: "0"'),
+    ('hello = ""', '', 'hello: at most 4096 bytes in hex, as a text; missing, usually: hello = ""'),
+    ('hello = ""', f'hello = "{"00" * 4097}"',
+     f'hello: at most 4096 bytes in hex, as a text; line 7: "{"0" * 60}.."'),
+    ('guest = false', 'guest = 0', 'guest: true or false; line 8: 0'),
+    ('guest = false', '', 'guest: true or false; missing, usually: guest = false'),
+    ('guest = false', 'guest = false\nother = 1',
+     'keys: none but share, label, guid, capacity, created, hello, guest and user; line 9: other'),
+    ('guest = false', 'guest', 'file: a text in TOML, no key given twice; line 8'),
+    ('guest = false', 'guest = false\nguest = false', 'file: a text in TOML, no key given twice; line 9'),
+    ('label = "DATA"', 'label = """\nlabel = 1"""\nlabel = 3', 'file: a text in TOML, no key given twice; line 5'),
+    ('label = "DATA"', 'other = """\ncapacity = 1"""', 'keys: none but share, label, guid, capacity, created, '
+     'hello, guest and user; line 3: other'),
+    ('capacity = 67108864', 'label2 = """\nhello = 1"""', 'keys: none but share, label, guid, capacity, created, '
+     'hello, guest and user; line 5: label2'),
+    ('[[user]]', '[user]', 'user: a table [[user]] for each user'),
+    ('name = "ann"', 'name = ""', 'user.name: a text of 1 to 256 bytes; user 1; line 11: ""'),
+    ('name = "ann"', '', 'user.name: a text of 1 to 256 bytes; user 1; missing'),
+    ('token = "61"', 'token = "6"', f'{TOKEN_RULE}; user 1; line 12'),
+    ('token = "61"', '', f'{TOKEN_RULE}; user 1; missing'),
+    ('token = "61"', 'token = "61"\nother = 1', 'user: no keys but name and token; user 1; line 13: other'),
+    ('token = "61"', 'token = "61"\n[[user]]\nname = "bob"\ntoken = "61"',
+     'user.token: no two users have the same token; user 2; line 15'),
+)
+# The NT hash of `Password` ([MS-NLMP] 4.2.2.1.2), and a file of two accounts with it.
+HASH = 'a4f49c406510bdcab6824ee7c30fd852'
+ACCOUNTS = f"""# who may log in
+[[account]]
+name = "ann"
+nt_hash = "{HASH}"
+
+[[account]]
+name = "bob"    # with the same password
+nt_hash = "{HASH.upper()}"
+"""
+HASH_RULE = 'account.nt_hash: a text of 32 hex digits'
+LENGTH_RULE, CHARACTER_RULE = 'account.name: 1 to 256 bytes', 'account.name: no character but those from blank to ~'
+GUEST_RULE = 'account.name: not guest, in any case, which is the name of guests'
+TAKEN_RULE = 'account.name: no two accounts have the same name, in any case'
+
+# A text of these accounts, another in its place, and what is said of it.
+BROKEN_ACCOUNTS = (
+    ('# who may', 'other = 1 # who may', 'keys: none but account; line 1'),
+    ('# who may', f'{HASH} = "ann" # who may', 'keys: none but account; line 1'),
+    ('# who may', 'account = 1\n#', 'file: a text in TOML, no key given twice; line 3'),
+    (ACCOUNTS, 'account = 1', 'account: a table [[account]] for each account; line 1'),
+    (ACCOUNTS, f'account = "{HASH}"', 'account: a table [[account]] for each account; line 1'),
+    (ACCOUNTS, f'account = [{{name = "a", nt_hash = "{HASH}"}}, 1]',
+     'account: a table [[account]] for each account; line 1'),
+    ('name = "ann"', 'readonly = true\nname = "ann"', 'account: no keys but name and nt_hash; account 1; line 3'),
+    ('name = "bob"', f'{HASH} = 1 #', 'account: no keys but name and nt_hash; account 2; line 7'),
+    ('name = "ann"', '', 'account.name: a text; account 1; missing'),
+    ('name = "ann"', 'name = 1', 'account.name: a text; account 1; line 3'),
+    ('name = "ann"', f'name = {{nt_hash = "{HASH}"}}', 'account.name: a text; account 1; line 3'),
+    (f'"{HASH}"', f'"{HASH}0"', f'{HASH_RULE}; account 1; line 4'),
+    (f'"{HASH}"', f'"{HASH[:-1]}x"', f'{HASH_RULE}; account 1; line 4'),
+    (f'"{HASH.upper()}"', '', 'file: a text in TOML, no key given twice; line 8'),
+    (f'nt_hash = "{HASH.upper()}"', '', f'{HASH_RULE}; account 2; missing'),
+    (f'"{HASH.upper()}"', '16', f'{HASH_RULE}; account 2; line 8'),
+    ('name = "ann"', 'name = ""', f'{LENGTH_RULE}; account 1; line 3: ""'),
+    ('name = "bob"', f'name = "{"b" * 257}"', f'{LENGTH_RULE}; account 2; line 7: "{"b" * 60}.."'),
+    ('name = "bob"', 'name = "b\u00f6b"', f'{CHARACTER_RULE}; account 2; line 7: "b\u00f6b"'),
+    ('name = "bob"', 'name = "b\\tb"', f'{CHARACTER_RULE}; account 2; line 7: "b\\tb"'),
+    ('name = "bob"', "name = 'Guest'", f"{GUEST_RULE}; account 2; line 7: 'Guest'"),
+    ('name = "bob"', 'name = "ANN"', f'{TAKEN_RULE}; account 2; line 7: "ANN"'),
+)
+# A line that cannot be read, and how what is said of it begins.
+UNREADABLE = (
+    (b'+ x', b'+ N: '), (b'+1', b'+ N: '), (b'- ', b'- N: '), (b'> 1 0', b'> N MOMENT HEX: '),
+    (b'> 1 0 8', b'> N MOMENT HEX: '), (b'>', b'> N MOMENT HEX: '), (b'?', b'a line that is empty'),
+)
+# A text whose last line is a bad event, and what is said of it.
+BAD_EVENTS = (
+    (b'+ 2\n', 'the next to open is 1, and 0 were opened before'),
+    (b'+ 1\n- 1\n+ 1\n', 'the next to open is 2, and 1 were opened before'),
+    (b'+ 1\n+ 2\n> 3 0 00\n', 'the next to open is 3, and 2 were opened before'),
+    (b'+ 1\n' + 100 * b'- 1\n' + b'+ 2\n- 3\n', 'the next to open is 3, and 2 were opened before'),
+)
+
+
+def request(message_id, command=13, flags=0, next_command=0, body=bytes([4, 0, 0, 0]), size=64):
+    """A request, an ECHO unless it is said otherwise."""
+    head = (b'\xfeSMB', size, 0, 0, command, 1, flags, next_command, message_id, 0, 0, 0, b'')
+    return struct.pack('<4sHHIHHIIQIIQ16s', *head) + body
+
+
+def frame(payload):
+    return struct.pack('>I', len(payload)) + payload
+
+
+def chain(*message_ids):
+    """A payload of ECHOs."""
+    parts = [request(number, next_command=72) + bytes(4) for number in message_ids[:-1]]
+    return b''.join(parts) + request(message_ids[-1])
+
+
+def smb1(texts):
+    listed = b''.join(b'\x02' + text + b'\0' for text in texts)
+    return b'\xffSMB\x72' + bytes(28) + struct.pack('<H', len(listed)) + listed
+
+
+def session_setup_body(token):
+    return struct.pack('<HBBIIHHQ', 25, 0, 1, 0, 0, 64 + 24, len(token), 0) + token
+
+
+NEGOTIATE = request(0, command=0, body=struct.pack('<HHHHI16sQH', 36, 1, 1, 0, 0, b'', 0, 0x0210))
+# The last frame of a stream that the share ends, those before it, and the rule by which it does.
+ENDINGS = (
+    (b'\x85', (), "F1: a frame's first byte is not 0"),
+    (bytes([0, 2, 0, 1]), (), 'F2: a frame is longer than 131072 bytes'),
+    (frame(bytes(63)), (), 'H1: fewer than 64 bytes are left for a header'),
+    (frame(bytes(64)), (), 'H2: ProtocolId is not 0xFE and the letters SMB'),
+    (frame(request(0, size=65)), (), "H3: the header's StructureSize is not 64"),
+    (frame(request(1, next_command=4)), (NEGOTIATE,), 'H4: NextCommand is neither 0 nor the place of a next header'),
+    (frame(chain(*range(1, 18))), (NEGOTIATE,), 'H5: another request follows the 16th'),
+    (frame(request(1, flags=1)), (NEGOTIATE,), 'H6: SERVER_TO_REDIR is set, as in a reply'),
+    (frame(request(1, flags=4)), (NEGOTIATE,), 'H7: the first request is related to the one before it'),
+    (frame(request(0)), (), 'NEGOTIATE: before a dialect is agreed on, a chain has to be one NEGOTIATE alone'),
+    (frame(NEGOTIATE), (NEGOTIATE,), 'NEGOTIATE: a dialect is agreed on already'),
+    (frame(request(1)), (NEGOTIATE, request(1)), 'window: MessageId 1 is not in the window'),
+    (frame(chain(1, 1)), (NEGOTIATE,), 'window: two requests of a chain have one MessageId'),
+    (frame(smb1([b'SMB 2.002'])), (NEGOTIATE,), 'SMB_COM_NEGOTIATE: it is not the first payload'),
+    (frame(smb1([b'NT LM 0.12'])), (), 'SMB_COM_NEGOTIATE: it lists neither SMB 2.002 nor SMB 2.???'),
+    (frame(smb1([b'SMB 2.002'])[:-1]), (), 'SMB_COM_NEGOTIATE: its bytes are no list of dialects'),
+    (frame(request(1)), (smb1([b'SMB 2.???']),),
+     'NEGOTIATE: before a dialect is agreed on, a chain has to be one NEGOTIATE alone'),
+    (frame(request(3)), (smb1([b'SMB 2.002']), request(1), request(1, command=12)),
+     'window: MessageId 3 is not in the window'),
+)
