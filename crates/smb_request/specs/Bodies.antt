@@ -6,7 +6,6 @@ use Rattle.smb_body.specs.Replies.{ReplyValue, answers_error, answers_session_se
 use Rattle.smb_body.specs.QueryDirectory.{query_directory_asked}
 use Rattle.smb_access.specs.Opens.{open_of}
 use Rattle.smb_session.specs.Authenticator.{Meaning}
-use Rattle.smb_wire.specs.NtStatus.{STATUS_SUCCESS}
 use Rattle.smb_wire.specs.Dialects.{revision_of}
 use Rattle.smb_opens.specs.Bytes.{part_bytes}
 use Rattle.smb_request.specs.declared.call.Call.{Call}
