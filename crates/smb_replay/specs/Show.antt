@@ -17,7 +17,7 @@ use Rattle.smb_head.specs.Faults.{fault_number}
 use Rattle.smb_head.specs.Headers.{header_of}
 use Rattle.smb_body.specs.Requests.{request_of}
 use Rattle.smb_body.specs.Smb1.{smb1_of}
-use Rattle.smb_engine.specs.Stream.{longest_payload}
+use Rattle.smb_wire.specs.Limits.{longest_payload}
 use Rattle.smb_replay.specs.declared.show.Listing.{Listing}
 
 -- ASCII white space: blank, tab, line feed, form feed, carriage return

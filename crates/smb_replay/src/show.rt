@@ -5,7 +5,7 @@ ghost use Rattle.std.specs.List.{filter};
 ghost use Rattle.std.specs.Option.{option_map};
 ghost use Rattle.smb_head.specs.Headers.{header_of};
 ghost use Rattle.smb_body.specs.Requests.{request_of};
-ghost use Rattle.smb_engine.specs.Stream.{longest_payload};
+ghost use Rattle.smb_wire.specs.Limits.{longest_payload};
 ghost use Rattle.smb_replay.specs.Show.{is_white, stream_of, command_name, called, line_end, request_line, request_lines, payload_lines, frame_fault_number, rest_lines, show_of, listing_text};
 
 use crate::fault::{CommandFault, Detail};

@@ -168,7 +168,7 @@ fn run_with_share(
     words: &ArgMatches<'_>,
     login: Login,
 ) -> ExitCode {
-    let texts = match Texts::read(rt.alloc(), line, words) {
+    let texts = match Texts::read(rt, line, words) {
         Ok(texts) => texts,
         Err(fault) => return report(rt, fault, detail_of(rt, words, None)),
     };

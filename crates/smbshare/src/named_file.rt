@@ -26,12 +26,12 @@ impl NamedFile {
     }
 
     /// Opens a file that nobody but its owner has a right to; any other breaks [`ConfigRule::Mode`].
-    pub fn open_private(name: &[u8]) -> Result<Self, ConfigFault> {
+    pub fn open_private(rt: &HostRuntime, name: &[u8]) -> Result<Self, ConfigFault> {
         let file = Self::open(name)?;
-        match is_private(file.descriptor) {
-            Some(true) => Ok(file),
-            Some(false) => Err(ConfigFault::Refused(ConfigRule::Mode)),
-            None => Err(ConfigFault::from(last_error().kind())),
+        match is_private(rt, file.descriptor) {
+            Ok(true) => Ok(file),
+            Ok(false) => Err(ConfigFault::Refused(ConfigRule::Mode)),
+            Err(error) => Err(ConfigFault::from(error.kind())),
         }
     }
 }

@@ -30,8 +30,8 @@ fn name_of<'a>(
 }
 
 /// The text of a file of accounts, which nobody but its owner has a right to.
-fn accounts_text(alloc: Global, name: &[u8]) -> Result<String, ConfigFault> {
-    read_config(alloc, NamedFile::open_private(name)?)
+fn accounts_text(rt: &HostRuntime, name: &[u8]) -> Result<String, ConfigFault> {
+    read_config(rt.alloc(), NamedFile::open_private(rt, name)?)
 }
 
 impl Texts {
@@ -46,17 +46,17 @@ impl Texts {
 
     /// The texts of the files that the words name; of the configuration the built-in one where they name none.
     pub fn read(
-        alloc: Global,
+        rt: &HostRuntime,
         line: &CommandLine,
         words: &ArgMatches<'_>,
     ) -> Result<Self, CommandFault> {
-        let mut texts = Texts::built_in(alloc)?;
+        let mut texts = Texts::built_in(rt.alloc())?;
         if let Some(name) = name_of(line, words, FileOption::Config) {
-            texts.config = read_config(alloc, NamedFile::open(name)?)?;
+            texts.config = read_config(rt.alloc(), NamedFile::open(name)?)?;
             texts.is_built_in = false;
         }
         if let Some(name) = name_of(line, words, FileOption::Accounts) {
-            let accounts = accounts_text(alloc, name).map_err(CommandFault::of_accounts)?;
+            let accounts = accounts_text(rt, name).map_err(CommandFault::of_accounts)?;
             texts.accounts = Some(accounts);
         }
         Ok(texts)

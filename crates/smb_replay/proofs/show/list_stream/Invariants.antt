@@ -1,6 +1,6 @@
 use Rattle.std.proofs.Common.{◌≡◌, ◌+◌, ◌≤◌, length}
 use Rattle.std.specs.Prelude.{string_bytes}
-use Rattle.smb_engine.specs.Stream.{longest_payload}
+use Rattle.smb_wire.specs.Limits.{longest_payload}
 use Rattle.smb_replay.specs.Show.{then_lines, good_lines, show_of}
 use Rattle.smb_replay.proofs.Shows.{lines_of_held}
 use Rattle.smb_replay.proofs.show.list_stream.Given as goal
