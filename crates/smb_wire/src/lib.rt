@@ -20,7 +20,7 @@
 //! What a number on the wire means has a type here, one for each meaning, which every crate above uses: [`Command`],
 //! [`Dialect`], [`Access`], [`ShareAccess`], [`CreateOptions`], [`CreateDisposition`], [`CreateAction`],
 //! [`FileAttributes`], [`LockFlags`], [`QueryDirectoryFlags`], [`FileId`]; [`nt_status`] is the one list of statuses. Their numbers stand in
-//! `specs/` by the standard's names. [`limits`] has those of messages, clients and files.
+//! `specs/` by the standard's names. [`limits`] has the limits of messages, clients and files.
 #![tactic(auto)]
 
 mod access;
