@@ -5,7 +5,8 @@ use Rattle.std.specs.Option.{is_none, is_some}
 use Rattle.smb_wire.specs.Access.{has_any}
 use Rattle.smb_wire.specs.Attributes.{FILE_ATTRIBUTE_READONLY}
 use Rattle.smb_wire.specs.Dispositions.{overwrites_by, must_exist_by, must_be_new_by}
-use Rattle.smb_wire.specs.NtStatus.{STATUS_INVALID_PARAMETER, STATUS_NOT_SUPPORTED, STATUS_OBJECT_NAME_INVALID, STATUS_ACCESS_DENIED, STATUS_OBJECT_PATH_NOT_FOUND, STATUS_DELETE_PENDING, STATUS_OBJECT_NAME_NOT_FOUND, STATUS_OBJECT_NAME_COLLISION, STATUS_FILE_IS_A_DIRECTORY, STATUS_NOT_A_DIRECTORY, STATUS_CANNOT_DELETE, STATUS_SHARING_VIOLATION, STATUS_TOO_MANY_OPENED_FILES, STATUS_DISK_FULL}
+use Rattle.smb_wire.specs.declared.nt_status.NtStatus.TheVariants.{InvalidParameter, NotSupported, ObjectNameInvalid, AccessDenied, ObjectPathNotFound, DeletePending, ObjectNameNotFound, ObjectNameCollision, FileIsADirectory, NotADirectory, CannotDelete, SharingViolation, TooManyOpenedFiles, DiskFull}
+use Rattle.smb_wire.specs.NtStatus.{status_code}
 use Rattle.smb_wire.specs.Paths.{is_separator, path_fault}
 use Rattle.smb_tree.specs.Entries.{Entry, is_folder_kind}
 use Rattle.smb_access.specs.declared.open_row.OpenRow.{OpenRow}
@@ -55,57 +56,57 @@ target_conflicts opens ask (Some target) = has_conflict opens target.number (use
 -- the first five rows, which need the request alone
 abbrev pub asked_rows : FileAsked → List StatusRow
 asked_rows ask =
-    (nat_lt 5 ask.disposition, STATUS_INVALID_PARAMETER)
-    ∷ (asks_folder ask && (asks_file ask || overwrites_by ask.disposition), STATUS_INVALID_PARAMETER)
-    ∷ (is_separator (slice_index ask.name 0), STATUS_INVALID_PARAMETER)
-    ∷ (asks_by_number ask, STATUS_NOT_SUPPORTED)
-    ∷ (is_some (path_fault ask.name), STATUS_OBJECT_NAME_INVALID)
+    (nat_lt 5 ask.disposition, InvalidParameter)
+    ∷ (asks_folder ask && (asks_file ask || overwrites_by ask.disposition), InvalidParameter)
+    ∷ (is_separator (slice_index ask.name 0), InvalidParameter)
+    ∷ (asks_by_number ask, NotSupported)
+    ∷ (is_some (path_fault ask.name), ObjectNameInvalid)
     ∷ []
 
 -- rows 6 to 10: whether an entry may be there
 abbrev pub place_rows : FileAsked → CreateLookup → List StatusRow
 place_rows ask found = (
   is_bad_access ask.access || asks_delete ask && not (is_deleting (granted ask.access (is_read_only_target found.target))),
-  STATUS_ACCESS_DENIED,
+  AccessDenied,
 )
-    ∷ (not found.reached, STATUS_OBJECT_PATH_NOT_FOUND)
-    ∷ (found.pending, STATUS_DELETE_PENDING)
-    ∷ (is_none found.target && must_exist_by ask.disposition, STATUS_OBJECT_NAME_NOT_FOUND)
-    ∷ (is_some found.target && must_be_new_by ask.disposition, STATUS_OBJECT_NAME_COLLISION)
+    ∷ (not found.reached, ObjectPathNotFound)
+    ∷ (found.pending, DeletePending)
+    ∷ (is_none found.target && must_exist_by ask.disposition, ObjectNameNotFound)
+    ∷ (is_some found.target && must_be_new_by ask.disposition, ObjectNameCollision)
     ∷ []
 
 -- rows 11 to 14: whether what is asked for suits the entry
 abbrev pub kind_rows : FileAsked → Option Target → List StatusRow
 kind_rows ask target =
-    (is_folder_target target && (asks_file ask || overwrites_by ask.disposition), STATUS_FILE_IS_A_DIRECTORY)
-    ∷ (is_file_target target && asks_folder ask, STATUS_NOT_A_DIRECTORY)
+    (is_folder_target target && (asks_file ask || overwrites_by ask.disposition), FileIsADirectory)
+    ∷ (is_file_target target && asks_folder ask, NotADirectory)
     ∷ (
       is_read_only_target target
           && (overwrites_by ask.disposition || is_writing (granted ask.access (is_read_only_target target))),
-      STATUS_ACCESS_DENIED,
+      AccessDenied,
     )
     ∷ (
       asks_delete ask && (is_root_target target || is_read_only_target target || target_becomes_read_only ask target),
-      STATUS_CANNOT_DELETE,
+      CannotDelete,
     )
     ∷ []
 
 -- rows 16 and 17: whether there is room
 abbrev pub room_rows : CreateLookup → List StatusRow
 room_rows found =
-    (found.opens_full, STATUS_TOO_MANY_OPENED_FILES)
-    ∷ (is_none found.target && found.entries_full, STATUS_DISK_FULL)
+    (found.opens_full, TooManyOpenedFiles)
+    ∷ (is_none found.target && found.entries_full, DiskFull)
     ∷ []
 
 -- rows 6 to 17, by what was found and the opens
 abbrev pub found_rows : List OpenRow → FileAsked → CreateLookup → List StatusRow
 found_rows opens ask found =
     place_rows ask found
-    ++ (kind_rows ask found.target ++ ((target_conflicts opens ask found.target, STATUS_SHARING_VIOLATION) ∷ room_rows found))
+    ++ (kind_rows ask found.target ++ ((target_conflicts opens ask found.target, SharingViolation) ∷ room_rows found))
 
 -- a refusal of the tree, as the store tells it
 abbrev pub refusal_of : TreeFault → StoreFault
-refusal_of Full = Status STATUS_DISK_FULL
+refusal_of Full = Status (status_code DiskFull)
 refusal_of Absent = NoRoom
 refusal_of ParentAbsent = NoRoom
 refusal_of Exists = NoRoom

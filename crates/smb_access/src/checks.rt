@@ -6,7 +6,6 @@ ghost use Rattle.smb_wire.specs.PathViews.{parts_of};
 ghost use Rattle.smb_wire.specs.Units.{units_of};
 ghost use Rattle.smb_access.specs.Asked.{asked, asks_folder, asks_file, asks_by_number, asks_delete, asks_read_only};
 ghost use Rattle.smb_wire.specs.Dispositions.{disposition_code};
-ghost use Rattle.smb_wire.specs.NtStatus.{STATUS_SUCCESS};
 ghost use Rattle.smb_access.specs.Access.{is_bad_access, is_deleting, granted};
 ghost use Rattle.smb_access.specs.StatusRows.{StatusRow, first_status};
 ghost use Rattle.smb_access.specs.Looked.{asked_rows, place_rows, kind_rows, room_rows, is_file_target, is_folder_target, is_read_only_target, is_marked_target, is_root_target, target_becomes_read_only};
@@ -15,14 +14,9 @@ use super::access::{granted, is_bad_access, is_deleting, is_writing};
 use super::ask::CreateAsk;
 use super::found::{CreateLookup, ROOT, Target};
 use bitflags::Flags;
-use smb_wire::nt_status::{
-    STATUS_ACCESS_DENIED, STATUS_CANNOT_DELETE, STATUS_DELETE_PENDING, STATUS_DISK_FULL,
-    STATUS_FILE_IS_A_DIRECTORY, STATUS_INVALID_PARAMETER, STATUS_NOT_A_DIRECTORY,
-    STATUS_NOT_SUPPORTED, STATUS_OBJECT_NAME_COLLISION, STATUS_OBJECT_NAME_INVALID,
-    STATUS_OBJECT_NAME_NOT_FOUND, STATUS_OBJECT_PATH_NOT_FOUND, STATUS_SUCCESS,
-    STATUS_TOO_MANY_OPENED_FILES,
+use smb_wire::{
+    CreateDisposition, CreateOptions, FileAttributes, NtStatus, PathView, Units, split_path,
 };
-use smb_wire::{CreateDisposition, CreateOptions, FileAttributes, PathView, Units, split_path};
 
 const SEPARATOR: u16 = 0x5C;
 
@@ -145,29 +139,29 @@ fn target_becomes_read_only(
 }
 
 /// The disposition and the path that a request names, or the status that answers it whatever stands.
-pub fn asked_path<'a>(ask: &CreateAsk<'a>) -> Result<(CreateDisposition, PathView<'a>), u32>
+pub fn asked_path<'a>(ask: &CreateAsk<'a>) -> Result<(CreateDisposition, PathView<'a>), NtStatus>
     ensures disposition { IfOk result (λ pair. disposition_code pair.0 ≡ ask.now.disposition.0) }
     ensures path { IfOk result (λ pair. parts_of pair.1 ≡ path_spelled (units_of ask.now.name)) }
     ensures fault { OnOk result (path_fault (units_of ask.now.name) ≡ None) }
     ensures lawful { OnOk result ((rows : List StatusRow) → first_status (asked_rows (asked ask.now) ++ rows) ≡ first_status rows) }
     ensures err { IfErr result (λ status. (rows : List StatusRow) → first_status (asked_rows (asked ask.now) ++ rows) ≡ status) }
-    ensures refused { IfErr result (λ status. status ≢ STATUS_SUCCESS) }
+    ensures refused { IfErr result (λ status. status ≢ NtStatus.Success) }
 {
     let Some(disposition) = ask.disposition.known() else {
-        return Err(STATUS_INVALID_PARAMETER);
+        return Err(NtStatus::InvalidParameter);
     };
     if asks_folder(ask) && (asks_file(ask) || disposition.overwrites()) {
-        return Err(STATUS_INVALID_PARAMETER);
+        return Err(NtStatus::InvalidParameter);
     }
     if begins_with_separator(ask.name) {
-        return Err(STATUS_INVALID_PARAMETER);
+        return Err(NtStatus::InvalidParameter);
     }
     if asks_by_number(ask) {
-        return Err(STATUS_NOT_SUPPORTED);
+        return Err(NtStatus::NotSupported);
     }
     match split_path(ask.name) {
         Ok(path) => Ok((disposition, path)),
-        Err(_) => Err(STATUS_OBJECT_NAME_INVALID),
+        Err(_) => Err(NtStatus::ObjectNameInvalid),
     }
 }
 
@@ -186,26 +180,27 @@ pub fn check_place(
     ask: &CreateAsk<'_>,
     disposition: CreateDisposition,
     found: &CreateLookup,
-) -> Result<(), u32>
+) -> Result<(), NtStatus>
     requires { disposition_code disposition ≡ ask.now.disposition.0 }
     ensures lawful { OnOk result ((rows : List StatusRow) → first_status (place_rows (asked ask.now) found.now ++ rows) ≡ first_status rows) }
     ensures err { IfErr result (λ status. (rows : List StatusRow) → first_status (place_rows (asked ask.now) found.now ++ rows) ≡ status) }
+    ensures refused { IfErr result (λ status. status ≢ NtStatus.Success) }
 {
     let exists = found.target.is_some();
     if is_denied(ask, &found.target) {
-        return Err(STATUS_ACCESS_DENIED);
+        return Err(NtStatus::AccessDenied);
     }
     if !found.reached {
-        return Err(STATUS_OBJECT_PATH_NOT_FOUND);
+        return Err(NtStatus::ObjectPathNotFound);
     }
     if found.pending {
-        return Err(STATUS_DELETE_PENDING);
+        return Err(NtStatus::DeletePending);
     }
     if !exists && disposition.must_exist() {
-        return Err(STATUS_OBJECT_NAME_NOT_FOUND);
+        return Err(NtStatus::ObjectNameNotFound);
     }
     if exists && disposition.must_be_new() {
-        return Err(STATUS_OBJECT_NAME_COLLISION);
+        return Err(NtStatus::ObjectNameCollision);
     }
     Ok(())
 }
@@ -215,41 +210,44 @@ pub fn check_kind(
     ask: &CreateAsk<'_>,
     disposition: CreateDisposition,
     target: &Option<Target>,
-) -> Result<(), u32>
+) -> Result<(), NtStatus>
     requires { disposition_code disposition ≡ ask.now.disposition.0 }
     ensures lawful { OnOk result ((rows : List StatusRow) → first_status (kind_rows (asked ask.now) target.now ++ rows) ≡ first_status rows) }
     ensures err { IfErr result (λ status. (rows : List StatusRow) → first_status (kind_rows (asked ask.now) target.now ++ rows) ≡ status) }
+    ensures refused { IfErr result (λ status. status ≢ NtStatus.Success) }
 {
     let overwrites = disposition.overwrites();
     let read_only = is_read_only_target(target);
     if is_folder_target(target) && (asks_file(ask) || overwrites) {
-        return Err(STATUS_FILE_IS_A_DIRECTORY);
+        return Err(NtStatus::FileIsADirectory);
     }
     if is_file_target(target) && asks_folder(ask) {
-        return Err(STATUS_NOT_A_DIRECTORY);
+        return Err(NtStatus::NotADirectory);
     }
     if read_only && (overwrites || is_writing(granted(ask.access, read_only))) {
-        return Err(STATUS_ACCESS_DENIED);
+        return Err(NtStatus::AccessDenied);
     }
     if asks_delete(ask)
         && (is_root_target(target)
             || read_only
             || target_becomes_read_only(ask, disposition, target))
     {
-        return Err(STATUS_CANNOT_DELETE);
+        return Err(NtStatus::CannotDelete);
     }
     Ok(())
 }
 
-/// The status of a request by whether there is room.
-pub fn room_status(found: &CreateLookup) -> u32
-    ensures { result ≡ first_status (room_rows found.now) }
+/// Whether there is room for what a request asks for, or the status that answers it.
+pub fn check_room(found: &CreateLookup) -> Result<(), NtStatus>
+    ensures lawful { OnOk result (first_status (room_rows found.now) ≡ NtStatus.Success) }
+    ensures err { IfErr result (λ status. first_status (room_rows found.now) ≡ status) }
+    ensures refused { IfErr result (λ status. status ≢ NtStatus.Success) }
 {
     if found.opens_full {
-        return STATUS_TOO_MANY_OPENED_FILES;
+        return Err(NtStatus::TooManyOpenedFiles);
     }
     if found.target.is_none() && found.entries_full {
-        return STATUS_DISK_FULL;
+        return Err(NtStatus::DiskFull);
     }
-    STATUS_SUCCESS
+    Ok(())
 }

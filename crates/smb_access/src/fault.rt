@@ -2,10 +2,11 @@
 
 ghost use Rattle.std.specs.Prelude.{◌≡◌};
 ghost use Rattle.smb_access.specs.Looked.{refusal_of};
-ghost use Rattle.smb_access.specs.declared.fault.StoreFault.TheVariants.{NoMemory};
+ghost use Rattle.smb_access.specs.declared.fault.StoreFault.TheVariants.{NoMemory, Status};
+ghost use Rattle.smb_wire.specs.NtStatus.{status_code};
 
 use smb_tree::TreeFault;
-use smb_wire::nt_status::STATUS_DISK_FULL;
+use smb_wire::NtStatus;
 use std::alloc::AllocError;
 use thiserror::Error;
 
@@ -28,13 +29,26 @@ impl From<AllocError> for StoreFault {
     }
 }
 
+impl From<NtStatus> for StoreFault {
+    ghost from_gives = { λ status fault. fault ≡ Status (status_code status) };
+
+    fn from(status: NtStatus) -> StoreFault {
+        StoreFault::Status(status.code())
+    }
+}
+
 /// What a tree's refusal is to a store. A store asks a tree for nothing that is refused for other reasons than want of room
 /// and of memory.
 pub fn refusal_of(refusal: TreeFault) -> StoreFault
     ensures { result ≡ refusal_of refusal }
 {
     match refusal {
-        TreeFault::Full => StoreFault::Status(STATUS_DISK_FULL),
-        _ => StoreFault::NoMemory,
+        TreeFault::Full => StoreFault::from(NtStatus::DiskFull),
+        TreeFault::Absent
+        | TreeFault::Exists
+        | TreeFault::ParentAbsent
+        | TreeFault::NotEmpty
+        | TreeFault::TooDeep
+        | TreeFault::NoMemory => StoreFault::NoMemory,
     }
 }

@@ -17,7 +17,7 @@ use Rattle.smb_body.specs.declared.smb1.Smb1Dialects.{Smb1Dialects}
 use Rattle.smb_session.specs.Window.{first_window, may_use, without_ids, credits_granted, with_more}
 use Rattle.smb_session.specs.Authenticator.{Meaning}
 use Rattle.smb_request.specs.declared.context.Context.{Context}
-use Rattle.smb_request.specs.Status.{status_code}
+use Rattle.smb_wire.specs.NtStatus.{status_code}
 use Rattle.smb_request.specs.Negotiate.{negotiate_answer}
 use Rattle.smb_request.specs.Smb1.{answer_to_smb1, reply_to_smb1}
 use Rattle.smb_request.specs.Context.{first_context}

@@ -83,4 +83,4 @@ pub use smb_opens::{Opens, PlainOpens};
 pub use smb_request::Config;
 pub use smb_session::{Authenticator, Tokens, User};
 pub use smb_tree::{PlainTree, Tree, TreeFault};
-pub use smb_wire::nt_status;
+pub use smb_wire::NtStatus;

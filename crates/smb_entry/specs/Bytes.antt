@@ -2,7 +2,7 @@
 use Rattle.std.specs.Prelude.{ℕ, ◌+◌, ◌-◌, ◌||◌, ◌&&◌, Bool, not, min, nat_lt, nat_le, List, [], ◌∷◌, length}
 use Rattle.smb_wire.specs.Limits.{most_file_bytes}
 use Rattle.smb_wire.specs.Access.{has_any, FILE_WRITE_DATA}
-use Rattle.smb_wire.specs.NtStatus.{STATUS_INVALID_PARAMETER, STATUS_INVALID_DEVICE_REQUEST, STATUS_ACCESS_DENIED, STATUS_END_OF_FILE, STATUS_FILE_LOCK_CONFLICT, STATUS_DISK_FULL}
+use Rattle.smb_wire.specs.declared.nt_status.NtStatus.TheVariants.{InvalidParameter, InvalidDeviceRequest, AccessDenied, EndOfFile, FileLockConflict, DiskFull}
 use Rattle.smb_tree.specs.declared.entry.Basic.{Basic}
 use Rattle.smb_tree.specs.Entries.{Entry, is_folder_kind, kept_basic}
 use Rattle.smb_tree.specs.Content.{Content, changed, used_space, written, with_bytes}
@@ -21,17 +21,17 @@ bytes_there size offset count = min count (size - offset)
 abbrev pub read_rows : ℕ → View → Bool → ℕ → ℕ → ℕ → List StatusRow
 read_rows most view is_barred offset count minimum =
     -- 1. more is asked for than one request reads ([MS-SMB2] 3.3.5.12)
-    (nat_lt most count, STATUS_INVALID_PARAMETER)
+    (nat_lt most count, InvalidParameter)
     -- 2. the entry is a folder ([MS-FSA] 2.1.5.2)
-    ∷ (is_folder_kind view.kind, STATUS_INVALID_DEVICE_REQUEST)
+    ∷ (is_folder_kind view.kind, InvalidDeviceRequest)
     -- 3. the open was granted neither FILE_READ_DATA nor FILE_EXECUTE ([MS-SMB2] 3.3.5.12)
-    ∷ (not (is_reading view.access), STATUS_ACCESS_DENIED)
+    ∷ (not (is_reading view.access), AccessDenied)
     -- 4. another open's exclusive lock overlaps the range that is asked for ([MS-FSA] 2.1.5.2)
-    ∷ (is_barred, STATUS_FILE_LOCK_CONFLICT)
+    ∷ (is_barred, FileLockConflict)
     -- 5. bytes are asked for behind the last one, or fewer are there than the request wants at least ([MS-SMB2] 3.3.5.12)
     ∷ (
       nat_lt 0 count && nat_le view.size offset || nat_lt (bytes_there view.size offset count) minimum,
-      STATUS_END_OF_FILE,
+      EndOfFile,
     )
     ∷ []
 
@@ -51,15 +51,15 @@ may_not_write view offset =
 abbrev pub write_rows : ℕ → View → Bool → ℕ → ℕ → Bool → List StatusRow
 write_rows most view is_barred offset count is_full =
     -- 1. more is given than one request writes ([MS-SMB2] 3.3.5.13)
-    (nat_lt most count, STATUS_INVALID_PARAMETER)
+    (nat_lt most count, InvalidParameter)
     -- 2. the entry is a folder ([MS-FSA] 2.1.5.3)
-    ∷ (is_folder_kind view.kind, STATUS_INVALID_DEVICE_REQUEST)
+    ∷ (is_folder_kind view.kind, InvalidDeviceRequest)
     -- 3. the open may not write there ([MS-SMB2] 3.3.5.13)
-    ∷ (may_not_write view offset, STATUS_ACCESS_DENIED)
+    ∷ (may_not_write view offset, AccessDenied)
     -- 4. another open's lock, or a shared one of its own, overlaps the range ([MS-FSA] 2.1.5.3)
-    ∷ (is_barred, STATUS_FILE_LOCK_CONFLICT)
+    ∷ (is_barred, FileLockConflict)
     -- 5. there are bytes, and no room for them ([MS-FSA] 2.1.5.3)
-    ∷ (nat_lt 0 count && is_full, STATUS_DISK_FULL)
+    ∷ (nat_lt 0 count && is_full, DiskFull)
     ∷ []
 
 -- there is no room for these bytes at an offset of a file: it would be longer than 16,777,216 bytes, or the space that

@@ -2,7 +2,7 @@
 use Rattle.std.specs.Prelude.{ℕ, ◌==◌, ◌||◌, ◌&&◌, Bool, false, not, List, [], ◌∷◌, length, slice_index, Option, None, Some, is_some}
 use Rattle.std.specs.List.{list_any}
 use Rattle.std.specs.Option.{option_map_or}
-use Rattle.smb_wire.specs.NtStatus.{STATUS_SUCCESS, STATUS_INVALID_PARAMETER, STATUS_OBJECT_NAME_INVALID, STATUS_ACCESS_DENIED, STATUS_DELETE_PENDING, STATUS_OBJECT_PATH_NOT_FOUND, STATUS_OBJECT_NAME_COLLISION}
+use Rattle.smb_wire.specs.declared.nt_status.NtStatus.TheVariants.{Success, InvalidParameter, ObjectNameInvalid, AccessDenied, DeletePending, ObjectPathNotFound, ObjectNameCollision}
 use Rattle.smb_wire.specs.Paths.{is_separator, path_spelled, path_fault, folded_path}
 use Rattle.smb_tree.specs.declared.entry.Basic.{Basic}
 use Rattle.smb_tree.specs.Entries.{Entry, is_folder_kind, kept_basic}
@@ -45,29 +45,29 @@ is_not_replaced opens (Some entry) =
 abbrev pub rename_rows : List Row → List OpenRow → View → List ℕ → Bool → Path → Path → List StatusRow
 rename_rows rows opens view name replace from to =
     -- 1. the name is empty, or begins with a separator ([MS-FSCC] 2.4.42)
-    (length name == 0 || is_separator (slice_index name 0), STATUS_INVALID_PARAMETER)
+    (length name == 0 || is_separator (slice_index name 0), InvalidParameter)
     -- 2. the name is no path ([MS-FSCC] 2.1.5, [MS-FSA] 2.1.5.15.11)
-    ∷ (is_some (path_fault name), STATUS_OBJECT_NAME_INVALID)
+    ∷ (is_some (path_fault name), ObjectNameInvalid)
     -- 3. the open was not granted DELETE, or the entry is the root ([MS-FSA] 2.1.5.15.11)
-    ∷ (not (is_deleting view.access) || view.entry == 1, STATUS_ACCESS_DENIED)
+    ∷ (not (is_deleting view.access) || view.entry == 1, AccessDenied)
     -- 4. the entry is marked, so it is about to be deleted ([MS-FSA] 2.1.5.15.11)
-    ∷ (view.mark, STATUS_DELETE_PENDING)
+    ∷ (view.mark, DeletePending)
     -- 5. the new path lies beneath the entry ([MS-FSA] 2.1.5.15.11)
-    ∷ (is_beneath from to, STATUS_INVALID_PARAMETER)
+    ∷ (is_beneath from to, InvalidParameter)
     -- 6. an entry above the new path is absent, or a file ([MS-FSA] 2.1.5.15.11)
-    ∷ (not (is_reached rows to), STATUS_OBJECT_PATH_NOT_FOUND)
+    ∷ (not (is_reached rows to), ObjectPathNotFound)
     -- 7. the new path is the old one, but for how it is spelled: nothing more is asked ([MS-FSA] 2.1.5.15.11)
-    ∷ (is_same_path from to, STATUS_SUCCESS)
+    ∷ (is_same_path from to, Success)
     -- 8. the entry is a folder, and an entry beneath it has an open ([MS-FSA] 2.1.5.15.11)
-    ∷ (is_folder_kind view.kind && has_open_beneath rows opens from, STATUS_ACCESS_DENIED)
+    ∷ (is_folder_kind view.kind && has_open_beneath rows opens from, AccessDenied)
     -- 9. the entry at the new path, or its folder, is marked ([MS-FSA] 2.1.5.15.11)
-    ∷ (is_pending rows to, STATUS_DELETE_PENDING)
+    ∷ (is_pending rows to, DeletePending)
     -- 10. an entry exists at the new path, and ReplaceIfExists is not set ([MS-FSCC] 2.4.42)
-    ∷ (is_some (entry_at rows to) && not replace, STATUS_OBJECT_NAME_COLLISION)
+    ∷ (is_some (entry_at rows to) && not replace, ObjectNameCollision)
     -- 11. it is a folder, a read-only file, or has an open ([MS-FSA] 2.1.5.15.11)
-    ∷ (is_not_replaced opens (entry_at rows to), STATUS_ACCESS_DENIED)
+    ∷ (is_not_replaced opens (entry_at rows to), AccessDenied)
     -- 12. a path would have more than 32 components ([MS-FSCC] 2.1.5)
-    ∷ (would_be_too_deep rows from to, STATUS_OBJECT_NAME_INVALID)
+    ∷ (would_be_too_deep rows from to, ObjectNameInvalid)
     ∷ []
 
 -- an entry's time of the last change becomes the moment; of the attributes a tree keeps four ([MS-FSCC] 2.6)

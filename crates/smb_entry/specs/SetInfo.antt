@@ -4,7 +4,7 @@ use Rattle.std.specs.Option.{option_map_or}
 use Rattle.smb_wire.specs.Limits.{most_file_bytes}
 use Rattle.smb_wire.specs.Access.{has_any, FILE_WRITE_DATA}
 use Rattle.smb_wire.specs.Attributes.{FILE_ATTRIBUTE_READONLY, FILE_ATTRIBUTE_DIRECTORY}
-use Rattle.smb_wire.specs.NtStatus.{STATUS_INVALID_PARAMETER, STATUS_ACCESS_DENIED, STATUS_CANNOT_DELETE, STATUS_DIRECTORY_NOT_EMPTY, STATUS_DISK_FULL}
+use Rattle.smb_wire.specs.declared.nt_status.NtStatus.TheVariants.{InvalidParameter, AccessDenied, CannotDelete, DirectoryNotEmpty, DiskFull}
 use Rattle.smb_tree.specs.declared.entry.Basic.{Basic}
 use Rattle.smb_tree.specs.Children.{has_children}
 use Rattle.smb_tree.specs.Content.{Row, Content, numbered, changed, resized, used_space, with_size}
@@ -33,16 +33,16 @@ has_entries rows number = option_map_or (λ row. has_children rows row.0) (numbe
 abbrev pub mark_rows : View → Bool → List StatusRow
 mark_rows view is_occupied =
     -- 2. it is the root, or a read-only file ([MS-FSA] 2.1.5.15.3)
-    (view.entry == 1 || shows_read_only_file view, STATUS_CANNOT_DELETE)
+    (view.entry == 1 || shows_read_only_file view, CannotDelete)
     -- 3. it is a folder in which entries are ([MS-FSA] 2.1.5.15.3)
-    ∷ (is_occupied, STATUS_DIRECTORY_NOT_EMPTY)
+    ∷ (is_occupied, DirectoryNotEmpty)
     ∷ []
 
 -- the rows, whether the entry is to be deleted or no longer is: then the first alone
 abbrev pub delete_rows : View → Bool → Bool → List StatusRow
 delete_rows view is_occupied is_deleted =
     -- 1. the open was not granted DELETE ([MS-FSA] 2.1.5.15.3)
-    (not (is_deleting view.access), STATUS_ACCESS_DENIED)
+    (not (is_deleting view.access), AccessDenied)
     ∷ (if is_deleted then mark_rows view is_occupied else [])
 
 -- an entry marked, or its mark taken away; what its opens are to delete when they are closed is left
@@ -61,11 +61,11 @@ has_no_space tree entry size =
 abbrev pub size_rows : View → Bool → List StatusRow
 size_rows view is_full =
     -- 1. the entry is a folder ([MS-FSA] 2.1.5.15.1, 2.1.5.15.4)
-    (is_folder_kind view.kind, STATUS_INVALID_PARAMETER)
+    (is_folder_kind view.kind, InvalidParameter)
     -- 2. the open was not granted FILE_WRITE_DATA ([MS-FSA] 2.1.5.15.1, 2.1.5.15.4)
-    ∷ (not (has_any view.access.0 FILE_WRITE_DATA), STATUS_ACCESS_DENIED)
+    ∷ (not (has_any view.access.0 FILE_WRITE_DATA), AccessDenied)
     -- 3. there is no room for a file of this size ([MS-FSA] 2.1.5.15.1, 2.1.5.15.4)
-    ∷ (is_full, STATUS_DISK_FULL)
+    ∷ (is_full, DiskFull)
     ∷ []
 
 -- a file with this size at a moment: its bytes are cut, or have zeros behind them; the times of the last write and change
@@ -103,10 +103,10 @@ basic_rows view ask =
     -- 1. what is asked for is no time, or a file is to have FILE_ATTRIBUTE_DIRECTORY ([MS-FSCC] 2.4.7, [MS-FSA] 2.1.5.15.2)
     (
       has_bad_time ask || not (is_folder_kind view.kind) && has_any ask.attributes.0 FILE_ATTRIBUTE_DIRECTORY,
-      STATUS_INVALID_PARAMETER,
+      InvalidParameter,
     )
     -- 2. the open was not granted FILE_WRITE_ATTRIBUTES ([MS-FSA] 2.1.5.15.2)
-    ∷ (not (is_writing_attributes view.access), STATUS_ACCESS_DENIED)
+    ∷ (not (is_writing_attributes view.access), AccessDenied)
     ∷ []
 
 -- what is asked for leaves the time as it is: 0, or -1 or -2 in 64 bits ([MS-FSCC] 2.4.7)

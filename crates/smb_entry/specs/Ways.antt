@@ -2,7 +2,8 @@
 -- What the code finds where a rename leads, and the rows over that.
 use Rattle.std.specs.Prelude.{◌≡◌, ◌≢◌, ℕ, ◌==◌, ◌||◌, ◌&&◌, Bool, false, not, List, [], ◌∷◌, length, slice_index, Option, None, Some, is_some, if◌then◌else◌}
 use Rattle.std.specs.Option.{option_map, option_map_or}
-use Rattle.smb_wire.specs.NtStatus.{STATUS_SUCCESS, STATUS_INVALID_PARAMETER, STATUS_OBJECT_NAME_INVALID, STATUS_ACCESS_DENIED, STATUS_DELETE_PENDING, STATUS_OBJECT_PATH_NOT_FOUND, STATUS_OBJECT_NAME_COLLISION}
+use Rattle.smb_wire.specs.declared.nt_status.NtStatus.TheVariants.{Success, InvalidParameter, ObjectNameInvalid, AccessDenied, DeletePending, ObjectPathNotFound, ObjectNameCollision}
+use Rattle.smb_wire.specs.NtStatus.{status_code}
 use Rattle.smb_wire.specs.Paths.{is_separator, path_fault}
 use Rattle.smb_tree.specs.Entries.{is_folder_kind}
 use Rattle.smb_tree.specs.declared.fault.TreeFault.{TreeFault}
@@ -45,30 +46,30 @@ is_kept_target opens (Some target) =
 -- rows 1 and 2, which need the name alone
 abbrev pub name_rows : List ℕ → List StatusRow
 name_rows name =
-    (length name == 0 || is_separator (slice_index name 0), STATUS_INVALID_PARAMETER)
-    ∷ (is_some (path_fault name), STATUS_OBJECT_NAME_INVALID)
+    (length name == 0 || is_separator (slice_index name 0), InvalidParameter)
+    ∷ (is_some (path_fault name), ObjectNameInvalid)
     ∷ []
 
 -- rows 9 to 11
 abbrev pub target_rows : List OpenRow → RenameLookup → Bool → List StatusRow
 target_rows opens way replace =
-    (way.pending, STATUS_DELETE_PENDING)
-    ∷ (is_some way.target && not replace, STATUS_OBJECT_NAME_COLLISION)
-    ∷ (is_kept_target opens way.target, STATUS_ACCESS_DENIED)
+    (way.pending, DeletePending)
+    ∷ (is_some way.target && not replace, ObjectNameCollision)
+    ∷ (is_kept_target opens way.target, AccessDenied)
     ∷ []
 
 -- rows 3 to 11
 abbrev pub way_rows : List Row → List OpenRow → View → RenameLookup → Bool → List StatusRow
 way_rows rows opens view way replace =
-    (not (is_deleting view.access) || view.entry == 1, STATUS_ACCESS_DENIED)
-    ∷ (view.mark, STATUS_DELETE_PENDING)
-    ∷ (way.beneath, STATUS_INVALID_PARAMETER)
-    ∷ (not way.reached, STATUS_OBJECT_PATH_NOT_FOUND)
-    ∷ (is_own_target view.entry way.target, STATUS_SUCCESS)
-    ∷ (is_folder_kind view.kind && has_open_beneath rows opens (path_numbered rows view.entry), STATUS_ACCESS_DENIED)
+    (not (is_deleting view.access) || view.entry == 1, AccessDenied)
+    ∷ (view.mark, DeletePending)
+    ∷ (way.beneath, InvalidParameter)
+    ∷ (not way.reached, ObjectPathNotFound)
+    ∷ (is_own_target view.entry way.target, Success)
+    ∷ (is_folder_kind view.kind && has_open_beneath rows opens (path_numbered rows view.entry), AccessDenied)
     ∷ target_rows opens way replace
 
 -- a refusal of a move, by what the tree refuses: of what it refuses only the length of a path is left
 abbrev pub IsMoveRefusal : Option TreeFault → StoreFault → Type 0
-IsMoveRefusal fault (Status code) = (fault ≢ None) × (code ≡ STATUS_OBJECT_NAME_INVALID)
+IsMoveRefusal fault (Status code) = (fault ≢ None) × (code ≡ status_code ObjectNameInvalid)
 IsMoveRefusal fault NoRoom = fault ≡ None

@@ -2,7 +2,7 @@
 
 ghost use Rattle.std.specs.Prelude.{◌≡◌, ◌≢◌, ◌≤◌, Bool, true, false, None, Some, is_some, IfErr, OnOk, OnErr, nat_lt, ◌&&◌, length, if◌then◌else◌};
 ghost use Rattle.std.specs.Option.{option_map};
-ghost use Rattle.smb_wire.specs.NtStatus.{STATUS_SUCCESS, STATUS_DISK_FULL};
+ghost use Rattle.smb_wire.specs.NtStatus.{status_code};
 ghost use Rattle.smb_tree.specs.Content.{numbered};
 ghost use Rattle.smb_tree.specs.Entries.{is_folder_kind, kept_basic};
 ghost use Rattle.smb_tree.specs.Faults.{write_fault};
@@ -15,11 +15,7 @@ use smb_access::access::{is_reading, is_writing};
 use smb_access::fault::refusal_of;
 use smb_access::{StoreFault, View};
 use smb_tree::{Basic, EntryNo, Tree};
-use smb_wire::Access;
-use smb_wire::nt_status::{
-    STATUS_ACCESS_DENIED, STATUS_END_OF_FILE, STATUS_FILE_LOCK_CONFLICT,
-    STATUS_INVALID_DEVICE_REQUEST, STATUS_INVALID_PARAMETER,
-};
+use smb_wire::{Access, NtStatus};
 
 /// How many bytes of a file of this size there are from an offset on, at most `count`.
 pub fn bytes_there(size: u64, offset: u64, count: u32) -> u32
@@ -42,27 +38,27 @@ pub fn may_read(
     offset: u64,
     count: u32,
     minimum: u32,
-) -> Result<(), u32>
-    ensures lawful { OnOk result (first_status (read_rows most view.now is_barred offset count minimum) ≡ STATUS_SUCCESS) }
+) -> Result<(), NtStatus>
+    ensures lawful { OnOk result (first_status (read_rows most view.now is_barred offset count minimum) ≡ NtStatus.Success) }
     ensures file { OnOk result (is_folder_kind view.now.kind ≡ false) }
     ensures few { OnOk result (count ≤ most) }
     ensures why { IfErr result (λ status. first_status (read_rows most view.now is_barred offset count minimum) ≡ status) }
-    ensures refused { IfErr result (λ status. status ≢ STATUS_SUCCESS) }
+    ensures refused { IfErr result (λ status. status ≢ NtStatus.Success) }
 {
     if count > most {
-        return Err(STATUS_INVALID_PARAMETER);
+        return Err(NtStatus::InvalidParameter);
     }
     if view.kind.is_folder() {
-        return Err(STATUS_INVALID_DEVICE_REQUEST);
+        return Err(NtStatus::InvalidDeviceRequest);
     }
     if !is_reading(view.access) {
-        return Err(STATUS_ACCESS_DENIED);
+        return Err(NtStatus::AccessDenied);
     }
     if is_barred {
-        return Err(STATUS_FILE_LOCK_CONFLICT);
+        return Err(NtStatus::FileLockConflict);
     }
     if count > 0 && offset >= view.size || bytes_there(view.size, offset, count) < minimum {
-        return Err(STATUS_END_OF_FILE);
+        return Err(NtStatus::EndOfFile);
     }
     Ok(())
 }
@@ -82,23 +78,23 @@ pub fn may_write(
     is_barred: bool,
     offset: u64,
     count: usize,
-) -> Result<(), u32>
-    ensures goes_on { OnOk result ((is_full : Bool) → first_status (write_rows most view.now is_barred offset count is_full) ≡ (if nat_lt 0 count && is_full then STATUS_DISK_FULL else STATUS_SUCCESS)) }
+) -> Result<(), NtStatus>
+    ensures goes_on { OnOk result ((is_full : Bool) → first_status (write_rows most view.now is_barred offset count is_full) ≡ (if nat_lt 0 count && is_full then NtStatus.DiskFull else NtStatus.Success)) }
     ensures file { OnOk result (is_folder_kind view.now.kind ≡ false) }
     ensures why { IfErr result (λ status. (is_full : Bool) → first_status (write_rows most view.now is_barred offset count is_full) ≡ status) }
-    ensures refused { IfErr result (λ status. status ≢ STATUS_SUCCESS) }
+    ensures refused { IfErr result (λ status. status ≢ NtStatus.Success) }
 {
     if count > most as usize {
-        return Err(STATUS_INVALID_PARAMETER);
+        return Err(NtStatus::InvalidParameter);
     }
     if view.kind.is_folder() {
-        return Err(STATUS_INVALID_DEVICE_REQUEST);
+        return Err(NtStatus::InvalidDeviceRequest);
     }
     if may_not_write(view, offset) {
-        return Err(STATUS_ACCESS_DENIED);
+        return Err(NtStatus::AccessDenied);
     }
     if is_barred {
-        return Err(STATUS_FILE_LOCK_CONFLICT);
+        return Err(NtStatus::FileLockConflict);
     }
     Ok(())
 }
@@ -126,7 +122,7 @@ pub fn write_file<T: Tree>(
     ensures ok { OnOk result (T.content tree.new ≡ written_tree (T.content tree.old) entry offset buffer.now moment) }
     ensures room { OnOk result (write_fault (T.content tree.old) entry offset (length buffer.now) ≡ None) }
     ensures err { OnErr result (T.content tree.new ≡ T.content tree.old) }
-    ensures why { IfErr result (λ fault. fault ≢ NoMemory → (fault ≡ Status STATUS_DISK_FULL) × (is_some (write_fault (T.content tree.old) entry offset (length buffer.now)) ≡ true)) }
+    ensures why { IfErr result (λ fault. fault ≢ NoMemory → (fault ≡ Status (status_code NtStatus.DiskFull)) × (is_some (write_fault (T.content tree.old) entry offset (length buffer.now)) ≡ true)) }
 {
     let Some(seen) = tree.entry(entry) else {
         unreachable!();

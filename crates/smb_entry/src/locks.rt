@@ -1,7 +1,6 @@
 //! The refusals of a LOCK ([MS-SMB2] 3.3.5.14).
 
 ghost use Rattle.std.specs.Prelude.{◌≡◌, ◌≢◌, IfSome, IsSomeAnd};
-ghost use Rattle.smb_wire.specs.NtStatus.{STATUS_SUCCESS};
 ghost use Rattle.smb_access.specs.Faults.{IsRefusal};
 ghost use Rattle.smb_entry.specs.Locks.{lock_fault_status};
 ghost use Rattle.smb_access.specs.declared.fault.StoreFault.TheVariants.{NoMemory};
@@ -9,21 +8,18 @@ ghost use Rattle.smb_locks.specs.declared.fault.LockFault.TheVariants.{NoMemory 
 
 use smb_access::StoreFault;
 use smb_locks::LockFault;
-use smb_wire::nt_status::{
-    STATUS_INVALID_LOCK_RANGE, STATUS_INVALID_PARAMETER, STATUS_LOCK_NOT_GRANTED,
-    STATUS_RANGE_NOT_LOCKED,
-};
+use smb_wire::NtStatus;
 
 /// The status by which an element of a LOCK is refused, or all of it for its flags. Out of memory has none.
-pub fn lock_fault_status(fault: LockFault) -> Option<u32>
+pub fn lock_fault_status(fault: LockFault) -> Option<NtStatus>
     ensures status { result ≡ lock_fault_status fault }
-    ensures refused { IfSome result (λ status. status ≢ STATUS_SUCCESS) }
+    ensures refused { IfSome result (λ status. status ≢ NtStatus.Success) }
 {
     match fault {
-        LockFault::BadFlags => Some(STATUS_INVALID_PARAMETER),
-        LockFault::BadRange => Some(STATUS_INVALID_LOCK_RANGE),
-        LockFault::Full | LockFault::NotGranted => Some(STATUS_LOCK_NOT_GRANTED),
-        LockFault::NotLocked => Some(STATUS_RANGE_NOT_LOCKED),
+        LockFault::BadFlags => Some(NtStatus::InvalidParameter),
+        LockFault::BadRange => Some(NtStatus::InvalidLockRange),
+        LockFault::Full | LockFault::NotGranted => Some(NtStatus::LockNotGranted),
+        LockFault::NotLocked => Some(NtStatus::RangeNotLocked),
         LockFault::NoMemory => None,
     }
 }
@@ -34,7 +30,7 @@ pub fn lock_refusal(fault: LockFault) -> StoreFault
     ensures status { result ≢ NoMemory → (fault ≢ NoLockMemory) × IsSomeAnd (lock_fault_status fault) (λ status. IsRefusal status result) }
 {
     match lock_fault_status(fault) {
-        Some(status) => StoreFault::Status(status),
+        Some(status) => StoreFault::from(status),
         None => StoreFault::NoMemory,
     }
 }

@@ -1,7 +1,6 @@
 //! A rename of an open's entry: which is refused, and the move ([MS-FSA] 2.1.5.15.11).
 
 ghost use Rattle.std.specs.Prelude.{◌≡◌, ◌≢◌, ◌++◌, List, true, None, is_some, IfOk, IfErr, OnOk, OnErr};
-ghost use Rattle.smb_wire.specs.NtStatus.{STATUS_SUCCESS};
 ghost use Rattle.smb_wire.specs.Paths.{folded_path, path_spelled};
 ghost use Rattle.smb_wire.specs.PathViews.{parts_of};
 ghost use Rattle.smb_wire.specs.Units.{units_of};
@@ -22,12 +21,7 @@ use smb_access::found::{ROOT, Target};
 use smb_access::look::{find_above, find_target};
 use smb_access::{Opens, StoreFault, View};
 use smb_tree::{Basic, EntryNo, Tree, TreeFault};
-use smb_wire::nt_status::{
-    STATUS_ACCESS_DENIED, STATUS_DELETE_PENDING, STATUS_INVALID_PARAMETER,
-    STATUS_OBJECT_NAME_COLLISION, STATUS_OBJECT_NAME_INVALID, STATUS_OBJECT_PATH_NOT_FOUND,
-    STATUS_SUCCESS,
-};
-use smb_wire::{PathFault, PathView, Units, split_path};
+use smb_wire::{NtStatus, PathFault, PathView, Units, split_path};
 
 /// What a rename finds where it leads.
 #[derive(Clone, Copy, Debug)]
@@ -43,19 +37,19 @@ pub struct RenameLookup {
 }
 
 /// The path that a name spells, or the status that answers it whatever exists.
-pub fn path_named(name: Units<'_>) -> Result<PathView<'_>, u32>
+pub fn path_named(name: Units<'_>) -> Result<PathView<'_>, NtStatus>
     ensures path { IfOk result (λ path. parts_of path ≡ path_spelled (units_of name.entry)) }
     ensures lawful { OnOk result ((rows : List StatusRow) → first_status (name_rows (units_of name.entry) ++ rows) ≡ first_status rows) }
     ensures err { IfErr result (λ status. (rows : List StatusRow) → first_status (name_rows (units_of name.entry) ++ rows) ≡ status) }
-    ensures refused { IfErr result (λ status. status ≢ STATUS_SUCCESS) }
+    ensures refused { IfErr result (λ status. status ≢ NtStatus.Success) }
 {
     if name.len() == 0 {
-        return Err(STATUS_INVALID_PARAMETER);
+        return Err(NtStatus::InvalidParameter);
     }
     match split_path(name) {
         Ok(path) => Ok(path),
-        Err(PathFault::LeadingSeparator) => Err(STATUS_INVALID_PARAMETER),
-        Err(_) => Err(STATUS_OBJECT_NAME_INVALID),
+        Err(PathFault::LeadingSeparator) => Err(NtStatus::InvalidParameter),
+        Err(_) => Err(NtStatus::ObjectNameInvalid),
     }
 }
 
@@ -112,56 +106,61 @@ fn is_kept_target<O: Opens>(opens: &O, target: &Option<Target>) -> bool
     found.kind.is_folder() || is_read_only_target(target) || has_open(opens, found.number)
 }
 
-/// The status by what exists at the new path.
-fn target_status<O: Opens>(opens: &O, way: &RenameLookup, replace: bool) -> u32
-    ensures { result ≡ first_status (target_rows (O.content opens.now) way.now replace) }
+/// Whether what exists at the new path lets a rename pass, or the status that refuses it.
+fn check_target<O: Opens>(opens: &O, way: &RenameLookup, replace: bool) -> Result<(), NtStatus>
+    ensures lawful { OnOk result (first_status (target_rows (O.content opens.now) way.now replace) ≡ NtStatus.Success) }
+    ensures why { IfErr result (λ status. first_status (target_rows (O.content opens.now) way.now replace) ≡ status) }
+    ensures refused { IfErr result (λ status. status ≢ NtStatus.Success) }
 {
     if way.pending {
-        return STATUS_DELETE_PENDING;
+        return Err(NtStatus::DeletePending);
     }
     if way.target.is_some() && !replace {
-        return STATUS_OBJECT_NAME_COLLISION;
+        return Err(NtStatus::ObjectNameCollision);
     }
     if is_kept_target(opens, &way.target) {
-        return STATUS_ACCESS_DENIED;
+        return Err(NtStatus::AccessDenied);
     }
-    STATUS_SUCCESS
+    Ok(())
 }
 
-/// The status of a rename through an open that shows this, by what was found; but for the length of paths, which a move
-/// looks at. The opens are gone through only where the entry is a folder and no row before decides.
-pub fn way_status<T: Tree, O: Opens>(
+/// Whether a rename through an open that shows this passes, by what was found, or the status that refuses it; but for the
+/// length of paths, which a move looks at. The opens are gone through only where the entry is a folder and no row before
+/// decides.
+pub fn check_way<T: Tree, O: Opens>(
     tree: &T,
     opens: &O,
     view: &View,
     way: &RenameLookup,
     replace: bool,
-) -> u32
+) -> Result<(), NtStatus>
     requires good { GoodContent (T.content tree.now) }
     requires there { is_some (numbered (T.content tree.now).rows view.now.entry) ≡ true }
     requires present { ArePresent (T.content tree.now).rows (O.content opens.now) }
     requires rising { AreRising (open_numbers (O.content opens.now)) }
-    ensures { result ≡ first_status (way_rows (T.content tree.now).rows (O.content opens.now) view.now way.now replace) }
+    ensures lawful { OnOk result (first_status (way_rows (T.content tree.now).rows (O.content opens.now) view.now way.now replace) ≡ NtStatus.Success) }
+    ensures why { IfErr result (λ status. first_status (way_rows (T.content tree.now).rows (O.content opens.now) view.now way.now replace) ≡ status) }
+    ensures refused { IfErr result (λ status. status ≢ NtStatus.Success) }
 {
     if !is_deleting(view.access) || view.entry == ROOT {
-        return STATUS_ACCESS_DENIED;
+        return Err(NtStatus::AccessDenied);
     }
     if view.mark {
-        return STATUS_DELETE_PENDING;
+        return Err(NtStatus::DeletePending);
     }
     if way.beneath {
-        return STATUS_INVALID_PARAMETER;
+        return Err(NtStatus::InvalidParameter);
     }
     if !way.reached {
-        return STATUS_OBJECT_PATH_NOT_FOUND;
+        return Err(NtStatus::ObjectPathNotFound);
     }
     if is_own_target(view.entry, &way.target) {
-        return STATUS_SUCCESS;
+        return Ok(());
     }
     if view.kind.is_folder() && has_open_beneath(tree, opens, view.entry) {
-        return STATUS_ACCESS_DENIED;
+        return Err(NtStatus::AccessDenied);
     }
-    target_status(opens, way, replace)
+    check_target(opens, way, replace)
 }
 
 /// Moves an entry that is not the root to another path at a moment, where nothing but the length of a path may refuse it.
@@ -190,7 +189,7 @@ pub fn move_to<T: Tree>(
     match tree.move_entry(entry, path) {
         Ok(()) => {}
         Err(TreeFault::NoMemory) => return Err(StoreFault::NoMemory),
-        Err(_) => return Err(StoreFault::Status(STATUS_OBJECT_NAME_INVALID)),
+        Err(_) => return Err(StoreFault::from(NtStatus::ObjectNameInvalid)),
     }
     match tree.set_basic(entry, basic) {
         Ok(()) => Ok(()),

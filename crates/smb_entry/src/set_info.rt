@@ -2,7 +2,6 @@
 
 ghost use Rattle.std.specs.Prelude.{◌≡◌, ◌≢◌, ◌≤◌, ◌+◌, nat_lt, true, false, Some, IfErr, OnOk, OnErr, is_some};
 ghost use Rattle.std.specs.Option.{option_map};
-ghost use Rattle.smb_wire.specs.NtStatus.{STATUS_SUCCESS};
 ghost use Rattle.smb_tree.specs.Content.{numbered, with_mark};
 ghost use Rattle.smb_tree.specs.Entries.{is_folder_kind, allocation_size, kept_basic};
 ghost use Rattle.smb_access.specs.StatusRows.{first_status};
@@ -18,11 +17,7 @@ use smb_access::found::ROOT;
 use smb_access::{StoreFault, View};
 use smb_tree::{Basic, EntryNo, Tree, allocation_size};
 use smb_wire::limits::MOST_FILE_BYTES;
-use smb_wire::nt_status::{
-    STATUS_ACCESS_DENIED, STATUS_CANNOT_DELETE, STATUS_DIRECTORY_NOT_EMPTY, STATUS_DISK_FULL,
-    STATUS_INVALID_PARAMETER,
-};
-use smb_wire::{Access, FileAttributes};
+use smb_wire::{Access, FileAttributes, NtStatus};
 
 /// The greatest time, in units of 100 ns since 1601.
 const LAST_TIME: u64 = 0x7FFF_FFFF_FFFF_FFFF;
@@ -42,28 +37,28 @@ pub fn has_entries<T: Tree>(tree: &T, number: EntryNo) -> bool
 }
 
 /// Whether the entry that an open shows may be marked, or the status that refuses it. Entries are in it or not.
-fn may_mark(view: &View, is_occupied: bool) -> Result<(), u32>
-    ensures lawful { OnOk result (first_status (mark_rows view.now is_occupied) ≡ STATUS_SUCCESS) }
+fn may_mark(view: &View, is_occupied: bool) -> Result<(), NtStatus>
+    ensures lawful { OnOk result (first_status (mark_rows view.now is_occupied) ≡ NtStatus.Success) }
     ensures why { IfErr result (λ status. first_status (mark_rows view.now is_occupied) ≡ status) }
-    ensures refused { IfErr result (λ status. status ≢ STATUS_SUCCESS) }
+    ensures refused { IfErr result (λ status. status ≢ NtStatus.Success) }
 {
     if view.entry == ROOT || shows_read_only_file(view) {
-        return Err(STATUS_CANNOT_DELETE);
+        return Err(NtStatus::CannotDelete);
     }
     if is_occupied {
-        return Err(STATUS_DIRECTORY_NOT_EMPTY);
+        return Err(NtStatus::DirectoryNotEmpty);
     }
     Ok(())
 }
 
 /// Whether the entry may be marked, or its mark be taken away, through the open that shows it, or the status that refuses it.
-pub fn may_delete(view: &View, is_occupied: bool, is_deleted: bool) -> Result<(), u32>
-    ensures lawful { OnOk result (first_status (delete_rows view.now is_occupied is_deleted) ≡ STATUS_SUCCESS) }
+pub fn may_delete(view: &View, is_occupied: bool, is_deleted: bool) -> Result<(), NtStatus>
+    ensures lawful { OnOk result (first_status (delete_rows view.now is_occupied is_deleted) ≡ NtStatus.Success) }
     ensures why { IfErr result (λ status. first_status (delete_rows view.now is_occupied is_deleted) ≡ status) }
-    ensures refused { IfErr result (λ status. status ≢ STATUS_SUCCESS) }
+    ensures refused { IfErr result (λ status. status ≢ NtStatus.Success) }
 {
     if !is_deleting(view.access) {
-        return Err(STATUS_ACCESS_DENIED);
+        return Err(NtStatus::AccessDenied);
     }
     if !is_deleted {
         return Ok(());
@@ -108,21 +103,21 @@ pub fn has_no_space<T: Tree>(tree: &T, entry: EntryNo, size: u64) -> bool
 }
 
 /// Whether the entry that an open shows may have another size, or the status that refuses it. There is room or not.
-pub fn may_size(view: &View, is_full: bool) -> Result<(), u32>
-    ensures lawful { OnOk result (first_status (size_rows view.now is_full) ≡ STATUS_SUCCESS) }
+pub fn may_size(view: &View, is_full: bool) -> Result<(), NtStatus>
+    ensures lawful { OnOk result (first_status (size_rows view.now is_full) ≡ NtStatus.Success) }
     ensures file { OnOk result (is_folder_kind view.now.kind ≡ false) }
     ensures room { OnOk result (is_full ≡ false) }
     ensures why { IfErr result (λ status. first_status (size_rows view.now is_full) ≡ status) }
-    ensures refused { IfErr result (λ status. status ≢ STATUS_SUCCESS) }
+    ensures refused { IfErr result (λ status. status ≢ NtStatus.Success) }
 {
     if view.kind.is_folder() {
-        return Err(STATUS_INVALID_PARAMETER);
+        return Err(NtStatus::InvalidParameter);
     }
     if !view.access.intersects(Access::WRITE_DATA) {
-        return Err(STATUS_ACCESS_DENIED);
+        return Err(NtStatus::AccessDenied);
     }
     if is_full {
-        return Err(STATUS_DISK_FULL);
+        return Err(NtStatus::DiskFull);
     }
     Ok(())
 }
@@ -179,19 +174,19 @@ fn has_bad_time(ask: &BasicAsk) -> bool
 }
 
 /// Whether the entry that an open shows may have the times and attributes that are asked for, or the status that refuses it.
-pub fn may_set_basic(view: &View, ask: &BasicAsk) -> Result<(), u32>
-    ensures lawful { OnOk result (first_status (basic_rows view.now ask.now) ≡ STATUS_SUCCESS) }
+pub fn may_set_basic(view: &View, ask: &BasicAsk) -> Result<(), NtStatus>
+    ensures lawful { OnOk result (first_status (basic_rows view.now ask.now) ≡ NtStatus.Success) }
     ensures why { IfErr result (λ status. first_status (basic_rows view.now ask.now) ≡ status) }
-    ensures refused { IfErr result (λ status. status ≢ STATUS_SUCCESS) }
+    ensures refused { IfErr result (λ status. status ≢ NtStatus.Success) }
 {
     if has_bad_time(ask) {
-        return Err(STATUS_INVALID_PARAMETER);
+        return Err(NtStatus::InvalidParameter);
     }
     if !view.kind.is_folder() && ask.attributes.intersects(FileAttributes::DIRECTORY) {
-        return Err(STATUS_INVALID_PARAMETER);
+        return Err(NtStatus::InvalidParameter);
     }
     if !is_writing_attributes(view.access) {
-        return Err(STATUS_ACCESS_DENIED);
+        return Err(NtStatus::AccessDenied);
     }
     Ok(())
 }

@@ -1,7 +1,7 @@
 -- What locks keep opens from.
 use Rattle.std.proofs.Common.{◌≡◌, ◌≢◌, inl, inr, ℕ, List, length, Bool, true, false, cond, Option, None, Some, Contains, refl, sym, ap, subst, ◌∙◌, is_some}
 use Rattle.std.specs.Option.{option_map_or}
-use Rattle.smb_wire.specs.NtStatus.{STATUS_SUCCESS, STATUS_INVALID_PARAMETER, STATUS_INVALID_DEVICE_REQUEST, STATUS_ACCESS_DENIED, STATUS_FILE_LOCK_CONFLICT, STATUS_FILE_CLOSED}
+use Rattle.smb_wire.specs.declared.nt_status.NtStatus.TheVariants.{Success, InvalidParameter, InvalidDeviceRequest, AccessDenied, FileLockConflict, FileClosed}
 use Rattle.smb_access.specs.StatusRows.{first_status}
 use Rattle.smb_locks.specs.declared.lock.Lock.{Lock}
 use Rattle.smb_locks.specs.Conflicts.{BarsRead, bars_read, BarsWrite, bars_write}
@@ -22,7 +22,7 @@ use Rattle.smb_opens.proofs.Closing.{number_found}
 use Rattle.smb_opens.proofs.Shows.{shown_by, entry_of}
 
 -- where a lock bars the range, some row before it or its own decides
-barred_row : (one two three : Bool) → (cond one STATUS_INVALID_PARAMETER (cond two STATUS_INVALID_DEVICE_REQUEST (cond three STATUS_ACCESS_DENIED STATUS_FILE_LOCK_CONFLICT))) ≢ STATUS_SUCCESS
+barred_row : (one two three : Bool) → (cond one InvalidParameter (cond two InvalidDeviceRequest (cond three AccessDenied FileLockConflict))) ≢ Success
 barred_row true two three e = cc
 barred_row false true three e = cc
 barred_row false false true e = cc
@@ -50,7 +50,7 @@ write_barred state number offset count view lock c bar =
 
 read_refused : (state : StoreState) (most number offset count minimum : ℕ) (row : OpenRow) (lock : Lock) (view : Option View) → view ≡ open_view state number → open_of state.opens number ≡ Some row → Contains (locks_on state.locks row.entry) lock →
     BarsRead number (record { offset = offset; length = count }) lock →
-    option_map_or (λ view. first_status (read_rows most view (keeps_from_reading state.locks number view offset count) offset count minimum)) view STATUS_FILE_CLOSED ≢ STATUS_SUCCESS
+    option_map_or (λ view. first_status (read_rows most view (keeps_from_reading state.locks number view offset count) offset count minimum)) view FileClosed ≢ Success
 read_refused state most number offset count minimum row lock None v opened c bar = λ e. cc
 read_refused state most number offset count minimum row lock (Some view) v opened c bar =
     let here : Contains (locks_on state.locks view.entry) lock = subst (λ (n : ℕ). Contains (locks_on state.locks n) lock) (sym (same_entry state number row view opened v)) c in
@@ -58,7 +58,7 @@ read_refused state most number offset count minimum row lock (Some view) v opene
 
 write_refused : (state : StoreState) (most number offset : ℕ) (buffer : List ℕ) (row : OpenRow) (lock : Lock) (view : Option View) → view ≡ open_view state number → open_of state.opens number ≡ Some row → Contains (locks_on state.locks row.entry) lock →
     BarsWrite number (record { offset = offset; length = length buffer }) lock →
-    option_map_or (λ view. first_status (write_rows most view (keeps_from_writing state.locks number view offset (length buffer)) offset (length buffer) (has_no_room state.tree view.entry offset buffer))) view STATUS_FILE_CLOSED ≢ STATUS_SUCCESS
+    option_map_or (λ view. first_status (write_rows most view (keeps_from_writing state.locks number view offset (length buffer)) offset (length buffer) (has_no_room state.tree view.entry offset buffer))) view FileClosed ≢ Success
 write_refused state most number offset buffer row lock None v opened c bar = λ e. cc
 write_refused state most number offset buffer row lock (Some view) v opened c bar =
     let here : Contains (locks_on state.locks view.entry) lock = subst (λ (n : ℕ). Contains (locks_on state.locks n) lock) (sym (same_entry state number row view opened v)) c in
@@ -66,8 +66,8 @@ write_refused state most number offset buffer row lock (Some view) v opened c ba
 
 pub kept_out : (state : StoreState) (most number offset count minimum : ℕ) (buffer : List ℕ) (row : OpenRow) (lock : Lock) → open_of state.opens number ≡ Some row →
     Contains (locks_on state.locks row.entry) lock → lock.exclusive ≡ true → lock.holder ≢ number →
-    (Overlap lock.range (record { offset = offset; length = count }) → read_status state most number offset count minimum ≢ STATUS_SUCCESS)
-    × (Overlap lock.range (record { offset = offset; length = length buffer }) → write_status state most number offset buffer ≢ STATUS_SUCCESS)
+    (Overlap lock.range (record { offset = offset; length = count }) → read_status state most number offset count minimum ≢ Success)
+    × (Overlap lock.range (record { offset = offset; length = length buffer }) → write_status state most number offset buffer ≢ Success)
 kept_out state most number offset count minimum buffer row lock opened c exclusive other = (
   λ overlap. read_refused state most number offset count minimum row lock (open_view state number) refl opened c (overlap, exclusive, other),
   λ overlap. write_refused state most number offset buffer row lock (open_view state number) refl opened c (overlap, inr other),
@@ -75,7 +75,7 @@ kept_out state most number offset count minimum buffer row lock opened c exclusi
 
 pub writers_out : (state : StoreState) (most number offset : ℕ) (buffer : List ℕ) (row : OpenRow) (lock : Lock) → open_of state.opens number ≡ Some row →
     Contains (locks_on state.locks row.entry) lock → lock.exclusive ≡ false → Overlap lock.range (record { offset = offset; length = length buffer }) →
-    write_status state most number offset buffer ≢ STATUS_SUCCESS
+    write_status state most number offset buffer ≢ Success
 writers_out state most number offset buffer row lock opened c shared overlap = write_refused state most number offset buffer row lock (open_view state number) refl opened c (overlap, inl shared)
 
 pub no_two_locks : (state : StoreState) (file : ℕ) (one other : Lock) → GoodStore state → Contains (locks_on state.locks file) one → Contains (locks_on state.locks file) other → one.holder ≢ other.holder →

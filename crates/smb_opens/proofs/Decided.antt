@@ -4,7 +4,9 @@ use Rattle.std.proofs.lemmas.Bool.{eqb-true}
 use Rattle.std.proofs.lemmas.Bool.Decides.{nat_tests}
 use Rattle.std.specs.List.{AllByRecursion}
 use Rattle.std.specs.Option.{option_map, option_map_or}
-use Rattle.smb_wire.specs.NtStatus.{STATUS_SUCCESS, STATUS_INVALID_PARAMETER, STATUS_OBJECT_NAME_INVALID, STATUS_ACCESS_DENIED, STATUS_DELETE_PENDING, STATUS_OBJECT_PATH_NOT_FOUND, STATUS_OBJECT_NAME_COLLISION}
+use Rattle.smb_wire.specs.declared.nt_status.NtStatus.{NtStatus}
+use Rattle.smb_wire.specs.declared.nt_status.NtStatus.TheVariants.{Success, InvalidParameter, ObjectNameInvalid, AccessDenied, DeletePending, ObjectPathNotFound, ObjectNameCollision}
+use Rattle.smb_wire.specs.NtStatus.{status_code}
 use Rattle.smb_tree.specs.declared.fault.TreeFault.{TreeFault}
 use Rattle.smb_tree.specs.declared.fault.TreeFault.TheVariants.{ParentAbsent, Exists, TooDeep}
 use Rattle.smb_tree.specs.Entries.{Entry, is_folder, is_folder_kind}
@@ -33,15 +35,15 @@ use Rattle.smb_entry.proofs.Under.{beneath_parent, number_found, path_at}
 -- rows 3 to 11, by three of their conditions
 abbrev pub rows_by : List Row → List OpenRow → View → Path → Path → Bool → Bool → Bool → Bool → List StatusRow
 rows_by rows opens view from to replace own taken kept =
-    (not (is_deleting view.access) || view.entry == 1, STATUS_ACCESS_DENIED)
-    ∷ (view.mark, STATUS_DELETE_PENDING)
-    ∷ (is_beneath from to, STATUS_INVALID_PARAMETER)
-    ∷ (not (is_reached rows to), STATUS_OBJECT_PATH_NOT_FOUND)
-    ∷ (own, STATUS_SUCCESS)
-    ∷ (is_folder_kind view.kind && has_open_beneath rows opens from, STATUS_ACCESS_DENIED)
-    ∷ (is_pending rows to, STATUS_DELETE_PENDING)
-    ∷ (taken && not replace, STATUS_OBJECT_NAME_COLLISION)
-    ∷ (kept, STATUS_ACCESS_DENIED)
+    (not (is_deleting view.access) || view.entry == 1, AccessDenied)
+    ∷ (view.mark, DeletePending)
+    ∷ (is_beneath from to, InvalidParameter)
+    ∷ (not (is_reached rows to), ObjectPathNotFound)
+    ∷ (own, Success)
+    ∷ (is_folder_kind view.kind && has_open_beneath rows opens from, AccessDenied)
+    ∷ (is_pending rows to, DeletePending)
+    ∷ (taken && not replace, ObjectNameCollision)
+    ∷ (kept, AccessDenied)
     ∷ []
 
 own_by : (n : ℕ) (o : Option Entry) → is_own_target n (option_map target_of o) ≡ option_map_or (λ k. k == n) (option_map (λ (e : Entry). e.number) o) false
@@ -84,15 +86,15 @@ pub way_told : (rows : List Row) (opens : List OpenRow) (view : View) (row : Row
     way_rows rows opens view (way_between rows row.0 to) replace ≡ rows_by rows opens view row.0 to replace (is_same_path row.0 to) (is_some (entry_at rows to)) (is_not_replaced opens (entry_at rows to))
 way_told rows opens view row to replace a h e =
     let own = own_is rows view.entry row to a h in
-    ap (λ (p : Path). (not (is_deleting view.access) || view.entry == 1, STATUS_ACCESS_DENIED)
-    ∷ (view.mark, STATUS_DELETE_PENDING)
-    ∷ (is_beneath row.0 to, STATUS_INVALID_PARAMETER)
-    ∷ (not (is_reached rows to), STATUS_OBJECT_PATH_NOT_FOUND)
-    ∷ (is_own_target view.entry (option_map target_of (entry_at rows to)), STATUS_SUCCESS)
-    ∷ (is_folder_kind view.kind && has_open_beneath rows opens p, STATUS_ACCESS_DENIED)
-    ∷ (is_pending rows to, STATUS_DELETE_PENDING)
-    ∷ (is_some (option_map target_of (entry_at rows to)) && not replace, STATUS_OBJECT_NAME_COLLISION)
-    ∷ (is_kept_target opens (option_map target_of (entry_at rows to)), STATUS_ACCESS_DENIED)
+    ap (λ (p : Path). (not (is_deleting view.access) || view.entry == 1, AccessDenied)
+    ∷ (view.mark, DeletePending)
+    ∷ (is_beneath row.0 to, InvalidParameter)
+    ∷ (not (is_reached rows to), ObjectPathNotFound)
+    ∷ (is_own_target view.entry (option_map target_of (entry_at rows to)), Success)
+    ∷ (is_folder_kind view.kind && has_open_beneath rows opens p, AccessDenied)
+    ∷ (is_pending rows to, DeletePending)
+    ∷ (is_some (option_map target_of (entry_at rows to)) && not replace, ObjectNameCollision)
+    ∷ (is_kept_target opens (option_map target_of (entry_at rows to)), AccessDenied)
     ∷ []) e
     ∙ (λ i. rows_by rows opens view row.0 to replace (own i) (taken_is (entry_at rows to) i) (kept_is opens (entry_at rows to) i))
 
@@ -119,21 +121,21 @@ off_not true h = refl
 off_not false h = absurd (let e : true ≡ false = h in cc)
 
 pub passes : (rows : List Row) (opens : List OpenRow) (view : View) (from to : Path) (replace : Bool) →
-    first_status (rows_by rows opens view from to replace (is_same_path from to) (is_some (entry_at rows to)) (is_not_replaced opens (entry_at rows to))) ≡ STATUS_SUCCESS →
+    first_status (rows_by rows opens view from to replace (is_same_path from to) (is_some (entry_at rows to)) (is_not_replaced opens (entry_at rows to))) ≡ Success →
     MayMove rows opens view from to × ((is_same_path from to ≡ true) ⊎ MayReplace rows opens view replace from to)
 passes rows opens view from to replace e =
-    let p = pass_at (not (is_deleting view.access) || view.entry == 1) STATUS_ACCESS_DENIED _ (λ q. omega (arith, q)) e in
-    let p2 = pass_at view.mark STATUS_DELETE_PENDING _ (λ q. omega (arith, q)) p.1 in
-    let p3 = pass_at (is_beneath from to) STATUS_INVALID_PARAMETER _ (λ q. omega (arith, q)) p2.1 in
-    let p4 = pass_at (not (is_reached rows to)) STATUS_OBJECT_PATH_NOT_FOUND _ (λ q. omega (arith, q)) p3.1 in (
+    let p = pass_at (not (is_deleting view.access) || view.entry == 1) AccessDenied _ (λ q. cc) e in
+    let p2 = pass_at view.mark DeletePending _ (λ q. cc) p.1 in
+    let p3 = pass_at (is_beneath from to) InvalidParameter _ (λ q. cc) p2.1 in
+    let p4 = pass_at (not (is_reached rows to)) ObjectPathNotFound _ (λ q. cc) p3.1 in (
       record { other = second_off (not (is_deleting view.access)) (view.entry == 1) p.0; unmarked = p2.0; outside = p3.0; reached = off_not (is_reached rows to) p4.0 },
-      elim (is_same_path from to) as (λ b. is_same_path from to ≡ b → first_status ((b, STATUS_SUCCESS) ∷ (is_folder_kind view.kind && has_open_beneath rows opens from, STATUS_ACCESS_DENIED) ∷ (is_pending rows to, STATUS_DELETE_PENDING) ∷ (is_some (entry_at rows to) && not replace, STATUS_OBJECT_NAME_COLLISION) ∷ (is_not_replaced opens (entry_at rows to), STATUS_ACCESS_DENIED) ∷ []) ≡ STATUS_SUCCESS → (b ≡ true) ⊎ MayReplace rows opens view replace from to) [
+      elim (is_same_path from to) as (λ b. is_same_path from to ≡ b → first_status ((b, Success) ∷ (is_folder_kind view.kind && has_open_beneath rows opens from, AccessDenied) ∷ (is_pending rows to, DeletePending) ∷ (is_some (entry_at rows to) && not replace, ObjectNameCollision) ∷ (is_not_replaced opens (entry_at rows to), AccessDenied) ∷ []) ≡ Success → (b ≡ true) ⊎ MayReplace rows opens view replace from to) [
         | true ↦ λ s f. inl refl
         | false ↦ λ s f. inr (
-            let p6 = pass_at (is_folder_kind view.kind && has_open_beneath rows opens from) STATUS_ACCESS_DENIED _ (λ q. omega (arith, q)) f in
-            let p7 = pass_at (is_pending rows to) STATUS_DELETE_PENDING _ (λ q. omega (arith, q)) p6.1 in
-            let p8 = pass_at (is_some (entry_at rows to) && not replace) STATUS_OBJECT_NAME_COLLISION _ (λ q. omega (arith, q)) p7.1 in
-            let p9 = pass_at (is_not_replaced opens (entry_at rows to)) STATUS_ACCESS_DENIED _ (λ q. omega (arith, q)) p8.1 in
+            let p6 = pass_at (is_folder_kind view.kind && has_open_beneath rows opens from) AccessDenied _ (λ q. cc) f in
+            let p7 = pass_at (is_pending rows to) DeletePending _ (λ q. cc) p6.1 in
+            let p8 = pass_at (is_some (entry_at rows to) && not replace) ObjectNameCollision _ (λ q. cc) p7.1 in
+            let p9 = pass_at (is_not_replaced opens (entry_at rows to)) AccessDenied _ (λ q. cc) p8.1 in
             record { apart = s; closed = p6.0; pending = p7.0; taken = p8.0; kept = p9.0 }
             )
       ] refl p4.1,
@@ -194,11 +196,11 @@ fault_left content opens view replace row to good h may either =
     file (inr m) = other_kept view.entry opens (entry_at content.rows to) m.kept
 
 -- the status of what a tree refuses
-abbrev pub code_of : Option TreeFault → ℕ
-code_of None = STATUS_SUCCESS
-code_of (Some fault) = STATUS_OBJECT_NAME_INVALID
+abbrev pub code_of : Option TreeFault → NtStatus
+code_of None = Success
+code_of (Some fault) = ObjectNameInvalid
 
-code_deep : (deep : Bool) → first_status ((deep, STATUS_OBJECT_NAME_INVALID) ∷ []) ≡ code_of (if deep then Some TooDeep else None)
+code_deep : (deep : Bool) → first_status ((deep, ObjectNameInvalid) ∷ []) ≡ code_of (if deep then Some TooDeep else None)
 code_deep true = refl
 code_deep false = refl
 
@@ -206,10 +208,10 @@ none_before : (xs ys : List StatusRow) → AllByRecursion (λ row. row.0 ≡ fal
 none_before [] ys h = refl
 none_before (x ∷ xs) ys h = rw (h.0) (none_before xs ys h.1)
 
-refused_before : (xs ys : List StatusRow) → first_status xs ≢ STATUS_SUCCESS → first_status (xs ++ ys) ≡ first_status xs
+refused_before : (xs ys : List StatusRow) → first_status xs ≢ Success → first_status (xs ++ ys) ≡ first_status xs
 refused_before [] ys h = absurd (h refl)
 refused_before (x ∷ xs) ys h =
-    elim (x.0) as (λ b. (if b then x.1 else first_status xs) ≢ STATUS_SUCCESS → (if b then x.1 else first_status (xs ++ ys)) ≡ (if b then x.1 else first_status xs)) [
+    elim (x.0) as (λ b. (if b then x.1 else first_status xs) ≢ Success → (if b then x.1 else first_status (xs ++ ys)) ≡ (if b then x.1 else first_status xs)) [
       | true ↦ λ _. refl
       | false ↦ λ k. refused_before xs ys k
     ] h
@@ -217,28 +219,28 @@ refused_before (x ∷ xs) ys h =
 -- rows 3 to 12
 abbrev rest_rows : List Row → List OpenRow → View → Path → Path → Bool → List StatusRow
 rest_rows rows opens view from to replace =
-    rows_by rows opens view from to replace (is_same_path from to) (is_some (entry_at rows to)) (is_not_replaced opens (entry_at rows to)) ++ (would_be_too_deep rows from to, STATUS_OBJECT_NAME_INVALID) ∷ []
+    rows_by rows opens view from to replace (is_same_path from to) (is_some (entry_at rows to)) (is_not_replaced opens (entry_at rows to)) ++ (would_be_too_deep rows from to, ObjectNameInvalid) ∷ []
 
 -- rows 8 to 12
 abbrev later_rows : List Row → List OpenRow → View → Path → Path → Bool → List StatusRow
 later_rows rows opens view from to replace =
-    (is_folder_kind view.kind && has_open_beneath rows opens from, STATUS_ACCESS_DENIED)
-    ∷ (is_pending rows to, STATUS_DELETE_PENDING)
-    ∷ (is_some (entry_at rows to) && not replace, STATUS_OBJECT_NAME_COLLISION)
-    ∷ (is_not_replaced opens (entry_at rows to), STATUS_ACCESS_DENIED)
-    ∷ (would_be_too_deep rows from to, STATUS_OBJECT_NAME_INVALID)
+    (is_folder_kind view.kind && has_open_beneath rows opens from, AccessDenied)
+    ∷ (is_pending rows to, DeletePending)
+    ∷ (is_some (entry_at rows to) && not replace, ObjectNameCollision)
+    ∷ (is_not_replaced opens (entry_at rows to), AccessDenied)
+    ∷ (would_be_too_deep rows from to, ObjectNameInvalid)
     ∷ []
 
-own_passes : (a b c d own : Bool) (w x y z : ℕ) (rest : List StatusRow) → a ≡ false → b ≡ false → c ≡ false → d ≡ false → own ≡ true → first_status ((a, w) ∷ (b, x) ∷ (c, y) ∷ (d, z) ∷ (own, STATUS_SUCCESS) ∷ rest) ≡ STATUS_SUCCESS
+own_passes : (a b c d own : Bool) (w x y z : NtStatus) (rest : List StatusRow) → a ≡ false → b ≡ false → c ≡ false → d ≡ false → own ≡ true → first_status ((a, w) ∷ (b, x) ∷ (c, y) ∷ (d, z) ∷ (own, Success) ∷ rest) ≡ Success
 own_passes a b c d own w x y z rest e f g h i = rw (e, f, g, h, i) refl
 
-code_none : (deep : Bool) → deep ≡ false → STATUS_SUCCESS ≡ code_of (if deep then Some TooDeep else None)
+code_none : (deep : Bool) → deep ≡ false → Success ≡ code_of (if deep then Some TooDeep else None)
 code_none deep e = rw e refl
 
 -- the status of a rename that passes rows 1 to 11
 pub status_moved : (content : Content) (opens : List OpenRow) (view : View) (row : Row) (to : Path) (name : List ℕ) (replace : Bool) → GoodContent content → numbered content.rows view.entry ≡ Some row →
     ((rest : List StatusRow) → first_status (name_rows name ++ rest) ≡ first_status rest) →
-    first_status (rows_by content.rows opens view row.0 to replace (is_same_path row.0 to) (is_some (entry_at content.rows to)) (is_not_replaced opens (entry_at content.rows to))) ≡ STATUS_SUCCESS →
+    first_status (rows_by content.rows opens view row.0 to replace (is_same_path row.0 to) (is_some (entry_at content.rows to)) (is_not_replaced opens (entry_at content.rows to))) ≡ Success →
     first_status (rename_rows content.rows opens view name replace row.0 to) ≡ code_of (move_fault content view.entry to)
 status_moved content opens view row to name replace good h lawful e =
     let p = passes content.rows opens view row.0 to replace e in
@@ -247,39 +249,37 @@ status_moved content opens view row to name replace good h lawful e =
     own_deep : is_same_path row.0 to ≡ true → would_be_too_deep content.rows row.0 to ≡ false
     own_deep s = ap (would_be_too_deep content.rows row.0) (sym (same_path-eq row.0 to s)) ∙ short_rows row.0 content.rows good.shallow
 
-    denied : first_status (rows_by content.rows opens view row.0 to replace (is_same_path row.0 to) (is_some (entry_at content.rows to)) (is_not_replaced opens (entry_at content.rows to))) ≡ STATUS_SUCCESS → (not (is_deleting view.access) || view.entry == 1) ≡ false
-    denied f = (pass_at (not (is_deleting view.access) || view.entry == 1) STATUS_ACCESS_DENIED _ (λ q. omega (arith, q)) f).0
+    denied : first_status (rows_by content.rows opens view row.0 to replace (is_same_path row.0 to) (is_some (entry_at content.rows to)) (is_not_replaced opens (entry_at content.rows to))) ≡ Success → (not (is_deleting view.access) || view.entry == 1) ≡ false
+    denied f = (pass_at (not (is_deleting view.access) || view.entry == 1) AccessDenied _ (λ q. cc) f).0
 
     rest : MayMove content.rows opens view row.0 to → ((is_same_path row.0 to ≡ true) ⊎ MayReplace content.rows opens view replace row.0 to) → first_status (rest_rows content.rows opens view row.0 to replace) ≡ code_of (if would_be_too_deep content.rows row.0 to then Some TooDeep else None)
     rest may (inl s) =
         let reached : not (is_reached content.rows to) ≡ false = rw (may.reached) refl in
-        own_passes (not (is_deleting view.access) || view.entry == 1) view.mark (is_beneath row.0 to) (not (is_reached content.rows to)) (is_same_path row.0 to) STATUS_ACCESS_DENIED STATUS_DELETE_PENDING STATUS_INVALID_PARAMETER STATUS_OBJECT_PATH_NOT_FOUND (later_rows content.rows opens view row.0 to replace) (denied e) may.unmarked may.outside reached s
+        own_passes (not (is_deleting view.access) || view.entry == 1) view.mark (is_beneath row.0 to) (not (is_reached content.rows to)) (is_same_path row.0 to) AccessDenied DeletePending InvalidParameter ObjectPathNotFound (later_rows content.rows opens view row.0 to replace) (denied e) may.unmarked may.outside reached s
         ∙ code_none (would_be_too_deep content.rows row.0 to) (own_deep s)
     rest may (inr m) =
         let reached : not (is_reached content.rows to) ≡ false = rw (may.reached) refl in
-        none_before (rows_by content.rows opens view row.0 to replace (is_same_path row.0 to) (is_some (entry_at content.rows to)) (is_not_replaced opens (entry_at content.rows to))) ((would_be_too_deep content.rows row.0 to, STATUS_OBJECT_NAME_INVALID) ∷ [])
+        none_before (rows_by content.rows opens view row.0 to replace (is_same_path row.0 to) (is_some (entry_at content.rows to)) (is_not_replaced opens (entry_at content.rows to))) ((would_be_too_deep content.rows row.0 to, ObjectNameInvalid) ∷ [])
         (denied e, (may.unmarked, (may.outside, (reached, (m.apart, (m.closed, (m.pending, (m.taken, (m.kept, tt)))))))))
         ∙ code_deep (would_be_too_deep content.rows row.0 to)
 
 -- a rename that rows 3 to 11 refuse
 pub status_refused : (content : Content) (opens : List OpenRow) (view : View) (row : Row) (to : Path) (name : List ℕ) (replace : Bool) →
     ((rest : List StatusRow) → first_status (name_rows name ++ rest) ≡ first_status rest) →
-    first_status (rows_by content.rows opens view row.0 to replace (is_same_path row.0 to) (is_some (entry_at content.rows to)) (is_not_replaced opens (entry_at content.rows to))) ≢ STATUS_SUCCESS →
+    first_status (rows_by content.rows opens view row.0 to replace (is_same_path row.0 to) (is_some (entry_at content.rows to)) (is_not_replaced opens (entry_at content.rows to))) ≢ Success →
     first_status (rename_rows content.rows opens view name replace row.0 to) ≡ first_status (rows_by content.rows opens view row.0 to replace (is_same_path row.0 to) (is_some (entry_at content.rows to)) (is_not_replaced opens (entry_at content.rows to)))
 status_refused content opens view row to name replace lawful k =
     lawful (rest_rows content.rows opens view row.0 to replace)
-    ∙ refused_before (rows_by content.rows opens view row.0 to replace (is_same_path row.0 to) (is_some (entry_at content.rows to)) (is_not_replaced opens (entry_at content.rows to))) ((would_be_too_deep content.rows row.0 to, STATUS_OBJECT_NAME_INVALID) ∷ []) k
+    ∙ refused_before (rows_by content.rows opens view row.0 to replace (is_same_path row.0 to) (is_some (entry_at content.rows to)) (is_not_replaced opens (entry_at content.rows to))) ((would_be_too_deep content.rows row.0 to, ObjectNameInvalid) ∷ []) k
 
 -- a rename that rows 1 and 2 refuse
-pub status_named : (rows : List Row) (opens : List OpenRow) (view : View) (name : List ℕ) (replace : Bool) (from to : Path) (status : ℕ) → ((rest : List StatusRow) → first_status (name_rows name ++ rest) ≡ status) →
+pub status_named : (rows : List Row) (opens : List OpenRow) (view : View) (name : List ℕ) (replace : Bool) (from to : Path) (status : NtStatus) → ((rest : List StatusRow) → first_status (name_rows name ++ rest) ≡ status) →
     status ≡ first_status (rename_rows rows opens view name replace from to)
 status_named rows opens view name replace from to status h = sym (h (rest_rows rows opens view from to replace))
 
 -- a refusal of the move is one of the rename
-pub refusal_by : (o : Option TreeFault) (status : ℕ) (fault : StoreFault) → status ≡ code_of o → IsMoveRefusal o fault → IsRefusal status fault
+pub refusal_by : (o : Option TreeFault) (status : NtStatus) (fault : StoreFault) → status ≡ code_of o → IsMoveRefusal o fault → IsRefusal status fault
 refusal_by None status (Status code) e h = absurd (h.0 refl)
 refusal_by (Some f) status (Status code) e h =
-    let same : code ≡ status = h.1 ∙ sym e in
-    let bad = h.1 in
-    (same, λ q. omega (arith, bad, q))
+    (h.1 ∙ ap status_code (sym e), λ q. cc)
 refusal_by o status NoRoom e h = e ∙ ap code_of h

@@ -2,7 +2,8 @@
 use Rattle.std.proofs.Common.{◌≡◌, ◌≢◌, ◌+◌, ℕ, Bool, true, false, not, List, [], ◌∷◌, Option, None, Some, is_some, if◌then◌else◌, refl, sym, ap, subst, ◌∙◌}
 use Rattle.std.specs.Prelude.{Result, Ok, Err, OnOk, OnErr, IfSome, IsSomeAnd, unwrap_or}
 use Rattle.std.specs.List.{list_any}
-use Rattle.smb_wire.specs.NtStatus.{STATUS_SUCCESS}
+use Rattle.smb_wire.specs.declared.nt_status.NtStatus.{NtStatus}
+use Rattle.smb_wire.specs.declared.nt_status.NtStatus.TheVariants.{Success}
 use Rattle.smb_tree.specs.Entries.{is_folder_kind}
 use Rattle.smb_locks.specs.declared.ask.LockAsk.{LockAsk}
 use Rattle.smb_locks.specs.declared.fault.LockFault.{LockFault}
@@ -39,10 +40,10 @@ kept_lock (Err e) state number view asks after opens_count entries_count s ok la
     subst (λ (locks : Table). IsKept state.tree state.opens locks state.next opens_count entries_count) (sym err) kept
 
 status_shown : (state : StoreState) (number : ℕ) (view : View) (asks : List LockAsk) (fault : LockFault) → open_view state number ≡ Some view → is_folder_kind view.kind ≡ false →
-    lock_all_fault (locks_on state.locks view.entry) number asks ≡ Some fault → lock_status state number asks ≡ unwrap_or (lock_fault_status fault) STATUS_SUCCESS
+    lock_all_fault (locks_on state.locks view.entry) number asks ≡ Some fault → lock_status state number asks ≡ unwrap_or (lock_fault_status fault) Success
 status_shown state number view asks fault v file f = rw (v, file, f) refl
 
-by_status : (status : Option ℕ) (refusal : StoreFault) → IsSomeAnd status (λ status. IsRefusal status refusal) → IsRefusal (unwrap_or status STATUS_SUCCESS) refusal
+by_status : (status : Option NtStatus) (refusal : StoreFault) → IsSomeAnd status (λ status. IsRefusal status refusal) → IsRefusal (unwrap_or status Success) refusal
 by_status None refusal h = absurd h
 by_status (Some status) refusal h = h
 
@@ -53,7 +54,7 @@ pub why_lock : (state : StoreState) (number : ℕ) (view : View) (asks : List Lo
     refusal ≢ NoMemory → IsRefusal (lock_status state number asks) refusal
 why_lock state number view asks fault refusal v file why refused q =
     let is = refused q in
-    subst (λ (status : ℕ). IsRefusal status refusal) (sym (status_shown state number view asks fault v file (why is.0))) (by_status (lock_fault_status fault) refusal is.1)
+    subst (λ (status : NtStatus). IsRefusal status refusal) (sym (status_shown state number view asks fault v file (why is.0))) (by_status (lock_fault_status fault) refusal is.1)
 
 -- a LOCK that unlocks is refused by a status, since no memory is needed
 abbrev HasStatus : Option UnlockError → Type 0

@@ -4,18 +4,20 @@ use Rattle.std.proofs.lemmas.Grind.{common_steps}
 use Rattle.std.proofs.lemmas.Bool.Decides.{nat_tests}
 use Rattle.std.specs.List.{AllByRecursion}
 use Rattle.std.specs.Option.{option_map, is_none}
-use Rattle.std.specs.Prelude.{Result, Ok, Err, IfErr, OnOk}
+use Rattle.std.specs.Prelude.{Result, Ok, Err, IfErr, IsErrAnd, OnOk}
 use Rattle.smb_wire.specs.Dispositions.{overwrites_by}
 use Rattle.smb_wire.specs.Paths.{path_spelled, path_fault, folded_path}
 use Rattle.smb_tree.specs.Entries.{Entry, is_folder, is_folder_kind}
 use Rattle.smb_tree.specs.Content.{Path, entry_at, parent}
 use Rattle.smb_tree.specs.Faults.{add_fault}
 use Rattle.smb_access.specs.declared.fault.StoreFault.{StoreFault}
-use Rattle.smb_access.specs.declared.fault.StoreFault.TheVariants.{NoMemory}
+use Rattle.smb_access.specs.declared.fault.StoreFault.TheVariants.{Status, NoMemory}
+use Rattle.smb_wire.specs.NtStatus.{status_code}
 use Rattle.smb_access.specs.declared.open_row.OpenRow.{OpenRow}
 use Rattle.smb_access.specs.declared.found.CreateLookup.{CreateLookup}
 use Rattle.smb_access.specs.Asked.{FileAsked, asks_file}
-use Rattle.smb_wire.specs.NtStatus.{STATUS_SUCCESS, STATUS_SHARING_VIOLATION}
+use Rattle.smb_wire.specs.declared.nt_status.NtStatus.{NtStatus}
+use Rattle.smb_wire.specs.declared.nt_status.NtStatus.TheVariants.{Success, SharingViolation}
 use Rattle.smb_access.specs.declared.found.Target.{Target}
 use Rattle.smb_access.specs.Access.{granted}
 use Rattle.smb_access.specs.StatusRows.{StatusRow, first_status}
@@ -34,11 +36,11 @@ second_off true b h = absurd (grind (arith, h))
 second_off false b h = h
 
 -- where no row decides, none holds
-pub pass_at : (b : Bool) (status code : ℕ) → status ≢ STATUS_SUCCESS → (cond b status code) ≡ STATUS_SUCCESS → (b ≡ false) × (code ≡ STATUS_SUCCESS)
+pub pass_at : (b : Bool) (status code : NtStatus) → status ≢ Success → (cond b status code) ≡ Success → (b ≡ false) × (code ≡ Success)
 pass_at true status code n e = absurd (n e)
 pass_at false status code n e = (refl, e)
 
-pass_all : (rows : List StatusRow) → AllByRecursion (λ row. row.1 ≢ STATUS_SUCCESS) rows → first_status rows ≡ STATUS_SUCCESS → AllByRecursion (λ row. row.0 ≡ false) rows
+pass_all : (rows : List StatusRow) → AllByRecursion (λ row. row.1 ≢ Success) rows → first_status rows ≡ Success → AllByRecursion (λ row. row.0 ≡ false) rows
 pass_all [] n e = tt
 pass_all (row ∷ rows) n e =
     let p = pass_at row.0 row.1 (first_status rows) n.0 e in
@@ -52,10 +54,10 @@ pub record Passed (rows : List OpenRow) (ask : FileAsked) (found : CreateLookup)
   pub opens : found.opens_full ≡ false
   pub entries : (is_none found.target && found.entries_full) ≡ false
 
-pub passed : (opens : List OpenRow) (ask : FileAsked) (found : CreateLookup) → first_status (found_rows opens ask found) ≡ STATUS_SUCCESS → Passed opens ask found
+pub passed : (opens : List OpenRow) (ask : FileAsked) (found : CreateLookup) → first_status (found_rows opens ask found) ≡ Success → Passed opens ask found
 passed opens ask found e =
-    let refuses : AllByRecursion (λ row. row.1 ≢ STATUS_SUCCESS) (found_rows opens ask found) =
-    ((λ q. omega (arith, q)), ((λ q. omega (arith, q)), ((λ q. omega (arith, q)), ((λ q. omega (arith, q)), ((λ q. omega (arith, q)), ((λ q. omega (arith, q)), ((λ q. omega (arith, q)), ((λ q. omega (arith, q)), ((λ q. omega (arith, q)), ((λ q. omega (arith, q)), ((λ q. omega (arith, q)), ((λ q. omega (arith, q)), tt)))))))))))) in
+    let refuses : AllByRecursion (λ row. row.1 ≢ Success) (found_rows opens ask found) =
+    ((λ q. cc), ((λ q. cc), ((λ q. cc), ((λ q. cc), ((λ q. cc), ((λ q. cc), ((λ q. cc), ((λ q. cc), ((λ q. cc), ((λ q. cc), ((λ q. cc), ((λ q. cc), tt)))))))))))) in
     let none = pass_all (found_rows opens ask found) refuses e in
     record {
       reached = grind (arith, none.1.0);
@@ -72,25 +74,51 @@ rows_by state ask None = refl
 rows_by state ask (Some entry) = refl
 
 -- the table's rest, where the rows of the place and of the kind do not hold
-pub conflicting : (opens : List OpenRow) (ask : FileAsked) (found : CreateLookup) → ((rows : List StatusRow) → first_status (place_rows ask found ++ rows) ≡ first_status rows) → ((rows : List StatusRow) → first_status (kind_rows ask found.target ++ rows) ≡ first_status rows) → target_conflicts opens ask found.target ≡ true → STATUS_SHARING_VIOLATION ≡ first_status (found_rows opens ask found)
+pub conflicting : (opens : List OpenRow) (ask : FileAsked) (found : CreateLookup) → ((rows : List StatusRow) → first_status (place_rows ask found ++ rows) ≡ first_status rows) → ((rows : List StatusRow) → first_status (kind_rows ask found.target ++ rows) ≡ first_status rows) → target_conflicts opens ask found.target ≡ true → first_status (found_rows opens ask found) ≡ SharingViolation
 conflicting opens ask found p k c =
-    let rest : List StatusRow = (target_conflicts opens ask found.target, STATUS_SHARING_VIOLATION) ∷ room_rows found in
-    let last : first_status rest ≡ STATUS_SHARING_VIOLATION = rw c refl in
-    sym (p (kind_rows ask found.target ++ rest) ∙ k rest ∙ last)
+    let rest : List StatusRow = (target_conflicts opens ask found.target, SharingViolation) ∷ room_rows found in
+    let last : first_status rest ≡ SharingViolation = rw c refl in
+    p (kind_rows ask found.target ++ rest) ∙ k rest ∙ last
 
-pub roomy : (opens : List OpenRow) (ask : FileAsked) (found : CreateLookup) (code : ℕ) → ((rows : List StatusRow) → first_status (place_rows ask found ++ rows) ≡ first_status rows) → ((rows : List StatusRow) → first_status (kind_rows ask found.target ++ rows) ≡ first_status rows) → target_conflicts opens ask found.target ≡ false → code ≡ first_status (room_rows found) → code ≡ first_status (found_rows opens ask found)
-roomy opens ask found code p k c e =
-    let rest : List StatusRow = (target_conflicts opens ask found.target, STATUS_SHARING_VIOLATION) ∷ room_rows found in
+pub roomy : (opens : List OpenRow) (ask : FileAsked) (found : CreateLookup) → ((rows : List StatusRow) → first_status (place_rows ask found ++ rows) ≡ first_status rows) → ((rows : List StatusRow) → first_status (kind_rows ask found.target ++ rows) ≡ first_status rows) → target_conflicts opens ask found.target ≡ false → first_status (found_rows opens ask found) ≡ first_status (room_rows found)
+roomy opens ask found p k c =
+    let rest : List StatusRow = (target_conflicts opens ask found.target, SharingViolation) ∷ room_rows found in
     let last : first_status rest ≡ first_status (room_rows found) = rw c refl in
-    e ∙ sym (p (kind_rows ask found.target ++ rest) ∙ k rest ∙ last)
+    p (kind_rows ask found.target ++ rest) ∙ k rest ∙ last
+
+-- what a check says of some rows it says of others, whose status is the same
+pub lawful_as : {X : Type 0} (r : Result X NtStatus) (one other : NtStatus) → one ≡ other → OnOk r (other ≡ Success) → OnOk r (one ≡ Success)
+lawful_as (Ok x) one other e h = e ∙ h
+lawful_as (Err status) one other e h = tt
+
+pub why_as : {X : Type 0} (r : Result X NtStatus) (one other : NtStatus) → one ≡ other → IfErr r (λ status. other ≡ status) → IfErr r (λ status. one ≡ status)
+why_as (Ok x) one other e h = tt
+why_as (Err status) one other e h = e ∙ h
+
+-- what `?` hands on of a check's status, or of a fault
+pub handed_status : {X : Type 0} (r : Result X NtStatus) (status code : NtStatus) → IsErrAnd r (λ found. found ≡ status) → code ≡ status → IfErr r (λ found. code ≡ found)
+handed_status (Ok x) status code gives is = tt
+handed_status (Err found) status code gives is = is ∙ sym gives
+
+pub handed_refusal : {X : Type 0} (r : Result X StoreFault) (status code : NtStatus) → IsErrAnd r (λ fault. fault ≡ Status (status_code status)) → code ≡ status → status ≢ Success → IfErr r (λ fault. IsRefusal code fault)
+handed_refusal (Ok x) status code gives is other = tt
+handed_refusal (Err fault) status code gives is other = subst (IsRefusal code) (sym gives) (ap status_code (sym is), λ q. other (sym is ∙ q))
+
+pub handed_fault : {X : Type 0} (r : Result X StoreFault) (fault : StoreFault) (code : NtStatus) → IsErrAnd r (λ found. found ≡ fault) → IsRefusal code fault → IfErr r (λ found. IsRefusal code found)
+handed_fault (Ok x) fault code gives why = tt
+handed_fault (Err found) fault code gives why = subst (IsRefusal code) (sym gives) why
+
+-- the rows over the request alone decide
+pub refused_asked : (state : StoreState) (ask : FileAsked) (status : NtStatus) → ((rows : List StatusRow) → first_status (asked_rows ask ++ rows) ≡ status) → create_status state ask ≡ status
+refused_asked state ask status h = ap first_status (rows_by state ask (entry_asked state ask)) ∙ h (found_rows state.opens ask (found_by state ask))
 
 -- the status is that of what was found
-pub status_told : (state : StoreState) (ask : FileAsked) (path : Path) (found : CreateLookup) (code : ℕ) → found ≡ found_at state path → path ≡ path_asked ask → code ≡ first_status (found_rows state.opens ask found) → ((rows : List StatusRow) → first_status (asked_rows ask ++ rows) ≡ first_status rows) → code ≡ create_status state ask
+pub status_told : (state : StoreState) (ask : FileAsked) (path : Path) (found : CreateLookup) (code : NtStatus) → found ≡ found_at state path → path ≡ path_asked ask → code ≡ first_status (found_rows state.opens ask found) → ((rows : List StatusRow) → first_status (asked_rows ask ++ rows) ≡ first_status rows) → code ≡ create_status state ask
 status_told state ask path found code f p e l =
     e ∙ ap (λ (x : CreateLookup). first_status (found_rows state.opens ask x)) (f ∙ ap (found_at state) p) ∙ sym (l (found_rows state.opens ask (found_by state ask)))
     ∙ ap first_status (sym (rows_by state ask (entry_asked state ask)))
 
-pub refused_memory : {X : Type 0} (r : Result X StoreFault) (status : ℕ) → status ≡ STATUS_SUCCESS → IfErr r (λ fault. fault ≡ NoMemory) → IfErr r (λ fault. IsRefusal status fault)
+pub refused_memory : {X : Type 0} (r : Result X StoreFault) (status : NtStatus) → status ≡ Success → IfErr r (λ fault. fault ≡ NoMemory) → IfErr r (λ fault. IsRefusal status fault)
 refused_memory (Ok x) status e h = tt
 refused_memory (Err fault) status e h = subst (IsRefusal status) (sym h) e
 
@@ -115,7 +143,7 @@ found_is state path target above reached pending opens entries t a r p o e =
     λ i. record { target = t i; reached = r i; pending = due i; opens_full = o i; entries_full = e i }
 
 -- an entry may be added where none was found
-pub free_found : (state : StoreState) (ask : FileAsked) (parts : List (List ℕ)) (found : CreateLookup) → GoodStore state → found ≡ found_at state (folded_path parts) → parts ≡ path_spelled ask.name → path_fault ask.name ≡ None → first_status (found_rows state.opens ask found) ≡ STATUS_SUCCESS → found.target ≡ None → add_fault state.tree (folded_path parts) ≡ None
+pub free_found : (state : StoreState) (ask : FileAsked) (parts : List (List ℕ)) (found : CreateLookup) → GoodStore state → found ≡ found_at state (folded_path parts) → parts ≡ path_spelled ask.name → path_fault ask.name ≡ None → first_status (found_rows state.opens ask found) ≡ Success → found.target ≡ None → add_fault state.tree (folded_path parts) ≡ None
 free_found state ask parts found good f p n e t =
     let fine = passed state.opens ask found e in
     let absent : entry_at state.tree.rows (folded_path parts) ≡ None = absent_target _ (ap (λ (x : CreateLookup). x.target) (sym f) ∙ t) in
@@ -124,11 +152,11 @@ free_found state ask parts found good f p n e t =
     let room : has_all_entries state ≡ false = (let same = ap (λ (x : CreateLookup). x.entries_full) f in grind (arith, fine.entries, t, same)) in
     grind (arith, nat_tests, common_steps, absent, above, room)
 
-pub room_found : (state : StoreState) (ask : FileAsked) (path : Path) (found : CreateLookup) → found ≡ found_at state path → first_status (found_rows state.opens ask found) ≡ STATUS_SUCCESS → has_all_opens state ≡ false
+pub room_found : (state : StoreState) (ask : FileAsked) (path : Path) (found : CreateLookup) → found ≡ found_at state path → first_status (found_rows state.opens ask found) ≡ Success → has_all_opens state ≡ false
 room_found state ask path found f e = ap (λ (x : CreateLookup). x.opens_full) (sym f) ∙ (passed state.opens ask found e).opens
 
 -- the folder of an entry that may be added is not marked
-pub above_found : (state : StoreState) (ask : FileAsked) (path : Path) (found : CreateLookup) → found ≡ found_at state path → first_status (found_rows state.opens ask found) ≡ STATUS_SUCCESS → is_marked (entry_at state.tree.rows (parent path)) ≡ false
+pub above_found : (state : StoreState) (ask : FileAsked) (path : Path) (found : CreateLookup) → found ≡ found_at state path → first_status (found_rows state.opens ask found) ≡ Success → is_marked (entry_at state.tree.rows (parent path)) ≡ false
 above_found state ask path found f e =
     let none : is_pending state.tree.rows path ≡ false = ap (λ (x : CreateLookup). x.pending) (sym f) ∙ (passed state.opens ask found e).pending in
     second_off (is_marked (entry_at state.tree.rows path)) (is_marked (entry_at state.tree.rows (parent path))) none
@@ -137,7 +165,7 @@ above_found state ask path found f e =
 no_folder : (folder file over : Bool) → over ≡ true → (folder && (file || over)) ≡ false → folder ≡ false
 no_folder folder file over o h = grind (arith, o, h)
 
-pub file_found : (state : StoreState) (ask : FileAsked) (found : CreateLookup) (target : Target) → first_status (found_rows state.opens ask found) ≡ STATUS_SUCCESS → found.target ≡ Some target → overwrites_by ask.disposition ≡ true → is_folder_kind target.kind ≡ false
+pub file_found : (state : StoreState) (ask : FileAsked) (found : CreateLookup) (target : Target) → first_status (found_rows state.opens ask found) ≡ Success → found.target ≡ Some target → overwrites_by ask.disposition ≡ true → is_folder_kind target.kind ≡ false
 file_found state ask found target e t o =
     let none : (is_folder_kind target.kind && (asks_file ask || overwrites_by ask.disposition)) ≡ false = ap (λ (x : Option Target). is_folder_target x && (asks_file ask || overwrites_by ask.disposition)) (sym t) ∙ (passed state.opens ask found e).file in
     no_folder (is_folder_kind target.kind) (asks_file ask) (overwrites_by ask.disposition) o none
@@ -148,7 +176,7 @@ absent_found state ask path found f p t =
     absent_target (entry_asked state ask) (ap (λ (q : Path). option_map target_of (entry_at state.tree.rows q)) (sym p) ∙ ap (λ (x : CreateLookup). x.target) (sym f) ∙ t)
 
 -- no open conflicts with the target that was found
-pub alone_found : (state : StoreState) (ask : FileAsked) (found : CreateLookup) (target : Target) → first_status (found_rows state.opens ask found) ≡ STATUS_SUCCESS → found.target ≡ Some target → target_conflicts state.opens ask (Some target) ≡ false
+pub alone_found : (state : StoreState) (ask : FileAsked) (found : CreateLookup) (target : Target) → first_status (found_rows state.opens ask found) ≡ Success → found.target ≡ Some target → target_conflicts state.opens ask (Some target) ≡ false
 alone_found state ask found target e t = ap (target_conflicts state.opens ask) (sym t) ∙ (passed state.opens ask found e).alone
 
 read_only_same : (o : Option Entry) → is_read_only_target (option_map target_of o) ≡ is_read_only_file o

@@ -2,7 +2,8 @@
 use Rattle.std.proofs.Common.{◌≡◌, ◌==◌, ◌⊎◌, inl, inr, ℕ, ◌-◌, ◌<◌, ◌≤◌, Bool, true, false, not, ◌&&◌, List, [], ◌∷◌, ◌++◌, length, if◌then◌else◌, Option, None, Some, is_some, refl, sym, ap, subst, arith, ◌∙◌}
 use Rattle.std.specs.List.{list_all}
 use Rattle.std.specs.Option.{option_map, option_map_or}
-use Rattle.smb_wire.specs.NtStatus.{STATUS_SUCCESS, STATUS_FILE_CLOSED}
+use Rattle.smb_wire.specs.declared.nt_status.NtStatus.{NtStatus}
+use Rattle.smb_wire.specs.declared.nt_status.NtStatus.TheVariants.{Success, FileClosed}
 use Rattle.smb_wire.specs.Paths.{path_spelled, folded_path, is_lawful_component}
 use Rattle.smb_tree.specs.Entries.{Entry, is_folder_kind}
 use Rattle.smb_tree.specs.Content.{Path, Row, Content, is_same_path, entry_at, numbered}
@@ -33,9 +34,9 @@ use Rattle.smb_entry.proofs.Under.{path_found}
 -- the status, by what an open shows
 status_by_view : (state : StoreState) (number : ℕ) (view : View) (name : List ℕ) (replace : Bool) → Some view ≡ open_view state number →
     first_status (rename_rows state.tree.rows state.opens view name replace (path_numbered state.tree.rows view.entry) (path_named name)) ≡ rename_status state number name replace
-status_by_view state number view name replace e = ap (λ (o : Option View). option_map_or (λ view. first_status (rename_rows state.tree.rows state.opens view name replace (path_numbered state.tree.rows view.entry) (path_named name))) o STATUS_FILE_CLOSED) e
+status_by_view state number view name replace e = ap (λ (o : Option View). option_map_or (λ view. first_status (rename_rows state.tree.rows state.opens view name replace (path_numbered state.tree.rows view.entry) (path_named name))) o FileClosed) e
 
-pub refused_name : (state : StoreState) (number : ℕ) (view : View) (name : List ℕ) (replace : Bool) (status : ℕ) → Some view ≡ open_view state number → ((rest : List StatusRow) → first_status (name_rows name ++ rest) ≡ status) →
+pub refused_name : (state : StoreState) (number : ℕ) (view : View) (name : List ℕ) (replace : Bool) (status : NtStatus) → Some view ≡ open_view state number → ((rest : List StatusRow) → first_status (name_rows name ++ rest) ≡ status) →
     status ≡ rename_status state number name replace
 refused_name state number view name replace status e h =
     status_named state.tree.rows state.opens view name replace (path_numbered state.tree.rows view.entry) (path_named name) status h ∙ status_by_view state number view name replace e
@@ -51,7 +52,7 @@ abbrev rows_of_state : StoreState → View → Row → List ℕ → Bool → Lis
 rows_of_state state view row name replace =
     rows_by state.tree.rows state.opens view row.0 (path_named name) replace (is_same_path row.0 (path_named name)) (is_some (entry_at state.tree.rows (path_named name))) (is_not_replaced state.opens (entry_at state.tree.rows (path_named name)))
 
-found_rows : (state : StoreState) (number : ℕ) (view : View) (way : RenameLookup) (name : List ℕ) (parts : List (List ℕ)) (replace : Bool) (status opens_count entries_count : ℕ) → (s : ShownBy state number view) → IsWay state view way name parts →
+found_rows : (state : StoreState) (number : ℕ) (view : View) (way : RenameLookup) (name : List ℕ) (parts : List (List ℕ)) (replace : Bool) (status : NtStatus) (opens_count entries_count : ℕ) → (s : ShownBy state number view) → IsWay state view way name parts →
     IsKept state.tree state.opens state.locks state.next opens_count entries_count → status ≡ first_status (way_rows state.tree.rows state.opens view way replace) →
     status ≡ first_status (rows_of_state state view s.row name replace)
 found_rows state number view way name parts replace status opens_count entries_count s is kept e =
@@ -66,8 +67,8 @@ from_shown : (state : StoreState) (number : ℕ) (view : View) (name : List ℕ)
 from_shown state number view name replace s =
     ap (λ (p : Path). first_status (rename_rows state.tree.rows state.opens view name replace p (path_named name))) (sym (path_found state.tree.rows view.entry s.row (at_shown state number view s)))
 
-pub refused_way : (state : StoreState) (number : ℕ) (view : View) (way : RenameLookup) (name : List ℕ) (parts : List (List ℕ)) (replace : Bool) (status opens_count entries_count : ℕ) → ShownBy state number view → Some view ≡ open_view state number → IsWay state view way name parts →
-    IsKept state.tree state.opens state.locks state.next opens_count entries_count → status ≡ first_status (way_rows state.tree.rows state.opens view way replace) → (status ≡ STATUS_SUCCESS → ⊥) →
+pub refused_way : (state : StoreState) (number : ℕ) (view : View) (way : RenameLookup) (name : List ℕ) (parts : List (List ℕ)) (replace : Bool) (status : NtStatus) (opens_count entries_count : ℕ) → ShownBy state number view → Some view ≡ open_view state number → IsWay state view way name parts →
+    IsKept state.tree state.opens state.locks state.next opens_count entries_count → status ≡ first_status (way_rows state.tree.rows state.opens view way replace) → (status ≡ Success → ⊥) →
     status ≡ rename_status state number name replace
 refused_way state number view way name parts replace status opens_count entries_count s shows is kept e bad =
     let f = found_rows state number view way name parts replace status opens_count entries_count s is kept e in
@@ -75,8 +76,8 @@ refused_way state number view way name parts replace status opens_count entries_
     ∙ from_shown state number view name replace s ∙ status_by_view state number view name replace shows
 
 -- the status of a rename that is left to the tree
-pub status_left : (state : StoreState) (number : ℕ) (view : View) (way : RenameLookup) (name : List ℕ) (parts : List (List ℕ)) (replace : Bool) (status opens_count entries_count : ℕ) → ShownBy state number view → Some view ≡ open_view state number → IsWay state view way name parts →
-    IsKept state.tree state.opens state.locks state.next opens_count entries_count → status ≡ first_status (way_rows state.tree.rows state.opens view way replace) → status ≡ STATUS_SUCCESS →
+pub status_left : (state : StoreState) (number : ℕ) (view : View) (way : RenameLookup) (name : List ℕ) (parts : List (List ℕ)) (replace : Bool) (status : NtStatus) (opens_count entries_count : ℕ) → ShownBy state number view → Some view ≡ open_view state number → IsWay state view way name parts →
+    IsKept state.tree state.opens state.locks state.next opens_count entries_count → status ≡ first_status (way_rows state.tree.rows state.opens view way replace) → status ≡ Success →
     rename_status state number name replace ≡ code_of (move_fault state.tree view.entry (folded_path parts))
 status_left state number view way name parts replace status opens_count entries_count s shows is kept e fine =
     let f = found_rows state number view way name parts replace status opens_count entries_count s is kept e in
@@ -85,8 +86,8 @@ status_left state number view way name parts replace status opens_count entries_
     ∙ ap (λ (ps : List (List ℕ)). code_of (move_fault state.tree view.entry (folded_path ps))) (sym is.spelled)
 
 -- what is known of the move
-moving : (state : StoreState) (number : ℕ) (view : View) (way : RenameLookup) (name : List ℕ) (parts : List (List ℕ)) (replace : Bool) (status opens_count entries_count : ℕ) → (s : ShownBy state number view) → IsWay state view way name parts →
-    IsKept state.tree state.opens state.locks state.next opens_count entries_count → status ≡ first_status (way_rows state.tree.rows state.opens view way replace) → status ≡ STATUS_SUCCESS → move_fault state.tree view.entry (folded_path parts) ≡ None →
+moving : (state : StoreState) (number : ℕ) (view : View) (way : RenameLookup) (name : List ℕ) (parts : List (List ℕ)) (replace : Bool) (status : NtStatus) (opens_count entries_count : ℕ) → (s : ShownBy state number view) → IsWay state view way name parts →
+    IsKept state.tree state.opens state.locks state.next opens_count entries_count → status ≡ first_status (way_rows state.tree.rows state.opens view way replace) → status ≡ Success → move_fault state.tree view.entry (folded_path parts) ≡ None →
     IsMoving state.tree state.opens view.entry parts s.row × IsEither state.tree state.opens parts s.row
 moving state number view way name parts replace status opens_count entries_count s is kept e fine free =
     let f = found_rows state number view way name parts replace status opens_count entries_count s is kept e in
@@ -107,8 +108,8 @@ count_by None n c = omega arith
 count_by (Some x) n c = elim (x.number == n) as (λ b. c - (if not b then 1 else 0) ≡ (if not b then c - 1 else c)) [ true ↦ omega arith | false ↦ refl ]
 
 -- a good store is left
-pub kept_renamed : (state : StoreState) (number : ℕ) (view : View) (way : RenameLookup) (name : List ℕ) (parts : List (List ℕ)) (replace : Bool) (status opens_count entries_count moment replaced : ℕ) (after : Content) → ShownBy state number view → IsWay state view way name parts →
-    IsKept state.tree state.opens state.locks state.next opens_count entries_count → status ≡ first_status (way_rows state.tree.rows state.opens view way replace) → status ≡ STATUS_SUCCESS → move_fault state.tree view.entry (folded_path parts) ≡ None →
+pub kept_renamed : (state : StoreState) (number : ℕ) (view : View) (way : RenameLookup) (name : List ℕ) (parts : List (List ℕ)) (replace : Bool) (status : NtStatus) (opens_count entries_count moment replaced : ℕ) (after : Content) → ShownBy state number view → IsWay state view way name parts →
+    IsKept state.tree state.opens state.locks state.next opens_count entries_count → status ≡ first_status (way_rows state.tree.rows state.opens view way replace) → status ≡ Success → move_fault state.tree view.entry (folded_path parts) ≡ None →
     list_all is_lawful_component parts ≡ true → replaced ≡ count_replaced view.entry way.target → after ≡ renamed_tree state.tree view.entry parts moment →
     IsKept after state.opens state.locks state.next opens_count (entries_count - replaced)
 kept_renamed state number view way name parts replace status opens_count entries_count moment replaced after s is kept e fine free names count done =

@@ -5,7 +5,7 @@ use Rattle.std.proofs.lemmas.Bool.Decides.{nat_tests}
 use Rattle.std.proofs.lemmas.List.{take_all, drop_at, drop_all, places, same_lists}
 use Rattle.std.specs.List.{AllByRecursion, list_any}
 use Rattle.std.specs.Option.{option_map, option_map_or}
-use Rattle.smb_wire.specs.NtStatus.{STATUS_SUCCESS, STATUS_DELETE_PENDING}
+use Rattle.smb_wire.specs.declared.nt_status.NtStatus.TheVariants.{Success, DeletePending}
 use Rattle.smb_tree.specs.Content.{Path, Row, numbered, changed, resized}
 use Rattle.smb_tree.specs.Entries.{Entry}
 use Rattle.smb_tree.proofs.AfterWrites.{other_changed}
@@ -129,10 +129,10 @@ front state number size is_allocation moment row before after one was is =
     (refl, left.0, left.1, left.2)
 
 -- of rows whose statuses are refusals, and one of which holds, the first that holds is a refusal
-refuses : (rows : List StatusRow) → AllByRecursion (λ row. row.1 ≢ STATUS_SUCCESS) rows → list_any (λ row. row.0) rows ≡ true → first_status rows ≢ STATUS_SUCCESS
+refuses : (rows : List StatusRow) → AllByRecursion (λ row. row.1 ≢ Success) rows → list_any (λ row. row.0) rows ≡ true → first_status rows ≢ Success
 refuses [] all some = absurd (cc)
 refuses (row ∷ rows) all some =
-    elim (row.0) as (λ b. (b || list_any (λ (r : StatusRow). r.0) rows) ≡ true → (if b then row.1 else first_status rows) ≢ STATUS_SUCCESS) [
+    elim (row.0) as (λ b. (b || list_any (λ (r : StatusRow). r.0) rows) ≡ true → (if b then row.1 else first_status rows) ≢ Success) [
       | true ↦ λ _. all.0
       | false ↦ λ among. refuses rows all.1 among
     ] some
@@ -148,9 +148,9 @@ holds_at (x ∷ rows) zero row at e = (let same : x ≡ row = cc in rw (same, e)
 holds_at (x ∷ rows) (suc n) row at e = later x.0 (list_any (λ (r : StatusRow). r.0) rows) (holds_at rows n row at e)
 
 -- an entry that is marked isn't opened
-pub not_opened : (state : StoreState) (ask : FileAsked) (entry : Entry) → entry_asked state ask ≡ Some entry → entry.mark ≡ true → create_status state ask ≢ STATUS_SUCCESS
+pub not_opened : (state : StoreState) (ask : FileAsked) (entry : Entry) → entry_asked state ask ≡ Some entry → entry.mark ≡ true → create_status state ask ≢ Success
 not_opened state ask entry at marked =
     let pending : is_pending state.tree.rows (path_asked ask) ≡ true = rw at (rw marked refl) in
     refuses (create_rows state ask (entry_asked state ask))
     (λ q. cc, (λ q. cc, (λ q. cc, (λ q. cc, (λ q. cc, (λ q. cc, (λ q. cc, (λ q. cc, (λ q. cc, (λ q. cc, (λ q. cc, (λ q. cc, (λ q. cc, (λ q. cc, (λ q. cc, (λ q. cc, (λ q. cc, tt)))))))))))))))))
-    (holds_at (create_rows state ask (entry_asked state ask)) 7 (is_pending state.tree.rows (path_asked ask), STATUS_DELETE_PENDING) refl pending)
+    (holds_at (create_rows state ask (entry_asked state ask)) 7 (is_pending state.tree.rows (path_asked ask), DeletePending) refl pending)

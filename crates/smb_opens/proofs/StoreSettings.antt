@@ -4,7 +4,7 @@ use Rattle.std.proofs.lemmas.Bool.{eqb-true}
 use Rattle.std.proofs.lemmas.Bool.Decides.{nat_tests}
 use Rattle.std.specs.Option.{option_map, option_map_or}
 use Rattle.std.specs.Prelude.{Result, Ok, Err, OnOk, OnErr}
-use Rattle.smb_wire.specs.NtStatus.{STATUS_SUCCESS, STATUS_ACCESS_DENIED, STATUS_CANNOT_DELETE, STATUS_DIRECTORY_NOT_EMPTY}
+use Rattle.smb_wire.specs.declared.nt_status.NtStatus.TheVariants.{Success, AccessDenied, CannotDelete, DirectoryNotEmpty}
 use Rattle.smb_tree.specs.Children.{has_children}
 use Rattle.smb_tree.specs.Content.{Row, Content, numbered, changed, resized, used_space, with_size, with_mark}
 use Rattle.smb_tree.specs.Entries.{Entry, is_folder_kind}
@@ -79,15 +79,15 @@ kept_based state number view ask moment after opens_count entries_count s is kep
     (marks_kept f state.tree.rows view.entry state.opens (λ _. refl) (λ _. refl) kept.good.marked) kept
 
 -- an entry for which no row holds, and which is to be deleted, is not the root, and no entries are in it
-free_by : (may root read_only occupied : Bool) → (if not may then STATUS_ACCESS_DENIED else if root || read_only then STATUS_CANNOT_DELETE else if occupied then STATUS_DIRECTORY_NOT_EMPTY else STATUS_SUCCESS) ≡ STATUS_SUCCESS →
+free_by : (may root read_only occupied : Bool) → (if not may then AccessDenied else if root || read_only then CannotDelete else if occupied then DirectoryNotEmpty else Success) ≡ Success →
     (root ≡ false) × (occupied ≡ false)
-free_by false root read_only occupied e = absurd (omega (arith, e))
-free_by true true read_only occupied e = absurd (omega (arith, e))
-free_by true false true occupied e = absurd (omega (arith, e))
-free_by true false false true e = absurd (omega (arith, e))
+free_by false root read_only occupied e = absurd (cc)
+free_by true true read_only occupied e = absurd (cc)
+free_by true false true occupied e = absurd (cc)
+free_by true false false true e = absurd (cc)
 free_by true false false false e = (refl, refl)
 
-free_entry : (view : View) (is_occupied : Bool) → first_status (delete_rows view is_occupied true) ≡ STATUS_SUCCESS → ((view.entry == 1) ≡ false) × (is_occupied ≡ false)
+free_entry : (view : View) (is_occupied : Bool) → first_status (delete_rows view is_occupied true) ≡ Success → ((view.entry == 1) ≡ false) × (is_occupied ≡ false)
 free_entry view is_occupied e = free_by (is_deleting view.access) (view.entry == 1) (shows_read_only_file view) is_occupied e
 
 deletable_entry : (rows : List Row) (n : ℕ) (row : Row) → numbered rows n ≡ Some row → (n == 1) ≡ false → has_entries rows n ≡ false → is_deletable rows n ≡ true
@@ -122,7 +122,7 @@ marks_set rows opens n d free h m e =
 
 -- a mark
 pub kept_deleted : (state : StoreState) (number : ℕ) (view : View) (is_deleted : Bool) (after : Content) (opens_count entries_count : ℕ) → ShownBy state number view → after ≡ with_mark state.tree view.entry is_deleted →
-    first_status (delete_rows view (has_entries state.tree.rows view.entry) is_deleted) ≡ STATUS_SUCCESS → IsKept state.tree state.opens state.locks state.next opens_count entries_count → IsKept after state.opens state.locks state.next opens_count entries_count
+    first_status (delete_rows view (has_entries state.tree.rows view.entry) is_deleted) ≡ Success → IsKept state.tree state.opens state.locks state.next opens_count entries_count → IsKept after state.opens state.locks state.next opens_count entries_count
 kept_deleted state number view is_deleted after opens_count entries_count s is lawful kept =
     let f : Entry → Entry = delete_set is_deleted in
     let at = at_shown state number view s in
@@ -130,7 +130,7 @@ kept_deleted state number view is_deleted after opens_count entries_count s is l
     kept_changed f state view.entry opens_count entries_count after is (keeps_of f k) (record { number = λ _. refl; spelling = λ _. refl; attributes = λ _ h. h })
     (good_changed f state.tree view.entry s.row k at kept.good.tree)
     (marks_set state.tree.rows state.opens view.entry is_deleted (λ on. (
-    let free = free_entry view (has_entries state.tree.rows view.entry) (subst (λ (d : Bool). first_status (delete_rows view (has_entries state.tree.rows view.entry) d) ≡ STATUS_SUCCESS) on lawful) in
+    let free = free_entry view (has_entries state.tree.rows view.entry) (subst (λ (d : Bool). first_status (delete_rows view (has_entries state.tree.rows view.entry) d) ≡ Success) on lawful) in
     (deletable_entry state.tree.rows view.entry s.row at free.0 free.1, ap (has_open state.opens) (entry_of state number view s) ∙ opened_on state.opens number s.held s.opened)
     )) kept.good.marked) kept
 

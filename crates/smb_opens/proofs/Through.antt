@@ -4,7 +4,9 @@ use Rattle.std.proofs.lemmas.Grind.{common_steps}
 use Rattle.std.proofs.lemmas.Bool.Decides.{nat_tests}
 use Rattle.std.specs.Option.{option_map, option_map_or}
 use Rattle.std.specs.Prelude.{Result, Ok, Err, OnOk, OnErr, IfErr, nat_lt, if◌then◌else◌}
-use Rattle.smb_wire.specs.NtStatus.{STATUS_SUCCESS, STATUS_DISK_FULL}
+use Rattle.smb_wire.specs.declared.nt_status.NtStatus.{NtStatus}
+use Rattle.smb_wire.specs.declared.nt_status.NtStatus.TheVariants.{Success, DiskFull}
+use Rattle.smb_wire.specs.NtStatus.{status_code}
 use Rattle.smb_tree.specs.declared.fault.TreeFault.{TreeFault}
 use Rattle.smb_tree.specs.Entries.{Entry, is_folder_kind}
 use Rattle.smb_tree.specs.Content.{Row, Content, numbered, changed, bytes_read}
@@ -112,7 +114,7 @@ room_shown state number view offset buffer good s file =
     fault_room state.tree view.entry offset buffer s.row at (kind_shown state number view s file) (of_number (λ row. length row.1.bytes ≤ 16777216) state.tree.rows view.entry s.row good.small at)
 
 -- the status of a WRITE of an open that shows this
-abbrev pub written_status : ℕ → Content → Table → ℕ → View → ℕ → List ℕ → ℕ
+abbrev pub written_status : ℕ → Content → Table → ℕ → View → ℕ → List ℕ → NtStatus
 written_status most tree locks number view offset buffer =
     first_status (write_rows most view (keeps_from_writing locks number view offset (length buffer)) offset (length buffer) (has_no_room tree view.entry offset buffer))
 
@@ -124,9 +126,9 @@ rows_barred most tree locks number view is_barred offset buffer bar =
 
 -- a WRITE that is done had room
 pub lawful_written : {X : Type 0} (r : Result X StoreFault) (most : ℕ) (tree : Content) (locks : Table) (number : ℕ) (view : View) (is_barred : Bool) (offset : ℕ) (buffer : List ℕ) → is_barred ≡ keeps_from_writing locks number view offset (length buffer) →
-    ((is_full : Bool) → first_status (write_rows most view is_barred offset (length buffer) is_full) ≡ (if nat_lt 0 (length buffer) && is_full then STATUS_DISK_FULL else STATUS_SUCCESS)) →
+    ((is_full : Bool) → first_status (write_rows most view is_barred offset (length buffer) is_full) ≡ (if nat_lt 0 (length buffer) && is_full then DiskFull else Success)) →
     is_some (write_fault tree view.entry offset (length buffer)) ≡ has_no_room tree view.entry offset buffer →
-    OnOk r (write_fault tree view.entry offset (length buffer) ≡ None) → OnOk r (written_status most tree locks number view offset buffer ≡ STATUS_SUCCESS)
+    OnOk r (write_fault tree view.entry offset (length buffer) ≡ None) → OnOk r (written_status most tree locks number view offset buffer ≡ Success)
 lawful_written (Ok x) most tree locks number view is_barred offset buffer bar goes same none =
     let room : has_no_room tree view.entry offset buffer ≡ false = sym same ∙ ap (λ (o : Option TreeFault). is_some o) none in
     sym (rows_barred most tree locks number view is_barred offset buffer bar) ∙ goes (has_no_room tree view.entry offset buffer) ∙ grind (arith, nat_tests, room)
@@ -134,13 +136,13 @@ lawful_written (Err e) most tree locks number view is_barred offset buffer bar g
 
 -- a WRITE for which there is no room is refused for that
 pub why_written : {X : Type 0} (r : Result X StoreFault) (most : ℕ) (tree : Content) (locks : Table) (number : ℕ) (view : View) (is_barred : Bool) (offset : ℕ) (buffer : List ℕ) → (length buffer == 0) ≡ false → is_barred ≡ keeps_from_writing locks number view offset (length buffer) →
-    ((is_full : Bool) → first_status (write_rows most view is_barred offset (length buffer) is_full) ≡ (if nat_lt 0 (length buffer) && is_full then STATUS_DISK_FULL else STATUS_SUCCESS)) →
+    ((is_full : Bool) → first_status (write_rows most view is_barred offset (length buffer) is_full) ≡ (if nat_lt 0 (length buffer) && is_full then DiskFull else Success)) →
     is_some (write_fault tree view.entry offset (length buffer)) ≡ has_no_room tree view.entry offset buffer →
-    IfErr r (λ fault. fault ≢ NoMemory → (fault ≡ Status STATUS_DISK_FULL) × (is_some (write_fault tree view.entry offset (length buffer)) ≡ true)) →
+    IfErr r (λ fault. fault ≢ NoMemory → (fault ≡ Status (status_code DiskFull)) × (is_some (write_fault tree view.entry offset (length buffer)) ≡ true)) →
     IfErr r (λ fault. fault ≢ NoMemory → IsRefusal (written_status most tree locks number view offset buffer) fault)
 why_written (Ok x) most tree locks number view is_barred offset buffer some bar goes same h = tt
 why_written (Err fault) most tree locks number view is_barred offset buffer some bar goes same h = λ q.
     let told = h q in
     let full : has_no_room tree view.entry offset buffer ≡ true = sym same ∙ told.1 in
-    let status : written_status most tree locks number view offset buffer ≡ STATUS_DISK_FULL = sym (rows_barred most tree locks number view is_barred offset buffer bar) ∙ goes (has_no_room tree view.entry offset buffer) ∙ grind (arith, nat_tests, some, full) in
-    subst (λ (f : StoreFault). IsRefusal (written_status most tree locks number view offset buffer) f) (sym told.0) (sym status, λ e. cc)
+    let status : written_status most tree locks number view offset buffer ≡ DiskFull = sym (rows_barred most tree locks number view is_barred offset buffer bar) ∙ goes (has_no_room tree view.entry offset buffer) ∙ grind (arith, nat_tests, some, full) in
+    subst (λ (f : StoreFault). IsRefusal (written_status most tree locks number view offset buffer) f) (sym told.0) (ap status_code (sym status), λ e. cc)

@@ -7,7 +7,7 @@ use Rattle.smb_wire.specs.declared.access.ShareAccess.{ShareAccess}
 use Rattle.smb_tree.specs.declared.entry.Kind.{Kind}
 use Rattle.smb_tree.specs.Entries.{Entry}
 use Rattle.smb_tree.specs.Content.{Path, Row, entry_at, number_at, numbered, is_same_path, new_content}
-use Rattle.smb_wire.specs.NtStatus.{STATUS_SUCCESS}
+use Rattle.smb_wire.specs.declared.nt_status.NtStatus.TheVariants.{Success}
 use Rattle.smb_locks.specs.declared.lock.Lock.{Lock}
 use Rattle.smb_locks.specs.Ranges.{Overlap}
 use Rattle.smb_locks.specs.Table.{locks_on, others_locks}
@@ -101,15 +101,15 @@ abbrev pub ALockKeepsOthersOut : Type 0
 ALockKeepsOthersOut =
     (state : StoreState) (most number offset count minimum : ℕ) (buffer : List ℕ) (row : OpenRow) (lock : Lock) → open_of state.opens number ≡ Some row →
     Contains (locks_on state.locks row.entry) lock → lock.exclusive ≡ true → lock.holder ≢ number →
-    (Overlap lock.range (record { offset = offset; length = count }) → read_status state most number offset count minimum ≢ STATUS_SUCCESS)
-    × (Overlap lock.range (record { offset = offset; length = length buffer }) → write_status state most number offset buffer ≢ STATUS_SUCCESS)
+    (Overlap lock.range (record { offset = offset; length = count }) → read_status state most number offset count minimum ≢ Success)
+    × (Overlap lock.range (record { offset = offset; length = length buffer }) → write_status state most number offset buffer ≢ Success)
 
 -- what is under a shared lock, no open of the file writes, the one that holds it neither
 abbrev pub ASharedLockKeepsWritersOut : Type 0
 ASharedLockKeepsWritersOut =
     (state : StoreState) (most number offset : ℕ) (buffer : List ℕ) (row : OpenRow) (lock : Lock) → open_of state.opens number ≡ Some row →
     Contains (locks_on state.locks row.entry) lock → lock.exclusive ≡ false → Overlap lock.range (record { offset = offset; length = length buffer }) →
-    write_status state most number offset buffer ≢ STATUS_SUCCESS
+    write_status state most number offset buffer ≢ Success
 
 -- of two locks of a file that different opens hold and that overlap, none is exclusive
 abbrev pub NoTwoLocksConflict : Type 0
@@ -169,7 +169,7 @@ ASetOfASizeKeepsTheFront =
 abbrev pub AMarkedEntryIsNotOpened : Type 0
 AMarkedEntryIsNotOpened =
     (state : StoreState) (ask : FileAsked) (entry : Entry) → entry_asked state ask ≡ Some entry → entry.mark ≡ true →
-    create_status state ask ≢ STATUS_SUCCESS
+    create_status state ask ≢ Success
 
 -- an entry's kind and bytes, where it exists
 abbrev pub kind_and_bytes : Option Row → Option (Kind × List ℕ)

@@ -1,6 +1,7 @@
 -- LOCK of a file through an open of a store ([MS-SMB2] 3.3.5.14).
 use Rattle.std.specs.Prelude.{ℕ, List, Option, None, Some, if◌then◌else◌}
 use Rattle.std.specs.Option.{option_map}
+use Rattle.smb_wire.specs.declared.nt_status.NtStatus.{NtStatus}
 use Rattle.smb_tree.specs.Entries.{is_folder_kind}
 use Rattle.smb_locks.specs.declared.ask.LockAsk.{LockAsk}
 use Rattle.smb_locks.specs.Locking.{lock_all_fault}
@@ -13,13 +14,13 @@ use Rattle.smb_entry.specs.Locks.{lock_status_by, locks_shown}
 
 -- the status of a LOCK that locks, through the open of a number: the first of its elements that is refused beside those
 -- before it, and their flags before all (3.3.5.14.2)
-abbrev pub lock_status : StoreState → ℕ → List LockAsk → ℕ
+abbrev pub lock_status : StoreState → ℕ → List LockAsk → NtStatus
 lock_status state number asks =
     lock_status_by (open_view state number)
     (lock_all_fault (locks_shown state.locks (open_view state number)) number asks)
 
 -- the status of a LOCK that unlocks: its first element that is refused, and the flags of all of them before (3.3.5.14.1)
-abbrev pub unlock_status : StoreState → ℕ → List LockAsk → ℕ
+abbrev pub unlock_status : StoreState → ℕ → List LockAsk → NtStatus
 unlock_status state number asks =
     lock_status_by (open_view state number)
     (option_map (λ error. error.fault) (unlock_all_error (locks_shown state.locks (open_view state number)) number asks))

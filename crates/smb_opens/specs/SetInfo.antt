@@ -1,6 +1,7 @@
 -- SET_INFO of a file or a folder through an open of a store ([MS-SMB2] 3.3.5.21.1, [MS-FSA] 2.1.5.15).
 use Rattle.std.specs.Prelude.{ℕ, Bool}
 use Rattle.std.specs.Option.{option_map_or}
+use Rattle.smb_wire.specs.declared.nt_status.NtStatus.{NtStatus}
 use Rattle.smb_tree.specs.Entries.{Entry}
 use Rattle.smb_entry.specs.declared.ask.BasicAsk.{BasicAsk}
 use Rattle.smb_access.specs.declared.open_row.OpenRow.{OpenRow}
@@ -18,7 +19,7 @@ changed_through change state number = option_map_or
 -- FileDispositionInformation: an entry is to be deleted with its last open, or no longer ([MS-FSCC] 2.4.11)
 
 -- the status of a SET_INFO that marks the entry of an open, or takes its mark away
-abbrev pub delete_status : StoreState → ℕ → Bool → ℕ
+abbrev pub delete_status : StoreState → ℕ → Bool → NtStatus
 delete_status state number is_deleted = status_through state number
     (λ view. delete_rows view (has_entries state.tree.rows view.entry) is_deleted)
 
@@ -29,7 +30,7 @@ delete_set_through state number is_deleted = changed_through (delete_set is_dele
 -- FileEndOfFileInformation and FileAllocationInformation: a file's size ([MS-FSCC] 2.4.13, 2.4.4)
 
 -- the status of a SET_INFO that sets the size of a file through the open of a number, or its allocation size
-abbrev pub size_status : StoreState → ℕ → ℕ → ℕ
+abbrev pub size_status : StoreState → ℕ → ℕ → NtStatus
 size_status state number size = status_through state number
     (λ view. size_rows view (has_no_space state.tree view.entry size))
 
@@ -40,7 +41,7 @@ size_set_through state number size is_allocation moment = changed_through (size_
 -- FileBasicInformation: an entry's times and attributes ([MS-FSCC] 2.4.7)
 
 -- the status of a SET_INFO that sets the times and attributes of the entry of an open
-abbrev pub basic_status : StoreState → ℕ → BasicAsk → ℕ
+abbrev pub basic_status : StoreState → ℕ → BasicAsk → NtStatus
 basic_status state number ask = status_through state number (λ view. basic_rows view ask)
 
 -- the store afterwards ([MS-FSA] 2.1.5.15.2)

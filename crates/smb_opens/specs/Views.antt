@@ -1,7 +1,8 @@
 -- What an open of a store shows ([MS-FSCC] 2.4.2, 2.4.27).
 use Rattle.std.specs.Prelude.{ℕ, List, Option}
 use Rattle.std.specs.Option.{option_map_or}
-use Rattle.smb_wire.specs.NtStatus.{STATUS_FILE_CLOSED}
+use Rattle.smb_wire.specs.declared.nt_status.NtStatus.{NtStatus}
+use Rattle.smb_wire.specs.declared.nt_status.NtStatus.TheVariants.{FileClosed}
 use Rattle.smb_access.specs.declared.view.View.{View}
 use Rattle.smb_access.specs.Opens.{open_of}
 use Rattle.smb_access.specs.StatusRows.{StatusRow, first_status}
@@ -13,5 +14,5 @@ abbrev pub open_view : StoreState → ℕ → Option View
 open_view state number = view_through state.tree.rows (open_of state.opens number)
 
 -- the status of what is asked through the open of a number, by the rows for what it shows; FILE_CLOSED where there is none
-abbrev pub status_through : StoreState → ℕ → (View → List StatusRow) → ℕ
-status_through state number rows = option_map_or (λ view. first_status (rows view)) (open_view state number) STATUS_FILE_CLOSED
+abbrev pub status_through : StoreState → ℕ → (View → List StatusRow) → NtStatus
+status_through state number rows = option_map_or (λ view. first_status (rows view)) (open_view state number) FileClosed

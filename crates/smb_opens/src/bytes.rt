@@ -1,7 +1,6 @@
 //! READ, WRITE and FLUSH of a file through an open ([MS-SMB2] 3.3.5.11 to 3.3.5.13).
 
 ghost use Rattle.std.specs.Prelude.{◌≡◌, ◌≢◌, ◌≤◌, ◌++◌, IsSome, IfOk, IfErr, OnOk, OnErr, length};
-ghost use Rattle.smb_wire.specs.NtStatus.{STATUS_SUCCESS};
 ghost use Rattle.smb_entry.specs.Bytes.{keeps_from_reading, keeps_from_writing};
 ghost use Rattle.smb_opens.specs.Bytes.{read_status, part_bytes, file_bytes, write_status, written_to};
 ghost use Rattle.smb_access.specs.Faults.{IsRefusal};
@@ -13,7 +12,7 @@ use smb_access::fault::refusal_of;
 use smb_access::{OpenNo, Opens, StoreFault, View};
 use smb_entry::bytes::{bytes_there, may_read, may_write, write_file};
 use smb_tree::{EntryNo, Tree};
-use smb_wire::nt_status::STATUS_FILE_CLOSED;
+use smb_wire::NtStatus;
 use std::alloc::AllocError;
 
 /// Bytes of a file by which a READ is answered: of those from `offset` on at most `count`.
@@ -54,16 +53,16 @@ impl<T: Tree + Drop, O: Opens + Drop> Store<T, O> {
         offset: u64,
         count: u32,
         minimum: u32,
-    ) -> Result<FilePart, u32>
+    ) -> Result<FilePart, NtStatus>
         ensures bytes { IfOk result (λ part. part_bytes self.now part ≡ file_bytes self.now number offset count) }
         ensures length { IfOk result (λ part. part.length ≡ length (file_bytes self.now number offset count)) }
         ensures few { IfOk result (λ part. part.length ≤ most) }
-        ensures lawful { OnOk result (read_status self.now most number offset count minimum ≡ STATUS_SUCCESS) }
+        ensures lawful { OnOk result (read_status self.now most number offset count minimum ≡ NtStatus.Success) }
         ensures why { IfErr result (λ status. read_status self.now most number offset count minimum ≡ status) }
-        ensures refused { IfErr result (λ status. status ≢ STATUS_SUCCESS) }
+        ensures refused { IfErr result (λ status. status ≢ NtStatus.Success) }
     {
         let Some(view) = self.view(number) else {
-            return Err(STATUS_FILE_CLOSED);
+            return Err(NtStatus::FileClosed);
         };
         let is_barred = self.is_kept_from_reading(&view, number, offset, count);
         may_read(most, &view, is_barred, offset, count, minimum)?;
@@ -108,17 +107,15 @@ impl<T: Tree + Drop, O: Opens + Drop> Store<T, O> {
         bytes: &mut Vec<u8>,
     ) -> Result<(), StoreFault>
         ensures ok { OnOk result (bytes.new.items ≡ bytes.old.items ++ file_bytes self.now number offset count) }
-        ensures lawful { OnOk result (read_status self.now most number offset count minimum ≡ STATUS_SUCCESS) }
+        ensures lawful { OnOk result (read_status self.now most number offset count minimum ≡ NtStatus.Success) }
         ensures err { OnErr result (bytes.new.items ≡ bytes.old.items) }
         ensures why { IfErr result (λ fault. IsRefusal (read_status self.now most number offset count minimum) fault) }
     {
         let Some(view) = self.view(number) else {
-            return Err(StoreFault::Status(STATUS_FILE_CLOSED));
+            return Err(StoreFault::from(NtStatus::FileClosed));
         };
         let is_barred = self.is_kept_from_reading(&view, number, offset, count);
-        if let Err(status) = may_read(most, &view, is_barred, offset, count, minimum) {
-            return Err(StoreFault::Status(status));
-        }
+        may_read(most, &view, is_barred, offset, count, minimum)?;
         match self.tree.read(view.entry, offset, u64::from(count), bytes) {
             Ok(()) => Ok(()),
             Err(fault) => Err(refusal_of(fault)),
@@ -140,17 +137,15 @@ impl<T: Tree + Drop, O: Opens + Drop> Store<T, O> {
         moment: u64,
     ) -> Result<(), StoreFault>
         ensures store { OnOk result (self.new ≡ written_to self.old number offset buffer.now moment) }
-        ensures lawful { OnOk result (write_status self.old most number offset buffer.now ≡ STATUS_SUCCESS) }
+        ensures lawful { OnOk result (write_status self.old most number offset buffer.now ≡ NtStatus.Success) }
         ensures err { OnErr result (self.new ≡ self.old) }
         ensures why { IfErr result (λ fault. fault ≢ NoMemory → IsRefusal (write_status self.old most number offset buffer.now) fault) }
     {
         let Some(view) = self.view(number) else {
-            return Err(StoreFault::Status(STATUS_FILE_CLOSED));
+            return Err(StoreFault::from(NtStatus::FileClosed));
         };
         let is_barred = self.is_kept_from_writing(&view, number, offset, buffer.len());
-        if let Err(status) = may_write(most, &view, is_barred, offset, buffer.len()) {
-            return Err(StoreFault::Status(status));
-        }
+        may_write(most, &view, is_barred, offset, buffer.len())?;
         if buffer.is_empty() {
             return Ok(());
         }

@@ -1,7 +1,6 @@
 //! LOCK of a file through an open ([MS-SMB2] 3.3.5.14).
 
 ghost use Rattle.std.specs.Prelude.{◌≡◌, ◌≢◌, OnOk, OnErr, IfErr};
-ghost use Rattle.smb_wire.specs.NtStatus.{STATUS_SUCCESS};
 ghost use Rattle.smb_access.specs.Faults.{IsRefusal};
 ghost use Rattle.smb_opens.specs.Locks.{lock_status, unlock_status, locked_through, unlocked_through};
 ghost use Rattle.smb_access.specs.declared.fault.StoreFault.TheVariants.{NoMemory};
@@ -11,7 +10,7 @@ use smb_access::{OpenNo, Opens, StoreFault};
 use smb_entry::locks::{lock_fault_status, lock_refusal};
 use smb_locks::LockAsk;
 use smb_tree::Tree;
-use smb_wire::nt_status::{STATUS_FILE_CLOSED, STATUS_INVALID_DEVICE_REQUEST};
+use smb_wire::NtStatus;
 
 impl<T: Tree + Drop, O: Opens + Drop> Store<T, O> {
     /// Answers a LOCK through the open of a number that locks ranges of its file ([MS-SMB2] 3.3.5.14.2): all that the
@@ -21,15 +20,15 @@ impl<T: Tree + Drop, O: Opens + Drop> Store<T, O> {
     /// allocation was refused, which may be where a status refuses it too.
     pub fn lock(&mut self, number: OpenNo, asks: &[LockAsk]) -> Result<(), StoreFault>
         ensures store { OnOk result (self.new ≡ locked_through self.old number asks.now) }
-        ensures lawful { OnOk result (lock_status self.old number asks.now ≡ STATUS_SUCCESS) }
+        ensures lawful { OnOk result (lock_status self.old number asks.now ≡ NtStatus.Success) }
         ensures err { OnErr result (self.new ≡ self.old) }
         ensures why { IfErr result (λ fault. fault ≢ NoMemory → IsRefusal (lock_status self.old number asks.now) fault) }
     {
         let Some(view) = self.view(number) else {
-            return Err(StoreFault::Status(STATUS_FILE_CLOSED));
+            return Err(StoreFault::from(NtStatus::FileClosed));
         };
         if view.kind.is_folder() {
-            return Err(StoreFault::Status(STATUS_INVALID_DEVICE_REQUEST));
+            return Err(StoreFault::from(NtStatus::InvalidDeviceRequest));
         }
         match self.locks.lock_all(view.entry, number, asks) {
             Ok(()) => Ok(()),
@@ -42,17 +41,17 @@ impl<T: Tree + Drop, O: Opens + Drop> Store<T, O> {
     /// file's locks, of which there are at most 256.
     ///
     /// An error is the status that refuses an element; those before it stay unlocked.
-    pub fn unlock(&mut self, number: OpenNo, asks: &[LockAsk]) -> Result<(), u32>
+    pub fn unlock(&mut self, number: OpenNo, asks: &[LockAsk]) -> Result<(), NtStatus>
         ensures store { self.new ≡ unlocked_through self.old number asks.now }
-        ensures lawful { OnOk result (unlock_status self.old number asks.now ≡ STATUS_SUCCESS) }
+        ensures lawful { OnOk result (unlock_status self.old number asks.now ≡ NtStatus.Success) }
         ensures why { IfErr result (λ status. unlock_status self.old number asks.now ≡ status) }
-        ensures refused { IfErr result (λ status. status ≢ STATUS_SUCCESS) }
+        ensures refused { IfErr result (λ status. status ≢ NtStatus.Success) }
     {
         let Some(view) = self.view(number) else {
-            return Err(STATUS_FILE_CLOSED);
+            return Err(NtStatus::FileClosed);
         };
         if view.kind.is_folder() {
-            return Err(STATUS_INVALID_DEVICE_REQUEST);
+            return Err(NtStatus::InvalidDeviceRequest);
         }
         match self.locks.unlock_all(view.entry, number, asks) {
             Ok(()) => Ok(()),

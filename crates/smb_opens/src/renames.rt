@@ -1,17 +1,15 @@
 //! SET_INFO of class FileRenameInformation through an open ([MS-SMB2] 3.3.5.21.1, [MS-FSA] 2.1.5.15.11).
 
 ghost use Rattle.std.specs.Prelude.{◌≡◌, OnOk, OnErr, IfErr};
-ghost use Rattle.smb_wire.specs.NtStatus.{STATUS_SUCCESS};
 ghost use Rattle.smb_wire.specs.Units.{units_of};
 ghost use Rattle.smb_access.specs.Faults.{IsRefusal};
 ghost use Rattle.smb_opens.specs.Renames.{rename_status, renamed_through};
 
 use super::store::Store;
 use smb_access::{OpenNo, Opens, StoreFault};
-use smb_entry::rename::{count_replaced, look_up_rename, move_to, path_named, way_status};
+use smb_entry::rename::{check_way, count_replaced, look_up_rename, move_to, path_named};
 use smb_tree::Tree;
-use smb_wire::Units;
-use smb_wire::nt_status::{STATUS_FILE_CLOSED, STATUS_SUCCESS};
+use smb_wire::{NtStatus, Units};
 
 impl<T: Tree + Drop, O: Opens + Drop> Store<T, O> {
     /// Answers a SET_INFO of class FileRenameInformation through the open of a number at a moment, in units of 100 ns since
@@ -29,25 +27,17 @@ impl<T: Tree + Drop, O: Opens + Drop> Store<T, O> {
         moment: u64,
     ) -> Result<(), StoreFault>
         ensures store { OnOk result (self.new ≡ renamed_through self.old number (units_of name.entry) moment) }
-        ensures lawful { OnOk result (rename_status self.old number (units_of name.entry) replace ≡ STATUS_SUCCESS) }
+        ensures lawful { OnOk result (rename_status self.old number (units_of name.entry) replace ≡ NtStatus.Success) }
         ensures err { OnErr result (self.new ≡ self.old) }
         ensures why { IfErr result (λ fault. IsRefusal (rename_status self.old number (units_of name.entry) replace) fault) }
     {
         let Some(view) = self.view(number) else {
-            return Err(StoreFault::Status(STATUS_FILE_CLOSED));
+            return Err(StoreFault::from(NtStatus::FileClosed));
         };
-        let path = match path_named(name) {
-            Ok(path) => path,
-            Err(status) => return Err(StoreFault::Status(status)),
-        };
+        let path = path_named(name)?;
         let way = look_up_rename(&self.tree, view.entry, &path);
-        let status = way_status(&self.tree, &self.opens, &view, &way, replace);
-        if status != STATUS_SUCCESS {
-            return Err(StoreFault::Status(status));
-        }
-        if let Err(fault) = move_to(&mut self.tree, view.entry, &path, moment) {
-            return Err(fault);
-        }
+        check_way(&self.tree, &self.opens, &view, &way, replace)?;
+        move_to(&mut self.tree, view.entry, &path, moment)?;
         self.entries_count -= count_replaced(view.entry, &way.target);
         Ok(())
     }

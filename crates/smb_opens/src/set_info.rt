@@ -1,7 +1,6 @@
 //! SET_INFO of a file or a folder through an open ([MS-SMB2] 3.3.5.21.1, [MS-FSA] 2.1.5.15).
 
 ghost use Rattle.std.specs.Prelude.{◌≡◌, ◌≢◌, IfErr, OnOk, OnErr};
-ghost use Rattle.smb_wire.specs.NtStatus.{STATUS_SUCCESS};
 ghost use Rattle.smb_access.specs.Faults.{IsRefusal};
 ghost use Rattle.smb_opens.specs.SetInfo.{delete_status, delete_set_through, size_status, size_set_through, basic_status, basic_set_through};
 
@@ -13,7 +12,7 @@ use smb_entry::set_info::{
     set_entry, size_file,
 };
 use smb_tree::Tree;
-use smb_wire::nt_status::STATUS_FILE_CLOSED;
+use smb_wire::NtStatus;
 
 impl<T: Tree + Drop, O: Opens + Drop> Store<T, O> {
     /// Answers a SET_INFO of class FileDispositionInformation through the open of a number ([MS-FSA] 2.1.5.15.3): marks its
@@ -21,15 +20,15 @@ impl<T: Tree + Drop, O: Opens + Drop> Store<T, O> {
     /// closed is left. The entry's children are looked up once. It takes no memory.
     ///
     /// An error is the status of the first row of the table that holds; the store is then as it was.
-    pub fn set_delete(&mut self, number: OpenNo, is_deleted: bool) -> Result<(), u32>
+    pub fn set_delete(&mut self, number: OpenNo, is_deleted: bool) -> Result<(), NtStatus>
         ensures store { OnOk result (self.new ≡ delete_set_through self.old number is_deleted) }
-        ensures lawful { OnOk result (delete_status self.old number is_deleted ≡ STATUS_SUCCESS) }
+        ensures lawful { OnOk result (delete_status self.old number is_deleted ≡ NtStatus.Success) }
         ensures err { OnErr result (self.new ≡ self.old) }
         ensures why { IfErr result (λ status. delete_status self.old number is_deleted ≡ status) }
-        ensures refused { IfErr result (λ status. status ≢ STATUS_SUCCESS) }
+        ensures refused { IfErr result (λ status. status ≢ NtStatus.Success) }
     {
         let Some(view) = self.view(number) else {
-            return Err(STATUS_FILE_CLOSED);
+            return Err(NtStatus::FileClosed);
         };
         let is_occupied = has_entries(&self.tree, view.entry);
         may_delete(&view, is_occupied, is_deleted)?;
@@ -52,17 +51,15 @@ impl<T: Tree + Drop, O: Opens + Drop> Store<T, O> {
         moment: u64,
     ) -> Result<(), StoreFault>
         ensures store { OnOk result (self.new ≡ size_set_through self.old number size is_allocation moment) }
-        ensures lawful { OnOk result (size_status self.old number size ≡ STATUS_SUCCESS) }
+        ensures lawful { OnOk result (size_status self.old number size ≡ NtStatus.Success) }
         ensures err { OnErr result (self.new ≡ self.old) }
         ensures why { IfErr result (λ fault. IsRefusal (size_status self.old number size) fault) }
     {
         let Some(view) = self.view(number) else {
-            return Err(StoreFault::Status(STATUS_FILE_CLOSED));
+            return Err(StoreFault::from(NtStatus::FileClosed));
         };
         let is_full = has_no_space(&self.tree, view.entry, size);
-        if let Err(status) = may_size(&view, is_full) {
-            return Err(StoreFault::Status(status));
-        }
+        may_size(&view, is_full)?;
         if leaves_size(view.size, size, is_allocation) {
             return Ok(());
         }
@@ -73,15 +70,15 @@ impl<T: Tree + Drop, O: Opens + Drop> Store<T, O> {
     /// 1601 ([MS-FSA] 2.1.5.15.2): gives its entry the times and attributes that are asked for. It takes no memory.
     ///
     /// An error is the status of the first row of the table that holds; the store is then as it was.
-    pub fn set_basic(&mut self, number: OpenNo, ask: &BasicAsk, moment: u64) -> Result<(), u32>
+    pub fn set_basic(&mut self, number: OpenNo, ask: &BasicAsk, moment: u64) -> Result<(), NtStatus>
         ensures store { OnOk result (self.new ≡ basic_set_through self.old number ask.now moment) }
-        ensures lawful { OnOk result (basic_status self.old number ask.now ≡ STATUS_SUCCESS) }
+        ensures lawful { OnOk result (basic_status self.old number ask.now ≡ NtStatus.Success) }
         ensures err { OnErr result (self.new ≡ self.old) }
         ensures why { IfErr result (λ status. basic_status self.old number ask.now ≡ status) }
-        ensures refused { IfErr result (λ status. status ≢ STATUS_SUCCESS) }
+        ensures refused { IfErr result (λ status. status ≢ NtStatus.Success) }
     {
         let Some(view) = self.view(number) else {
-            return Err(STATUS_FILE_CLOSED);
+            return Err(NtStatus::FileClosed);
         };
         may_set_basic(&view, ask)?;
         set_entry(&mut self.tree, view.entry, ask, moment);

@@ -10,7 +10,6 @@ ghost use Rattle.smb_tree.specs.Content.{entry_at, parent};
 ghost use Rattle.smb_tree.specs.Faults.{add_fault};
 ghost use Rattle.smb_access.specs.Access.{granted};
 ghost use Rattle.smb_wire.specs.Dispositions.{disposition_code, overwrites_by};
-ghost use Rattle.smb_wire.specs.NtStatus.{STATUS_SUCCESS};
 ghost use Rattle.smb_access.specs.Asked.{asked};
 ghost use Rattle.smb_opens.specs.Close.{closed, closed_all, is_removed_with};
 ghost use Rattle.smb_opens.specs.Create.{create_status};
@@ -28,8 +27,8 @@ ghost use Rattle.smb_access.specs.declared.fault.StoreFault.TheVariants.{NoMemor
 
 use smb_access::access::granted;
 use smb_access::checks::{
-    asked_path, check_kind, check_place, is_folder_target, is_pending, is_read_only_target,
-    room_status,
+    asked_path, check_kind, check_place, check_room, is_folder_target, is_pending,
+    is_read_only_target,
 };
 use smb_access::close::{mark_closed, remove_if_delete_pending};
 use smb_access::effect::{action_on, attributes_asked, kind_asked, opened_by, overwrite_if_asked};
@@ -41,8 +40,7 @@ use smb_access::{Closed, CreateAsk, Created, OpenNo, Opens, Owner, StoreFault, V
 use smb_locks::LockTable;
 use smb_tree::{EntryNo, Tree};
 use smb_wire::limits::{MOST_ENTRIES, MOST_OPENS};
-use smb_wire::nt_status::{STATUS_SHARING_VIOLATION, STATUS_SUCCESS};
-use smb_wire::{CreateAction, CreateDisposition, PathView};
+use smb_wire::{CreateAction, CreateDisposition, NtStatus, PathView};
 use std::alloc::Global;
 use std::marker::Model;
 
@@ -133,20 +131,14 @@ impl<T: Tree + Drop, O: Opens + Drop> Store<T, O> {
     pub fn create(&mut self, ask: &CreateAsk<'_>, moment: u64) -> Result<Created, StoreFault>
         ensures store { OnOk result (self.new ≡ created self.old (asked ask.now) moment) }
         ensures told { IfOk result (λ done. done ≡ create_result self.old (asked ask.now) moment) }
-        ensures lawful { OnOk result (create_status self.old (asked ask.now) ≡ STATUS_SUCCESS) }
+        ensures lawful { OnOk result (create_status self.old (asked ask.now) ≡ NtStatus.Success) }
         ensures err { OnErr result (self.new ≡ self.old) }
         ensures why { IfErr result (λ fault. IsRefusal (create_status self.old (asked ask.now)) fault) }
     {
         self.good();
-        let (disposition, path) = match asked_path(ask) {
-            Ok(asked) => asked,
-            Err(status) => return Err(StoreFault::Status(status)),
-        };
+        let (disposition, path) = asked_path(ask)?;
         let found = self.find(&path);
-        let status = self.found_status(ask, disposition, &found);
-        if status != STATUS_SUCCESS {
-            return Err(StoreFault::Status(status));
-        }
+        self.check_found(ask, disposition, &found)?;
         match found.target {
             None => self.create_new(ask, &path, moment),
             Some(target) => self.open_standing(ask, disposition, target, moment),
@@ -182,26 +174,24 @@ impl<T: Tree + Drop, O: Opens + Drop> Store<T, O> {
         self.entries_count - 1 >= MOST_ENTRIES || self.tree.next_no().is_none()
     }
 
-    // The status of a request by what was found.
-    fn found_status(
+    // Whether what was found lets a request pass, or the status that answers it.
+    fn check_found(
         &self,
         ask: &CreateAsk<'_>,
         disposition: CreateDisposition,
         found: &CreateLookup,
-    ) -> u32
+    ) -> Result<(), NtStatus>
         requires { disposition_code disposition ≡ ask.now.disposition.0 }
-        ensures { result ≡ first_status (found_rows self.now.opens (asked ask.now) found.now) }
+        ensures lawful { OnOk result (first_status (found_rows self.now.opens (asked ask.now) found.now) ≡ NtStatus.Success) }
+        ensures why { IfErr result (λ status. first_status (found_rows self.now.opens (asked ask.now) found.now) ≡ status) }
+        ensures refused { IfErr result (λ status. status ≢ NtStatus.Success) }
     {
-        if let Err(status) = check_place(ask, disposition, found) {
-            return status;
-        }
-        if let Err(status) = check_kind(ask, disposition, &found.target) {
-            return status;
-        }
+        check_place(ask, disposition, found)?;
+        check_kind(ask, disposition, &found.target)?;
         if conflicts(&self.opens, ask, disposition, &found.target) {
-            return STATUS_SHARING_VIOLATION;
+            return Err(NtStatus::SharingViolation);
         }
-        room_status(found)
+        check_room(found)
     }
 
     // Adds an entry at a path where none stands, and opens it.

@@ -8,7 +8,7 @@ use crate::show::{buffer_of, fault_number, put_name, read_stream};
 use smb_body::{read_body, read_smb1_negotiate};
 use smb_frame::FrameBuffer;
 use smb_head::{Chain, Header, read_chain, read_header};
-use smb_wire::nt_status;
+use smb_wire::NtStatus;
 use std::alloc::{AllocError, Global};
 use std::io::{Read, Write};
 
@@ -131,8 +131,8 @@ fn put_reply(
 ) -> Result<(), AllocError> {
     write!(text, "< {connection} ")?;
     put_header(header, text)?;
-    match nt_status::name_of(header.status) {
-        Some(name) => write!(text, " {name}")?,
+    match NtStatus::known(header.status) {
+        Some(status) => write!(text, " {}", status.name())?,
         None => write!(text, " 0x{:08X}", header.status)?,
     }
     put_header_fields(alloc, header, text)?;

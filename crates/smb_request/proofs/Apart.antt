@@ -19,7 +19,7 @@ use Rattle.smb_request.specs.declared.context.Context.{Context}
 use Rattle.smb_request.specs.declared.context.ContextOpen.{ContextOpen}
 use Rattle.smb_request.specs.declared.context.ContextOpen.TheVariants.{Nothing, Named, Refused}
 use Rattle.smb_request.specs.Context.{open_named, number_named, named_on, open_for_next_related}
-use Rattle.smb_request.specs.declared.status.Status.{Status}
+use Rattle.smb_wire.specs.declared.nt_status.NtStatus.{NtStatus}
 use Rattle.smb_request.specs.Needs.{needs_of, needs_session, is_unsupported, is_cancel_command}
 use Rattle.smb_request.specs.Files.{names_open}
 use Rattle.smb_request.specs.Negotiate.{negotiate_answer}
@@ -31,7 +31,7 @@ use Rattle.smb_session.specs.Authenticator.{Meaning}
 use Rattle.smb_opens.specs.Close.{closed_all}
 use Rattle.smb_request.specs.Response.{CommandStep, Performed}
 use Rattle.smb_tree.specs.Entries.{is_folder_kind}
-use Rattle.smb_wire.specs.NtStatus.{STATUS_SUCCESS}
+use Rattle.smb_wire.specs.NtStatus.{is_success}
 use Rattle.smb_body.specs.Create.{CreateAsked}
 use Rattle.smb_body.specs.Write.{WriteAsked}
 use Rattle.smb_body.specs.declared.read.ReadRequest.{ReadRequest}
@@ -60,7 +60,7 @@ use Rattle.smb_session.specs.Table.{logoff_refusal, tree_disconnect_refusal, tre
 use Rattle.smb_session.specs.Sessions.{tree_connect_refusal}
 use Rattle.smb_body.specs.Replies.{answers_close, answers_lock}
 use Rattle.smb_request.specs.declared.call.Call.{Call}
-use Rattle.smb_request.specs.declared.status.Status.TheVariants.{InvalidParameter, FileClosed, NotSupported, Store}
+use Rattle.smb_wire.specs.declared.nt_status.NtStatus.TheVariants.{InvalidParameter, FileClosed, NotSupported}
 use Rattle.smb_request.specs.Response.{success, refused}
 use Rattle.smb_request.specs.Session.{status_of_refusal, session_logged_off, tree_joined, tree_left}
 use Rattle.smb_request.specs.State.{ServerState, with_store}
@@ -166,11 +166,11 @@ module _ {S : Type 0} (may : ℕ → SessionState → Type 0) (acts : ℕ → Bo
       leaves_then acts server.sessions.table server.sessions.table table server.store (closed_all server.store owner) (closed_all server.store owner) o one (step one.order)
 
   -- a refusal changes nothing
-  by_status : (step : CommandStep S) (status : Option Status) → (status ≡ None → Left step.server) → Left (option_map_or (refused server call.ids) status step).server
+  by_status : (step : CommandStep S) (status : Option NtStatus) → (status ≡ None → Left step.server) → Left (option_map_or (refused server call.ids) status step).server
   by_status step (Some status) h = same
   by_status step None h = h refl
 
-  where_done : (step : CommandStep S) (status : Status) (b : Bool) → Left step.server → Left (let x : CommandStep S = if b then step else refused server call.ids status in x).server
+  where_done : (step : CommandStep S) (status : NtStatus) (b : Bool) → Left step.server → Left (let x : CommandStep S = if b then step else refused server call.ids status in x).server
   where_done step status true h = h
   where_done step status false h = same
 
@@ -210,7 +210,7 @@ module _ {S : Type 0} (may : ℕ → SessionState → Type 0) (acts : ℕ → Bo
   unfolding file_created
   created_left asked known =
       let ask = file_asked call.ids asked in
-      where_done _ _ (create_status server.store ask == STATUS_SUCCESS) (opened_left ask call.moment known)
+      where_done _ _ (is_success (create_status server.store ask)) (opened_left ask call.moment known)
 
   -- CLOSE
   closed_open_left : (row : Option OpenRow) → open_of server.store.opens k ≡ row → IsHeld row → IsKnown → Left (with_store server (closed server.store k))
@@ -244,16 +244,16 @@ module _ {S : Type 0} (may : ℕ → SessionState → Type 0) (acts : ℕ → Bo
 
   locked_left : (asks : List LockAsk) → Left (file_locked server call asks).server
   unfolding file_locked
-  locked_left asks = where_done _ _ (lock_status server.store k asks == STATUS_SUCCESS) (locks_kept (λ entry. locked server.store.locks entry k asks))
+  locked_left asks = where_done _ _ (is_success (lock_status server.store k asks)) (locks_kept (λ entry. locked server.store.locks entry k asks))
 
-  unlocked_at : (after : ServerState S) (status : ℕ) (b : Bool) → Left after → Left (let x : CommandStep S = if b then record { server = after; response = success call.ids answers_lock } else refused after call.ids (Store status) in x).server
+  unlocked_at : (after : ServerState S) (status : NtStatus) (b : Bool) → Left after → Left (let x : CommandStep S = if b then record { server = after; response = success call.ids answers_lock } else refused after call.ids status in x).server
   unlocked_at after status true h = h
   unlocked_at after status false h = h
 
   unlocked_left : (asks : List LockAsk) → Left (file_unlocked server call asks).server
   unfolding file_unlocked
   unlocked_left asks =
-      unlocked_at (with_store server (unlocked_through server.store k asks)) (unlock_status server.store k asks) (unlock_status server.store k asks == STATUS_SUCCESS) (locks_kept (λ entry. unlocked server.store.locks entry k asks))
+      unlocked_at (with_store server (unlocked_through server.store k asks)) (unlock_status server.store k asks) (is_success (unlock_status server.store k asks)) (locks_kept (λ entry. unlocked server.store.locks entry k asks))
 
   locks_left : (asks : List LockAsk) (b : Bool) → Left (let x : CommandStep S = if b then file_unlocked server call asks else file_locked server call asks in x).server
   locks_left asks true = unlocked_left asks
@@ -262,12 +262,12 @@ module _ {S : Type 0} (may : ℕ → SessionState → Type 0) (acts : ℕ → Bo
   -- READ and WRITE
   read_left : (asked : ReadRequest) → Left (file_read server call asked).server
   unfolding file_read
-  read_left asked = where_done _ _ (read_status server.store (most_at_once call.dialect) k asked.offset asked.length asked.minimum_count == STATUS_SUCCESS) same
+  read_left asked = where_done _ _ (is_success (read_status server.store (most_at_once call.dialect) k asked.offset asked.length asked.minimum_count)) same
 
   written_left : (asked : WriteAsked) → Left (file_written server call asked).server
   unfolding file_written
   written_left asked =
-      where_done _ _ (write_status server.store (most_at_once call.dialect) k asked.offset asked.buffer == STATUS_SUCCESS)
+      where_done _ _ (is_success (write_status server.store (most_at_once call.dialect) k asked.offset asked.buffer))
       (opens_kept (written_to server.store k asked.offset asked.buffer call.moment) (opens_left server.store k asked.offset asked.buffer call.moment) (written_next server.store k asked.offset asked.buffer call.moment))
 
   -- NEGOTIATE
@@ -329,7 +329,7 @@ module _ {S : Type 0} (may : ℕ → SessionState → Type 0) (acts : ℕ → Bo
   acted_left m (asks_set_info x) read cause e =
       info_set_left Left server same call (λ ask. opens_kept (set_through server.store k call.moment ask) (set_opens server.store k call.moment ask) (set_next server.store k call.moment ask)) x
 
-  checked_left : (m : Meaning S) (asked : RequestValue) (refusal : Option Status) → IsCallOf call (Some asked) → Causes m asked → check_session_tree_and_open server call asked ≡ refusal →
+  checked_left : (m : Meaning S) (asked : RequestValue) (refusal : Option NtStatus) → IsCallOf call (Some asked) → Causes m asked → check_session_tree_and_open server call asked ≡ refusal →
       Left (option_map_or (refused server call.ids) refusal (acted m server call asked)).server
   checked_left m asked (Some status) read cause e = same
   checked_left m asked None read cause e = acted_left m asked read cause e

@@ -12,7 +12,7 @@ use Rattle.smb_request.specs.Files.{names_open}
 use Rattle.smb_wire.specs.declared.dialect.Dialect.{Dialect}
 use Rattle.smb_body.specs.Requests.{RequestValue, asks_negotiate, file_id_of}
 use Rattle.smb_request.specs.declared.call.Call.{Call}
-use Rattle.smb_request.specs.declared.status.Status.{Status}
+use Rattle.smb_wire.specs.declared.nt_status.NtStatus.{NtStatus}
 use Rattle.smb_request.specs.Call.{named_open}
 use Rattle.smb_request.specs.Context.{open_named}
 use Rattle.smb_request.specs.State.{ServerState}
@@ -39,7 +39,7 @@ mapped_there f None h = h
 mapped_there f (Some x) h = refl
 
 -- a NEGOTIATE names no open and needs no session: it passes its checks
-pub refused_dialect : {S : Type 0} (server : ServerState S) (call : Call) (dialect : Option Dialect) (asked : RequestValue) (status : Status) → call.file_id ≡ file_id_of asked →
+pub refused_dialect : {S : Type 0} (server : ServerState S) (call : Call) (dialect : Option Dialect) (asked : RequestValue) (status : NtStatus) → call.file_id ≡ file_id_of asked →
     check_session_tree_and_open server call asked ≡ Some status → dialect_after dialect asked ≡ dialect
 refused_dialect server call dialect (asks_negotiate asked) status f e = let none : named_open call ≡ None = ap (option_map (open_named call.inherited)) f in grind (arith, e, none)
 refused_dialect server call dialect other status f e = refl

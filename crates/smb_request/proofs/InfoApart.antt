@@ -1,7 +1,7 @@
 -- QUERY_INFO and SET_INFO: what holds of the state that they leave, where it holds with the tree alone changed.
 use Rattle.std.proofs.Common.{◌≡◌, ◌==◌, ℕ, Bool, true, false, not, nat_lt, if◌then◌else◌, List, length, Option, None, Some, refl}
 use Rattle.std.specs.Option.{option_map_or}
-use Rattle.smb_wire.specs.NtStatus.{STATUS_SUCCESS}
+use Rattle.smb_wire.specs.NtStatus.{is_success}
 use Rattle.smb_wire.specs.Paths.{path_spelled}
 use Rattle.smb_body.specs.declared.query_info.QueryInfoRequest.{QueryInfoRequest}
 use Rattle.smb_body.specs.Replies.{answers_set_info}
@@ -15,8 +15,8 @@ use Rattle.smb_entry.specs.Rename.{renamed_tree}
 use Rattle.smb_entry.specs.SetInfo.{changed_in, delete_set, size_set, entry_set}
 use Rattle.smb_opens.specs.State.{StoreState}
 use Rattle.smb_request.specs.declared.call.Call.{Call}
-use Rattle.smb_request.specs.declared.status.Status.{Status}
-use Rattle.smb_request.specs.declared.status.Status.TheVariants.{InvalidParameter, InvalidInfoClass, InfoLengthMismatch, Store}
+use Rattle.smb_wire.specs.declared.nt_status.NtStatus.{NtStatus}
+use Rattle.smb_wire.specs.declared.nt_status.NtStatus.TheVariants.{InvalidParameter, InvalidInfoClass, InfoLengthMismatch}
 use Rattle.smb_request.specs.QueryInfo.{information_queried}
 use Rattle.smb_request.specs.Response.{CommandStep, success, refused}
 use Rattle.smb_request.specs.SetInfo.{set_type_refusal, set_status, set_through, set_as_asked, class_set, information_set}
@@ -47,8 +47,8 @@ module _ {S : Type 0} (Left : ServerState S → Type 0) (server : ServerState S)
   queried_left asked = same
 
   module _ (set : (ask : SetAsked) → Left (with_store server (set_through server.store call.open_number call.moment ask))) where
-    by_status : (ask : SetAsked) (status : ℕ) (b : Bool) →
-        Left (let x : CommandStep S = if b then record { server = with_store server (set_through server.store call.open_number call.moment ask); response = success call.ids answers_set_info } else refused server call.ids (Store status) in x).server
+    by_status : (ask : SetAsked) (status : NtStatus) (b : Bool) →
+        Left (let x : CommandStep S = if b then record { server = with_store server (set_through server.store call.open_number call.moment ask); response = success call.ids answers_set_info } else refused server call.ids status in x).server
     by_status ask status true = set ask
     by_status ask status false = same
 
@@ -57,9 +57,9 @@ module _ {S : Type 0} (Left : ServerState S → Type 0) (server : ServerState S)
     by_class buffer class true c = same
     by_class buffer class false true = same
     by_class buffer class false false =
-        by_status (asked_of buffer class) (set_status server.store call.open_number (asked_of buffer class)) (set_status server.store call.open_number (asked_of buffer class) == STATUS_SUCCESS)
+        by_status (asked_of buffer class) (set_status server.store call.open_number (asked_of buffer class)) (is_success (set_status server.store call.open_number (asked_of buffer class)))
 
-    by_type : (buffer : List ℕ) (class : Option SetInformationClass) (refusal : Option Status) →
+    by_type : (buffer : List ℕ) (class : Option SetInformationClass) (refusal : Option NtStatus) →
         Left (option_map_or (refused server call.ids) refusal (option_map_or (class_set server call buffer) class (refused server call.ids InvalidInfoClass))).server
     by_type buffer class (Some status) = same
     by_type buffer None None = same

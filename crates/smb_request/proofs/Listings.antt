@@ -20,8 +20,8 @@ use Rattle.smb_opens.specs.State.{StoreState}
 use Rattle.smb_info.specs.OpenQueries.{open_list_fault, open_bytes_listed, open_scan_after, IsListRefusal}
 use Rattle.smb_info.specs.declared.fault.InfoFault.{InfoFault}
 use Rattle.smb_info.specs.declared.fault.InfoFault.TheVariants.{BadClass, BadPattern, TooSmall, NoMatch, NoMore, Unreadable, NoMemory}
-use Rattle.smb_request.specs.declared.status.Status.{Status}
-use Rattle.smb_request.specs.declared.status.Status.TheVariants.{InfoLengthMismatch}
+use Rattle.smb_wire.specs.declared.nt_status.NtStatus.{NtStatus}
+use Rattle.smb_wire.specs.declared.nt_status.NtStatus.TheVariants.{InfoLengthMismatch}
 use Rattle.smb_request.specs.declared.call.Call.{Call}
 use Rattle.smb_request.specs.declared.query_directory.ListingRefusal.{ListingRefusal}
 use Rattle.smb_request.specs.QueryDirectory.{list_asked_by, directory_refusal, listing_refusal, listing_refused, directory_listed, listed_as_asked, directory_queried}
@@ -53,7 +53,7 @@ module _ {S : Type 0} (Left : ServerState S → Type 0) (server : ServerState S)
   unless_at ask None = set (open_scan_after server.store call.open_number ask)
   unless_at ask (Some refusal) = refused_at refusal.scan
 
-  by_refusal : (ask : ListAsked) (status : Option Status) → Left (option_map_or (λ status. refused server call.ids status) status (listed_as_asked server call ask)).server
+  by_refusal : (ask : ListAsked) (status : Option NtStatus) → Left (option_map_or (λ status. refused server call.ids status) status (listed_as_asked server call ask)).server
   by_refusal ask None = unless_at ask (option_and_then listing_refusal (open_list_fault server.store call.open_number ask))
   by_refusal ask (Some status) = same
 
@@ -118,15 +118,15 @@ held_scanned m n scan held (row ∷ rows) r h o =
 same_refusal : (information : Option Information) (room : ℕ) → room_refusal information room ≡ option_and_then fault_status (info_fault information room)
 same_refusal None room = refl
 same_refusal (Some information) room =
-    elim (nat_lt room (fixed_length information)) as (λ b. (let x : Option Status = if b then Some InfoLengthMismatch else None in x) ≡ option_and_then fault_status (let y : Option InfoFault = if b then Some TooSmall else None in y)) [ true ↦ refl | false ↦ refl ]
+    elim (nat_lt room (fixed_length information)) as (λ b. (let x : Option NtStatus = if b then Some InfoLengthMismatch else None in x) ≡ option_and_then fault_status (let y : Option InfoFault = if b then Some TooSmall else None in y)) [ true ↦ refl | false ↦ refl ]
 
-pub why_status : (information : Option Information) (room : ℕ) (fault : InfoFault) (status : Status) → (fault ≢ NoMemory → info_fault information room ≡ Some fault) → fault_status fault ≡ Some status → room_refusal information room ≡ Some status
+pub why_status : (information : Option Information) (room : ℕ) (fault : InfoFault) (status : NtStatus) → (fault ≢ NoMemory → info_fault information room ≡ Some fault) → fault_status fault ≡ Some status → room_refusal information room ≡ Some status
 why_status information room fault status why e =
     let there : fault ≢ NoMemory = λ q. (let none : fault_status fault ≡ None = ap fault_status q in let no : None ≡ Some status = sym none ∙ e in cc) in
     same_refusal information room ∙ ap (option_and_then fault_status) (why there) ∙ e
 
 -- where a QUERY_INFO is refused by what its class says
-refused_for : {S : Type 0} (server : ServerState S) (call : Call) (asked : QueryInfoRequest) (status : Status) → request_refusal (most_at_once call.dialect) asked ≡ None →
+refused_for : {S : Type 0} (server : ServerState S) (call : Call) (asked : QueryInfoRequest) (status : NtStatus) → request_refusal (most_at_once call.dialect) asked ≡ None →
     room_refusal (information_asked server call.open_number asked) asked.output_buffer_length ≡ Some status → refused server call.ids status ≡ information_queried server call asked
 unfolding information_queried
 refused_for server call asked status h e = rw (h, e) refl

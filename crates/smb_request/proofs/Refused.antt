@@ -1,7 +1,8 @@
 -- What a refusal of the store or of the sessions comes to is what the definitions say of it.
-use Rattle.std.proofs.Common.{◌≡◌, ◌≢◌, ℕ, ◌==◌, false, Option, IfSome, Result, Ok, Err, IsErrAnd, refl, arith}
-use Rattle.std.proofs.lemmas.Bool.Decides.{nat_tests}
-use Rattle.smb_wire.specs.NtStatus.{STATUS_SUCCESS}
+use Rattle.std.proofs.Common.{◌≡◌, ◌≢◌, Option, IfSome, Result, Ok, Err, IsErrAnd, refl}
+use Rattle.smb_wire.specs.declared.nt_status.NtStatus.{NtStatus}
+use Rattle.smb_wire.specs.declared.nt_status.NtStatus.TheVariants.{Success}
+use Rattle.smb_wire.proofs.Statuses.{success_not, read_again}
 use Rattle.smb_access.specs.Faults.{IsRefusal}
 use Rattle.smb_access.specs.declared.fault.StoreFault.{StoreFault}
 use Rattle.smb_access.specs.declared.fault.StoreFault.TheVariants.{Status as Stored, NoMemory as NoRoom}
@@ -11,29 +12,29 @@ use Rattle.smb_session.specs.Sessions.{IsRefused}
 use Rattle.smb_session.specs.Authenticator.{Meaning}
 use Rattle.smb_request.specs.declared.call.Call.{Call}
 use Rattle.smb_request.specs.declared.refusal.Refusal.{Refusal}
+use Rattle.smb_request.specs.declared.refusal.Refusal.TheVariants.{Status}
 use Rattle.smb_request.specs.declared.response.Response.{Response}
-use Rattle.smb_request.specs.declared.status.Status.TheVariants.{Store}
 use Rattle.smb_request.specs.Bodies.{result_step}
-use Rattle.smb_request.specs.Refusals.{store_refusal, stored_refusal, session_refusal}
+use Rattle.smb_request.specs.Refusals.{store_refusal, session_refusal}
 use Rattle.smb_request.specs.Response.{CommandStep, refused, by_status}
 use Rattle.smb_request.specs.Session.{unless_refused}
 use Rattle.smb_request.specs.State.{ServerState}
 
 module _ {S : Type 0} (m : Meaning S) (server : ServerState S) (call : Call) (done : CommandStep S) where
   -- a status that is not SUCCESS
-  refused_by : (code : ℕ) → code ≢ STATUS_SUCCESS → refused server call.ids (Store code) ≡ by_status server call.ids code done
-  refused_by code h = let no : (code == STATUS_SUCCESS) ≡ false = grind (arith, nat_tests, h) in rw no refl
+  refused_by : (status : NtStatus) → status ≢ Success → refused server call.ids status ≡ by_status server call.ids status done
+  refused_by status h = rw (success_not status h) refl
 
-  pub by_code : (status code : ℕ) (refusal : Refusal) → status ≡ code → code ≢ STATUS_SUCCESS → refusal ≡ stored_refusal code →
+  pub by_code : (status code : NtStatus) (refusal : Refusal) → status ≡ code → code ≢ Success → refusal ≡ Status code →
       IfSome (result_step m server call (Err refusal)) (λ step. step ≡ by_status server call.ids status done)
   by_code status code refusal is h e = rw (e, is) (refused_by code h)
 
-  pub by_store : (status : ℕ) (fault : StoreFault) (refusal : Refusal) → IsRefusal status fault → refusal ≡ store_refusal fault →
+  pub by_store : (status : NtStatus) (fault : StoreFault) (refusal : Refusal) → IsRefusal status fault → refusal ≡ store_refusal fault →
       IfSome (result_step m server call (Err refusal)) (λ step. step ≡ by_status server call.ids status done)
-  by_store status (Stored code) refusal why e = rw (e, ← why.0) (refused_by code why.1)
+  by_store status (Stored code) refusal why e = rw (e, why.0, read_again status) (refused_by status why.1)
   by_store status NoRoom refusal why e = rw e tt
 
-  pub by_lock : (status : ℕ) (fault : StoreFault) (refusal : Refusal) → (fault ≢ NoRoom → IsRefusal status fault) → refusal ≡ store_refusal fault →
+  pub by_lock : (status : NtStatus) (fault : StoreFault) (refusal : Refusal) → (fault ≢ NoRoom → IsRefusal status fault) → refusal ≡ store_refusal fault →
       IfSome (result_step m server call (Err refusal)) (λ step. step ≡ by_status server call.ids status done)
   by_lock status (Stored code) refusal why e = by_store status (Stored code) refusal (why (λ q. cc)) e
   by_lock status NoRoom refusal why e = rw e tt
@@ -47,7 +48,7 @@ module _ {S : Type 0} (m : Meaning S) (server : ServerState S) (call : Call) (do
   unless_session refusal NoDialect found why e = rw (e, why) refl
   unless_session refusal NoFree found why e = rw e tt
 
-  pub store_failed : (status : ℕ) (fault : StoreFault) (result : Result Response Refusal) → IsRefusal status fault → IsErrAnd result (λ refusal. refusal ≡ store_refusal fault) →
+  pub store_failed : (status : NtStatus) (fault : StoreFault) (result : Result Response Refusal) → IsRefusal status fault → IsErrAnd result (λ refusal. refusal ≡ store_refusal fault) →
       IfSome (result_step m server call result) (λ step. step ≡ by_status server call.ids status done)
   store_failed status fault (Ok response) why e = absurd e
   store_failed status fault (Err refusal) why e = by_store status fault refusal why e

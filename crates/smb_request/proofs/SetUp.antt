@@ -25,7 +25,7 @@ use Rattle.smb_request.specs.Session.{closed_for, setup_answered, session_set_up
 use Rattle.smb_opens.specs.State.{StoreState}
 use Rattle.smb_request.specs.declared.call.Call.{Call}
 use Rattle.smb_request.specs.declared.context.HeaderIds.{HeaderIds}
-use Rattle.smb_request.specs.declared.status.Status.{Status}
+use Rattle.smb_wire.specs.declared.nt_status.NtStatus.{NtStatus}
 use Rattle.smb_request.specs.Response.{refused}
 use Rattle.smb_request.specs.Session.{status_of_refusal}
 use Rattle.smb_request.specs.State.{ServerState}
@@ -119,7 +119,7 @@ unrefused : (table : TableState) (c s flags : ℕ) → option_and_then status_of
 unrefused table c s flags e = grind (arith, e)
 
 module _ {S : Type 0} (may : ℕ → SessionState → Type 0) (m : Meaning S) (acts : ℕ → Bool) (c : ℕ) (a : acts c ≡ true) (server : ServerState S) (o : NumbersInOrder server.sessions.table server.store) where
-  set_up_at : (ids : HeaderIds) (asked : SessionSetupAsked) (status : Option Status) →
+  set_up_at : (ids : HeaderIds) (asked : SessionSetupAsked) (status : Option NtStatus) →
       MayReplace may asked.previous_session_id (m.answer server.sessions.authenticator (setup_number server.sessions.table ids.session_id) asked.security_buffer) → option_and_then status_of_refusal (setup_refusal server.sessions.table c ids.session_id asked.flags.0) ≡ status →
       LeavesSharedBut may acts server (option_map_or (refused server ids) status (setup_answered server ids (setup_step m server.sessions c ids.session_id asked.previous_session_id asked.security_buffer))).server
   set_up_at ids asked (Some status) cause e = leaves_same acts server.sessions.table server.store o

@@ -6,8 +6,8 @@ use Rattle.smb_wire.specs.declared.file_id.FileId.{FileId}
 use Rattle.smb_request.specs.declared.context.Context.{Context}
 use Rattle.smb_request.specs.declared.context.ContextOpen.{ContextOpen}
 use Rattle.smb_request.specs.declared.context.ContextOpen.TheVariants.{Nothing, Named, Refused}
-use Rattle.smb_request.specs.declared.status.Status.{Status}
-use Rattle.smb_request.specs.declared.status.Status.TheVariants.{Success}
+use Rattle.smb_wire.specs.declared.nt_status.NtStatus.{NtStatus}
+use Rattle.smb_wire.specs.declared.nt_status.NtStatus.TheVariants.{Success}
 
 -- a chain begins with no session, no tree connect and no open
 abbrev pub first_context : Context
@@ -36,7 +36,7 @@ named_on inherited None = unwrap_or inherited Nothing
 named_on inherited (Some id) = if is_all_ones id then unwrap_or inherited Nothing else Named id
 
 -- a CREATE hands on the open that it made, which has the next number, or the status that refused it
-abbrev pub created_open : ℕ → Status → ContextOpen
+abbrev pub created_open : ℕ → NtStatus → ContextOpen
 created_open next Success = Named (record { persistent = next; volatile = next })
 created_open next status = Refused status
 
@@ -45,6 +45,6 @@ is_create (Some Create) = true
 is_create other = false
 
 -- the open that a request hands on, by its command, its FileId and its status, and by the number of the next open
-abbrev pub open_for_next_related : Option ContextOpen → ℕ → Option Command → Option FileId → Status → ContextOpen
+abbrev pub open_for_next_related : Option ContextOpen → ℕ → Option Command → Option FileId → NtStatus → ContextOpen
 open_for_next_related inherited next command id status =
     if is_create command then created_open next status else named_on inherited id

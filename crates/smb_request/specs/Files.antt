@@ -17,7 +17,7 @@ use Rattle.smb_opens.specs.Create.{create_status}
 use Rattle.smb_opens.specs.Effect.{created, create_result}
 use Rattle.smb_opens.specs.Views.{open_view}
 use Rattle.smb_opens.specs.Close.{closed}
-use Rattle.smb_request.specs.declared.status.Status.TheVariants.{FileClosed}
+use Rattle.smb_wire.specs.declared.nt_status.NtStatus.TheVariants.{FileClosed}
 use Rattle.smb_request.specs.declared.call.Call.{Call}
 use Rattle.smb_request.specs.declared.context.HeaderIds.{HeaderIds}
 use Rattle.smb_request.specs.State.{ServerState, with_store}

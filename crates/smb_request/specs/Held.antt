@@ -17,7 +17,7 @@ use Rattle.smb_request.specs.declared.response.Response.TheVariants.{Ready}
 use Rattle.smb_request.specs.Call.{named_open}
 use Rattle.smb_request.specs.Context.{number_named}
 use Rattle.smb_request.specs.Needs.{is_unsupported}
-use Rattle.smb_request.specs.declared.status.Status.{Status}
+use Rattle.smb_wire.specs.declared.nt_status.NtStatus.{NtStatus}
 use Rattle.smb_session.specs.Table.{TableState}
 use Rattle.smb_access.specs.declared.open_row.OpenRow.{OpenRow}
 use Rattle.smb_access.specs.declared.open_row.Owner.TheVariants.{Session}
@@ -51,9 +51,9 @@ pub record IsCallOf (call : Call) (body : Option RequestValue) : Type 0 where
 
 -- the response to a SESSION_SETUP that was not refused
 abbrev pub setup_by : HeaderIds → SetupStatus → Body → Response
-setup_by ids Success body = Ready (record { status = Status.Success; ids = ids }) body
-setup_by ids MoreProcessingRequired body = Ready (record { status = Status.MoreProcessingRequired; ids = ids }) body
-setup_by ids LogonFailure body = Ready (record { status = Status.LogonFailure; ids = ids }) Error
+setup_by ids Success body = Ready (record { status = NtStatus.Success; ids = ids }) body
+setup_by ids MoreProcessingRequired body = Ready (record { status = NtStatus.MoreProcessingRequired; ids = ids }) body
+setup_by ids LogonFailure body = Ready (record { status = NtStatus.LogonFailure; ids = ids }) Error
 
 abbrev pub setup_response_of : HeaderIds → SetupDone → Response
 setup_response_of ids done = setup_by (record ids { session_id = done.session }) done.status (SessionSetup (record { 0 = done.flags }) done.token)

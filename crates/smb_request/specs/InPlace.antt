@@ -2,7 +2,7 @@
 use Rattle.std.specs.Prelude.{ℕ, List, ◌++◌, Option}
 use Rattle.std.specs.Option.{option_map}
 use Rattle.smb_wire.specs.declared.dialect.Dialect.{Dialect}
-use Rattle.smb_request.specs.declared.status.Status.{Status}
+use Rattle.smb_wire.specs.declared.nt_status.NtStatus.{NtStatus}
 use Rattle.smb_request.specs.declared.context.HeaderIds.{HeaderIds}
 use Rattle.smb_request.specs.declared.context.Context.{Context}
 use Rattle.smb_request.specs.declared.response.Answered.{Answered}
@@ -11,7 +11,7 @@ use Rattle.smb_request.specs.Response.{ResponseState, Performed}
 
 -- a response, with all that stands where its body was added
 pub record AnswerHeld : Type 0 where
-  pub status : Status
+  pub status : NtStatus
   pub ids : HeaderIds
   pub out : List ℕ
 

@@ -6,12 +6,12 @@ use Rattle.smb_info.specs.declared.fault.InfoFault.{InfoFault}
 use Rattle.smb_info.specs.declared.fault.InfoFault.TheVariants.{Unreadable, NoMemory}
 use Rattle.smb_info.specs.Information.{Information, told, information_written, info_fault}
 use Rattle.smb_request.specs.declared.query_info.InformationBytes.{InformationBytes}
-use Rattle.smb_request.specs.declared.status.Status.{Status}
-use Rattle.smb_request.specs.declared.status.Status.TheVariants.{InvalidParameter}
+use Rattle.smb_wire.specs.declared.nt_status.NtStatus.{NtStatus}
+use Rattle.smb_wire.specs.declared.nt_status.NtStatus.TheVariants.{InvalidParameter}
 use Rattle.smb_request.specs.QueryDirectory.{listing_refusal}
 
 -- the status of a refusal: that of a rename that is unreadable, else as of a listing; being out of memory has none
-abbrev pub fault_status : InfoFault → Option Status
+abbrev pub fault_status : InfoFault → Option NtStatus
 fault_status Unreadable = Some InvalidParameter
 fault_status fault = option_map (λ refusal. refusal.status) (listing_refusal fault)
 

@@ -1,4 +1,3 @@
-pub mod Status
 pub mod Settings
 pub mod Negotiate
 pub mod State

@@ -13,8 +13,8 @@ use Rattle.smb_info.specs.Queries.{ListAsked}
 use Rattle.smb_info.specs.OpenQueries.{open_list_fault, open_bytes_listed, open_scan_after}
 use Rattle.smb_info.specs.declared.fault.InfoFault.{InfoFault}
 use Rattle.smb_info.specs.declared.fault.InfoFault.TheVariants.{BadClass, BadPattern, TooSmall, NoMatch, NoMore, Unreadable, NoMemory}
-use Rattle.smb_request.specs.declared.status.Status.{Status}
-use Rattle.smb_request.specs.declared.status.Status.TheVariants.{InvalidParameter, AccessDenied, InvalidInfoClass, ObjectNameInvalid, InfoLengthMismatch, NoSuchFile, NoMoreFiles}
+use Rattle.smb_wire.specs.declared.nt_status.NtStatus.{NtStatus}
+use Rattle.smb_wire.specs.declared.nt_status.NtStatus.TheVariants.{InvalidParameter, AccessDenied, InvalidInfoClass, ObjectNameInvalid, InfoLengthMismatch, NoSuchFile, NoMoreFiles}
 use Rattle.smb_request.specs.declared.call.Call.{Call}
 use Rattle.smb_request.specs.declared.query_directory.ListingRefusal.{ListingRefusal}
 use Rattle.smb_request.specs.Response.{CommandStep, success, failure, refused}
@@ -31,13 +31,13 @@ list_asked_by asked = record {
 
 -- why an open may not list: it is not of a directory, or it was not granted FILE_LIST_DIRECTORY, the bit that is
 -- FILE_READ_DATA of a file (2.2.13.1.2)
-abbrev pub view_refusal : View → Option Status
+abbrev pub view_refusal : View → Option NtStatus
 view_refusal view =
     if not (is_folder_kind view.kind) then Some InvalidParameter else
     if not (has_any view.access.0 FILE_READ_DATA) then Some AccessDenied else None
 
 -- why a query is refused before its class is looked at: room for more bytes than it may ask for, or as above
-abbrev pub directory_refusal : ℕ → Option View → QueryDirectoryAsked → Option Status
+abbrev pub directory_refusal : ℕ → Option View → QueryDirectoryAsked → Option NtStatus
 directory_refusal most view asked =
     if nat_lt most asked.output_buffer_length then Some InvalidParameter else
     option_map_or view_refusal view (Some InvalidParameter)

@@ -14,8 +14,8 @@ use Rattle.smb_info.specs.FileSystemInformation.{VolumeFacts, fs_information}
 use Rattle.smb_access.specs.declared.open_row.OpenRow.{OpenRow}
 use Rattle.smb_access.specs.Opens.{open_of}
 use Rattle.smb_opens.specs.State.{StoreState}
-use Rattle.smb_request.specs.declared.status.Status.{Status}
-use Rattle.smb_request.specs.declared.status.Status.TheVariants.{Success, BufferOverflow, InvalidParameter, InvalidInfoClass, InfoLengthMismatch, NotSupported}
+use Rattle.smb_wire.specs.declared.nt_status.NtStatus.{NtStatus}
+use Rattle.smb_wire.specs.declared.nt_status.NtStatus.TheVariants.{Success, BufferOverflow, InvalidParameter, InvalidInfoClass, InfoLengthMismatch, NotSupported}
 use Rattle.smb_request.specs.declared.call.Call.{Call}
 use Rattle.smb_request.specs.declared.context.HeaderIds.{HeaderIds}
 use Rattle.smb_request.specs.InfoTypes.{FILE, FILESYSTEM, SECURITY, QUOTA}
@@ -44,13 +44,13 @@ information_asked server open_number asked =
     else fs_information asked.file_info_class.0 (volume_of server)
 
 -- why information is not told: there is no such class, or no room for its fixed part ([MS-FSCC] 2.4, 2.5)
-abbrev pub room_refusal : Option Information → ℕ → Option Status
+abbrev pub room_refusal : Option Information → ℕ → Option NtStatus
 room_refusal None room = Some InvalidInfoClass
 room_refusal (Some information) room = if nat_lt room (fixed_length information) then Some InfoLengthMismatch else None
 
 -- why a request is refused whatever information it asks for, by the most bytes that it may ask for: the first row that
 -- holds
-abbrev pub request_refusal : ℕ → QueryInfoRequest → Option Status
+abbrev pub request_refusal : ℕ → QueryInfoRequest → Option NtStatus
 request_refusal most asked =
     -- a security descriptor, or quotas (3.3.5.20.3, 3.3.5.20.4)
     if asked.info_type.0 == SECURITY || asked.info_type.0 == QUOTA then Some NotSupported else
@@ -60,7 +60,7 @@ request_refusal most asked =
     if nat_lt most asked.output_buffer_length then Some InvalidParameter else None
 
 -- the status of information that is returned: where it is cut, BUFFER_OVERFLOW, which is no failure (3.3.4.4)
-abbrev pub written_status : Truncation → Status
+abbrev pub written_status : Truncation → NtStatus
 written_status Whole = Success
 written_status Cut = BufferOverflow
 

@@ -1,22 +1,18 @@
 -- For the proofs; nothing here need be believed.
 -- What refusals of the store, the sessions and the information classes come to.
-use Rattle.std.specs.Prelude.{ℕ}
 use Rattle.std.specs.Option.{option_map_or}
+use Rattle.smb_wire.specs.NtStatus.{status_of}
 use Rattle.smb_access.specs.declared.fault.StoreFault.{StoreFault}
 use Rattle.smb_access.specs.declared.fault.StoreFault.TheVariants.{Status as Stored, NoMemory as NoRoom}
 use Rattle.smb_session.specs.declared.fault.SessionFault.{SessionFault}
 use Rattle.smb_info.specs.declared.fault.InfoFault.{InfoFault}
 use Rattle.smb_request.specs.declared.refusal.Refusal.{Refusal}
 use Rattle.smb_request.specs.declared.refusal.Refusal.TheVariants.{Status, NoMemory}
-use Rattle.smb_request.specs.declared.status.Status.TheVariants.{Store}
 use Rattle.smb_request.specs.Information.{fault_status}
 use Rattle.smb_request.specs.Session.{status_of_refusal}
 
-abbrev pub stored_refusal : ℕ → Refusal
-stored_refusal code = Status (Store code)
-
 abbrev pub store_refusal : StoreFault → Refusal
-store_refusal (Stored code) = Status (Store code)
+store_refusal (Stored code) = Status (status_of code)
 store_refusal NoRoom = NoMemory
 
 abbrev pub session_refusal : SessionFault → Refusal

@@ -14,8 +14,8 @@ use Rattle.smb_request.specs.declared.context.HeaderIds.{HeaderIds}
 use Rattle.smb_request.specs.declared.context.Context.{Context}
 use Rattle.smb_request.specs.declared.context.ContextOpen.{ContextOpen}
 use Rattle.smb_request.specs.declared.context.ContextOpen.TheVariants.{Nothing, Named, Refused}
-use Rattle.smb_request.specs.declared.status.Status.{Status}
-use Rattle.smb_request.specs.declared.status.Status.TheVariants.{InvalidParameter, NotSupported, NetworkNameDeleted, FileClosed, UserSessionDeleted}
+use Rattle.smb_wire.specs.declared.nt_status.NtStatus.{NtStatus}
+use Rattle.smb_wire.specs.declared.nt_status.NtStatus.TheVariants.{InvalidParameter, NotSupported, NetworkNameDeleted, FileClosed, UserSessionDeleted}
 use Rattle.smb_request.specs.Call.{body_of, call_of, named_open}
 use Rattle.smb_request.specs.Context.{open_for_next_related, named_on}
 use Rattle.smb_request.specs.Needs.{needs_of, needs_session, needs_tree, is_unsupported, is_cancel_command}
@@ -66,7 +66,7 @@ module _ {S : Type 0} (authenticator : Meaning S) (server : ServerState S) (call
   acted (asks_set_info asked) = information_set server call asked
 
 -- why a request that names this open is refused, by the rows of docs/PROFILE.md
-abbrev pub open_refusal : List OpenRow → HeaderIds → ContextOpen → Option Status
+abbrev pub open_refusal : List OpenRow → HeaderIds → ContextOpen → Option NtStatus
 -- P6. it inherits no open (3.3.5.2.7.2)
 open_refusal opens ids Nothing = Some InvalidParameter
 -- P7. it inherits the open that a CREATE was to make, which was refused by this status (3.3.5.2.7.2)
@@ -75,7 +75,7 @@ open_refusal opens ids (Refused status) = Some status
 open_refusal opens ids (Named id) = if names_open opens ids id then None else Some FileClosed
 
 -- why a request whose body is read is refused
-abbrev pub check_session_tree_and_open : {S : Type 0} → ServerState S → Call → RequestValue → Option Status
+abbrev pub check_session_tree_and_open : {S : Type 0} → ServerState S → Call → RequestValue → Option NtStatus
 check_session_tree_and_open server call asked =
     -- P4. the SessionId is that of no finished session of the connection (3.3.5.2.9)
     if needs_session (needs_of asked) && not (knows_session server.sessions.table call.connection call.ids.session_id)

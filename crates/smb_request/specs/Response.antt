@@ -1,17 +1,17 @@
 -- The response to a request, and what the request leaves.
-use Rattle.std.specs.Prelude.{ℕ, ◌==◌, List, Option, if◌then◌else◌}
-use Rattle.smb_wire.specs.NtStatus.{STATUS_SUCCESS}
+use Rattle.std.specs.Prelude.{ℕ, List, Option, if◌then◌else◌}
+use Rattle.smb_wire.specs.NtStatus.{is_success}
 use Rattle.smb_body.specs.Replies.{ReplyValue, answers_error, reply_spelling}
 use Rattle.smb_wire.specs.declared.dialect.Dialect.{Dialect}
-use Rattle.smb_request.specs.declared.status.Status.{Status}
-use Rattle.smb_request.specs.declared.status.Status.TheVariants.{Success, Store}
+use Rattle.smb_wire.specs.declared.nt_status.NtStatus.{NtStatus}
+use Rattle.smb_wire.specs.declared.nt_status.NtStatus.TheVariants.{Success}
 use Rattle.smb_request.specs.declared.context.HeaderIds.{HeaderIds}
 use Rattle.smb_request.specs.declared.context.Context.{Context}
 use Rattle.smb_request.specs.State.{ServerState}
 
 -- a response: its status, its SessionId and TreeId, and its body
 pub record ResponseState : Type 0 where
-  pub status : Status
+  pub status : NtStatus
   pub ids : HeaderIds
   pub body : List ℕ
 
@@ -27,7 +27,7 @@ pub record Performed (S : Type 0) : Type 0 where
   pub context : Context
   pub response : Option ResponseState
 
-abbrev pub with_body : HeaderIds → Status → ReplyValue → ResponseState
+abbrev pub with_body : HeaderIds → NtStatus → ReplyValue → ResponseState
 with_body ids status reply = record { status = status; ids = ids; body = reply_spelling reply }
 
 -- the response to a request that succeeds, under the session and tree connect of the request
@@ -35,13 +35,13 @@ abbrev pub success : HeaderIds → ReplyValue → ResponseState
 success ids reply = with_body ids Success reply
 
 -- the response to one that fails has the error body, whatever its command (2.2.2)
-abbrev pub failure : HeaderIds → Status → ResponseState
+abbrev pub failure : HeaderIds → NtStatus → ResponseState
 failure ids status = with_body ids status answers_error
 
 -- a request that is refused changes nothing
-abbrev pub refused : {S : Type 0} → ServerState S → HeaderIds → Status → CommandStep S
+abbrev pub refused : {S : Type 0} → ServerState S → HeaderIds → NtStatus → CommandStep S
 refused server ids status = record { server = server; response = failure ids status }
 
 -- a request to which the store gives a status: where that is SUCCESS, what it leaves and its response
-abbrev pub by_status : {S : Type 0} → ServerState S → HeaderIds → ℕ → CommandStep S → CommandStep S
-by_status server ids status done = if status == STATUS_SUCCESS then done else refused server ids (Store status)
+abbrev pub by_status : {S : Type 0} → ServerState S → HeaderIds → NtStatus → CommandStep S → CommandStep S
+by_status server ids status done = if is_success status then done else refused server ids status

@@ -17,15 +17,15 @@ use Rattle.smb_access.specs.declared.open_row.Owner.{Owner}
 use Rattle.smb_access.specs.declared.open_row.Owner.TheVariants.{Session, Tree}
 use Rattle.smb_opens.specs.Close.{closed_all}
 use Rattle.smb_opens.specs.State.{StoreState}
-use Rattle.smb_request.specs.declared.status.Status.{Status}
-use Rattle.smb_request.specs.declared.status.Status.TheVariants.{NotSupported, NetworkNameDeleted, BadNetworkName, RequestNotAccepted, UserSessionDeleted}
+use Rattle.smb_wire.specs.declared.nt_status.NtStatus.{NtStatus}
+use Rattle.smb_wire.specs.declared.nt_status.NtStatus.TheVariants.{NotSupported, NetworkNameDeleted, BadNetworkName, RequestNotAccepted, UserSessionDeleted}
 use Rattle.smb_request.specs.declared.call.Call.{Call}
 use Rattle.smb_request.specs.declared.context.HeaderIds.{HeaderIds}
 use Rattle.smb_request.specs.State.{ServerState, with_table, with_store}
 use Rattle.smb_request.specs.Response.{ResponseState, CommandStep, with_body, success, refused}
 
 -- the status of a refusal (no definition refuses for being out of memory)
-abbrev pub status_of_refusal : SessionFault → Option Status
+abbrev pub status_of_refusal : SessionFault → Option NtStatus
 status_of_refusal UnknownSession = Some UserSessionDeleted
 status_of_refusal UnknownTree = Some NetworkNameDeleted
 status_of_refusal NoShare = Some BadNetworkName
@@ -44,9 +44,9 @@ abbrev pub setup_body : SetupResult → ReplyValue
 setup_body told = answers_session_setup (record { session_flags = record { 0 = told.flags }; security_buffer = told.token })
 
 abbrev pub setup_response : HeaderIds → SetupResult → SetupStatus → ResponseState
-setup_response ids told Success = with_body ids Status.Success (setup_body told)
-setup_response ids told MoreProcessingRequired = with_body ids Status.MoreProcessingRequired (setup_body told)
-setup_response ids told LogonFailure = with_body ids Status.LogonFailure answers_error
+setup_response ids told Success = with_body ids NtStatus.Success (setup_body told)
+setup_response ids told MoreProcessingRequired = with_body ids NtStatus.MoreProcessingRequired (setup_body told)
+setup_response ids told LogonFailure = with_body ids NtStatus.LogonFailure answers_error
 
 -- where a session ended, its opens are closed
 abbrev pub closed_for : StoreState → Option ℕ → StoreState
@@ -96,7 +96,7 @@ tree_joined server call path = unless_refused server call.ids
       server = with_table server (tree_connected server.sessions.table call.ids.session_id);
       response = with_body
           (record call.ids { tree_id = next_tree_of server.sessions.table call.ids.session_id })
-          Status.Success (answers_tree_connect tree_response);
+          NtStatus.Success (answers_tree_connect tree_response);
     })
 
 -- TREE_DISCONNECT (3.3.5.8): the tree is gone, with its opens

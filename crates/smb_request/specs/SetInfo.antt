@@ -8,15 +8,15 @@ use Rattle.smb_info.specs.SetInformation.{SetAsked, asks_basic, asks_rename, ask
 use Rattle.smb_opens.specs.Renames.{rename_status, renamed_through}
 use Rattle.smb_opens.specs.SetInfo.{delete_status, delete_set_through, size_status, size_set_through, basic_status, basic_set_through}
 use Rattle.smb_opens.specs.State.{StoreState}
-use Rattle.smb_request.specs.declared.status.Status.{Status}
-use Rattle.smb_request.specs.declared.status.Status.TheVariants.{InvalidParameter, InvalidInfoClass, InfoLengthMismatch, NotSupported}
+use Rattle.smb_wire.specs.declared.nt_status.NtStatus.{NtStatus}
+use Rattle.smb_wire.specs.declared.nt_status.NtStatus.TheVariants.{InvalidParameter, InvalidInfoClass, InfoLengthMismatch, NotSupported}
 use Rattle.smb_request.specs.declared.call.Call.{Call}
 use Rattle.smb_request.specs.InfoTypes.{FILE, FILESYSTEM, SECURITY, QUOTA}
 use Rattle.smb_request.specs.Response.{CommandStep, success, refused, by_status}
 use Rattle.smb_request.specs.State.{ServerState, with_store}
 
 -- the status that the store gives what is asked of the entry of an open (3.3.5.21.1)
-abbrev pub set_status : StoreState → ℕ → SetAsked → ℕ
+abbrev pub set_status : StoreState → ℕ → SetAsked → NtStatus
 set_status store open_number (asks_basic ask) = basic_status store open_number ask
 set_status store open_number (asks_rename replace name) = rename_status store open_number name replace
 set_status store open_number (asks_mark mark) = delete_status store open_number mark
@@ -50,7 +50,7 @@ class_set server call buffer class =
     set_as_asked server call (asked_of buffer class)
 
 -- why nothing is set of an InfoType, or None for that of a file or a directory
-abbrev pub set_type_refusal : ℕ → Option Status
+abbrev pub set_type_refusal : ℕ → Option NtStatus
 set_type_refusal info_type =
     -- the share as a file system, a security descriptor, or quotas (3.3.5.21.2 to 3.3.5.21.4)
     if info_type == FILESYSTEM || info_type == SECURITY || info_type == QUOTA then Some NotSupported else

@@ -7,8 +7,8 @@ use Rattle.smb_body.specs.declared.smb1.Smb1Dialects.{Smb1Dialects}
 use Rattle.smb_wire.specs.declared.dialect.Dialect.TheVariants.{Smb202}
 use Rattle.smb_wire.specs.Dialects.{revision_of}
 use Rattle.smb_request.specs.declared.smb1.Smb1Answer.{Smb1Answer}
-use Rattle.smb_request.specs.declared.status.Status.TheVariants.{Success}
-use Rattle.smb_request.specs.Status.{status_code}
+use Rattle.smb_wire.specs.declared.nt_status.NtStatus.TheVariants.{Success}
+use Rattle.smb_wire.specs.NtStatus.{status_code}
 
 -- "SMB 2.???" is answered by the revision 0x02FF, and the client is to choose by an SMB2 NEGOTIATE; else "SMB 2.002" by
 -- 0x0202, which stands from now on; without either there is no answer

@@ -14,16 +14,16 @@ use super::call::Call;
 use super::refusal::Refusal;
 use super::response::{Answered, Body, Response};
 use super::server::Server;
-use super::status::Status;
 use smb_body::{ReadRequest, WriteRequest, WriteResponse, put_read_head};
 use smb_opens::{FilePart, Opens};
 use smb_session::Authenticator;
 use smb_tree::Tree;
+use smb_wire::NtStatus;
 use std::alloc::AllocError;
 
 impl<A: Authenticator + Drop, T: Tree + Drop, O: Opens + Drop> Server<A, T, O> {
     /// READ ([MS-SMB2] 3.3.5.12). Its bytes are read by [`put_bytes`](Self::put_bytes), where they are sent from.
-    #[tactic(auto, unfolding(crate::specs::Bytes::file_read), using(crate::proofs::Refused::by_code))]
+    #[tactic(auto, unfolding(crate::specs::Bytes::file_read), using(crate::proofs::Refused::by_code, smb_wire::proofs::Statuses::success_yes))]
     pub(crate) fn read_file<'a>(
         &self,
         call: Call,
@@ -45,7 +45,7 @@ impl<A: Authenticator + Drop, T: Tree + Drop, O: Opens + Drop> Server<A, T, O> {
     }
 
     /// WRITE ([MS-SMB2] 3.3.5.13). The bytes go from the request straight into the file.
-    #[tactic(auto, unfolding(crate::specs::Bytes::file_written), using(crate::proofs::Refused::by_store))]
+    #[tactic(auto, unfolding(crate::specs::Bytes::file_written), using(crate::proofs::Refused::by_store, smb_wire::proofs::Statuses::success_yes))]
     pub(crate) fn write_file<'a>(
         &mut self,
         call: Call,
@@ -87,7 +87,7 @@ impl<A: Authenticator + Drop, T: Tree + Drop, O: Opens + Drop> Server<A, T, O> {
         put_read_head(part.length, out)?;
         match self.store.add_part(part, out) {
             Ok(()) => Ok(Answered {
-                status: Status::Success,
+                status: NtStatus::Success,
                 ids: call.ids,
             }),
             Err(AllocError) => {

@@ -13,11 +13,10 @@ ghost use Rattle.smb_request.specs.Context.{named_on, open_for_next_related};
 use super::context::{
     Context, ContextOpen, HeaderIds, named_by, named_on, number_named, open_for_next_related,
 };
-use super::status::Status;
 use bitflags::Flags;
 use smb_body::{Request, read_body};
 use smb_head::{Header, HeaderFlags};
-use smb_wire::{Command, Dialect, FileId, limits};
+use smb_wire::{Command, Dialect, FileId, NtStatus, limits};
 
 /// A request, but for its body.
 #[derive(Clone, Copy, Debug)]
@@ -145,7 +144,7 @@ impl Call {
     }
 
     /// What it hands on behind a response with these ids and this status, by the number that the next open was to have.
-    pub(crate) fn context_behind(self, ids: HeaderIds, status: Status, next: u64) -> Context
+    pub(crate) fn context_behind(self, ids: HeaderIds, status: NtStatus, next: u64) -> Context
         ensures { result ≡ record { ids = ids; last_open = open_for_next_related self.inherited next self.command self.file_id status } }
     {
         Context {

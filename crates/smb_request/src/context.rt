@@ -4,8 +4,7 @@ ghost use Rattle.std.specs.Prelude.{◌≡◌};
 ghost use Rattle.std.specs.Option.{option_map};
 ghost use Rattle.smb_request.specs.Context.{first_context, is_all_ones, open_named, number_named, named_on, created_open, open_for_next_related};
 
-use super::status::Status;
-use smb_wire::{Command, FileId};
+use smb_wire::{Command, FileId, NtStatus};
 
 /// The SessionId and the TreeId of a request's or a response's header.
 #[derive(Clone, Copy, Debug, PartialEq, Eq)]
@@ -22,7 +21,7 @@ pub enum ContextOpen {
     /// The one of a FileId, whether it exists or not.
     Named(FileId),
     /// The one that a CREATE was to make, which was refused by this status.
-    Refused(Status),
+    Refused(NtStatus),
 }
 
 /// What one request of a chain hands on to the next, which takes it where it is related.
@@ -96,11 +95,11 @@ pub(crate) fn named_on(inherited: Option<ContextOpen>, id: Option<FileId>) -> Co
 }
 
 /// The open that a CREATE of this status hands on, by the number that the next open was to have.
-fn created_open(next: u64, status: Status) -> ContextOpen
+fn created_open(next: u64, status: NtStatus) -> ContextOpen
     ensures { result ≡ created_open next status }
 {
     match status {
-        Status::Success => ContextOpen::Named(FileId {
+        NtStatus::Success => ContextOpen::Named(FileId {
             persistent: next,
             volatile: next,
         }),
@@ -114,7 +113,7 @@ pub(crate) fn open_for_next_related(
     next: u64,
     command: Option<Command>,
     id: Option<FileId>,
-    status: Status,
+    status: NtStatus,
 ) -> ContextOpen
     ensures { result ≡ open_for_next_related inherited next command id status }
 {

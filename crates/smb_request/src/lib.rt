@@ -33,11 +33,9 @@ mod server;
 mod session;
 mod set_info;
 pub mod smb1;
-mod status;
 
 pub use config::Config;
 pub use context::{Context, ContextOpen, HeaderIds};
 pub use laws::laws_of_connections;
 pub use response::{Answered, NoReply};
 pub use server::Server;
-pub use status::Status;

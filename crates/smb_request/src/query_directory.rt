@@ -12,20 +12,19 @@ ghost use Rattle.smb_request.specs.QueryDirectory.{list_asked_by, directory_refu
 use super::call::Call;
 use super::response::{Answered, put_response};
 use super::server::Server;
-use super::status::Status;
 use bitflags::Flags;
 use smb_body::{QueryDirectoryRequest, Reply, close_query_response, open_query_response};
 use smb_info::{InfoFault, ListAsk, list};
 use smb_opens::{Opens, Scan, View};
 use smb_session::Authenticator;
 use smb_tree::{Kind, Tree};
-use smb_wire::Access;
+use smb_wire::{Access, NtStatus};
 use std::alloc::AllocError;
 
 /// What a refusal of a listing comes to.
 #[derive(Clone, Copy)]
 pub(crate) struct ListingRefusal {
-    pub(crate) status: Status,
+    pub(crate) status: NtStatus,
     /// The scan that the query started, though no name is matched: it is the open's.
     pub(crate) scan: Option<Scan>,
 }
@@ -47,38 +46,38 @@ pub(crate) fn listing_refusal(fault: InfoFault) -> Option<ListingRefusal>
     ensures { result ≡ listing_refusal fault }
 {
     let (status, scan) = match fault {
-        InfoFault::BadClass => (Status::InvalidInfoClass, None),
-        InfoFault::BadPattern => (Status::ObjectNameInvalid, None),
-        InfoFault::TooSmall => (Status::InfoLengthMismatch, None),
-        InfoFault::NoMatch(scan) => (Status::NoSuchFile, Some(scan)),
-        InfoFault::NoMore => (Status::NoMoreFiles, None),
+        InfoFault::BadClass => (NtStatus::InvalidInfoClass, None),
+        InfoFault::BadPattern => (NtStatus::ObjectNameInvalid, None),
+        InfoFault::TooSmall => (NtStatus::InfoLengthMismatch, None),
+        InfoFault::NoMatch(scan) => (NtStatus::NoSuchFile, Some(scan)),
+        InfoFault::NoMore => (NtStatus::NoMoreFiles, None),
         InfoFault::Unreadable | InfoFault::NoMemory => return None,
     };
     Some(ListingRefusal { status, scan })
 }
 
 /// Why the open that shows this may not list, or None.
-fn view_refusal(view: &View) -> Option<Status>
+fn view_refusal(view: &View) -> Option<NtStatus>
     ensures { result ≡ view_refusal view.now }
 {
     match view.kind {
-        Kind::File => Some(Status::InvalidParameter),
+        Kind::File => Some(NtStatus::InvalidParameter),
         Kind::Folder if view.access.intersects(Access::READ_DATA) => None,
-        Kind::Folder => Some(Status::AccessDenied),
+        Kind::Folder => Some(NtStatus::AccessDenied),
     }
 }
 
 impl<A: Authenticator + Drop, T: Tree + Drop, O: Opens + Drop> Server<A, T, O> {
     /// Why a query is refused before its class is looked at, or None.
-    fn directory_refusal(&self, call: Call, request: &QueryDirectoryRequest<'_>) -> Option<Status>
+    fn directory_refusal(&self, call: Call, request: &QueryDirectoryRequest<'_>) -> Option<NtStatus>
         ensures { result ≡ directory_refusal (most_at_once call.dialect) (open_view self.now.store call.open_number) (query_directory_asked request.now) }
     {
         if request.output_buffer_length > call.most_at_once() {
-            return Some(Status::InvalidParameter);
+            return Some(NtStatus::InvalidParameter);
         }
         match self.store.view(call.open_number) {
             Some(view) => view_refusal(&view),
-            None => Some(Status::InvalidParameter),
+            None => Some(NtStatus::InvalidParameter),
         }
     }
 
@@ -132,7 +131,7 @@ impl<A: Authenticator + Drop, T: Tree + Drop, O: Opens + Drop> Server<A, T, O> {
                 close_query_response(start, out);
                 self.store.set_scan(call.open_number, scan);
                 Ok(Answered {
-                    status: Status::Success,
+                    status: NtStatus::Success,
                     ids: call.ids,
                 })
             }

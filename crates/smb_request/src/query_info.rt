@@ -12,12 +12,12 @@ use super::information::written_status;
 use super::refusal::Refusal;
 use super::response::{Answered, Body, Response};
 use super::server::Server;
-use super::status::Status;
 use smb_body::{InfoType, QueryInfoRequest};
 use smb_info::{InfoFault, Truncation, file_info, fs_info};
 use smb_opens::Opens;
 use smb_session::Authenticator;
 use smb_tree::{Tree, TreeFault};
+use smb_wire::NtStatus;
 
 /// Information of a class: whether that is all, and its bytes, as many as there is room for.
 #[derive(Debug, Drop)]
@@ -27,19 +27,19 @@ pub(crate) struct InformationBytes {
 }
 
 /// Checks what does not depend on the information that is asked for. One request may ask for `most` bytes.
-fn check_request(most: u32, request: &QueryInfoRequest) -> Result<(), Status>
+fn check_request(most: u32, request: &QueryInfoRequest) -> Result<(), NtStatus>
     ensures ok { OnOk result (request_refusal most request.now ≡ None) }
     ensures err { IfErr result (λ status. request_refusal most request.now ≡ Some status) }
 {
     let info_type = request.info_type;
     if info_type == InfoType::SECURITY || info_type == InfoType::QUOTA {
-        return Err(Status::NotSupported);
+        return Err(NtStatus::NotSupported);
     }
     if info_type != InfoType::FILE && info_type != InfoType::FILESYSTEM {
-        return Err(Status::InvalidParameter);
+        return Err(NtStatus::InvalidParameter);
     }
     if request.output_buffer_length > most {
-        return Err(Status::InvalidParameter);
+        return Err(NtStatus::InvalidParameter);
     }
     Ok(())
 }

@@ -2,21 +2,21 @@
 
 ghost use Rattle.std.specs.Prelude.{◌≡◌};
 ghost use Rattle.smb_request.specs.declared.refusal.Refusal.TheVariants.{NoMemory};
-ghost use Rattle.smb_request.specs.Refusals.{store_refusal, stored_refusal, session_refusal, info_refusal};
+ghost use Rattle.smb_request.specs.Refusals.{store_refusal, session_refusal, info_refusal};
 
 use super::information::fault_status;
 use super::session::status_of_refusal;
-use super::status::Status;
 use smb_info::InfoFault;
 use smb_opens::StoreFault;
 use smb_session::SessionFault;
+use smb_wire::NtStatus;
 use std::alloc::AllocError;
 
 /// Why a command has no response of its own.
 #[derive(Clone, Copy, Debug, PartialEq, Eq)]
 pub(crate) enum Refusal {
     /// It is refused by this status.
-    Status(Status),
+    Status(NtStatus),
     /// An allocation was refused, and nothing was performed.
     NoMemory,
 }
@@ -29,22 +29,13 @@ impl From<AllocError> for Refusal {
     }
 }
 
-impl From<Status> for Refusal {
+impl From<NtStatus> for Refusal {
     ghost use Rattle.smb_request.specs.declared.refusal.Refusal.TheVariants.{Status as ByStatus};
 
     ghost from_gives = { λ status refusal. refusal ≡ ByStatus status };
 
-    fn from(status: Status) -> Refusal {
+    fn from(status: NtStatus) -> Refusal {
         Refusal::Status(status)
-    }
-}
-
-/// The status by which the store refuses what takes no memory.
-impl From<u32> for Refusal {
-    ghost from_gives = { λ code refusal. refusal ≡ stored_refusal code };
-
-    fn from(code: u32) -> Refusal {
-        Refusal::Status(Status::Store(code))
     }
 }
 
@@ -53,7 +44,7 @@ impl From<StoreFault> for Refusal {
 
     fn from(fault: StoreFault) -> Refusal {
         match fault {
-            StoreFault::Status(code) => Refusal::Status(Status::Store(code)),
+            StoreFault::Status(code) => Refusal::Status(NtStatus::from(code)),
             StoreFault::NoMemory => Refusal::NoMemory,
         }
     }

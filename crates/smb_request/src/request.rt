@@ -22,41 +22,40 @@ use super::needs::{is_cancel_command, is_unsupported, needs_of};
 use super::refusal::Refusal;
 use super::response::{Answered, Body, NoReply, Response};
 use super::server::Server;
-use super::status::Status;
 use smb_body::{Dialects, Request};
 use smb_head::Header;
 use smb_opens::Opens;
 use smb_session::Authenticator;
 use smb_tree::Tree;
-use smb_wire::Dialect;
+use smb_wire::{Dialect, NtStatus};
 
 impl<A: Authenticator + Drop, T: Tree + Drop, O: Opens + Drop> Server<A, T, O> {
     /// Checks that a request which names this open may act on it.
-    fn check_open(&self, ids: HeaderIds, named: ContextOpen) -> Result<(), Status>
+    fn check_open(&self, ids: HeaderIds, named: ContextOpen) -> Result<(), NtStatus>
         ensures ok { OnOk result (open_refusal self.now.store.opens ids named ≡ None) }
         ensures err { IfErr result (λ status. open_refusal self.now.store.opens ids named ≡ Some status) }
     {
         match named {
-            ContextOpen::Nothing => Err(Status::InvalidParameter),
+            ContextOpen::Nothing => Err(NtStatus::InvalidParameter),
             ContextOpen::Refused(status) => Err(status),
             ContextOpen::Named(id) if self.names_open(ids, id) => Ok(()),
-            ContextOpen::Named(_) => Err(Status::FileClosed),
+            ContextOpen::Named(_) => Err(NtStatus::FileClosed),
         }
     }
 
     /// Checks that the session, the tree connect and the open exist that a request needs.
-    fn check_session_tree_and_open(&self, call: Call, request: &Request<'_>) -> Result<(), Status>
+    fn check_session_tree_and_open(&self, call: Call, request: &Request<'_>) -> Result<(), NtStatus>
         ensures ok { OnOk result (check_session_tree_and_open self.now call (request_value request.now) ≡ None) }
         ensures err { IfErr result (λ status. check_session_tree_and_open self.now call (request_value request.now) ≡ Some status) }
     {
         let needs = needs_of(request);
         let (connection, session_id) = (call.connection, call.ids.session_id);
         if needs.has_session() && !self.sessions.knows(connection, session_id, None) {
-            return Err(Status::UserSessionDeleted);
+            return Err(NtStatus::UserSessionDeleted);
         }
         let tree_id = Some(call.ids.tree_id);
         if needs.has_tree() && !self.sessions.knows(connection, session_id, tree_id) {
-            return Err(Status::NetworkNameDeleted);
+            return Err(NtStatus::NetworkNameDeleted);
         }
         match call.named_open() {
             Some(named) => self.check_open(call.ids, named),
@@ -89,7 +88,7 @@ impl<A: Authenticator + Drop, T: Tree + Drop, O: Opens + Drop> Server<A, T, O> {
         ensures listing { IfOk result (λ response. is_listing response ≡ true → dialect.new ≡ dialect.old) }
     {
         let Some(best) = self.best_dialect(call.connection, dialects) else {
-            return Err(Refusal::Status(Status::NotSupported));
+            return Err(Refusal::Status(NtStatus::NotSupported));
         };
         *dialect = Some(best);
         Ok(Response::success(call.ids, Body::Negotiate(best)))
@@ -132,7 +131,7 @@ impl<A: Authenticator + Drop, T: Tree + Drop, O: Opens + Drop> Server<A, T, O> {
             Request::QueryDirectory(asked) => Ok(Response::Listing(*asked)),
             Request::QueryInfo(asked) => self.query_info(call, asked),
             Request::SetInfo(asked) => self.set_info(call, asked),
-            Request::Cancel(_) => Err(Refusal::Status(Status::NotSupported)),
+            Request::Cancel(_) => Err(Refusal::Status(NtStatus::NotSupported)),
         }
     }
 
@@ -155,12 +154,12 @@ impl<A: Authenticator + Drop, T: Tree + Drop, O: Opens + Drop> Server<A, T, O> {
         let _ = &self.sessions;
         match call.command {
             Some(command) if is_unsupported(command) => return Err(Refusal::Status(
-                Status::NotSupported,
+                NtStatus::NotSupported,
             )),
             _ => {}
         }
         let Some(request) = body else {
-            return Err(Refusal::Status(Status::InvalidParameter));
+            return Err(Refusal::Status(NtStatus::InvalidParameter));
         };
         self.check_session_tree_and_open(call, request)?;
         self.act(call, dialect, request)

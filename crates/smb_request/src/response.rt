@@ -11,7 +11,6 @@ use super::call::Call;
 use super::context::HeaderIds;
 use super::server::Server;
 use super::session::TREE;
-use super::status::Status;
 use smb_body::{
     CloseResponse, CreateResponse, QueryDirectoryRequest, QueryResponse, Reply, SessionFlags,
     SessionSetupResponse, WriteResponse, write_reply,
@@ -19,14 +18,14 @@ use smb_body::{
 use smb_opens::{FilePart, Opens};
 use smb_session::Authenticator;
 use smb_tree::Tree;
-use smb_wire::Dialect;
+use smb_wire::{Dialect, NtStatus};
 use std::alloc::AllocError;
 use thiserror::Error;
 
 /// A response but for its body, which is where it is sent from: its status, and the ids of its header.
 #[derive(Clone, Copy, Debug, PartialEq, Eq)]
 pub struct Answered {
-    pub status: Status,
+    pub status: NtStatus,
     pub ids: HeaderIds,
 }
 
@@ -75,16 +74,16 @@ pub(crate) enum Response<'a> {
 impl<'a> Response<'a> {
     /// A success under these ids.
     pub(crate) fn success(ids: HeaderIds, body: Body) -> Response<'a>
-        ensures { result ≡ Response.Ready (record { status = Status.Success; ids = ids }) body }
+        ensures { result ≡ Response.Ready (record { status = NtStatus.Success; ids = ids }) body }
     {
-        let status = Status::Success;
+        let status = NtStatus::Success;
         Response::Ready(Answered { status, ids }, body)
     }
 }
 
 /// Adds the body of a reply to `out`, for a response of this status. After an error `out` is as it was.
 pub(crate) fn put_response(
-    status: Status,
+    status: NtStatus,
     ids: HeaderIds,
     reply: &Reply<'_>,
     out: &mut Vec<u8>,

@@ -15,14 +15,13 @@ use super::context::HeaderIds;
 use super::refusal::Refusal;
 use super::response::{Answered, Body, Response};
 use super::server::Server;
-use super::status::Status;
 use smb_body::{
     Capabilities, SessionFlags, SessionSetupRequest, ShareFlags, ShareType, TreeConnectResponse,
 };
 use smb_opens::{Opens, Owner, Store};
 use smb_session::{Authenticator, SessionFault, SetupAsk, SetupDone, SetupStatus};
 use smb_tree::Tree;
-use smb_wire::{Access, Units};
+use smb_wire::{Access, NtStatus, Units};
 use std::alloc::AllocError;
 
 /// What a tree is: a disk, without flags and capabilities, and with all access ([MS-SMB2] 2.2.10).
@@ -34,15 +33,15 @@ pub(crate) const TREE: TreeConnectResponse = TreeConnectResponse {
 };
 
 /// The status of a refusal. Out of memory has none.
-pub(crate) fn status_of_refusal(fault: SessionFault) -> Option<Status>
+pub(crate) fn status_of_refusal(fault: SessionFault) -> Option<NtStatus>
     ensures { result ≡ status_of_refusal fault }
 {
     match fault {
-        SessionFault::UnknownSession => Some(Status::UserSessionDeleted),
-        SessionFault::UnknownTree => Some(Status::NetworkNameDeleted),
-        SessionFault::NoShare => Some(Status::BadNetworkName),
-        SessionFault::NotAccepted => Some(Status::RequestNotAccepted),
-        SessionFault::NoDialect => Some(Status::NotSupported),
+        SessionFault::UnknownSession => Some(NtStatus::UserSessionDeleted),
+        SessionFault::UnknownTree => Some(NtStatus::NetworkNameDeleted),
+        SessionFault::NoShare => Some(NtStatus::BadNetworkName),
+        SessionFault::NotAccepted => Some(NtStatus::RequestNotAccepted),
+        SessionFault::NoDialect => Some(NtStatus::NotSupported),
         SessionFault::NoMemory => None,
     }
 }
@@ -66,11 +65,11 @@ fn setup_response_of<'a>(ids: HeaderIds, done: SetupDone) -> Response<'a>
         ..ids
     };
     let (status, body) = match done.status {
-        SetupStatus::LogonFailure => (Status::LogonFailure, Body::Error),
-        SetupStatus::Success => (Status::Success, setup_body(done.flags, done.token)),
+        SetupStatus::LogonFailure => (NtStatus::LogonFailure, Body::Error),
+        SetupStatus::Success => (NtStatus::Success, setup_body(done.flags, done.token)),
         SetupStatus::MoreProcessingRequired => {
             (
-                Status::MoreProcessingRequired,
+                NtStatus::MoreProcessingRequired,
                 setup_body(done.flags, done.token),
             )
         }

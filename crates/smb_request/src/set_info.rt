@@ -6,21 +6,20 @@ ghost use Rattle.smb_info.specs.SetAsks.{set_asked};
 ghost use Rattle.smb_access.specs.Faults.{IsRefusal};
 ghost use Rattle.smb_request.specs.Bodies.{result_step, IsReadyAfter};
 ghost use Rattle.smb_request.specs.SetInfo.{set_type_refusal, set_status, set_through, set_as_asked, information_set};
-ghost use Rattle.smb_wire.specs.NtStatus.{STATUS_SUCCESS};
 
 use super::call::Call;
 use super::refusal::Refusal;
 use super::response::{Body, Response};
 use super::server::Server;
-use super::status::Status;
 use smb_body::{InfoType, SetInfoRequest};
 use smb_info::{SetAsk, read_set_info};
 use smb_opens::{Opens, Store, StoreFault};
 use smb_session::Authenticator;
 use smb_tree::Tree;
+use smb_wire::NtStatus;
 
 /// Checks the type of information that is to be set.
-fn check_type(info_type: InfoType) -> Result<(), Status>
+fn check_type(info_type: InfoType) -> Result<(), NtStatus>
     ensures ok { OnOk result (set_type_refusal info_type.0 ≡ None) }
     ensures err { IfErr result (λ status. set_type_refusal info_type.0 ≡ Some status) }
 {
@@ -31,9 +30,9 @@ fn check_type(info_type: InfoType) -> Result<(), Status>
         || info_type == InfoType::SECURITY
         || info_type == InfoType::QUOTA
     {
-        return Err(Status::NotSupported);
+        return Err(NtStatus::NotSupported);
     }
-    Err(Status::InvalidParameter)
+    Err(NtStatus::InvalidParameter)
 }
 
 /// Sets what is asked, of the entry of the open of a number, at a moment in units of 100 ns since 1601.
@@ -47,20 +46,20 @@ fn set_through<T: Tree + Drop, O: Opens + Drop>(
     ask: &SetAsk<'_>,
 ) -> Result<(), StoreFault>
     ensures store { OnOk result (store.new ≡ set_through store.old open_number moment (set_asked ask.now)) }
-    ensures lawful { OnOk result (set_status store.old open_number (set_asked ask.now) ≡ STATUS_SUCCESS) }
+    ensures lawful { OnOk result (set_status store.old open_number (set_asked ask.now) ≡ NtStatus.Success) }
     ensures err { OnErr result (store.new ≡ store.old) }
     ensures why { IfErr result (IsRefusal (set_status store.old open_number (set_asked ask.now))) }
 {
     match ask {
-        SetAsk::Basic(basic) => match store.set_basic(open_number, basic, moment) {
-            Ok(()) => Ok(()),
-            Err(status) => Err(StoreFault::Status(status)),
-        },
+        SetAsk::Basic(basic) => {
+            store.set_basic(open_number, basic, moment)?;
+            Ok(())
+        }
         SetAsk::Rename(replace, name) => store.rename(open_number, *name, *replace, moment),
-        SetAsk::Mark(mark) => match store.set_delete(open_number, *mark) {
-            Ok(()) => Ok(()),
-            Err(status) => Err(StoreFault::Status(status)),
-        },
+        SetAsk::Mark(mark) => {
+            store.set_delete(open_number, *mark)?;
+            Ok(())
+        }
         SetAsk::Allocation(size) => store.set_size(open_number, *size, true, moment),
         SetAsk::End(size) => store.set_size(open_number, *size, false, moment),
     }
@@ -68,7 +67,7 @@ fn set_through<T: Tree + Drop, O: Opens + Drop>(
 
 impl<A: Authenticator + Drop, T: Tree + Drop, O: Opens + Drop> Server<A, T, O> {
     /// Sets what is asked, of the entry of the open of a request.
-    #[tactic(auto, using(crate::proofs::Refused::by_store))]
+    #[tactic(auto, using(crate::proofs::Refused::by_store, smb_wire::proofs::Statuses::success_yes))]
     fn set_as_asked<'a>(&mut self, call: Call, ask: &SetAsk<'_>) -> Result<Response<'a>, Refusal>
         ensures ok { IfSome (result_step A.meaning self.new call result) (λ step. step ≡ set_as_asked self.old call (set_asked ask.now)) }
         ensures put { IfOk result (IsReadyAfter self.old self.new call) }

@@ -4,10 +4,9 @@ ghost use Rattle.std.specs.Prelude.{◌≡◌};
 ghost use Rattle.smb_body.specs.Replies.{ReplyValue};
 ghost use Rattle.smb_request.specs.Smb1.{answer_to_smb1, reply_to_smb1};
 
-use super::status::Status;
 use smb_body::Smb1Dialects;
 use smb_head::{Header, HeaderFlags};
-use smb_wire::{Command, Dialect};
+use smb_wire::{Command, Dialect, NtStatus};
 
 /// What an SMB_COM_NEGOTIATE is answered with: a revision, and the dialect that stands from now on.
 #[derive(Clone, Copy, Debug, PartialEq, Eq)]
@@ -25,7 +24,7 @@ pub fn reply_header() -> Header
 {
     Header {
         credit_charge: 0,
-        status: Status::Success.code(),
+        status: NtStatus::Success.code(),
         command: Command::Negotiate.code(),
         credits: 1,
         flags: HeaderFlags(1),

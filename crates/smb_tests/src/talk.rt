@@ -10,8 +10,7 @@ use smb_handles::HandleTable;
 use smb_layer_tests::words::MOMENT;
 use smb_nodes::NodeTree;
 use smb_session::Tokens;
-use smb_wire::nt_status::STATUS_SUCCESS;
-use smb_wire::{CreateDisposition, FileId};
+use smb_wire::{CreateDisposition, FileId, NtStatus};
 use std::alloc::Global;
 
 type Talk = Pair<Tokens, NodeTree, HandleTable>;
@@ -20,7 +19,7 @@ type Talk = Pair<Tokens, NodeTree, HandleTable>;
 fn are_good(replies: &mut Replies<'_>, count: usize) -> bool {
     for _ in 0..count {
         match replies.next_reply() {
-            Some(reply) if reply.header.status == STATUS_SUCCESS => {}
+            Some(reply) if reply.header.status == NtStatus::Success.code() => {}
             _ => return false,
         }
     }

@@ -6,3 +6,4 @@ pub mod Padding
 pub mod Parting
 pub mod Splits
 pub mod Codes
+pub mod Statuses

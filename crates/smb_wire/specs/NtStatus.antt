@@ -1,104 +1,65 @@
--- NTSTATUS values, by the standard's names ([MS-ERREF] 2.3.1).
-use Rattle.std.specs.Prelude.{ℕ}
+-- NTSTATUS values, by the standard's names without STATUS_ before them ([MS-ERREF] 2.3.1).
+use Rattle.std.specs.Prelude.{◌≡◌, ◌==◌, ℕ, Bool, true, false, List, [], ◌∷◌, find, unwrap_or}
+use Rattle.smb_wire.specs.declared.nt_status.NtStatus.{NtStatus}
+use Rattle.smb_wire.specs.declared.nt_status.NtStatus.TheVariants.{Success, BufferOverflow, NoMoreFiles, InvalidInfoClass, InfoLengthMismatch, MoreProcessingRequired, InvalidParameter, NoSuchFile, InvalidDeviceRequest, EndOfFile, AccessDenied, ObjectNameInvalid, ObjectNameNotFound, ObjectNameCollision, ObjectPathNotFound, SharingViolation, FileLockConflict, LockNotGranted, DeletePending, LogonFailure, RangeNotLocked, DiskFull, FileIsADirectory, NotSupported, NetworkNameDeleted, BadNetworkName, RequestNotAccepted, DirectoryNotEmpty, NotADirectory, TooManyOpenedFiles, CannotDelete, FileClosed, InvalidLockRange, UserSessionDeleted, Unsuccessful}
 
-abbrev pub STATUS_SUCCESS : ℕ
-STATUS_SUCCESS = 0
+-- the number of a status
+unfoldable pub status_code : NtStatus → ℕ
+status_code Success = 0
+status_code BufferOverflow = 0x80000005
+status_code NoMoreFiles = 0x80000006
+status_code InvalidInfoClass = 0xC0000003
+status_code InfoLengthMismatch = 0xC0000004
+status_code MoreProcessingRequired = 0xC0000016
+status_code InvalidParameter = 0xC000000D
+status_code NoSuchFile = 0xC000000F
+status_code InvalidDeviceRequest = 0xC0000010
+status_code EndOfFile = 0xC0000011
+status_code AccessDenied = 0xC0000022
+status_code ObjectNameInvalid = 0xC0000033
+status_code ObjectNameNotFound = 0xC0000034
+status_code ObjectNameCollision = 0xC0000035
+status_code ObjectPathNotFound = 0xC000003A
+status_code SharingViolation = 0xC0000043
+status_code FileLockConflict = 0xC0000054
+status_code LockNotGranted = 0xC0000055
+status_code DeletePending = 0xC0000056
+status_code LogonFailure = 0xC000006D
+status_code RangeNotLocked = 0xC000007E
+status_code DiskFull = 0xC000007F
+status_code FileIsADirectory = 0xC00000BA
+status_code NotSupported = 0xC00000BB
+status_code NetworkNameDeleted = 0xC00000C9
+status_code BadNetworkName = 0xC00000CC
+status_code RequestNotAccepted = 0xC00000D0
+status_code DirectoryNotEmpty = 0xC0000101
+status_code NotADirectory = 0xC0000103
+status_code TooManyOpenedFiles = 0xC000011F
+status_code CannotDelete = 0xC0000121
+status_code FileClosed = 0xC0000128
+status_code InvalidLockRange = 0xC00001A1
+status_code UserSessionDeleted = 0xC0000203
+status_code Unsuccessful = 0xC0000001
 
-abbrev pub STATUS_BUFFER_OVERFLOW : ℕ
-STATUS_BUFFER_OVERFLOW = 0x80000005
+-- the statuses that the share answers
+abbrev pub statuses : List NtStatus
+statuses =
+    Success ∷ BufferOverflow ∷ NoMoreFiles ∷ InvalidInfoClass ∷ InfoLengthMismatch ∷ MoreProcessingRequired
+    ∷ InvalidParameter ∷ NoSuchFile ∷ InvalidDeviceRequest ∷ EndOfFile ∷ AccessDenied ∷ ObjectNameInvalid
+    ∷ ObjectNameNotFound ∷ ObjectNameCollision ∷ ObjectPathNotFound ∷ SharingViolation ∷ FileLockConflict
+    ∷ LockNotGranted ∷ DeletePending ∷ LogonFailure ∷ RangeNotLocked ∷ DiskFull ∷ FileIsADirectory
+    ∷ NotSupported ∷ NetworkNameDeleted ∷ BadNetworkName ∷ RequestNotAccepted ∷ DirectoryNotEmpty
+    ∷ NotADirectory ∷ TooManyOpenedFiles ∷ CannotDelete ∷ FileClosed ∷ InvalidLockRange ∷ UserSessionDeleted ∷ []
 
-abbrev pub STATUS_NO_MORE_FILES : ℕ
-STATUS_NO_MORE_FILES = 0x80000006
+-- the status of a number; a number that none of them has is STATUS_UNSUCCESSFUL, which the share never answers
+unfoldable pub status_of : ℕ → NtStatus
+status_of code = unwrap_or (find (λ status. status_code status == code) statuses) Unsuccessful
 
-abbrev pub STATUS_INVALID_INFO_CLASS : ℕ
-STATUS_INVALID_INFO_CLASS = 0xC0000003
+-- the status is STATUS_SUCCESS
+unfoldable pub is_success : NtStatus → Bool
+is_success Success = true
+is_success status = false
 
-abbrev pub STATUS_INFO_LENGTH_MISMATCH : ℕ
-STATUS_INFO_LENGTH_MISMATCH = 0xC0000004
-
-abbrev pub STATUS_MORE_PROCESSING_REQUIRED : ℕ
-STATUS_MORE_PROCESSING_REQUIRED = 0xC0000016
-
-abbrev pub STATUS_INVALID_PARAMETER : ℕ
-STATUS_INVALID_PARAMETER = 0xC000000D
-
-abbrev pub STATUS_NO_SUCH_FILE : ℕ
-STATUS_NO_SUCH_FILE = 0xC000000F
-
-abbrev pub STATUS_INVALID_DEVICE_REQUEST : ℕ
-STATUS_INVALID_DEVICE_REQUEST = 0xC0000010
-
-abbrev pub STATUS_END_OF_FILE : ℕ
-STATUS_END_OF_FILE = 0xC0000011
-
-abbrev pub STATUS_ACCESS_DENIED : ℕ
-STATUS_ACCESS_DENIED = 0xC0000022
-
-abbrev pub STATUS_OBJECT_NAME_INVALID : ℕ
-STATUS_OBJECT_NAME_INVALID = 0xC0000033
-
-abbrev pub STATUS_OBJECT_NAME_NOT_FOUND : ℕ
-STATUS_OBJECT_NAME_NOT_FOUND = 0xC0000034
-
-abbrev pub STATUS_OBJECT_NAME_COLLISION : ℕ
-STATUS_OBJECT_NAME_COLLISION = 0xC0000035
-
-abbrev pub STATUS_OBJECT_PATH_NOT_FOUND : ℕ
-STATUS_OBJECT_PATH_NOT_FOUND = 0xC000003A
-
-abbrev pub STATUS_SHARING_VIOLATION : ℕ
-STATUS_SHARING_VIOLATION = 0xC0000043
-
-abbrev pub STATUS_FILE_LOCK_CONFLICT : ℕ
-STATUS_FILE_LOCK_CONFLICT = 0xC0000054
-
-abbrev pub STATUS_LOCK_NOT_GRANTED : ℕ
-STATUS_LOCK_NOT_GRANTED = 0xC0000055
-
-abbrev pub STATUS_DELETE_PENDING : ℕ
-STATUS_DELETE_PENDING = 0xC0000056
-
-abbrev pub STATUS_LOGON_FAILURE : ℕ
-STATUS_LOGON_FAILURE = 0xC000006D
-
-abbrev pub STATUS_RANGE_NOT_LOCKED : ℕ
-STATUS_RANGE_NOT_LOCKED = 0xC000007E
-
-abbrev pub STATUS_DISK_FULL : ℕ
-STATUS_DISK_FULL = 0xC000007F
-
-abbrev pub STATUS_FILE_IS_A_DIRECTORY : ℕ
-STATUS_FILE_IS_A_DIRECTORY = 0xC00000BA
-
-abbrev pub STATUS_NOT_SUPPORTED : ℕ
-STATUS_NOT_SUPPORTED = 0xC00000BB
-
-abbrev pub STATUS_NETWORK_NAME_DELETED : ℕ
-STATUS_NETWORK_NAME_DELETED = 0xC00000C9
-
-abbrev pub STATUS_BAD_NETWORK_NAME : ℕ
-STATUS_BAD_NETWORK_NAME = 0xC00000CC
-
-abbrev pub STATUS_REQUEST_NOT_ACCEPTED : ℕ
-STATUS_REQUEST_NOT_ACCEPTED = 0xC00000D0
-
-abbrev pub STATUS_DIRECTORY_NOT_EMPTY : ℕ
-STATUS_DIRECTORY_NOT_EMPTY = 0xC0000101
-
-abbrev pub STATUS_NOT_A_DIRECTORY : ℕ
-STATUS_NOT_A_DIRECTORY = 0xC0000103
-
-abbrev pub STATUS_TOO_MANY_OPENED_FILES : ℕ
-STATUS_TOO_MANY_OPENED_FILES = 0xC000011F
-
-abbrev pub STATUS_CANNOT_DELETE : ℕ
-STATUS_CANNOT_DELETE = 0xC0000121
-
-abbrev pub STATUS_FILE_CLOSED : ℕ
-STATUS_FILE_CLOSED = 0xC0000128
-
-abbrev pub STATUS_INVALID_LOCK_RANGE : ℕ
-STATUS_INVALID_LOCK_RANGE = 0xC00001A1
-
-abbrev pub STATUS_USER_SESSION_DELETED : ℕ
-STATUS_USER_SESSION_DELETED = 0xC0000203
+-- a status's number is read as the status
+abbrev pub EachStatusIsReadAgain : Type 0
+EachStatusIsReadAgain = (status : NtStatus) → status_of (status_code status) ≡ status

@@ -19,7 +19,7 @@
 //!
 //! What a number on the wire means has a type here, one for each meaning, which every crate above uses: [`Command`],
 //! [`Dialect`], [`Access`], [`ShareAccess`], [`CreateOptions`], [`CreateDisposition`], [`CreateAction`],
-//! [`FileAttributes`], [`LockFlags`], [`QueryDirectoryFlags`], [`FileId`]; [`nt_status`] is the one list of statuses. Their numbers stand in
+//! [`FileAttributes`], [`LockFlags`], [`QueryDirectoryFlags`], [`FileId`]; [`NtStatus`] is the one list of statuses. Their numbers stand in
 //! `specs/` by the standard's names. [`limits`] has the limits of messages, clients and files.
 #![tactic(auto)]
 
@@ -37,7 +37,7 @@ mod folded;
 pub mod limits;
 mod lock_flags;
 mod names;
-pub mod nt_status;
+mod nt_status;
 mod number;
 mod parts;
 mod paths;
@@ -58,6 +58,7 @@ pub use file_id::FileId;
 pub use folded::FoldedName;
 pub use lock_flags::LockFlags;
 pub use names::{compare_folded, fold_unit, same_name};
+pub use nt_status::{NtStatus, laws_of_statuses};
 pub use number::{laws_of_numbers, put_u16, put_u32, put_u64, u16_at, u32_at, u64_at};
 pub use paths::PathView;
 pub use query_directory_flags::QueryDirectoryFlags;

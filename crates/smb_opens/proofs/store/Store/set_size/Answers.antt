@@ -20,13 +20,13 @@ pub size_file-requires-clause-file : goal.size_file-requires-clause-file
 size_file-requires-clause-file g c =
     let state : StoreState = record { tree = g.T.Tree.content c.self.inside.tree; opens = g.O.Opens.content c.self.inside.opens; locks = c.self.inside.locks; next = c.self.inside.next } in
     let shown = shown_by state c.args.number c.in-Some.view (c.in-Some.ensures.value ∙ sym (ap (λ (s : StoreState). open_view s c.args.number) c.self.view_is)) in
-    file_shown state c.args.number c.in-Some.view shown c.in_default-may_size.ensures.file
+    file_shown state c.args.number c.in-Some.view shown c.in_ok-may_size.ensures.file
 
 pub invariant_of-self : goal.invariant_of-self
 invariant_of-self g c =
     let state : StoreState = record { tree = g.T.Tree.content c.self.inside.tree; opens = g.O.Opens.content c.self.inside.opens; locks = c.self.inside.locks; next = c.self.inside.next } in
     let shown = shown_by state c.args.number c.in-Some.view (c.in-Some.ensures.value ∙ sym (ap (λ (s : StoreState). open_view s c.args.number) c.self.view_is)) in
-    kept_sized c.size_file.result state c.args.number c.in-Some.view c.args.size c.args.moment _ _ _ shown c.in_default-may_size.ensures.file (sym c.has_no_space-is_full.ensures ∙ c.in_default-may_size.ensures.room) c.size_file.ensures.ok c.size_file.ensures.err c.self.invariant
+    kept_sized c.size_file.result state c.args.number c.in-Some.view c.args.size c.args.moment _ _ _ shown c.in_ok-may_size.ensures.file (sym c.has_no_space-is_full.ensures ∙ c.in_ok-may_size.ensures.room) c.size_file.ensures.ok c.size_file.ensures.err c.self.invariant
 
 pub returns-clause-store : goal.returns-clause-store
 returns-clause-store g c =

@@ -3,8 +3,8 @@ use Rattle.std.specs.Option.{option_map, option_map_or, option_and_then}
 use Rattle.smb_access.specs.Opens.{open_of}
 use Rattle.smb_body.specs.Requests.{RequestValue, request_value, file_id_of}
 use Rattle.smb_session.specs.Table.{knows_session, knows_tree}
-use Rattle.smb_request.specs.declared.status.Status.{Status}
-use Rattle.smb_request.specs.declared.status.Status.TheVariants.{UserSessionDeleted, NetworkNameDeleted}
+use Rattle.smb_wire.specs.declared.nt_status.NtStatus.{NtStatus}
+use Rattle.smb_wire.specs.declared.nt_status.NtStatus.TheVariants.{UserSessionDeleted, NetworkNameDeleted}
 use Rattle.smb_request.specs.Call.{named_open}
 use Rattle.smb_request.specs.Context.{open_named}
 use Rattle.smb_request.specs.Needs.{needs_of, needs_session, needs_tree, is_unsupported}
@@ -13,7 +13,7 @@ use Rattle.smb_request.proofs.Handed.{named_there, mapped_there}
 use Rattle.smb_request.proofs.server.Server.respond.Goals as goal
 
 -- what passes three checks passes the last
-last_passed : (a b : Bool) (x y : Status) (z : Option Status) → (if a then Some x else if b then Some y else z) ≡ None → z ≡ None
+last_passed : (a b : Bool) (x y : NtStatus) (z : Option NtStatus) → (if a then Some x else if b then Some y else z) ≡ None → z ≡ None
 last_passed true b x y z e = absurd (cc)
 last_passed false true x y z e = absurd (cc)
 last_passed false false x y z e = e
