@@ -77,6 +77,7 @@ use Rattle.smb_opens.proofs.ScanLaws.{numbers_scanned}
 use Rattle.smb_request.proofs.Listings.{listed_left, none_scanned, held_scanned}
 use Rattle.smb_request.proofs.SetUp.{MayReplace, set_up_left}
 use Rattle.smb_request.proofs.Numbers.{others_left, next_closed}
+use Rattle.smb_request.proofs.Configured.{locks_opens}
 use Rattle.smb_request.proofs.Leaving.{LeavesBut, LeavesSharedBut, IsApart, leaves_own, leaves_then, leaves_opens, leaves_same, leaves_changed, leaves_ended, leaves_some, leaves_opened, known_apart, known_there, others_held, opens_of}
 
 -- opens of other sessions
@@ -105,11 +106,6 @@ held_by_tree s t n row h e = grind (arith, nat_tests, h, e)
 closed_held : (store : StoreState) (s t n k : ℕ) (row : OpenRow) → open_of store.opens k ≡ Some row → is_held_by (Tree s t) row ≡ true → AreRising (open_numbers store.opens) → (n == s) ≡ false →
     filter (is_held_by (Session n)) (without_open k store.opens) ≡ opens_of store n
 closed_held store s t n k row e h rising d = held_without n k row store.opens rising e (held_by_tree s t n row h d)
-
-locks_opens : (table : ℕ → Table) (store : StoreState) (view : Option View) → (with_locks_of table store view).opens ≡ store.opens
-locks_opens table store None = refl
-locks_opens table store (Some view) =
-    elim (is_folder_kind view.kind) as (λ b. (let x : StoreState = if b then store else record store { locks = table view.entry } in x).opens ≡ store.opens) [ true ↦ refl | false ↦ refl ]
 
 locks_next : (table : ℕ → Table) (store : StoreState) (view : Option View) → (with_locks_of table store view).next ≡ store.next
 locks_next table store None = refl

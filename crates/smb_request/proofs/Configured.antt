@@ -63,6 +63,11 @@ locks_kept table store None = refl
 locks_kept table store (Some view) =
     elim (is_folder_kind view.kind) as (λ b. (let x : StoreState = if b then store else record store { locks = table view.entry } in x).tree.capacity ≡ store.tree.capacity) [ true ↦ refl | false ↦ refl ]
 
+pub locks_opens : (table : ℕ → Table) (store : StoreState) (view : Option View) → (with_locks_of table store view).opens ≡ store.opens
+locks_opens table store None = refl
+locks_opens table store (Some view) =
+    elim (is_folder_kind view.kind) as (λ b. (let x : StoreState = if b then store else record store { locks = table view.entry } in x).opens ≡ store.opens) [ true ↦ refl | false ↦ refl ]
+
 written_at : (store : StoreState) (offset moment : ℕ) (buffer : List ℕ) (row : Option OpenRow) →
     (option_map_or (λ (row : OpenRow). if length buffer == 0 then store else record store { tree = written_tree store.tree row.entry offset buffer moment }) row store).tree.capacity ≡ store.tree.capacity
 written_at store offset moment buffer None = refl

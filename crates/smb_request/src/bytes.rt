@@ -23,7 +23,7 @@ use std::alloc::AllocError;
 
 impl<A: Authenticator + Drop, T: Tree + Drop, O: Opens + Drop> Server<A, T, O> {
     /// READ ([MS-SMB2] 3.3.5.12). Its bytes are read by [`put_bytes`](Self::put_bytes), where they are sent from.
-    #[tactic(auto, unfolding(crate::specs::Bytes::file_read), using(crate::proofs::Refused::by_code, smb_wire::proofs::Statuses::success_yes))]
+    #[tactic(auto, unfolding(crate::specs::Bytes::file_read), using(smb_wire::proofs::Statuses::success_yes))]
     pub(crate) fn read_file<'a>(
         &self,
         call: Call,
@@ -45,7 +45,7 @@ impl<A: Authenticator + Drop, T: Tree + Drop, O: Opens + Drop> Server<A, T, O> {
     }
 
     /// WRITE ([MS-SMB2] 3.3.5.13). The bytes go from the request straight into the file.
-    #[tactic(auto, unfolding(crate::specs::Bytes::file_written), using(crate::proofs::Refused::by_store, smb_wire::proofs::Statuses::success_yes))]
+    #[tactic(auto, unfolding(crate::specs::Bytes::file_written), using(smb_wire::proofs::Statuses::success_yes))]
     pub(crate) fn write_file<'a>(
         &mut self,
         call: Call,

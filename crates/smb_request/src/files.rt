@@ -102,7 +102,7 @@ impl<A: Authenticator + Drop, T: Tree + Drop, O: Opens + Drop> Server<A, T, O> {
     }
 
     /// CREATE ([MS-SMB2] 3.3.5.9), under a session and a tree connect that exist.
-    #[tactic(auto, unfolding(crate::specs::Files::file_created), using(crate::proofs::Refused::by_store, smb_wire::proofs::Statuses::success_yes))]
+    #[tactic(auto, unfolding(crate::specs::Files::file_created), using(smb_wire::proofs::Statuses::success_yes))]
     pub(crate) fn create_file<'a>(
         &mut self,
         call: Call,

@@ -57,7 +57,7 @@ fn asks_unlock(asks: &[LockAsk]) -> bool
 
 impl<A: Authenticator + Drop, T: Tree + Drop, O: Opens + Drop> Server<A, T, O> {
     /// A LOCK that locks ([MS-SMB2] 3.3.5.14.2).
-    #[tactic(auto, unfolding(crate::specs::Locks::file_locked), using(crate::proofs::Refused::by_lock, smb_wire::proofs::Statuses::success_yes))]
+    #[tactic(auto, unfolding(crate::specs::Locks::file_locked), using(smb_wire::proofs::Statuses::success_yes))]
     fn lock_file<'a>(&mut self, call: Call, asks: &[LockAsk]) -> Result<Response<'a>, Refusal>
         ensures ok { IfSome (result_step A.meaning self.new call result) (λ step. step ≡ file_locked self.old call asks.now) }
         ensures put { IfOk result (IsReadyAfter self.old self.new call) }
@@ -69,7 +69,7 @@ impl<A: Authenticator + Drop, T: Tree + Drop, O: Opens + Drop> Server<A, T, O> {
     }
 
     /// A LOCK that unlocks ([MS-SMB2] 3.3.5.14.1). It takes no memory.
-    #[tactic(auto, unfolding(crate::specs::Locks::file_unlocked), using(crate::proofs::Refused::by_code, smb_wire::proofs::Statuses::success_yes))]
+    #[tactic(auto, unfolding(crate::specs::Locks::file_unlocked), using(smb_wire::proofs::Statuses::success_yes))]
     fn unlock_file<'a>(&mut self, call: Call, asks: &[LockAsk]) -> Result<Response<'a>, Refusal>
         ensures ok { IfSome (result_step A.meaning self.new call result) (λ step. step ≡ file_unlocked self.old call asks.now) }
         ensures put { IfOk result (IsReadyAfter self.old self.new call) }

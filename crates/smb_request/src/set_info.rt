@@ -67,7 +67,7 @@ fn set_through<T: Tree + Drop, O: Opens + Drop>(
 
 impl<A: Authenticator + Drop, T: Tree + Drop, O: Opens + Drop> Server<A, T, O> {
     /// Sets what is asked, of the entry of the open of a request.
-    #[tactic(auto, using(crate::proofs::Refused::by_store, smb_wire::proofs::Statuses::success_yes))]
+    #[tactic(auto, using(smb_wire::proofs::Statuses::success_yes))]
     fn set_as_asked<'a>(&mut self, call: Call, ask: &SetAsk<'_>) -> Result<Response<'a>, Refusal>
         ensures ok { IfSome (result_step A.meaning self.new call result) (λ step. step ≡ set_as_asked self.old call (set_asked ask.now)) }
         ensures put { IfOk result (IsReadyAfter self.old self.new call) }
