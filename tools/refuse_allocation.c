@@ -1,14 +1,21 @@
-/* Refuses one allocation of a program that is linked dynamically with the GNU C library.
+/* Refuses one allocation of a program that is linked dynamically with the GNU C library, and lists all of them.
  *
  *     cc -shared -fPIC -O2 -o refuse.so tools/refuse_allocation.c
- *     REFUSE=7 REFUSED=refused LD_PRELOAD=./refuse.so PROGRAM
+ *     REFUSE=7 REFUSED=refused ALLOCATIONS=sizes LD_PRELOAD=./refuse.so PROGRAM
  *
  * The allocation of that number is refused, counted from 1 once this library was made ready, just before `main`: a call of malloc,
- * calloc, realloc, posix_memalign or aligned_alloc. Then the file that REFUSED names is made. */
+ * calloc, realloc, posix_memalign or aligned_alloc. Then the file that REFUSED names is made.
+ *
+ * When the program ends, the file that ALLOCATIONS names gets lines with the bytes that each allocation asked for, in order: one line up
+ * to the first text that the program writes to standard output and that begins with `event `, and one more behind each of these. */
+#define _GNU_SOURCE
 #include <errno.h>
 #include <fcntl.h>
 #include <stddef.h>
+#include <stdio.h>
 #include <stdlib.h>
+#include <string.h>
+#include <sys/syscall.h>
 #include <unistd.h>
 
 /* The C library's own, under the names that no program takes from it. */
@@ -17,16 +24,23 @@ void *__libc_calloc(size_t, size_t);
 void *__libc_realloc(void *, size_t);
 void *__libc_memalign(size_t, size_t);
 
-/* Which allocation is refused, 0 for none, and how many there were. */
-static unsigned long refused, allocations;
+/* How many allocations and texts are listed at most. */
+enum { MOST = 1 << 16 };
+
+/* Which allocation is refused, 0 for none, how many there were, and the bytes that the first ones asked for. */
+static unsigned long refused, allocations, sizes[MOST];
+/* How many texts there were, and how many allocations before each of the first ones. */
+static unsigned long texts, before[MOST];
 
 __attribute__((constructor)) static void begin(void) {
     const char *number = getenv("REFUSE");
     refused = number == NULL ? 0 : strtoul(number, NULL, 10);
 }
 
-static int is_refused(void) {
-    if (refused == 0 || ++allocations != refused)
+static int is_refused(size_t size) {
+    if (allocations < MOST)
+        sizes[allocations] = size;
+    if (++allocations != refused)
         return 0;
     const char *path = getenv("REFUSED");
     if (path != NULL)
@@ -36,19 +50,19 @@ static int is_refused(void) {
 }
 
 void *malloc(size_t size) {
-    return is_refused() ? NULL : __libc_malloc(size);
+    return is_refused(size) ? NULL : __libc_malloc(size);
 }
 
 void *calloc(size_t number, size_t size) {
-    return is_refused() ? NULL : __libc_calloc(number, size);
+    return is_refused(number * size) ? NULL : __libc_calloc(number, size);
 }
 
 void *realloc(void *block, size_t size) {
-    return is_refused() ? NULL : __libc_realloc(block, size);
+    return is_refused(size) ? NULL : __libc_realloc(block, size);
 }
 
 void *aligned_alloc(size_t alignment, size_t size) {
-    return is_refused() ? NULL : __libc_memalign(alignment, size);
+    return is_refused(size) ? NULL : __libc_memalign(alignment, size);
 }
 
 int posix_memalign(void **block, size_t alignment, size_t size) {
@@ -57,4 +71,27 @@ int posix_memalign(void **block, size_t alignment, size_t size) {
         return ENOMEM;
     *block = made;
     return 0;
+}
+
+ssize_t write(int file, const void *bytes, size_t length) {
+    static const char mark[] = "event ";
+    if (file == STDOUT_FILENO && length >= sizeof mark - 1 && memcmp(bytes, mark, sizeof mark - 1) == 0 && texts < MOST)
+        before[texts++] = allocations;
+    return syscall(SYS_write, file, bytes, length);
+}
+
+__attribute__((destructor)) static void list(void) {
+    const char *path = getenv("ALLOCATIONS");
+    unsigned long count = allocations, text = 0;
+    if (path == NULL || count > MOST)
+        return;
+    int file = open(path, O_WRONLY | O_CREAT | O_TRUNC, 0666);
+    for (unsigned long i = 0; i < count; i++) {
+        for (; text < texts && before[text] <= i; text++)
+            dprintf(file, "\n");
+        dprintf(file, "%lu ", sizes[i]);
+    }
+    for (; text < texts; text++)
+        dprintf(file, "\n");
+    close(file);
 }

@@ -9,7 +9,10 @@ use std::io::{ErrorKind, Read};
 pub const INPUT_LIMIT: u64 = 67_108_864;
 
 /// The whole input, of at most [`INPUT_LIMIT`] bytes.
-pub(crate) fn read_input<R: Read + Drop>(alloc: Global, input: R) -> Result<Vec<u8>, CommandFault> {
+///
+/// [`CommandFault::InputTooLong`] where it is longer, [`CommandFault::InputFailed`] where it cannot be read, and
+/// [`CommandFault::NoMemory`].
+pub fn read_input<R: Read + Drop>(alloc: Global, input: R) -> Result<Vec<u8>, CommandFault> {
     match read_past(alloc, input, INPUT_LIMIT) {
         Ok(text) if text.len() as u64 > INPUT_LIMIT => Err(CommandFault::InputTooLong),
         Ok(text) => Ok(text),

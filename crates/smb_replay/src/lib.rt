@@ -5,7 +5,8 @@
 //! writes a line for each answer; [`replay_on_share`] runs them on a share of the caller's. [`show_text`] lists the
 //! requests of a stream, [`show_fields`] with their fields. All are over any reader and writers, and return an exit
 //! status. [`Detail`] is how much is written of a fault: with [`Detail::Explained`] why it came. The configuration is
-//! of the crate smb_config.
+//! of the crate smb_config. Who plays the events in another way takes them by [`read_input`] and [`read_events`], and
+//! has what answers them written by [`write_answers`].
 //!
 //! Inside the crate the listing of a stream and the events of a part of a text have clauses (`list_stream`,
 //! `Part::read`). All else that the public calls print and return is tested.
@@ -22,11 +23,12 @@ mod script;
 mod show;
 
 pub use fault::{CommandFault, Detail, Given, ListenFault};
-pub use input::INPUT_LIMIT;
+pub use input::{INPUT_LIMIT, read_input};
 pub use listing::show_fields;
 pub use password::hash_password;
 pub use replay::{
-    new_plain_share, new_share, replay_in_detail, replay_on_share, replay_plain_text, replay_text,
+    new_plain_share, new_share, read_events, replay_in_detail, replay_on_share, replay_plain_text,
+    replay_text, write_answers,
 };
 pub use script::Expected;
 pub use show::show_text;

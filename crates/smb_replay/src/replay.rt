@@ -45,8 +45,10 @@ fn write_answer<W: Write>(answer: &Answer, output: &mut W) -> io::Result<()> {
     }
 }
 
-/// Writes answers in order.
-fn write_answers<W: Write>(answers: &[Answer], output: &mut W) -> Result<(), CommandFault> {
+/// Writes answers in order, a line each as [`replay_text`] has them, and has them sent. It takes no memory of its own.
+///
+/// [`CommandFault::OutputFailed`] where the writer fails.
+pub fn write_answers<W: Write>(answers: &[Answer], output: &mut W) -> Result<(), CommandFault> {
     for answer in answers {
         write_answer(answer, output).map_err(|_| CommandFault::OutputFailed)?;
     }
@@ -203,6 +205,24 @@ fn run_text<A: Authenticator + Drop, T: Tree + Drop, O: Opens + Drop, W: Write, 
         left = part.left;
     }
     Ok(())
+}
+
+/// The events of a whole text in order: its lines are as [`replay_text`] reads them.
+///
+/// [`CommandFault::Unreadable`] with the first line that cannot be read, where there is one, or
+/// [`CommandFault::NoMemory`].
+pub fn read_events(alloc: Global, text: &[u8]) -> Result<Vec<Event>, CommandFault> {
+    let mut events = Vec::new(alloc);
+    let mut left = Some(Unread::of(text));
+    while let Some(unread) = left {
+        let mut part = Part::read(alloc, unread)?;
+        events.append(&mut part.script.events)?;
+        if let Some((line, expected)) = part.script.unreadable_at {
+            return Err(CommandFault::Unreadable(line, expected));
+        }
+        left = part.left;
+    }
+    Ok(events)
 }
 
 /// What a replay takes: a configuration, and a text of events.
