@@ -1,11 +1,14 @@
 #!/usr/bin/env python3
-"""clients.py [PROGRAM]: which clients log in to a share that is served with `--login ntlm`, as guests and as a user with
-a password, and put, list, get, rename and delete a file there; and that a wrong password is refused. Run by hand: the
-clients are Debian's packages smbclient, samba-testsuite, rclone, python3-impacket and python3-smbc, which the gate does
-not need. One that is absent is said to be.
+"""clients.py: which clients log in to a share that is served with `--login ntlm`, as guests and as a user with a
+password, and put, list, get, rename and delete a file there; and which are refused, and how.
 
-The program is crates/smbshare/out/smbshare where none is named. A line for each client, and what it said where it
-failed.
+    python3 tools/clients.py [PROGRAM]
+    python3 tools/clients.py --at PORT CLIENT
+
+Run by hand: the clients are Debian's packages smbclient, samba-testsuite, rclone, python3-impacket and python3-smbc,
+which the gate does not need. One that is absent is said to be. The program is crates/smbshare/out/smbshare where none
+is named. A line for each client, and what it said where it failed. With --at one client, by the name in its line, tries
+a share that is served already at a port of this machine.
 """
 import os
 import pathlib
@@ -15,7 +18,6 @@ import sys
 import tempfile
 
 TOP = pathlib.Path(__file__).resolve().parent.parent
-PROGRAM = os.path.abspath(sys.argv[1]) if len(sys.argv) > 1 else str(TOP / "crates/smbshare/out/smbshare")
 HOST, PATIENCE = "127.0.0.1", 60
 TEXT = "hello from a file\n"
 # A guest, the user of an account, and that user with a wrong password.
@@ -67,10 +69,10 @@ def smbclient(port, folder, *who):
     return well and (folder / "b.txt").read_text() == TEXT, said
 
 
-def is_refused(port, folder, *who):
-    """Whether the login of smbclient fails for its password."""
-    well, said = smbclient(port, folder, *who)
-    return not well and "NT_STATUS_LOGON_FAILURE" in said, f"is not refused: {said}"
+def is_refused(port, folder, status, *words):
+    """Whether smbclient ends with this status."""
+    well, said = smbclient(port, folder, *words)
+    return not well and status in said, f"is not refused so: {said}"
 
 
 def rclone(port, folder, user, password):
@@ -111,45 +113,65 @@ CLIENTS = (
     ("smbclient -U%", "smbclient", lambda port, folder: smbclient(port, folder, "-U%")),
     *clients_of(*GUEST),
     *clients_of(*ANN),
-    (f"a wrong password, smbclient -U {'%'.join(WRONG)}", "smbclient",
-     lambda port, folder: is_refused(port, folder, "-U", "%".join(WRONG))),
+)
+# Words of smbclient by which it does not come in, and the status that it tells.
+REFUSED = (
+    (("-U", "%".join(WRONG)), "NT_STATUS_LOGON_FAILURE"),
+    (("--client-protection=sign", "-U", "%".join(ANN)), "NT_STATUS_ACCESS_DENIED"),
+    (("--option=client ntlmv2 auth=no", "-U", "%".join(ANN)), "NT_STATUS_LOGON_FAILURE"),
+    (("--use-kerberos=required", "-U", "%".join(ANN)), "NT_STATUS_ACCESS_DENIED"),
+    (("--option=client min protocol=SMB3", "-U", "%".join(ANN)), "NT_STATUS_NOT_SUPPORTED"),
 )
 
 
-def serve(folder):
-    """The program, serving to guests and to an account whose file is in this folder."""
+def refused_by(words, status):
+    """What `tried` takes of a client that is to be refused."""
+    return " ".join(("smbclient", *words)), "smbclient", lambda port, folder: is_refused(port, folder, status, *words)
+
+
+def serve(program, folder):
+    """A program, serving to guests and to an account whose file is in this folder."""
     accounts = os.path.join(folder, "accounts")
     with open(os.open(accounts, os.O_CREAT | os.O_WRONLY, 0o600), "w", encoding="ascii") as file:
         file.write(ACCOUNTS)
     words = ["serve", "--listen", f"{HOST}:0", "--config", str(TOP / "guest.toml"), "--login", "ntlm",
              "--accounts", accounts]
-    return subprocess.Popen([PROGRAM, *words], stderr=subprocess.PIPE, text=True)
+    return subprocess.Popen([program, *words], stderr=subprocess.PIPE, text=True)
 
 
-def tried(port):
-    """Tries each client, prints a line of it, and gives how many failed."""
+def tried(port, clients, outcome="works"):
+    """Tries each client, prints a line of it, which says this where it is so, and gives how many failed."""
     failed = 0
-    for name, needs, client in CLIENTS:
+    for name, needs, client in clients:
         if not shutil.which(needs) and not os.path.exists(needs):
             print(f"{name}: absent", flush=True)
             continue
         with tempfile.TemporaryDirectory() as folder:
             (pathlib.Path(folder) / "a.txt").write_text(TEXT)
             well, said = client(port, pathlib.Path(folder))
-        print(f"{name}: {'works' if well else said}", flush=True)
+        print(f"{name}: {outcome if well else said}", flush=True)
         failed += not well
     return failed
 
 
-def main():
+def tried_with(program):
+    """Tries each client with a share of this program, and gives how many failed."""
     with tempfile.TemporaryDirectory() as folder:
-        share = serve(folder)
+        share = serve(program, folder)
         try:
             port = share.stderr.readline().rsplit(":", 1)[1].strip()
-            return 1 if tried(port) else 0
+            return tried(port, CLIENTS) + sum(tried(port, [refused_by(*it)], f"is refused, {it[1]}") for it in REFUSED)
         finally:
             share.kill()
 
 
+def main(words):
+    if words[:1] == ["--at"] and len(words) == 3:
+        named = [it for it in (*CLIENTS, *(refused_by(*one) for one in REFUSED)) if it[0] == words[2]]
+        return 1 if not named or tried(words[1], named) else 0
+    program = os.path.abspath(words[0]) if words else str(TOP / "crates/smbshare/out/smbshare")
+    return 1 if tried_with(program) else 0
+
+
 if __name__ == "__main__":
-    sys.exit(main())
+    sys.exit(main(sys.argv[1:]))

@@ -3,14 +3,16 @@
  *     cc -shared -fPIC -O2 -o odd.so tools/odd_system.c
  *     ODD_SYSTEM=clock LD_PRELOAD=./odd.so PROGRAM
  *
- * With `clock` the system's clock is a second before 1970; with `port` no program may have a port. */
+ * With `clock` the system's clock is a second before 1970; with `port` no program may have a port. Else the system is
+ * called itself, and not the C library: an unproved program, whose checks stand before the library, bears that alone. */
 #define _GNU_SOURCE
-#include <dlfcn.h>
 #include <errno.h>
 #include <stdlib.h>
 #include <string.h>
 #include <sys/socket.h>
+#include <sys/syscall.h>
 #include <time.h>
+#include <unistd.h>
 
 static int is_odd(const char *what) {
     const char *wanted = getenv("ODD_SYSTEM");
@@ -18,17 +20,15 @@ static int is_odd(const char *what) {
 }
 
 int clock_gettime(clockid_t clock, struct timespec *moment) {
-    int (*next)(clockid_t, struct timespec *) = dlsym(RTLD_NEXT, "clock_gettime");
     if (clock != CLOCK_REALTIME || !is_odd("clock"))
-        return next(clock, moment);
+        return syscall(SYS_clock_gettime, clock, moment);
     *moment = (struct timespec){.tv_sec = -1};
     return 0;
 }
 
 int bind(int stream, const struct sockaddr *address, socklen_t length) {
-    int (*next)(int, const struct sockaddr *, socklen_t) = dlsym(RTLD_NEXT, "bind");
     if (!is_odd("port"))
-        return next(stream, address, length);
+        return syscall(SYS_bind, stream, address, length);
     errno = EACCES;
     return -1;
 }

@@ -21,8 +21,8 @@ import tempfile
 
 sys.path.insert(0, os.path.dirname(os.path.abspath(__file__)))
 import frame as frame_tool
-from refusals import (ACCOUNTS, BAD_EVENTS, BROKEN, BROKEN_ACCOUNTS, ENDINGS, HASH, NEGOTIATE, SHARE_RULE, UNREADABLE,
-                      frame, request, session_setup_body)
+from refusals import (ACCOUNTS, BAD_EVENTS, BROKEN, BROKEN_ACCOUNTS, ENDINGS, HASH, NEGOTIATE, NOTICES, SHARE_RULE,
+                      UNREADABLE, frame, request, session_setup_body)
 
 TOP = os.path.dirname(os.path.dirname(os.path.abspath(__file__)))
 PATIENCE = 60
@@ -219,6 +219,7 @@ def broken_accounts_are_explained():
 def accounts_are_read_as_a_configuration_is():
     """Their length, their text, what cannot be opened, and a name that is no text."""
     long = ACCOUNTS.encode() + b'#' * (CONFIG_LIMIT - len(ACCOUNTS))
+    longest_name = ACCOUNTS.replace('"bob"', f'"{"b" * 256}"').encode()
     with accounts_file(b'') as name:
         linked = name.encode() + NOT_TEXT
         os.link(name, linked)
@@ -227,7 +228,7 @@ def accounts_are_read_as_a_configuration_is():
         finally:
             os.unlink(linked)
     unread = b'accounts: cannot be read\n'
-    return (with_accounts(ACCOUNTS.encode()) == with_accounts(b'') == with_accounts(long) == (0, b'', b'')
+    return (all(with_accounts(text) == (0, b'', b'') for text in (ACCOUNTS.encode(), b'', long, longest_name))
             and there == [(0, b'', b'')] * 2
             and with_accounts(long + b'#', '--explain') == (1, b'', ACCOUNTS_REFUSED + b'file: at most 1048576 bytes\n')
             and with_accounts(NOT_TEXT, '--explain') == (1, b'', ACCOUNTS_REFUSED + b'file: a text in UTF-8\n')
@@ -261,8 +262,8 @@ def serve_takes_accounts_too():
 def a_seed_that_is_given_is_said():
     serve = ('serve', '--turns', '1', '--listen', '127.0.0.1:0', '--login', 'ntlm')
     given, quiet = ran((*serve, '--seed', '0' * 32)), ran(serve)
-    return (given[0] == quiet[0] == 0 and given[2].count(b'\n') == 3 and b'--seed' in given[2]
-            and quiet[2].count(b'\n') == 2 and b'--seed' not in quiet[2])
+    return (given[0] == quiet[0] == 0 and given[2].count(b'\n') == 4 and b'--seed' in given[2]
+            and quiet[2].count(b'\n') == 3 and b'--seed' not in quiet[2])
 
 
 def words_of_ntlm_go_together():
@@ -361,6 +362,26 @@ def serve_says_that_nobody_can_log_in():
     built_in = ran(('serve', '--turns', '1', '--listen', '127.0.0.1:0'))[2]
     guest = ran(('serve', '--turns', '1', '--listen', '127.0.0.1:0', '--config', os.path.join(TOP, 'guest.toml')))[2]
     return built_in.count(b'\n') == 2 and b'guest.toml' in built_in and guest.count(b'\n') == 1
+
+
+def notices_of(text, mode, accounts):
+    """What `serve` says behind where it listens, by a configuration of this text and mode, and perhaps by accounts."""
+    serve = ('serve', '--turns', '1', '--listen', '127.0.0.1:0')
+    with accounts_file(text.encode(), mode) as config, accounts_file((accounts or '').encode()) as name:
+        words = () if accounts is None else ('--login', 'ntlm', '--accounts', name)
+        status, output, errors = ran((*serve, '--config', config, *words))
+    return (status, output) == (0, b'') and tuple(errors.decode().splitlines()[1:])
+
+
+def serve_says_what_is_not_as_it_may_be_wanted():
+    """Where no client can log in, and where everyone may write to a configuration with tokens; it starts all the same."""
+    for has_user, guest, mode, accounts, said in NOTICES:
+        text = SHARE if has_user else SHARE[:SHARE.index('[[user]]')]
+        found = notices_of(text.replace('guest = false', f'guest = {guest}'), mode, accounts)
+        if found != said:
+            print(f'  {has_user}, {guest}, {mode:o}, {accounts!r}: {found}')
+            return False
+    return True
 
 
 def unreadable_lines_are_explained():
@@ -485,7 +506,8 @@ TESTS = (
     serve_takes_accounts_too, a_seed_that_is_given_is_said, words_of_ntlm_go_together, replays_by_ntlm_repeat,
     passwords_are_hashed, a_hash_that_is_not_written_failed, serve_explains_too,
     addresses_are_explained, files_that_are_not_read_are_explained, a_terminal_is_told_more,
-    serve_says_that_nobody_can_log_in, unreadable_lines_are_explained, bad_events_are_explained,
+    serve_says_that_nobody_can_log_in, serve_says_what_is_not_as_it_may_be_wanted,
+    unreadable_lines_are_explained, bad_events_are_explained,
     endings_are_explained, fields_of_requests_are_shown, statuses_of_replies_are_shown,
     statuses_have_one_list_of_names, other_faults_have_one_line, parts_are_one_text,
     each_event_of_a_part_and_the_next_is_performed,

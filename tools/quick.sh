@@ -60,7 +60,7 @@ the_program() {
     run_stored
     python3 tools/demo.py --check "$program"
     python3 tools/program.py --unproved "$program"
-    python3 tools/serving.py --unproved "$program"
+    python3 tools/serving.py "$program"
 }
 
 # How many tasks run side by side: one a processor, and one for each 2 GB of memory that is free.
@@ -91,8 +91,8 @@ done
 
 cat << END
 == $SECONDS seconds
-Left out: all proofs, the must-fail edits, allocations and what is done where memory runs out, a system that does odd
-things, the layout of the files, and the second compiler. bash tools/test.sh has them all.
+Left out: all proofs, the must-fail edits, allocations and what is done where memory runs out, the layout of the files,
+and the second compiler. bash tools/test.sh has them all.
 END
 cd "$logs" || exit 1
 awk '/^(files|rows|smb_layer_tests|smb_tests|stored|demo|program|serving): [0-9]+ passed, [0-9]+ failed$/ {

@@ -86,6 +86,7 @@ BROKEN_ACCOUNTS = (
     ('name = "ann"', 'name = 1', 'account.name: a text; account 1; line 3'),
     ('name = "ann"', f'name = {{nt_hash = "{HASH}"}}', 'account.name: a text; account 1; line 3'),
     (f'"{HASH}"', f'"{HASH}0"', f'{HASH_RULE}; account 1; line 4'),
+    (f'"{HASH}"', f'"{HASH[:-1]}"', f'{HASH_RULE}; account 1; line 4'),
     (f'"{HASH}"', f'"{HASH[:-1]}x"', f'{HASH_RULE}; account 1; line 4'),
     (f'"{HASH.upper()}"', '', 'file: a text in TOML, no key given twice; line 8'),
     (f'nt_hash = "{HASH.upper()}"', '', f'{HASH_RULE}; account 2; missing'),
@@ -96,6 +97,27 @@ BROKEN_ACCOUNTS = (
     ('name = "bob"', 'name = "b\\tb"', f'{CHARACTER_RULE}; account 2; line 7: "b\\tb"'),
     ('name = "bob"', "name = 'Guest'", f"{GUEST_RULE}; account 2; line 7: 'Guest'"),
     ('name = "bob"', 'name = "ANN"', f'{TAKEN_RULE}; account 2; line 7: "ANN"'),
+)
+BY_NTLM = ('login by NTLM: `hello` and the users\' tokens of the configuration are not used; its `guest` says whether '
+           'guests come in')
+NO_USER = 'no client can log in: the configuration has no user, and its `guest` is false'
+NO_ACCOUNT = "no client can log in: there is no account (--accounts FILE), and the configuration's `guest` is false"
+EVERYONE = "the configuration holds users' tokens, and everyone may write to its file (chmod o-w)"
+
+# Of a configuration that is served whether it has a user, what its `guest` is, and its file's mode; the accounts, or
+# None where clients do not log in by NTLM; and the lines that are said.
+NOTICES = (
+    (True, 'false', 0o600, None, ()),
+    (False, 'true', 0o600, None, ()),
+    (False, 'false', 0o600, None, (NO_USER,)),
+    (True, 'false', 0o602, None, (EVERYONE,)),
+    (True, 'false', 0o664, None, ()),
+    (False, 'true', 0o666, None, ()),
+    (True, 'false', 0o600, ACCOUNTS, (BY_NTLM,)),
+    (True, 'false', 0o600, '', (BY_NTLM, NO_ACCOUNT)),
+    (False, 'true', 0o600, '', (BY_NTLM,)),
+    (True, 'false', 0o666, '', (BY_NTLM, NO_ACCOUNT, EVERYONE)),
+    (True, 'true', 0o602, ACCOUNTS, (BY_NTLM, EVERYONE)),
 )
 # A line that cannot be read, and how what is said of it begins.
 UNREADABLE = (

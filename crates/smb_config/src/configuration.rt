@@ -72,6 +72,8 @@ pub struct Configuration {
     pub config: Config,
     /// Whether guests may come.
     pub guest: bool,
+    /// How many users there are, each with a token.
+    pub users: usize,
     /// Knows the users by their tokens, and lets guests in where they may come.
     pub authenticator: Tokens,
 }
@@ -273,11 +275,13 @@ impl Configuration {
             .get("guest")
             .and_then(Value::as_bool)
             .ok_or(ConfigFault::Refused(ConfigRule::Guest))?;
-        let users = read_users(alloc, &table)?;
-        let authenticator = Tokens::new(alloc, &hello, guest, users)?;
+        let list = read_users(alloc, &table)?;
+        let users = list.len();
+        let authenticator = Tokens::new(alloc, &hello, guest, list)?;
         Ok(Configuration {
             config,
             guest,
+            users,
             authenticator,
         })
     }

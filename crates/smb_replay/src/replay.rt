@@ -97,6 +97,7 @@ fn share_over<T: Tree + Drop, O: Opens + Drop>(
     let Configuration {
         config,
         guest: _,
+        users: _,
         authenticator,
     } = configuration;
     match Share::new(alloc, config, authenticator, tree, opens) {

@@ -15,7 +15,7 @@ use book::Book;
 use differ::tell;
 use row::{Kind, Row};
 use smb_config::BUILT_IN;
-use smb_replay::{replay_plain_text, replay_text, show_text};
+use smb_replay::{replay_ntlm_text, replay_plain_text, replay_text, show_text};
 use std::alloc::{AllocError, Global};
 use std::io::{BufWriter, Read};
 use std::process::ExitCode;
@@ -36,18 +36,29 @@ enum Pair {
     Plain,
 }
 
+/// The pairs over which a row of a kind is played: a login changes no tree and no opens.
+fn pairs_of(kind: Kind) -> &'static [Pair] {
+    match kind {
+        Kind::Ntlm(_) => &[Pair::Slots],
+        Kind::Replay | Kind::Show => &[Pair::Slots, Pair::Plain],
+    }
+}
+
 /// Plays a row on a new share.
 fn play(alloc: Global, row: &Row, pair: Pair) -> Played {
     let mut output = Vec::new(alloc);
     let mut errors = Vec::new(alloc);
+    let (config, accounts) = (row.config.as_str(), row.accounts.as_str());
     let input = row.input.as_bytes();
     let status = match row.kind {
         Kind::Replay => match pair {
-            Pair::Slots => replay_text(alloc, row.config.as_str(), input, &mut output, &mut errors),
-            Pair::Plain => {
-                replay_plain_text(alloc, row.config.as_str(), input, &mut output, &mut errors)
-            }
+            Pair::Slots => replay_text(alloc, config, input, &mut output, &mut errors),
+            Pair::Plain => replay_plain_text(alloc, config, input, &mut output, &mut errors),
         },
+        Kind::Ntlm(seed) => {
+            let (output, errors) = (&mut output, &mut errors);
+            replay_ntlm_text(alloc, config, accounts, seed, input, output, errors)
+        }
         Kind::Show => show_text(alloc, input, &mut output, &mut errors),
     };
     Played {
@@ -76,15 +87,15 @@ fn is_as_said(rt: &HostRuntime, row: &Row, played: &Played) -> bool {
     false
 }
 
-/// Prints whether a row is as it says over both pairs, and tells it.
+/// Prints whether a row is as it says over each of its pairs, and tells it.
 fn is_well(rt: &HostRuntime, row: &Row) -> bool {
     let name = row.name.as_str();
     if let Some(fault) = row.standing_fault() {
         let _ = println!(rt; "{name}: {fault}");
         return false;
     }
-    for pair in [Pair::Slots, Pair::Plain] {
-        let played = play(rt.alloc(), row, pair);
+    for pair in pairs_of(row.kind) {
+        let played = play(rt.alloc(), row, *pair);
         if !is_as_said(rt, row, &played) {
             let _ = println!(rt; "{name} differs");
             return false;

@@ -1,6 +1,7 @@
 //! A row: what happens, and what answers it.
 
 use crate::words::{Words, put_unescaped};
+use hex::FromHex;
 use smb_config::BUILT_IN;
 use std::alloc::{AllocError, AllocFailed, Global};
 use std::fmt;
@@ -51,6 +52,8 @@ impl From<AllocError> for RowFault {
 pub(crate) enum Kind {
     /// The replay of a text of events.
     Replay,
+    /// The same on a share to which clients log in by NTLM, whose challenges come from this seed.
+    Ntlm([u8; 16]),
     /// The listing of a stream.
     Show,
 }
@@ -61,6 +64,8 @@ pub(crate) struct Row {
     pub(crate) name: String,
     pub(crate) kind: Kind,
     pub(crate) config: String,
+    /// The accounts of a login by NTLM, as the text of a file of them.
+    pub(crate) accounts: String,
     pub(crate) input: String,
     pub(crate) output: String,
     pub(crate) errors: String,
@@ -78,6 +83,7 @@ impl Row {
             name: String::from_str(alloc, name)?,
             kind: Kind::Replay,
             config: String::from_str(alloc, BUILT_IN)?,
+            accounts: String::new(alloc),
             input: String::new(alloc),
             output: String::new(alloc),
             errors: String::new(alloc),
@@ -100,9 +106,11 @@ impl Row {
         }
     }
 
-    /// Begins with the configuration, the events and the answers of another row.
+    /// Begins with the configuration, the accounts, the events and the answers of another row.
     fn begin_with(&mut self, other: &Row) -> Result<(), RowFault> {
+        self.kind = other.kind;
         self.config = other.config.clone()?;
+        self.accounts = other.accounts.clone()?;
         self.input.push_str(other.input.as_str())?;
         self.output.push_str(other.output.as_str())?;
         self.moment = other.moment.clone()?;
@@ -123,6 +131,24 @@ impl Row {
         let _ = put_unescaped(new, &mut config)?;
         config.push_str(back)?;
         self.config = config;
+        Ok(())
+    }
+
+    /// Has clients log in by NTLM, with the seed that these hex digits spell.
+    fn log_in_by_ntlm(&mut self, digits: &str) -> Result<(), RowFault> {
+        let seed = <[u8; 16] as FromHex>::from_hex(digits).map_err(|_| RowFault::UnknownWord)?;
+        self.kind = Kind::Ntlm(seed);
+        Ok(())
+    }
+
+    /// Adds an account: `NAME HASH`.
+    fn add_account(&mut self, rest: &str) -> Result<(), RowFault> {
+        let (name, nt_hash) = rest.split_once(' ').ok_or(RowFault::UnknownLine)?;
+        self.accounts.push_str("[[account]]\nname = \"")?;
+        self.accounts.push_str(name)?;
+        self.accounts.push_str("\"\nnt_hash = \"")?;
+        self.accounts.push_str(nt_hash)?;
+        self.accounts.push_str("\"\n")?;
         Ok(())
     }
 
@@ -229,6 +255,8 @@ impl Row {
             "#" => self.is_told = true,
             "after" => self.begin_with(row_of(rest, above)?)?,
             "config" => self.configure(rest)?,
+            "ntlm" => self.log_in_by_ntlm(rest)?,
+            "account" => self.add_account(rest)?,
             "at" => self.moment = String::from_str(self.alloc, rest)?,
             "+" | "-" => self.add_input(line)?,
             "=" => self.add_input(rest)?,

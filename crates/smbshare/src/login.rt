@@ -4,9 +4,9 @@ use crate::named_file::NamedFile;
 use clap::ArgMatches;
 use hex::FromHex;
 use smb_config::{Accounts, Configuration};
-use smb_engine::{HandleTable, NodeTree, ServeFault, Share};
+use smb_engine::{HandleTable, NodeTree, Share};
 use smb_ntlm::Ntlm;
-use smb_replay::CommandFault;
+use smb_replay::{CommandFault, new_ntlm_share};
 use std::alloc::Global;
 use std::io::Read;
 
@@ -67,32 +67,17 @@ fn random_seed() -> Result<[u8; 16], CommandFault> {
     }
 }
 
-/// A login by NTLM, with a seed of the system's where none is given.
-fn new_ntlm(
-    alloc: Global,
-    accounts: Accounts,
-    seed: Option<[u8; 16]>,
-    guest: bool,
-) -> Result<Ntlm, CommandFault> {
-    let seed = match seed {
-        Some(seed) => seed,
-        None => random_seed()?,
-    };
-    Ok(Ntlm::new(alloc, seed, accounts.list, guest)?)
-}
-
 /// A new share of a configuration to which clients log in by NTLM: as an account, or as a guest where the configuration
-/// lets guests in.
-pub fn new_ntlm_share(
+/// lets guests in. Where no seed is given it is one of the system's.
+pub fn share_by_ntlm(
     alloc: Global,
     configuration: Configuration,
     accounts: Accounts,
     seed: Option<[u8; 16]>,
 ) -> Result<Share<Ntlm, NodeTree, HandleTable>, CommandFault> {
-    let ntlm = new_ntlm(alloc, accounts, seed, configuration.guest)?;
-    match Share::in_memory(alloc, configuration.config, ntlm) {
-        Ok(share) => Ok(share),
-        Err(ServeFault::NoMemory { done: _ }) => Err(CommandFault::NoMemory),
-        Err(_) => Err(CommandFault::ConfigRefused(None)),
-    }
+    let seed = match seed {
+        Some(seed) => seed,
+        None => random_seed()?,
+    };
+    new_ntlm_share(alloc, configuration, accounts, seed)
 }

@@ -6,6 +6,7 @@ mod commands;
 mod login;
 mod mode;
 mod named_file;
+mod notices;
 mod serve;
 mod texts;
 
@@ -13,7 +14,7 @@ use clap::ArgMatches;
 use clap::error::ErrorKind as WordFault;
 use command_line::CommandLine;
 use commands::command;
-use login::{Login, new_ntlm_share, read_accounts};
+use login::{Login, read_accounts, share_by_ntlm};
 use serve::{ServeWords, serve_share};
 use smb_config::{BUILT_IN, Configuration};
 use smb_engine::{HandleTable, NodeTree, Share};
@@ -98,7 +99,7 @@ fn ntlm_share_of(
 ) -> Result<Share<Ntlm, NodeTree, HandleTable>, CommandFault> {
     let configuration = Configuration::read(alloc, texts.config.as_str())?;
     let accounts = read_accounts(alloc, texts.accounts())?;
-    new_ntlm_share(alloc, configuration, accounts, seed)
+    share_by_ntlm(alloc, configuration, accounts, seed)
 }
 
 /// Replays standard input on a share to which clients log in by NTLM, and gives the exit status.

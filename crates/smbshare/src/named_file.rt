@@ -1,6 +1,6 @@
 //! A file under a name that need not be text.
 
-use crate::mode::is_private;
+use crate::mode::{everyone_writes, is_private};
 use smb_config::{ConfigFault, ConfigRule};
 use std::io;
 use std::io::Read;
@@ -33,6 +33,11 @@ impl NamedFile {
             Ok(false) => Err(ConfigFault::Refused(ConfigRule::Mode)),
             Err(error) => Err(ConfigFault::from(error.kind())),
         }
+    }
+
+    /// Whether everyone may write to the file; false where that cannot be seen.
+    pub fn is_writable(&self, rt: &HostRuntime) -> bool {
+        everyone_writes(rt, self.descriptor).unwrap_or(false)
     }
 }
 

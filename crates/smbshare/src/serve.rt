@@ -1,6 +1,7 @@
 //! The command `serve`: a share to clients over TCP.
 
-use crate::login::{Login, new_ntlm_share, read_accounts};
+use crate::login::{Login, read_accounts, share_by_ntlm};
+use crate::notices::{Entrance, say_notices};
 use crate::texts::Texts;
 use mio::net::TcpListener;
 use smb_config::Configuration;
@@ -47,35 +48,10 @@ fn listen(rt: &HostRuntime, address: &str) -> Result<net::TcpListener, CommandFa
     }
 }
 
-/// What is said of the configuration that is built in.
-const NOBODY: &str =
-    "no client of Samba's can log in: the built-in configuration takes the token `a` alone; --config guest.toml lets guests in";
-
-/// What is said of a configuration where clients log in by NTLM.
-const NO_TOKENS: &str =
-    "login by NTLM: `hello` and the users' tokens of the configuration are not used; its `guest` says whether guests come in";
-
-/// What is said where the challenges of NTLM come from a seed that was given.
-const SEED_IS_GIVEN: &str =
-    "login by NTLM: the challenges come from --seed, so a login that was seen once can be played again";
-
-/// Says on standard error where a listener is, with the port that the system gave for port 0, who cannot come in, and
-/// what is wrong with the challenges.
-fn announce(rt: &HostRuntime, listener: &net::TcpListener, words: &ServeWords<'_>) {
+/// Says on standard error where a listener is, with the port that the system gave for port 0.
+fn announce(rt: &HostRuntime, listener: &net::TcpListener) {
     if let Ok(address) = listener.local_addr() {
         let _ = eprintln!(rt; "listening on {address}");
-    }
-    match words.login {
-        Login::Token if words.texts.is_built_in => {
-            let _ = eprintln!(rt; "{NOBODY}");
-        }
-        Login::Token => {}
-        Login::Ntlm(seed) => {
-            let _ = eprintln!(rt; "{NO_TOKENS}");
-            if seed.is_some() {
-                let _ = eprintln!(rt; "{SEED_IS_GIVEN}");
-            }
-        }
     }
 }
 
@@ -100,10 +76,12 @@ fn peers<'a>(
 fn serve_share_of<A: Authenticator + Drop>(
     rt: &HostRuntime,
     words: &ServeWords<'_>,
+    entrance: Entrance,
     listener: net::TcpListener,
     mut share: Share<A, NodeTree, HandleTable>,
 ) -> Result<(), CommandFault> {
-    announce(rt, &listener, words);
+    announce(rt, &listener);
+    say_notices(rt, words.texts, words.login, entrance);
     let mut peers = peers(rt, listener, words.idle_seconds)?;
     let mut clock = SystemClock::new(rt);
     let _ = serve(&mut share, &mut peers, &mut clock, words.turns);
@@ -114,17 +92,23 @@ fn serve_share_of<A: Authenticator + Drop>(
 pub fn serve_share(rt: &HostRuntime, words: &ServeWords<'_>) -> Result<(), CommandFault> {
     let alloc = rt.alloc();
     let configuration = Configuration::read(alloc, words.texts.config.as_str())?;
+    let mut entrance = Entrance {
+        guest: configuration.guest,
+        users: configuration.users,
+        accounts: 0,
+    };
     match words.login {
         Login::Token => {
             let listener = listen(rt, words.listen)?;
             let share = new_share(alloc, configuration)?;
-            serve_share_of(rt, words, listener, share)
+            serve_share_of(rt, words, entrance, listener, share)
         }
         Login::Ntlm(seed) => {
             let accounts = read_accounts(alloc, words.texts.accounts())?;
+            entrance.accounts = accounts.list.len();
             let listener = listen(rt, words.listen)?;
-            let share = new_ntlm_share(alloc, configuration, accounts, seed)?;
-            serve_share_of(rt, words, listener, share)
+            let share = share_by_ntlm(alloc, configuration, accounts, seed)?;
+            serve_share_of(rt, words, entrance, listener, share)
         }
     }
 }

@@ -13,6 +13,8 @@ pub struct Texts {
     pub config: String,
     /// Whether that is the one that is built in.
     pub is_built_in: bool,
+    /// Whether everyone may write to its file.
+    pub everyone_writes: bool,
     /// The accounts; None where no file of them is named.
     pub accounts: Option<String>,
 }
@@ -40,6 +42,7 @@ impl Texts {
         Ok(Texts {
             config: String::from_str(alloc, BUILT_IN)?,
             is_built_in: true,
+            everyone_writes: false,
             accounts: None,
         })
     }
@@ -52,7 +55,9 @@ impl Texts {
     ) -> Result<Self, CommandFault> {
         let mut texts = Texts::built_in(rt.alloc())?;
         if let Some(name) = name_of(line, words, FileOption::Config) {
-            texts.config = read_config(rt.alloc(), NamedFile::open(name)?)?;
+            let file = NamedFile::open(name)?;
+            texts.everyone_writes = file.is_writable(rt);
+            texts.config = read_config(rt.alloc(), file)?;
             texts.is_built_in = false;
         }
         if let Some(name) = name_of(line, words, FileOption::Accounts) {

@@ -1,0 +1,56 @@
+//! A share to which clients log in by NTLM, and a replay on one.
+
+use crate::fault::{CommandFault, Detail};
+use crate::replay::replay_on_share;
+use smb_config::{Accounts, Configuration};
+use smb_engine::{ServeFault, Share};
+use smb_handles::HandleTable;
+use smb_nodes::NodeTree;
+use smb_ntlm::Ntlm;
+use std::alloc::Global;
+use std::io::{Read, Write};
+
+/// A new share of a configuration to which clients log in by NTLM: as an account, or as a guest where the configuration
+/// lets guests in. The challenges come from the seed.
+pub fn new_ntlm_share(
+    alloc: Global,
+    configuration: Configuration,
+    accounts: Accounts,
+    seed: [u8; 16],
+) -> Result<Share<Ntlm, NodeTree, HandleTable>, CommandFault> {
+    let ntlm = Ntlm::new(alloc, seed, accounts.list, configuration.guest)?;
+    match Share::in_memory(alloc, configuration.config, ntlm) {
+        Ok(share) => Ok(share),
+        Err(ServeFault::NoMemory { done: _ }) => Err(CommandFault::NoMemory),
+        Err(_) => Err(CommandFault::ConfigRefused(None)),
+    }
+}
+
+/// A new share of the texts of a configuration and of accounts.
+fn ntlm_share_of(
+    alloc: Global,
+    config: &str,
+    accounts: &str,
+    seed: [u8; 16],
+) -> Result<Share<Ntlm, NodeTree, HandleTable>, CommandFault> {
+    let configuration = Configuration::read(alloc, config)?;
+    let accounts = Accounts::read(alloc, accounts).map_err(CommandFault::of_accounts)?;
+    new_ntlm_share(alloc, configuration, accounts, seed)
+}
+
+/// The same as [`replay_text`](crate::replay_text) on a share to which clients log in by NTLM. The accounts are the
+/// text of a file of them; the challenges come from the seed, so each run of one text answers the same.
+pub fn replay_ntlm_text<R: Read + Drop, W: Write, E: Write>(
+    alloc: Global,
+    config: &str,
+    accounts: &str,
+    seed: [u8; 16],
+    input: R,
+    output: &mut W,
+    errors: &mut E,
+) -> u8 {
+    match ntlm_share_of(alloc, config, accounts, seed) {
+        Ok(share) => replay_on_share(alloc, share, Detail::Brief, input, output, errors),
+        Err(fault) => fault.report(alloc, Detail::Brief, errors),
+    }
+}

@@ -1,0 +1,67 @@
+//! What `serve` says beside where it listens: who cannot log in, and what is not safe.
+
+use crate::login::Login;
+use crate::texts::Texts;
+
+/// What is said of the configuration that is built in.
+const BUILT_IN_USER: &str =
+    "no client of Samba's can log in: the built-in configuration takes the token `a` alone; --config guest.toml lets guests in";
+
+/// What is said where clients log in by tokens, and there is none.
+const NO_USER: &str =
+    "no client can log in: the configuration has no user, and its `guest` is false";
+
+/// What is said of a configuration where clients log in by NTLM.
+const NO_TOKENS: &str =
+    "login by NTLM: `hello` and the users' tokens of the configuration are not used; its `guest` says whether guests come in";
+
+/// What is said where clients log in by NTLM, and no login is right.
+const NO_ACCOUNT: &str =
+    "no client can log in: there is no account (--accounts FILE), and the configuration's `guest` is false";
+
+/// What is said where the challenges of NTLM come from a seed that was given.
+const SEED_IS_GIVEN: &str =
+    "login by NTLM: the challenges come from --seed, so a login that was seen once can be played again";
+
+/// What is said where who may write to the configuration is everyone, and it has tokens.
+const EVERYONE_WRITES: &str =
+    "the configuration holds users' tokens, and everyone may write to its file (chmod o-w)";
+
+/// Who may come in to a share.
+#[derive(Clone, Copy, Debug)]
+pub struct Entrance {
+    /// Whether guests may come.
+    pub guest: bool,
+    /// How many users of the configuration have a token.
+    pub users: usize,
+    /// How many accounts there are; none where clients do not log in by NTLM.
+    pub accounts: usize,
+}
+
+/// Says a line on standard error, where it holds.
+fn say(rt: &HostRuntime, holds: bool, line: &str) {
+    if holds {
+        let _ = eprintln!(rt; "{line}");
+    }
+}
+
+/// Says on standard error who cannot log in, and what is not safe.
+pub fn say_notices(rt: &HostRuntime, texts: &Texts, login: Login, entrance: Entrance) {
+    let Entrance {
+        guest,
+        users,
+        accounts,
+    } = entrance;
+    match login {
+        Login::Token => {
+            say(rt, texts.is_built_in, BUILT_IN_USER);
+            say(rt, !guest && users == 0, NO_USER);
+        }
+        Login::Ntlm(seed) => {
+            say(rt, true, NO_TOKENS);
+            say(rt, !guest && accounts == 0, NO_ACCOUNT);
+            say(rt, seed.is_some(), SEED_IS_GIVEN);
+        }
+    }
+    say(rt, texts.everyone_writes && users > 0, EVERYONE_WRITES);
+}
