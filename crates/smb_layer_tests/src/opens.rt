@@ -10,8 +10,8 @@ use smb_opens::{
 };
 use smb_tree::{Kind, PlainTree, Tree};
 use smb_wire::{
-    Access, CreateAction, CreateDispositionCode, CreateOptions, FileAttributes, ShareAccess, Units,
-    split_path,
+    Access, CreateAction, CreateDispositionCode, CreateOptions, FileAttributes, NtStatus,
+    ShareAccess, Units, split_path,
 };
 use std::alloc::Global;
 
@@ -383,7 +383,7 @@ fn sets<T: Tree + Drop, O: Opens + Drop>(store: &mut Store<T, O>) -> bool {
         && store.set_size(1, 5_000, false, MOMENT) == Ok(())
         && store.set_size(1, 6_000, true, MOMENT + 1) == Ok(())
         && store.set_basic(1, &READ_ONLY, MOMENT) == Ok(())
-        && store.set_delete(1, true) == Err(0xC000_0121)
+        && store.set_delete(1, true) == Err(NtStatus::CannotDelete)
         && shows_what_is_set(store)
 }
 
