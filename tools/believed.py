@@ -1,7 +1,7 @@
 #!/usr/bin/env python3
 """believed.py: counts, by crate, the definitions that a reader must believe: those that the contracts of public functions name, and those that these name.
 
---list prints them by file. --check fails where docs/DEFINITIONS.md does not name one beside its file, or names a file or a definition that is not there,
+--run counts those behind the main theorem alone: what the clauses of `Share::run` name. --list prints them by file. --check fails where docs/DEFINITIONS.md does not name one beside its file, or names a file or a definition that is not there,
 and where a file of which nothing need be believed does not begin by saying so, or another one does.
 Under a heading with a crate's name the page has an item for each file, or for several, whose names it begins with, as
 `Number.antt`. Of the text behind them names count where a colon, or sections in parentheses and a colon, are behind
@@ -177,6 +177,14 @@ class Crate:
             yield from (find(specs, *imports[name][1]) for part in parts for name in used_in(clauses_of(part)) & set(imports))
 
 
+def behind_run(specs):
+    """The definitions behind the clauses of `Share::run`."""
+    text = Crate("smb_engine").files["share"]
+    imports = imports_of(text)
+    found = [it for item in items_of(text) for it in members_of(item) if re.match(r"pub fn run\b", it)]
+    return followed(specs, {find(specs, *imports[name][1]) for it in found for name in used_in(clauses_of(it)) & set(imports)} - {None})
+
+
 def items_on(page):
     """The items of the page: the crate of the heading above, the files, whether they are named whole, and the text."""
     for section in re.split(r"^## ", page, flags=re.M)[1:]:
@@ -240,9 +248,11 @@ def main(words):
         wrong += [f"does not name, of {line}" for line in by_file(specs, reached - named)]
         wrong += [f"names, though it need not be believed, of {line}" for line in by_file(specs, quoted - reached)]
         sys.exit("\n".join([*(f"{PAGE.relative_to(ROOT)}: {it}" for it in wrong), *marks(specs, reached)]) or None)
-    if words not in ([], ["--list"]):
+    if words not in ([], ["--list"], ["--run"]):
         sys.exit(__doc__)
-    print("\n".join(by_file(specs, reached) if words else counts(specs, reached)))
+    if words == ["--run"]:
+        reached = behind_run(specs)
+    print("\n".join(by_file(specs, reached) if words == ["--list"] else counts(specs, reached)))
 
 
 main(sys.argv[1:])
