@@ -1,12 +1,18 @@
 -- A WRITE of a file: what it leaves, and that a good store stays good.
-use Rattle.std.proofs.Common.{◌≡◌, ◌==◌, ◌≤◌, ℕ, ◌+◌, List, [], ◌∷◌, length, max, true, false, cond, None, Some, refl, sym, ap, subst, arith, ◌∙◌}
+use Rattle.std.proofs.Common.{◌≡◌, ◌≢◌, ◌==◌, ◌≤◌, ℕ, ◌+◌, List, [], ◌∷◌, length, max, Bool, true, false, cond, if◌then◌else◌, Option, None, Some, is_some, refl, sym, ap, subst, arith, ◌∙◌}
 use Rattle.std.proofs.lemmas.Grind.{common_steps}
 use Rattle.std.proofs.lemmas.Bool.Decides.{nat_tests}
 use Rattle.std.specs.List.{AllByRecursion}
 use Rattle.smb_tree.specs.declared.entry.Basic.{Basic}
 use Rattle.smb_tree.specs.Entries.{Entry, is_folder, is_folder_kind, allocation_size, kept_basic}
 use Rattle.smb_tree.specs.Content.{Row, Content, entry_at, numbered, parent, changed, resized, written, used_space, with_size, with_basic, with_bytes}
-use Rattle.smb_tree.specs.Faults.{size_fault, basic_fault, write_fault}
+use Rattle.smb_tree.specs.Faults.{size_fault, size_fault_of, basic_fault, write_fault}
+use Rattle.smb_tree.specs.declared.fault.TreeFault.{TreeFault}
+use Rattle.smb_tree.specs.declared.fault.TreeFault.TheVariants.{Absent, ParentAbsent, Exists, NotEmpty, TooDeep, Full, NoMemory}
+use Rattle.smb_wire.specs.declared.nt_status.NtStatus.TheVariants.{Success, DiskFull}
+use Rattle.smb_access.specs.Faults.{IsRefusal}
+use Rattle.smb_access.specs.Looked.{refusal_of}
+use Rattle.std.specs.Option.{option_map}
 use Rattle.smb_tree.proofs.Apart.{apart_changed, numbered-changed}
 use Rattle.smb_tree.proofs.Changes.{bytes_found}
 use Rattle.smb_tree.proofs.Parts.{length-written, length-resized}
@@ -99,3 +105,28 @@ pub basic_there : (content : Content) (n offset : ℕ) (buffer : List ℕ) (row 
 basic_there content n offset buffer row h =
     let here = numbered-changed (λ entry. record entry { bytes = written offset buffer entry.bytes }) content.rows n n (λ _. refl) in
     grind (arith, nat_tests, common_steps, here, h)
+
+-- why a file is not written: for want of room, else of memory
+full_by : (folder full : Bool) (fault : TreeFault) → Some folder ≡ Some false → (if folder then Some Absent else if full then Some Full else None) ≡ Some fault → fault ≡ Full
+full_by true full fault h e = cc
+full_by false true fault h e = cc
+full_by false false fault h e = cc
+
+full_of : (content : Content) (n size : ℕ) (row : Option Row) (fault : TreeFault) → option_map (λ (r : Row). is_folder_kind r.1.kind) row ≡ Some false → size_fault_of content n size row ≡ Some fault → fault ≡ Full
+full_of content n size None fault h e = cc
+full_of content n size (Some row) fault h e = full_by (is_folder_kind row.1.kind) _ fault h e
+
+refusal_by : (told : Option TreeFault) (fault : TreeFault) → (told ≡ Some fault → fault ≡ Full) → (fault ≢ NoMemory → told ≡ Some fault) → (fault ≡ NoMemory → told ≡ None) → IsRefusal (if is_some told then DiskFull else Success) (refusal_of fault)
+refusal_by told NoMemory full why memory = rw (memory refl) refl
+refusal_by told Full full why memory = rw (why (λ e. cc)) (refl, λ e. cc)
+refusal_by told Absent full why memory = absurd (let e = full (why (λ e. cc)) in cc)
+refusal_by told ParentAbsent full why memory = absurd (let e = full (why (λ e. cc)) in cc)
+refusal_by told Exists full why memory = absurd (let e = full (why (λ e. cc)) in cc)
+refusal_by told NotEmpty full why memory = absurd (let e = full (why (λ e. cc)) in cc)
+refusal_by told TooDeep full why memory = absurd (let e = full (why (λ e. cc)) in cc)
+
+pub write_refusal : (content : Content) (n offset count : ℕ) (fault : TreeFault) → option_map (λ (row : Row). is_folder_kind row.1.kind) (numbered content.rows n) ≡ Some false →
+    (fault ≢ NoMemory → write_fault content n offset count ≡ Some fault) → (fault ≡ NoMemory → write_fault content n offset count ≡ None) →
+    IsRefusal (if is_some (write_fault content n offset count) then DiskFull else Success) (refusal_of fault)
+write_refusal content n offset count fault file why memory =
+    refusal_by (write_fault content n offset count) fault (full_of content n _ (numbered content.rows n) fault file) why memory

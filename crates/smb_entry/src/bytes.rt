@@ -1,14 +1,13 @@
 //! READ and WRITE of a file, by what an open shows ([MS-SMB2] 3.3.5.12, 3.3.5.13).
 
-ghost use Rattle.std.specs.Prelude.{◌≡◌, ◌≢◌, ◌≤◌, Bool, true, false, None, Some, is_some, IfErr, OnOk, OnErr, nat_lt, ◌&&◌, length, if◌then◌else◌};
+ghost use Rattle.std.specs.Prelude.{◌≡◌, ◌≢◌, ◌≤◌, Bool, false, None, Some, is_some, IfErr, OnOk, OnErr, nat_lt, ◌&&◌, length, if◌then◌else◌};
 ghost use Rattle.std.specs.Option.{option_map};
-ghost use Rattle.smb_wire.specs.NtStatus.{status_code};
 ghost use Rattle.smb_tree.specs.Content.{numbered};
 ghost use Rattle.smb_tree.specs.Entries.{is_folder_kind, kept_basic};
 ghost use Rattle.smb_tree.specs.Faults.{write_fault};
 ghost use Rattle.smb_entry.specs.Bytes.{bytes_there, read_rows, may_not_write, write_rows, written_basic, written_tree};
 ghost use Rattle.smb_access.specs.StatusRows.{first_status};
-ghost use Rattle.smb_access.specs.declared.fault.StoreFault.TheVariants.{Status, NoMemory};
+ghost use Rattle.smb_access.specs.Faults.{IsRefusal};
 
 use bitflags::Flags;
 use smb_access::access::{is_reading, is_writing};
@@ -110,7 +109,8 @@ pub fn written_basic(moment: u64, basic: Basic) -> Basic
     }
 }
 
-/// Puts bytes into a file, and sets its times of the last write and change. A refusal changes nothing.
+/// Puts bytes into a file, and sets its times of the last write and change. A refusal changes nothing; it is for want of room,
+/// or where there is room for want of memory.
 pub fn write_file<T: Tree>(
     tree: &mut T,
     entry: EntryNo,
@@ -122,7 +122,7 @@ pub fn write_file<T: Tree>(
     ensures ok { OnOk result (T.content tree.new ≡ written_tree (T.content tree.old) entry offset buffer.now moment) }
     ensures room { OnOk result (write_fault (T.content tree.old) entry offset (length buffer.now) ≡ None) }
     ensures err { OnErr result (T.content tree.new ≡ T.content tree.old) }
-    ensures why { IfErr result (λ fault. fault ≢ NoMemory → (fault ≡ Status (status_code NtStatus.DiskFull)) × (is_some (write_fault (T.content tree.old) entry offset (length buffer.now)) ≡ true)) }
+    ensures why { IfErr result (λ fault. IsRefusal (if is_some (write_fault (T.content tree.old) entry offset (length buffer.now)) then NtStatus.DiskFull else NtStatus.Success) fault) }
 {
     let Some(seen) = tree.entry(entry) else {
         unreachable!();

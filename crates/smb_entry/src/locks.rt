@@ -1,10 +1,8 @@
 //! The refusals of a LOCK ([MS-SMB2] 3.3.5.14).
 
-ghost use Rattle.std.specs.Prelude.{◌≡◌, ◌≢◌, IfSome, IsSomeAnd};
+ghost use Rattle.std.specs.Prelude.{◌≡◌, ◌≢◌, IfSome, unwrap_or};
 ghost use Rattle.smb_access.specs.Faults.{IsRefusal};
 ghost use Rattle.smb_entry.specs.Locks.{lock_fault_status};
-ghost use Rattle.smb_access.specs.declared.fault.StoreFault.TheVariants.{NoMemory};
-ghost use Rattle.smb_locks.specs.declared.fault.LockFault.TheVariants.{NoMemory as NoLockMemory};
 
 use smb_access::StoreFault;
 use smb_locks::LockFault;
@@ -24,10 +22,9 @@ pub fn lock_fault_status(fault: LockFault) -> Option<NtStatus>
     }
 }
 
-/// The refusal of a LOCK that locks.
+/// The refusal of a LOCK that locks: by the status, or for want of memory where there is none.
 pub fn lock_refusal(fault: LockFault) -> StoreFault
-    ensures memory { result ≡ NoMemory → fault ≡ NoLockMemory }
-    ensures status { result ≢ NoMemory → (fault ≢ NoLockMemory) × IsSomeAnd (lock_fault_status fault) (λ status. IsRefusal status result) }
+    ensures { IsRefusal (unwrap_or (lock_fault_status fault) NtStatus.Success) result }
 {
     match lock_fault_status(fault) {
         Some(status) => StoreFault::from(status),

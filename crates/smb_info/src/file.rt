@@ -18,7 +18,7 @@ use smb_wire::Access;
 ///
 /// [`BadClass`](InfoFault::BadClass) where no class that is told has the number,
 /// [`TooSmall`](InfoFault::TooSmall) where the fixed part passes `room`, [`NoMemory`](InfoFault::NoMemory) where
-/// `out` could not grow. After each of them `out` is as it was.
+/// none of these holds and `out` could not grow. After each of them `out` is as it was.
 pub fn file_info(
     class: u8,
     entry: &EntryCopy,
@@ -35,6 +35,8 @@ pub fn file_info(
     ensures err { OnErr result (out.new.items ≡ out.old.items) }
     ensures why { IfErr result (λ fault. fault ≢ NoMemory →
         info_fault (file_information class (copied entry.now) access.0) room ≡ Some fault) }
+    ensures memory { IfErr result (λ fault. fault ≡ NoMemory →
+        info_fault (file_information class (copied entry.now) access.0) room ≡ None) }
 {
     let Some(class) = FileInformationClass::of(class) else {
         return Err(InfoFault::BadClass);

@@ -17,7 +17,7 @@ use super::written::{Truncation, cut};
 ///
 /// [`BadClass`](InfoFault::BadClass) where no class that is told has the number,
 /// [`TooSmall`](InfoFault::TooSmall) where the fixed part passes `room`, [`NoMemory`](InfoFault::NoMemory) where
-/// `out` could not grow. After each of them `out` is as it was.
+/// none of these holds and `out` could not grow. After each of them `out` is as it was.
 pub fn fs_info(
     class: u8,
     volume: &Volume<'_>,
@@ -35,6 +35,8 @@ pub fn fs_info(
     ensures err { OnErr result (out.new.items ≡ out.old.items) }
     ensures why { IfErr result (λ fault. fault ≢ NoMemory →
         info_fault (fs_information class (volume_facts volume.now)) room ≡ Some fault) }
+    ensures memory { IfErr result (λ fault. fault ≡ NoMemory →
+        info_fault (fs_information class (volume_facts volume.now)) room ≡ None) }
 {
     let Some(class) = FileSystemInformationClass::of(class) else {
         return Err(InfoFault::BadClass);

@@ -5,6 +5,7 @@ pub mod Keeping
 pub mod Entries
 pub mod Tables
 pub mod Steps
+pub mod Asked
 pub mod Changes
 pub mod Members
 pub mod Same

@@ -2,7 +2,7 @@
 
 ghost use Rattle.std.specs.Prelude.{◌≡◌, ◌≢◌, ◌==◌, ◌++◌, ◌∷◌, [], ◌<◌, None, Some, OnOk, OnErr, IfOk, IfErr, IfSome, IsTrue, ◌↔◌, filter, not, length, position, take, nat_le, nat_lt};
 ghost use Rattle.std.specs.List.{list_any};
-ghost use Rattle.smb_locks.specs.Asks.{locks_asked};
+ghost use Rattle.smb_locks.specs.Asks.{lock_by, locks_asked};
 ghost use Rattle.smb_locks.specs.Conflicts.{conflicts, is_read_barred, is_write_barred};
 ghost use Rattle.smb_locks.specs.Locking.{lock_fault, locks_fault};
 ghost use Rattle.smb_locks.specs.Unlocking.{is_lock_over, unlock_fault, without_oldest, left_by, unlock_error_from};
@@ -118,18 +118,76 @@ impl FileLocks {
         self.locks.truncate(len);
     }
 
+    // Whether some elements ask for a lock that conflicts with one that is asked for.
+    fn asks_conflict(holder: u64, asks: &[LockAsk], asked: Lock) -> bool
+        ensures { result ≡ list_any (λ ask. conflicts asked (lock_by holder ask)) asks.now }
+    {
+        asks.iter().any(|ask| asked.conflicts(ask.lock(holder)))
+    }
+
+    // Whether a lock that is held, or that some elements ask for, conflicts with one that is asked for.
+    fn has_conflict_behind(&self, holder: u64, asks: &[LockAsk], asked: Lock) -> bool
+        ensures { result ≡ list_any (conflicts asked) (self.now ++ locks_asked holder asks.now) }
+    {
+        self.has_conflict(asked) || Self::asks_conflict(holder, asks, asked)
+    }
+
+    // Why a lock can't be added behind those that some elements ask for.
+    fn fault_behind(&self, holder: u64, asks: &[LockAsk], asked: Lock) -> Option<LockFault>
+        ensures { result ≡ lock_fault (self.now ++ locks_asked holder asks.now) asked }
+    {
+        if asked.range.is_past_the_end() {
+            return Some(LockFault::BadRange);
+        }
+        if self.locks.len() + asks.len() >= MOST_LOCKS {
+            return Some(LockFault::Full);
+        }
+        if self.has_conflict_behind(holder, asks, asked) {
+            return Some(LockFault::NotGranted);
+        }
+        None
+    }
+
+    // Why the locks that the elements ask for can't be added. It takes no memory; each element costs a pass over the locks
+    // and the elements before it, of which there are at most 256.
+    fn fault_of_all(&self, holder: u64, asks: &[LockAsk]) -> Option<LockFault>
+        ensures { result ≡ locks_fault self.now (locks_asked holder asks.now) }
+    {
+        for (before, ask) in asks.iter().enumerate() {
+            let fault = self.fault_behind(holder, &asks[..before], ask.lock(holder));
+            if fault.is_some() {
+                return fault;
+            }
+        }
+        None
+    }
+
+    // The refusal of a request that locks, by that of its first element which is not done. Where memory ran out at it, a row
+    // that refuses a later element comes first.
+    fn refusal_before_memory(&self, fault: LockFault, holder: u64, asks: &[LockAsk]) -> LockFault
+        requires { fault ≢ NoMemory → locks_fault self.now (locks_asked holder asks.now) ≡ Some fault }
+        ensures why { result ≢ NoMemory → locks_fault self.now (locks_asked holder asks.now) ≡ Some result }
+        ensures memory { result ≡ NoMemory → locks_fault self.now (locks_asked holder asks.now) ≡ None }
+    {
+        if fault != LockFault::NoMemory {
+            return fault;
+        }
+        self.fault_of_all(holder, asks).unwrap_or(fault)
+    }
+
     // Adds the locks that the elements ask for, in turn: all of them or none.
     pub(crate) fn lock_all(&mut self, holder: u64, asks: &[LockAsk]) -> Result<(), LockFault>
         ensures ok { OnOk result (self.new ≡ self.old ++ locks_asked holder asks.now) }
         ensures lawful { OnOk result (locks_fault self.old (locks_asked holder asks.now) ≡ None) }
         ensures err { OnErr result (self.new ≡ self.old) }
         ensures why { IfErr result (λ fault. fault ≢ NoMemory → locks_fault self.old (locks_asked holder asks.now) ≡ Some fault) }
+        ensures memory { IfErr result (λ fault. fault ≡ NoMemory → locks_fault self.old (locks_asked holder asks.now) ≡ None) }
     {
         let before = self.len();
         for ask in asks {
             if let Err(fault) = self.lock(ask.lock(holder)) {
                 self.truncate(before);
-                return Err(fault);
+                return Err(self.refusal_before_memory(fault, holder, asks));
             }
         }
         Ok(())

@@ -74,7 +74,7 @@ impl LockTable {
     /// FAIL_IMMEDIATELY, or in an only element without it. Then, at an element in its turn,
     /// [`BadRange`](LockFault::BadRange) where its range reaches past 2^64, [`Full`](LockFault::Full) where the file
     /// has 256 locks, [`NotGranted`](LockFault::NotGranted) where one of them conflicts with it, those of the elements
-    /// before it among them. [`NoMemory`](LockFault::NoMemory) where an allocation is refused.
+    /// before it among them. [`NoMemory`](LockFault::NoMemory) where an allocation is refused, and none of these holds.
     ///
     /// Each element costs a pass over the file's locks.
     pub fn lock_all(&mut self, file: u64, holder: u64, asks: &[LockAsk]) -> Result<(), LockFault>
@@ -82,6 +82,7 @@ impl LockTable {
         ensures lawful { OnOk result (lock_all_fault (locks_on self.old file) holder asks.now ≡ None) }
         ensures err { OnErr result (self.new ≡ self.old) }
         ensures why { IfErr result (λ fault. fault ≢ NoMemory → lock_all_fault (locks_on self.old file) holder asks.now ≡ Some fault) }
+        ensures memory { IfErr result (λ fault. fault ≡ NoMemory → lock_all_fault (locks_on self.old file) holder asks.now ≡ None) }
     {
         if !are_locks(asks) {
             return Err(LockFault::BadFlags);

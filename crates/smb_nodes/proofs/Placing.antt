@@ -1,5 +1,5 @@
 -- A move in a tree of nodes, as its method sees it.
-use Rattle.std.specs.Prelude.{min, max, ◌≡◌, ℕ, ◌+◌, ◌-◌, ◌≤◌, ◌==◌, Bool, true, false, ◌&&◌, if◌then◌else◌, List, length, Option, None, Some, is_some, refl, Result, Ok, Err, IfErr}
+use Rattle.std.specs.Prelude.{min, max, ◌≡◌, ℕ, ◌+◌, ◌-◌, ◌≤◌, ◌==◌, Bool, true, false, ◌&&◌, if◌then◌else◌, List, length, Option, None, Some, is_some, refl}
 use Rattle.std.proofs.Common.{arith, sym, ap, ◌∙◌, subst}
 use Rattle.smb_wire.specs.Names.{folded}
 use Rattle.smb_wire.specs.Paths.{folded_path}
@@ -39,10 +39,6 @@ not_memory true b c fault h e = cc
 not_memory false true c fault h e = cc
 not_memory false false true fault h e = cc
 not_memory false false false fault h e = cc
-
-pub refused_by : {X E P : Type 0} (r : Result X E) (Q : E → Type 0) → P → IfErr r (λ e. Q e → P)
-refused_by (Ok x) Q p = tt
-refused_by (Err e) Q p = λ _. p
 
 -- what isn't one slot is another
 pub not_it : (o : Option ℕ) (m s : ℕ) → (o ≡ Some m → ⊥) → o ≡ Some s → m == s ≡ false

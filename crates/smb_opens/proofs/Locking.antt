@@ -1,13 +1,13 @@
 -- LOCK through an open: what the lock table says of the file that the open shows.
 use Rattle.std.proofs.Common.{◌≡◌, ◌≢◌, ◌+◌, ℕ, Bool, true, false, not, List, [], ◌∷◌, Option, None, Some, is_some, if◌then◌else◌, refl, sym, ap, subst, ◌∙◌}
-use Rattle.std.specs.Prelude.{Result, Ok, Err, OnOk, OnErr, IfSome, IsSomeAnd, unwrap_or}
+use Rattle.std.specs.Prelude.{Result, Ok, Err, OnOk, OnErr, IfSome, unwrap_or, option_and_then}
 use Rattle.std.specs.List.{list_any}
 use Rattle.smb_wire.specs.declared.nt_status.NtStatus.{NtStatus}
 use Rattle.smb_wire.specs.declared.nt_status.NtStatus.TheVariants.{Success}
 use Rattle.smb_tree.specs.Entries.{is_folder_kind}
 use Rattle.smb_locks.specs.declared.ask.LockAsk.{LockAsk}
 use Rattle.smb_locks.specs.declared.fault.LockFault.{LockFault}
-use Rattle.smb_locks.specs.declared.fault.LockFault.TheVariants.{BadFlags, BadRange, NotLocked, NoMemory as NoLockMemory}
+use Rattle.smb_locks.specs.declared.fault.LockFault.TheVariants.{BadFlags, BadRange, Full, NotGranted, NotLocked, NoMemory as NoLockMemory}
 use Rattle.smb_locks.specs.declared.fault.UnlockError.{UnlockError}
 use Rattle.smb_locks.specs.declared.lock.Lock.{Lock}
 use Rattle.smb_locks.specs.Asks.{are_unlocks, range_asked}
@@ -16,7 +16,6 @@ use Rattle.smb_locks.specs.Ranges.{is_past_the_end}
 use Rattle.smb_locks.specs.Table.{Table, locks_on, locked}
 use Rattle.smb_locks.specs.Unlocking.{is_lock_over, without_oldest, unlock_error_at, unlock_error_from, unlock_all_error}
 use Rattle.smb_access.specs.declared.fault.StoreFault.{StoreFault}
-use Rattle.smb_access.specs.declared.fault.StoreFault.TheVariants.{NoMemory}
 use Rattle.smb_access.specs.declared.view.View.{View}
 use Rattle.smb_access.specs.Faults.{IsRefusal}
 use Rattle.smb_opens.specs.Good.{IsKept}
@@ -39,22 +38,23 @@ kept_lock (Ok x) state number view asks after opens_count entries_count s ok law
 kept_lock (Err e) state number view asks after opens_count entries_count s ok lawful err kept =
     subst (λ (locks : Table). IsKept state.tree state.opens locks state.next opens_count entries_count) (sym err) kept
 
-status_shown : (state : StoreState) (number : ℕ) (view : View) (asks : List LockAsk) (fault : LockFault) → open_view state number ≡ Some view → is_folder_kind view.kind ≡ false →
-    lock_all_fault (locks_on state.locks view.entry) number asks ≡ Some fault → lock_status state number asks ≡ unwrap_or (lock_fault_status fault) Success
-status_shown state number view asks fault v file f = rw (v, file, f) refl
-
-by_status : (status : Option NtStatus) (refusal : StoreFault) → IsSomeAnd status (λ status. IsRefusal status refusal) → IsRefusal (unwrap_or status Success) refusal
-by_status None refusal h = absurd h
-by_status (Some status) refusal h = h
+status_of : (told : Option LockFault) (fault : LockFault) → (fault ≢ NoLockMemory → told ≡ Some fault) → (fault ≡ NoLockMemory → told ≡ None) → option_and_then lock_fault_status told ≡ lock_fault_status fault
+status_of told NoLockMemory why memory = rw (memory refl) refl
+status_of told BadFlags why memory = rw (why (λ e. cc)) refl
+status_of told BadRange why memory = rw (why (λ e. cc)) refl
+status_of told Full why memory = rw (why (λ e. cc)) refl
+status_of told NotGranted why memory = rw (why (λ e. cc)) refl
+status_of told NotLocked why memory = rw (why (λ e. cc)) refl
 
 -- a LOCK that locks is refused as the lock table refuses it
 pub why_lock : (state : StoreState) (number : ℕ) (view : View) (asks : List LockAsk) (fault : LockFault) (refusal : StoreFault) → open_view state number ≡ Some view → is_folder_kind view.kind ≡ false →
     (fault ≢ NoLockMemory → lock_all_fault (locks_on state.locks view.entry) number asks ≡ Some fault) →
-    (refusal ≢ NoMemory → (fault ≢ NoLockMemory) × IsSomeAnd (lock_fault_status fault) (λ status. IsRefusal status refusal)) →
-    refusal ≢ NoMemory → IsRefusal (lock_status state number asks) refusal
-why_lock state number view asks fault refusal v file why refused q =
-    let is = refused q in
-    subst (λ (status : NtStatus). IsRefusal status refusal) (sym (status_shown state number view asks fault v file (why is.0))) (by_status (lock_fault_status fault) refusal is.1)
+    (fault ≡ NoLockMemory → lock_all_fault (locks_on state.locks view.entry) number asks ≡ None) →
+    IsRefusal (unwrap_or (lock_fault_status fault) Success) refusal → IsRefusal (lock_status state number asks) refusal
+why_lock state number view asks fault refusal v file why memory refused =
+    let told = status_of (lock_all_fault (locks_on state.locks view.entry) number asks) fault why memory in
+    let status : lock_status state number asks ≡ unwrap_or (lock_fault_status fault) Success = rw (v, file, told) refl in
+    subst (λ (status : NtStatus). IsRefusal status refusal) (sym status) refused
 
 -- a LOCK that unlocks is refused by a status, since no memory is needed
 abbrev HasStatus : Option UnlockError → Type 0

@@ -1,12 +1,11 @@
 -- READ and WRITE through an open: what the tree says of the entry that the open shows.
-use Rattle.std.proofs.Common.{◌≡◌, ◌≢◌, ◌==◌, ◌≤◌, ◌+◌, max, ℕ, List, [], length, true, false, Bool, ◌&&◌, Option, None, Some, is_some, refl, sym, ap, subst, arith, ◌∙◌}
+use Rattle.std.proofs.Common.{◌≡◌, ◌==◌, ◌≤◌, ◌+◌, max, ℕ, List, [], length, false, Bool, ◌&&◌, Option, None, Some, is_some, refl, sym, ap, subst, arith, ◌∙◌}
 use Rattle.std.proofs.lemmas.Grind.{common_steps}
 use Rattle.std.proofs.lemmas.Bool.Decides.{nat_tests}
 use Rattle.std.specs.Option.{option_map, option_map_or}
 use Rattle.std.specs.Prelude.{Result, Ok, Err, OnOk, OnErr, IfErr, nat_lt, if◌then◌else◌}
 use Rattle.smb_wire.specs.declared.nt_status.NtStatus.{NtStatus}
 use Rattle.smb_wire.specs.declared.nt_status.NtStatus.TheVariants.{Success, DiskFull}
-use Rattle.smb_wire.specs.NtStatus.{status_code}
 use Rattle.smb_tree.specs.declared.fault.TreeFault.{TreeFault}
 use Rattle.smb_tree.specs.Entries.{Entry, is_folder_kind}
 use Rattle.smb_tree.specs.Content.{Row, Content, numbered, changed, bytes_read}
@@ -14,7 +13,6 @@ use Rattle.smb_tree.specs.Faults.{size_fault, write_fault}
 use Rattle.smb_tree.proofs.Changes.{bytes_found}
 use Rattle.smb_locks.specs.Table.{Table}
 use Rattle.smb_access.specs.declared.fault.StoreFault.{StoreFault}
-use Rattle.smb_access.specs.declared.fault.StoreFault.TheVariants.{Status, NoMemory}
 use Rattle.smb_access.specs.declared.open_row.OpenRow.{OpenRow}
 use Rattle.smb_access.specs.declared.view.View.{View}
 use Rattle.smb_opens.specs.Bytes.{file_bytes, written_to}
@@ -138,11 +136,10 @@ lawful_written (Err e) most tree locks number view is_barred offset buffer bar g
 pub why_written : {X : Type 0} (r : Result X StoreFault) (most : ℕ) (tree : Content) (locks : Table) (number : ℕ) (view : View) (is_barred : Bool) (offset : ℕ) (buffer : List ℕ) → (length buffer == 0) ≡ false → is_barred ≡ keeps_from_writing locks number view offset (length buffer) →
     ((is_full : Bool) → first_status (write_rows most view is_barred offset (length buffer) is_full) ≡ (if nat_lt 0 (length buffer) && is_full then DiskFull else Success)) →
     is_some (write_fault tree view.entry offset (length buffer)) ≡ has_no_room tree view.entry offset buffer →
-    IfErr r (λ fault. fault ≢ NoMemory → (fault ≡ Status (status_code DiskFull)) × (is_some (write_fault tree view.entry offset (length buffer)) ≡ true)) →
-    IfErr r (λ fault. fault ≢ NoMemory → IsRefusal (written_status most tree locks number view offset buffer) fault)
+    IfErr r (λ fault. IsRefusal (if is_some (write_fault tree view.entry offset (length buffer)) then DiskFull else Success) fault) →
+    IfErr r (λ fault. IsRefusal (written_status most tree locks number view offset buffer) fault)
 why_written (Ok x) most tree locks number view is_barred offset buffer some bar goes same h = tt
-why_written (Err fault) most tree locks number view is_barred offset buffer some bar goes same h = λ q.
-    let told = h q in
-    let full : has_no_room tree view.entry offset buffer ≡ true = sym same ∙ told.1 in
-    let status : written_status most tree locks number view offset buffer ≡ DiskFull = sym (rows_barred most tree locks number view is_barred offset buffer bar) ∙ goes (has_no_room tree view.entry offset buffer) ∙ grind (arith, nat_tests, some, full) in
-    subst (λ (f : StoreFault). IsRefusal (written_status most tree locks number view offset buffer) f) (sym told.0) (ap status_code (sym status), λ e. cc)
+why_written (Err fault) most tree locks number view is_barred offset buffer some bar goes same h =
+    let status : written_status most tree locks number view offset buffer ≡ (if is_some (write_fault tree view.entry offset (length buffer)) then DiskFull else Success) =
+    sym (rows_barred most tree locks number view is_barred offset buffer bar) ∙ goes (has_no_room tree view.entry offset buffer) ∙ grind (arith, nat_tests, some, same) in
+    subst (λ (told : NtStatus). IsRefusal told fault) (sym status) h

@@ -5,7 +5,6 @@ ghost use Rattle.smb_entry.specs.Bytes.{keeps_from_reading, keeps_from_writing};
 ghost use Rattle.smb_opens.specs.Bytes.{read_status, part_bytes, file_bytes, write_status, written_to};
 ghost use Rattle.smb_access.specs.Faults.{IsRefusal};
 ghost use Rattle.smb_access.specs.Opens.{open_of};
-ghost use Rattle.smb_access.specs.declared.fault.StoreFault.TheVariants.{NoMemory};
 
 use super::store::Store;
 use smb_access::fault::refusal_of;
@@ -127,7 +126,7 @@ impl<T: Tree + Drop, O: Opens + Drop> Store<T, O> {
     /// `most` bytes. No bytes change nothing.
     ///
     /// [`Status`](StoreFault::Status) tells the first row of the table that holds, and
-    /// [`NoMemory`](StoreFault::NoMemory) that an allocation was refused, which may be where a row holds too.
+    /// [`NoMemory`](StoreFault::NoMemory) that an allocation was refused where none does.
     pub fn write(
         &mut self,
         most: u32,
@@ -139,7 +138,7 @@ impl<T: Tree + Drop, O: Opens + Drop> Store<T, O> {
         ensures store { OnOk result (self.new ≡ written_to self.old number offset buffer.now moment) }
         ensures lawful { OnOk result (write_status self.old most number offset buffer.now ≡ NtStatus.Success) }
         ensures err { OnErr result (self.new ≡ self.old) }
-        ensures why { IfErr result (λ fault. fault ≢ NoMemory → IsRefusal (write_status self.old most number offset buffer.now) fault) }
+        ensures why { IfErr result (λ fault. IsRefusal (write_status self.old most number offset buffer.now) fault) }
     {
         let Some(view) = self.view(number) else {
             return Err(StoreFault::from(NtStatus::FileClosed));

@@ -21,8 +21,7 @@
 //! it, as `specs/Renames.antt` says.
 //!
 //! Each call that has a table is Ok only where its status by the table is STATUS_SUCCESS, and out of memory comes only
-//! there too (`IsRefusal` of smb_access); but [`Store::write`] and [`Store::lock`] may run out of memory whatever their
-//! status.
+//! there too (`IsRefusal` of smb_access).
 //!
 //! [`Store::set_scan`] keeps how far a scan of a directory has come through an open.
 //!

@@ -3,7 +3,6 @@
 ghost use Rattle.std.specs.Prelude.{◌≡◌, ◌≢◌, OnOk, OnErr, IfErr};
 ghost use Rattle.smb_access.specs.Faults.{IsRefusal};
 ghost use Rattle.smb_opens.specs.Locks.{lock_status, unlock_status, locked_through, unlocked_through};
-ghost use Rattle.smb_access.specs.declared.fault.StoreFault.TheVariants.{NoMemory};
 
 use super::store::Store;
 use smb_access::{OpenNo, Opens, StoreFault};
@@ -17,12 +16,12 @@ impl<T: Tree + Drop, O: Opens + Drop> Store<T, O> {
     /// elements ask for, or none. Each element costs a pass over the file's locks, of which there are at most 256.
     ///
     /// [`Status`](StoreFault::Status) tells the status that refuses it, and [`NoMemory`](StoreFault::NoMemory) that an
-    /// allocation was refused, which may be where a status refuses it too.
+    /// allocation was refused where none does.
     pub fn lock(&mut self, number: OpenNo, asks: &[LockAsk]) -> Result<(), StoreFault>
         ensures store { OnOk result (self.new ≡ locked_through self.old number asks.now) }
         ensures lawful { OnOk result (lock_status self.old number asks.now ≡ NtStatus.Success) }
         ensures err { OnErr result (self.new ≡ self.old) }
-        ensures why { IfErr result (λ fault. fault ≢ NoMemory → IsRefusal (lock_status self.old number asks.now) fault) }
+        ensures why { IfErr result (λ fault. IsRefusal (lock_status self.old number asks.now) fault) }
     {
         let Some(view) = self.view(number) else {
             return Err(StoreFault::from(NtStatus::FileClosed));

@@ -1,5 +1,5 @@
 -- QUERY_INFO and SET_INFO: what holds of the state that they leave, where it holds with the tree alone changed.
-use Rattle.std.proofs.Common.{◌≡◌, ◌==◌, ℕ, Bool, true, false, not, nat_lt, if◌then◌else◌, List, length, Option, None, Some, refl}
+use Rattle.std.proofs.Common.{◌≡◌, ℕ, Bool, true, false, not, nat_lt, if◌then◌else◌, List, length, Option, None, Some, refl}
 use Rattle.std.specs.Option.{option_map_or}
 use Rattle.smb_wire.specs.NtStatus.{is_success}
 use Rattle.smb_wire.specs.Paths.{path_spelled}

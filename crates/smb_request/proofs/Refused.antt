@@ -34,20 +34,10 @@ module _ {S : Type 0} (m : Meaning S) (server : ServerState S) (call : Call) (do
   by_store status (Stored code) refusal why e = rw (e, why.0, read_again status) (refused_by status why.1)
   by_store status NoRoom refusal why e = rw e tt
 
-  pub by_lock : (status : NtStatus) (fault : StoreFault) (refusal : Refusal) → (fault ≢ NoRoom → IsRefusal status fault) → refusal ≡ store_refusal fault →
-      IfSome (result_step m server call (Err refusal)) (λ step. step ≡ by_status server call.ids status done)
-  by_lock status (Stored code) refusal why e = by_store status (Stored code) refusal (why (λ q. cc)) e
-  by_lock status NoRoom refusal why e = rw e tt
-
   pub code_failed : (status code : NtStatus) (result : Result Response Refusal) → status ≡ code → code ≢ Success → IsErrAnd result (λ refusal. refusal ≡ Status code) →
       IfSome (result_step m server call result) (λ step. step ≡ by_status server call.ids status done)
   code_failed status code (Ok response) is h e = absurd e
   code_failed status code (Err refusal) is h e = by_code status code refusal is h e
-
-  pub lock_failed : (status : NtStatus) (fault : StoreFault) (result : Result Response Refusal) → (fault ≢ NoRoom → IsRefusal status fault) → IsErrAnd result (λ refusal. refusal ≡ store_refusal fault) →
-      IfSome (result_step m server call result) (λ step. step ≡ by_status server call.ids status done)
-  lock_failed status fault (Ok response) why e = absurd e
-  lock_failed status fault (Err refusal) why e = by_lock status fault refusal why e
 
   pub unless_session : (refusal : Option SessionFault) (fault : SessionFault) (found : Refusal) → IsRefused refusal fault → found ≡ session_refusal fault →
       IfSome (result_step m server call (Err found)) (λ step. step ≡ unless_refused server call.ids refusal done)

@@ -4,6 +4,7 @@ pub mod Parts
 pub mod Places
 pub mod Spaces
 pub mod Apart
+pub mod Refused
 pub mod Removals
 pub mod Changes
 pub mod Additions

@@ -41,7 +41,8 @@ pub trait Tree {
     /// allocation is refused.
     fn copy_entry(&self, alloc: Global, number: EntryNo) -> Result<EntryCopy, TreeFault>
         ensures ok { IfOk result (λ copy. Some (copied copy) ≡ entry_copied (content self.now).rows number) }
-        ensures why { IfErr result (λ fault. fault ≢ NoMemory → copy_fault (content self.now) number ≡ Some fault) };
+        ensures why { IfErr result (λ fault. fault ≢ NoMemory → copy_fault (content self.now) number ≡ Some fault) }
+        ensures memory { IfErr result (λ fault. fault ≡ NoMemory → copy_fault (content self.now) number ≡ None) };
 
     /// The child of an entry whose folded name comes next after a given one, or first where none is given; None
     /// where no further child stands or no entry has the number.
@@ -89,7 +90,8 @@ pub trait Tree {
         ensures number { IfOk result (λ number. number ≡ (content self.old).next) }
         ensures lawful { OnOk result (add_fault (content self.old) (folded_path (parts_of path.now)) ≡ None) }
         ensures err { OnErr result (content self.new ≡ content self.old) }
-        ensures why { IfErr result (λ fault. fault ≢ NoMemory → add_fault (content self.old) (folded_path (parts_of path.now)) ≡ Some fault) };
+        ensures why { IfErr result (λ fault. fault ≢ NoMemory → add_fault (content self.old) (folded_path (parts_of path.now)) ≡ Some fault) }
+        ensures memory { IfErr result (λ fault. fault ≡ NoMemory → add_fault (content self.old) (folded_path (parts_of path.now)) ≡ None) };
 
     /// Gives a file another size: its bytes are cut, or get zeros behind them.
     ///
@@ -100,7 +102,8 @@ pub trait Tree {
         ensures ok { OnOk result (content self.new ≡ with_size (content self.old) number size) }
         ensures lawful { OnOk result (size_fault (content self.old) number size ≡ None) }
         ensures err { OnErr result (content self.new ≡ content self.old) }
-        ensures why { IfErr result (λ fault. fault ≢ NoMemory → size_fault (content self.old) number size ≡ Some fault) };
+        ensures why { IfErr result (λ fault. fault ≢ NoMemory → size_fault (content self.old) number size ≡ Some fault) }
+        ensures memory { IfErr result (λ fault. fault ≡ NoMemory → size_fault (content self.old) number size ≡ None) };
 
     /// Gives an entry other times and attributes, of which it keeps those that are kept.
     /// [`Absent`](TreeFault::Absent) where no entry has the number.
@@ -161,7 +164,8 @@ pub trait Tree {
         ensures ok { OnOk result (bytes.new.items ≡ bytes.old.items ++ bytes_read (content self.now).rows number offset count) }
         ensures lawful { OnOk result (read_fault (content self.now) number ≡ None) }
         ensures err { OnErr result (bytes.new.items ≡ bytes.old.items) }
-        ensures why { IfErr result (λ fault. fault ≢ NoMemory → read_fault (content self.now) number ≡ Some fault) };
+        ensures why { IfErr result (λ fault. fault ≢ NoMemory → read_fault (content self.now) number ≡ Some fault) }
+        ensures memory { IfErr result (λ fault. fault ≡ NoMemory → read_fault (content self.now) number ≡ None) };
 
     /// Puts bytes into a file from an offset on. Where they pass its end it gets longer, and a gap before them
     /// is filled with zeros, also where they are none. Times stay.
@@ -173,5 +177,6 @@ pub trait Tree {
         ensures ok { OnOk result (content self.new ≡ with_bytes (content self.old) number offset buffer.now) }
         ensures lawful { OnOk result (write_fault (content self.old) number offset (length buffer.now) ≡ None) }
         ensures err { OnErr result (content self.new ≡ content self.old) }
-        ensures why { IfErr result (λ fault. fault ≢ NoMemory → write_fault (content self.old) number offset (length buffer.now) ≡ Some fault) };
+        ensures why { IfErr result (λ fault. fault ≢ NoMemory → write_fault (content self.old) number offset (length buffer.now) ≡ Some fault) }
+        ensures memory { IfErr result (λ fault. fault ≡ NoMemory → write_fault (content self.old) number offset (length buffer.now) ≡ None) };
 }

@@ -1,10 +1,13 @@
-use Rattle.std.proofs.Common.{ap, ◌∙◌}
+use Rattle.std.proofs.Common.{if◌then◌else◌, is_some, length, ap, subst, sym, ◌∙◌}
 use Rattle.smb_tree.specs.Content.{Content, with_basic}
-use Rattle.smb_tree.specs.Faults.{basic_fault}
+use Rattle.smb_tree.specs.Faults.{basic_fault, write_fault}
 use Rattle.smb_tree.specs.Views.{Shown, shown}
 use Rattle.smb_entry.specs.Bytes.{written_basic}
 use Rattle.smb_access.proofs.Trees.{row_of_shown}
-use Rattle.smb_entry.proofs.Writes.{write_done, basic_there}
+use Rattle.smb_access.specs.Faults.{IsRefusal}
+use Rattle.smb_access.specs.declared.fault.StoreFault.{StoreFault}
+use Rattle.smb_wire.specs.declared.nt_status.NtStatus.TheVariants.{Success, DiskFull}
+use Rattle.smb_entry.proofs.Writes.{write_done, basic_there, write_refusal}
 use Rattle.smb_entry.proofs.bytes.write_file.Goals as goal
 
 pub unreachable-requires-in-Err-set_basic : goal.unreachable-requires-in-Err-set_basic
@@ -12,6 +15,11 @@ unreachable-requires-in-Err-set_basic g c =
     let r = row_of_shown (g.T.Tree.content c.args.tree.now).rows c.args.entry (shown c.in-Some.seen) c.in-Some.ensures in
     let due = ap (λ (x : Content). basic_fault x c.args.entry) c.in_default-write.ensures.ok ∙ basic_there (g.T.Tree.content c.args.tree.now) c.args.entry c.args.offset c.args.buffer.now r.0 r.1 in
     let told = c.in-Err-set_basic.ensures.why in cc
+
+pub returns-in-Err-clause-why : goal.returns-in-Err-clause-why
+returns-in-Err-clause-why g c =
+    subst (λ (told : StoreFault). IsRefusal (if is_some (write_fault (g.T.Tree.content c.args.tree.now) c.args.entry c.args.offset (length c.args.buffer.now)) then DiskFull else Success) told) (sym c.refusal_of.ensures)
+    (write_refusal (g.T.Tree.content c.args.tree.now) c.args.entry c.args.offset (length c.args.buffer.now) c.in-Err.fault c.requires.file c.in-Err.ensures.why c.in-Err.ensures.memory)
 
 pub returns-clause-ok : goal.returns-clause-ok
 returns-clause-ok g c =

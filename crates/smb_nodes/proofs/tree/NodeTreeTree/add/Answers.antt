@@ -1,4 +1,4 @@
-use Rattle.std.proofs.Common.{◌+◌, ◌++◌, ◌∷◌, [], max, ℕ, false, List, Some, arith, refl, sym, ap, ◌∙◌}
+use Rattle.std.proofs.Common.{◌≡◌, ◌+◌, ◌++◌, ◌∷◌, [], max, ℕ, false, List, Some, arith, refl, sym, ap, ◌∙◌}
 use Rattle.std.proofs.lemmas.List.{length-map}
 use Rattle.smb_wire.specs.Names.{folded}
 use Rattle.smb_wire.specs.Paths.{folded_path}
@@ -14,6 +14,8 @@ use Rattle.smb_nodes.proofs.Bounds.{bound_same, bound_added}
 use Rattle.smb_nodes.proofs.Kept.{same_tree, same_rows, same_bound}
 use Rattle.smb_nodes.proofs.Numbered.{add_fault_down}
 use Rattle.smb_nodes.proofs.Putting.{on_err}
+use Rattle.smb_tree.specs.declared.fault.TreeFault.TheVariants.{NoMemory}
+use Rattle.smb_tree.proofs.Refused.{refused_by}
 use Rattle.smb_nodes.proofs.tree.NodeTreeTree.add.Goals as goal
 
 pub returns-in-Some-clause-why : goal.returns-in-Some-clause-why
@@ -55,6 +57,16 @@ invariant_of-self-2 c =
       bound = bound_same _ (rows_in (heap_of c.self.inside.nodes) levels c.self.inside.index.entries ++ (folded_path (parts_of c.args.path.now), new_entry c.self.inside.next (parts_of c.args.path.now) c.args.kind c.args.attributes.0 c.args.moment) ∷ []) (rows_in (heap_of c.place.new.nodes) levels c.place.new.index.entries) (ap (λ (es : List (ℕ × ℕ)). rows_in (heap_of c.place.new.nodes) levels es) c.in_ok-place.ensures.indexed ∙ rows)
           (bound_added c.self.inside.deepest _ (rows_in (heap_of c.self.inside.nodes) levels c.self.inside.index.entries) (folded_path (parts_of c.args.path.now), new_entry c.self.inside.next (parts_of c.args.path.now) c.args.kind c.args.attributes.0 c.args.moment) (c.max-self-inside.ensures ∙ ap (λ (n : ℕ). max c.self.inside.deepest n) (c.len-2.ensures.len ∙ sym (length-map (parts_of c.args.path.now) folded))) w.short c.self.invariant.bound);
     }
+
+pub returns-in_err-spelling-clause-memory : goal.returns-in_err-spelling-clause-memory
+returns-in_err-spelling-clause-memory c =
+    let n = add_fault_down (heap_of c.self.inside.nodes) c.self.inside.index.entries c.self.inside.next c.self.inside.capacity (folded_path (parts_of c.args.path.now)) c.self.invariant.is_tree in
+    refused_by c.from_residual.result (λ fault. fault ≡ NoMemory) (rw (← c.self.view_is, n, ← c.len.ensures.len, ← c.add_fault.ensures) c.in_default.is)
+
+pub returns-in_err-place-clause-memory : goal.returns-in_err-place-clause-memory
+returns-in_err-place-clause-memory c =
+    let n = add_fault_down (heap_of c.self.inside.nodes) c.self.inside.index.entries c.self.inside.next c.self.inside.capacity (folded_path (parts_of c.args.path.now)) c.self.invariant.is_tree in
+    refused_by c.from_residual-in_err-place.result (λ fault. fault ≡ NoMemory) (rw (← c.self.view_is, n, ← c.len.ensures.len, ← c.add_fault.ensures) c.in_default.is)
 
 pub returns-clause-ok : goal.returns-clause-ok
 returns-clause-ok c =

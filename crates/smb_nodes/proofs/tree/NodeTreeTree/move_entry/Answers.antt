@@ -7,10 +7,11 @@ use Rattle.smb_tree.specs.Content.{Row, used_space}
 use Rattle.smb_nodes.specs.Nodes.{name_of_slot, is_same_component, up_in, walk}
 use Rattle.smb_nodes.specs.Seen.{heap_of}
 use Rattle.smb_nodes.specs.Ways.{NoneBelow}
+use Rattle.smb_tree.proofs.Refused.{refused_by}
 use Rattle.smb_nodes.proofs.Kept.{no_row, live_is, same_tree, same_rows, same_bound}
 use Rattle.smb_nodes.proofs.Relocating.{some}
 use Rattle.smb_nodes.proofs.Putting.{on_err}
-use Rattle.smb_nodes.proofs.Placing.{MayMove, refused_by, not_it, fault_is, no_memory, may_move, no_folder_found, above, around, apart, same_keeps, same_space, own_bound, same_content, free_keeps, free_space, free_bound, free_content, target_there, over_keeps, over_enough, over_space, over_bound, over_content}
+use Rattle.smb_nodes.proofs.Placing.{MayMove, not_it, fault_is, no_memory, may_move, no_folder_found, above, around, apart, same_keeps, same_space, own_bound, same_content, free_keeps, free_space, free_bound, free_content, target_there, over_keeps, over_enough, over_space, over_bound, over_content}
 use Rattle.smb_nodes.proofs.tree.NodeTreeTree.move_entry.Goals as goal
 
 pub returns-in_default-clause-why : goal.returns-in_default-clause-why

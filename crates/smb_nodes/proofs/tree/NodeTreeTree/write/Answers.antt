@@ -7,6 +7,8 @@ use Rattle.smb_nodes.specs.Nodes.{row_in, levels, entry_of_slot}
 use Rattle.smb_nodes.specs.Seen.{heap_of}
 use Rattle.smb_nodes.specs.Tree.{content_kept}
 use Rattle.smb_nodes.proofs.Kept.{no_row, live_is, row_is, kept_tree, kept_bound, kept_content, sized_used, others_use, enough, same_tree, same_rows, same_bound}
+use Rattle.smb_tree.specs.declared.fault.TreeFault.TheVariants.{NoMemory}
+use Rattle.smb_tree.proofs.Refused.{refused_by}
 use Rattle.smb_nodes.proofs.tree.NodeTreeTree.write.Goals as goal
 
 pub returns-in_default-clause-why : goal.returns-in_default-clause-why
@@ -56,6 +58,12 @@ invariant_of-self-2 c =
       used = ap (λ (n : ℕ). c.self.inside.used - c.space_of.result + n) c.allocation_size.ensures ∙ sized_used c.self.inside c.args.number c.in-Some.slot c.self.invariant (sym c.in-Some.ensures) (heap_of c.overwrite.new.nodes) (λ (entry : Entry). record entry { bytes = written c.args.offset c.args.buffer.now entry.bytes }) (record { number = λ e. refl; kind = λ e. refl }) c.in_ok-overwrite.ensures.ok c.size_written-new_size.result c.space_of.result c.space_of.ensures (length-written c.args.offset c.args.buffer.now (entry_of_slot (heap_of c.self.inside.nodes) c.in-Some.slot).bytes ∙ sym size);
       bound = kept_bound c.self.inside c.args.number c.in-Some.slot c.self.invariant (sym c.in-Some.ensures) (heap_of c.overwrite.new.nodes) (λ (entry : Entry). record entry { bytes = written c.args.offset c.args.buffer.now entry.bytes }) (record { number = λ e. refl; kind = λ e. refl }) c.in_ok-overwrite.ensures.ok;
     }
+
+pub returns-in_err-overwrite-clause-memory : goal.returns-in_err-overwrite-clause-memory
+returns-in_err-overwrite-clause-memory c =
+    let row = row_is c.self.inside c.args.number c.in-Some.slot c.self.invariant (sym c.in-Some.ensures) in
+    let whole = others_use c.self.inside c.args.number c.in-Some.slot c.self.invariant (sym c.in-Some.ensures) c.space_of.result c.space_of.ensures in
+    refused_by c.from_residual.result (λ fault. fault ≡ NoMemory) (rw (← c.self.view_is) (write_fault_is (content_kept c.self.inside) c.args.number c.args.offset (length c.args.buffer.now) c.size_written-new_size.result (c.self.inside.used - c.space_of.result) (row_in (heap_of c.self.inside.nodes) levels c.in-Some.slot) c.size_fault.result row whole c.size_written-new_size.ensures c.size_fault.ensures ∙ c.in_default-size_fault.is))
 
 pub returns-clause-ok : goal.returns-clause-ok
 returns-clause-ok c =

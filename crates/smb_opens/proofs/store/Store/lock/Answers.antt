@@ -19,5 +19,5 @@ returns-clause-why g c =
     elim c.match-lock_all.branch [
       | in-Ok w ↦ rw w.result-is tt
       | in-Err w ↦ rw (w.result-is, ← c.self.view_is)
-          (why_lock state c.args.number c.in-Some.view c.args.asks.now w.in-Err.fault w.lock_refusal.result view (sym c.is_folder.ensures ∙ c.if-is_folder.false) w.in-Err.ensures.why w.lock_refusal.ensures.status)
+          (why_lock state c.args.number c.in-Some.view c.args.asks.now w.in-Err.fault w.lock_refusal.result view (sym c.is_folder.ensures ∙ c.if-is_folder.false) w.in-Err.ensures.why w.in-Err.ensures.memory w.lock_refusal.ensures)
     ]

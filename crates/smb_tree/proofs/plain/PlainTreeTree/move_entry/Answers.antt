@@ -1,5 +1,4 @@
 use Rattle.std.proofs.Common.{◌≡◌, ℕ, List, sym, ap, ◌∙◌, arith}
-use Rattle.std.specs.Prelude.{Result, Ok, Err, IfErr}
 use Rattle.smb_wire.specs.PathViews.{parts_of}
 use Rattle.smb_wire.specs.Paths.{folded_path}
 use Rattle.smb_tree.specs.Content.{Path, Row, entry_at}
@@ -9,6 +8,7 @@ use Rattle.smb_tree.specs.Plain.{row_of, rows_of}
 use Rattle.smb_tree.specs.Tree.{content_kept}
 use Rattle.smb_tree.proofs.Moving.{fault_found, not_too_deep, as_many, rows_put, used_put, taken_out, moved_is}
 use Rattle.smb_tree.proofs.Places.{place_found}
+use Rattle.smb_tree.proofs.Refused.{refused_by}
 use Rattle.smb_tree.proofs.plain.PlainTreeTree.move_entry.Goals as goal
 use Rattle.smb_tree.proofs.plain.PlainTreeTree.move_entry.Goals.{in-Some-target, in_default-target}
 
@@ -63,10 +63,6 @@ pub returns-clause-lawful : goal.returns-clause-lawful
 returns-clause-lawful c =
     let found = place_found c.self.inside.entries.items c.args.number c.in-Some.i c.index.result.now (c.in-Some.ensures.place _ c.index.ensures) in
     rw (← c.self.view_is) (fault_found (content_kept c.self.inside) c.args.number (row_of c.index.result.now) (folded_path (parts_of c.path_of-from.result)) (folded_path (parts_of c.args.path.now)) c.move_fault.result found (ap folded_path c.path_of-from.ensures) c.move_fault.ensures ∙ c.in_default-move_fault.is)
-
-refused_by : {X E P : Type 0} (r : Result X E) (Q : E → Type 0) → P → IfErr r (λ e. Q e → P)
-refused_by (Ok x) Q p = tt
-refused_by (Err e) Q p = λ _. p
 
 pub returns-in_err-texts-clause-memory : goal.returns-in_err-texts-clause-memory
 returns-in_err-texts-clause-memory c =
