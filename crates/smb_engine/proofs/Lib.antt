@@ -1,5 +1,6 @@
 pub mod Heard
 pub mod Lists
+pub mod Short
 pub mod Chains
 pub mod Steps
 pub mod Pieces

@@ -20,13 +20,14 @@ use Rattle.smb_request.specs.Smb1.{answer_to_smb1}
 use Rattle.smb_request.specs.Request.{performed}
 use Rattle.smb_request.specs.Response.{Performed}
 use Rattle.smb_engine.specs.State.{StreamState, new_stream}
-use Rattle.smb_engine.specs.Output.{Output, end_of}
+use Rattle.smb_engine.specs.Output.{AreShort, Output, end_of}
 use Rattle.smb_engine.specs.Sink.{Heard}
 use Rattle.smb_engine.specs.Stream.{added_payloads}
 use Rattle.smb_engine.specs.Run.{ChainState, replied, one_performed, all_performed, admitted, chain_begun, Step, refused_step, first_negotiate, first_step, framed_chain, chain_step, payload_step, and_then, payload_steps, piece_step}
 use Rattle.smb_engine.specs.Refusals.{server_after}
 use Rattle.smb_engine.specs.Held.{Waits, IsPieceHeld, StoppedAfter}
 use Rattle.smb_engine.specs.InPlace.{step_behind}
+use Rattle.smb_engine.proofs.Short.{with_end}
 
 -- what a piece adds to a stream are the payloads of its rest with the piece
 pub added_is : (received piece : List ℕ) → added_payloads received piece ≡ payloads longest_payload (rest longest_payload received ++ piece)
@@ -66,6 +67,16 @@ module _ {S : Type 0} (m : Meaning S) (arrival : Arrival) where
         within = let n = ap (λ s. length s.requests) same in omega (arith, n, e.within);
         state = e.state ∙ ap (λ s. server_after server s.requests k) same;
       }
+
+  -- what a piece puts out is short where what its payloads put out is
+  pub short_in : (server : ServerState S) (stream : StreamState) (piece held : List ℕ) → Waits stream → held ≡ stream.received ++ piece →
+      AreShort (payload_steps m arrival server stream.connection (payloads longest_payload held)).outputs → AreShort (piece_step m arrival server stream piece).outputs
+  unfolding piece_step
+  short_in server stream piece held w h short =
+      let same : payload_steps m arrival server stream.connection (payloads longest_payload held) ≡ payload_steps m arrival server stream.connection (added_payloads stream.received piece) =
+      ap (λ b. payload_steps m arrival server stream.connection (payloads longest_payload b)) h ∙ ap (payload_steps m arrival server stream.connection) (sym (added-waits stream piece w)) in
+      let step = payload_steps m arrival server stream.connection (added_payloads stream.received piece) in
+      with_end (step.stays_open && is_none (fault_of longest_payload (rest longest_payload (stream.received ++ piece)))) step.outputs arrival.connection_id (rw same at short)
 
   -- what the added payloads come to
   unfoldable pub steps_by : ServerState S → StreamState → List ℕ → Step S

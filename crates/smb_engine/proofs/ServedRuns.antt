@@ -150,7 +150,7 @@ module _ {S : Type 0} (m : Meaning S) (s0 : ShareState S) (calls0 : List PeerCal
       on s.share s.share s.served_peers s.served_peers s.calls (next_opened k ∷ close k ∷ []) s.moments s.moments s.ran_out g (λ more once b. refused_books k s more b (once more (close k ∷ []) k refl) fits) in
       let P : List PeerCall → Type 0 = λ calls. Goes s.share s.served_peers calls s.moments s.ran_out in
       subst GoesAt (sym e) (subst P (sym (append_assoc s.calls (next_opened k ∷ []) (close k ∷ []))) x)
-  opening_at k s t (has_no_memory none e) g = subst GoesAt (sym e) (λ h. absurd (no_more s.ran_out h))
+  opening_at k s t (has_no_memory none room e) g = subst GoesAt (sym e) (λ h. absurd (no_more s.ran_out h))
   opening_at k s t (is_passed_over is e) g =
       subst GoesAt (sym e)
       (on s.share s.share s.served_peers s.served_peers s.calls (next_opened k ∷ []) s.moments s.moments s.ran_out g
@@ -218,7 +218,7 @@ module _ {S : Type 0} (m : Meaning S) (s0 : ShareState S) (calls0 : List PeerCal
     fed_state fed = record (told s (next_bytes k piece)) { share = fed.share; served_peers = with_peer k fed.peer s.served_peers; moments = fed.moments; ran_out = if fed.ran_out then s.ran_out + 1 else s.ran_out }
 
     fed_at : (fed : Fed S) → PieceTaken m piece s.share peer s.moments fed → GoesAt s → GoesAt (fed_state fed)
-    fed_at fed (takes_piece moment open_still is told' kept) g =
+    fed_at fed (takes_piece moment open_still short is told' kept) g =
         let x = taken_at moment _ refl open_still g in
         let e : fed ≡ record { share = (piece_taken m s.share peer moment piece).share; peer = (piece_taken m s.share peer moment piece).peer; moments = s.moments ++ moment ∷ []; ran_out = false } =
         fed_is fed _ _ _ _ (ap (λ t. t.share) is) (ap (λ t. t.peer) is) told' kept in

@@ -12,12 +12,13 @@ use Rattle.smb_engine.specs.declared.arrival.Arrival.{Arrival}
 use Rattle.smb_engine.specs.declared.connection.Connection.{Connection}
 use Rattle.smb_session.specs.Authenticator.{Meaning}
 use Rattle.smb_request.specs.State.{ServerState}
-use Rattle.smb_engine.specs.Output.{Output, output_bytes, reply_frame}
+use Rattle.smb_engine.specs.Output.{AreShort, Output, output_bytes, reply_frame}
 use Rattle.smb_engine.specs.Sink.{Heard}
 use Rattle.smb_engine.specs.Run.{Step, payload_step, payload_steps, and_then, after_step}
 use Rattle.smb_engine.specs.Refusals.{server_after}
 use Rattle.smb_engine.specs.InPlace.{StepPlaced, step_behind}
 use Rattle.smb_engine.proofs.Chains.{payload_whole, after-past, after-front}
+use Rattle.smb_engine.proofs.Short.{both_short}
 
 -- a step's requests, with those of the others behind it
 module _ {S : Type 0} (server : ServerState S) (others : ServerState S → Connection → Step S) (step : Step S) where
@@ -60,6 +61,8 @@ module _ {S : Type 0} (m : Meaning S) (hears : Output → List Heard) (arrival :
     pub count : done + length held ≤ length held₀
     pub number_of : done + length (payload_steps m arrival server connection (payloads longest_payload held)).requests
         ≡ length (payload_steps m arrival server₀ connection₀ (payloads longest_payload held₀)).requests
+    pub short : AreShort (payload_steps m arrival server connection (payloads longest_payload held)).outputs
+        → AreShort (payload_steps m arrival server₀ connection₀ (payloads longest_payload held₀)).outputs
 
   pub steps_none : (server : ServerState S) (connection : Connection) (heard : List Heard) (held : List ℕ) → StepsSoFar server connection heard held server connection heard held 0
   steps_none server connection heard held = record {
@@ -68,6 +71,7 @@ module _ {S : Type 0} (m : Meaning S) (hears : Output → List Heard) (arrival :
     stops = λ k. let e : 0 + k ≡ k = omega arith in rw e refl;
     count = omega arith;
     number_of = omega arith;
+    short = λ later. later;
   }
 
   behind-more : (a : List Heard) (step next : Step S) → step_behind hears a (after_step step next) ≡ step_behind hears (a ++ flat_map hears step.outputs) next
@@ -87,9 +91,9 @@ module _ {S : Type 0} (m : Meaning S) (hears : Output → List Heard) (arrival :
       (server' : ServerState S) (connection' : Connection) (heard' : List Heard) (held' payload : List ℕ) (n : ℕ) →
       StepsSoFar server₀ connection₀ heard₀ held₀ server connection heard held done → first longest_payload held ≡ Some payload →
       record { server = server'; connection = connection'; stays_open = true; out = heard' } ≡ step_behind hears heard (payload_step m arrival server connection payload) →
-      n ≡ length (payload_step m arrival server connection payload).requests → held' ≡ after payload held → n ≤ length payload →
+      n ≡ length (payload_step m arrival server connection payload).requests → held' ≡ after payload held → n ≤ length payload → AreShort (payload_step m arrival server connection payload).outputs →
       StepsSoFar server₀ connection₀ heard₀ held₀ server' connection' heard' held' (done + n)
-  steps_more server₀ connection₀ heard₀ held₀ server connection heard held done server' connection' heard' held' payload n h f e c p b =
+  steps_more server₀ connection₀ heard₀ held₀ server connection heard held done server' connection' heard' held' payload n h f e c p b short =
       let step = one server connection payload in
       let next = all step.server step.connection (after payload held) in
       let s = ap (λ x. x.server) e in
@@ -109,6 +113,7 @@ module _ {S : Type 0} (m : Meaning S) (hears : Output → List Heard) (arrival :
             ap (λ t. length t.requests) opened ∙ length-append step.requests next.requests ∙ ap (λ i. i + length next.requests) (sym c) in
             rw (s, k', p) (omega (arith, whole, h.number_of));
         count = rw p (omega (arith, h.count, first_is longest_payload held payload f, length-drop (length payload + 4) held));
+        short = λ later. h.short (rw opened (both_short step.outputs next.outputs short (rw (s, k', p) at later)));
       }
 
   -- a payload that ends the connection
@@ -121,6 +126,15 @@ module _ {S : Type 0} (m : Meaning S) (hears : Output → List Heard) (arrival :
       let step = one server connection payload in
       let over = steps-some server connection held payload f ∙ and_then-over server (others_of held payload) step (sym (ap (λ x. x.stays_open) e)) in
       e ∙ ap (step_behind hears heard) (sym over) ∙ h.says
+
+  pub steps_over_short : (server₀ : ServerState S) (connection₀ : Connection) (heard₀ : List Heard) (held₀ : List ℕ) (server : ServerState S) (connection : Connection) (heard : List Heard) (held : List ℕ) (done : ℕ) (payload : List ℕ) →
+      StepsSoFar server₀ connection₀ heard₀ held₀ server connection heard held done → first longest_payload held ≡ Some payload →
+      (payload_step m arrival server connection payload).stays_open ≡ false → AreShort (payload_step m arrival server connection payload).outputs →
+      AreShort (payload_steps m arrival server₀ connection₀ (payloads longest_payload held₀)).outputs
+  steps_over_short server₀ connection₀ heard₀ held₀ server connection heard held done payload h f ends short =
+      let step = one server connection payload in
+      let over = steps-some server connection held payload f ∙ and_then-over server (others_of held payload) step ends in
+      h.short (rw over short)
 
   -- and changes nothing
   pub steps_refused : (server : ServerState S) (connection : Connection) (heard : List Heard) (server' : ServerState S) (connection' : Connection) (heard' : List Heard) (payload : List ℕ) →
@@ -137,6 +151,11 @@ module _ {S : Type 0} (m : Meaning S) (hears : Output → List Heard) (arrival :
       let P : List Heard → StepPlaced S Heard = λ t. record { server = server; connection = connection; stays_open = true; out = t } in
       ap P (sym (append-nil heard))
       ∙ ap (λ ps. step_behind hears heard (payload_steps m arrival server connection ps)) (sym (payloads-none longest_payload held f)) ∙ h.says
+
+  pub steps_all_short : (server₀ : ServerState S) (connection₀ : Connection) (heard₀ : List Heard) (held₀ : List ℕ) (server : ServerState S) (connection : Connection) (heard : List Heard) (held : List ℕ) (done : ℕ) →
+      StepsSoFar server₀ connection₀ heard₀ held₀ server connection heard held done → first longest_payload held ≡ None →
+      AreShort (payload_steps m arrival server₀ connection₀ (payloads longest_payload held₀)).outputs
+  steps_all_short server₀ connection₀ heard₀ held₀ server connection heard held done h f = h.short (rw (payloads-none longest_payload held f) tt)
 
   pub held_all : (server₀ : ServerState S) (connection₀ : Connection) (heard₀ : List Heard) (held₀ : List ℕ) (server : ServerState S) (connection : Connection) (heard : List Heard) (held : List ℕ) (done : ℕ) →
       StepsSoFar server₀ connection₀ heard₀ held₀ server connection heard held done → first longest_payload held ≡ None → held ≡ rest longest_payload held₀

@@ -14,4 +14,4 @@ abbrev pub Begins : {S : Type 0} → ℕ → ShareState S → List PeerState →
 Begins number share served_peers share' served_peers' Done =
     (opening_refusal share ≡ None) × (share' ≡ opened share) × (served_peers' ≡ with_one_more (new_peer share number) served_peers)
 Begins number share served_peers share' served_peers' Refused = (opening_refusal share ≡ Some TooManyConnections) × (share' ≡ share) × (served_peers' ≡ served_peers)
-Begins number share served_peers share' served_peers' NoMemory = (share' ≡ share) × (served_peers' ≡ served_peers)
+Begins number share served_peers share' served_peers' NoMemory = (opening_refusal share ≡ None) × (share' ≡ share) × (served_peers' ≡ served_peers)

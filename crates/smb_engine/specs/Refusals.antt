@@ -31,7 +31,8 @@ can_want_memory s (opens connection) = true
 can_want_memory s (brings connection moment piece) = is_open s connection
 can_want_memory s (ends connection) = false
 
--- memory ran out after so many requests of an event, of which it has so many or more
+-- memory ran out after so many requests of an event, of which it has so many or more: each whose change is left is among
+-- them. Where the last of them change nothing, as ECHO and READ, the state does not tell their number.
 pub record EventOutOfMemory {S : Type 0} (authenticator : Meaning S) (s : ShareState S) (event : EventText) (done : ℕ) (left : ShareState S) : Type 0 where
   pub wanting : can_want_memory s event ≡ true
   pub within : done ≤ length (event_step authenticator s event).requests

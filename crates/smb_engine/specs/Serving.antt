@@ -9,7 +9,7 @@ use Rattle.smb_engine.specs.Refusals.{EventOutOfMemory}
 use Rattle.smb_engine.specs.Run.{opening_refusal, bytes_step}
 use Rattle.smb_engine.specs.Stream.{unread}
 use Rattle.smb_engine.specs.Event.{brings}
-use Rattle.smb_engine.specs.Output.{output_bytes}
+use Rattle.smb_engine.specs.Output.{AreShort, output_bytes}
 use Rattle.smb_engine.specs.Record.{PeerCall, next_opened, next_bytes, next_ended, next_idle, send, close}
 use Rattle.smb_engine.specs.ServedPeers.{PeerState, peer_of, with_peer, with_one_more, dropped}
 
@@ -33,13 +33,13 @@ told s call = record s { calls = s.calls ++ call ∷ [] }
 abbrev pub new_peer : {S : Type 0} → ShareState S → ℕ → PeerState
 new_peer share number = record { number = number; connection = share.next; owed = [] }
 
--- what follows on an opening: it is done; or the share refuses it, or memory runs out, and it is closed at once. Peers open no
--- number twice; that of a peer that is there is passed over
+-- what follows on an opening: it is done; or the share refuses it, or memory runs out where it does not, and it is closed at
+-- once. Peers open no number twice; that of a peer that is there is passed over
 pub data OpeningFollows {S : Type 0} (number : ℕ) (s t : ServingState S) : Type 0 where
   is_done : peer_of number s.served_peers ≡ None → opening_refusal s.share ≡ None →
       t ≡ record s { share = opened s.share; served_peers = with_one_more (new_peer s.share number) s.served_peers } → OpeningFollows number s t
   is_refused : peer_of number s.served_peers ≡ None → opening_refusal s.share ≡ Some TooManyConnections → t ≡ told s (close number) → OpeningFollows number s t
-  has_no_memory : peer_of number s.served_peers ≡ None → t ≡ record (told s (close number)) { ran_out = s.ran_out + 1 } → OpeningFollows number s t
+  has_no_memory : peer_of number s.served_peers ≡ None → opening_refusal s.share ≡ None → t ≡ record (told s (close number)) { ran_out = s.ran_out + 1 } → OpeningFollows number s t
   is_passed_over : is_some (peer_of number s.served_peers) ≡ true → t ≡ s → OpeningFollows number s t
 
 -- the most bytes that a peer may be owed
@@ -76,9 +76,10 @@ module _ {S : Type 0} (authenticator : Meaning S) where
     pub stops : EventOutOfMemory authenticator share (brings peer.connection moment piece) performed share'
     pub drops : peer' ≡ dropped peer
 
-  -- a peer's piece: where its connection is open, the clock is asked once and the share takes the piece; else it is passed over
+  -- a peer's piece: where its connection is open, the clock is asked once and the share takes the piece, with replies of at most
+  -- `longest_reply` bytes each; else it is passed over
   pub data PieceTaken (piece : List ℕ) (share : ShareState S) (peer : PeerState) (moments : List ℕ) (t : Fed S) : Type 0 where
-    takes_piece : (moment : ℕ) → is_open share peer.connection ≡ true →
+    takes_piece : (moment : ℕ) → is_open share peer.connection ≡ true → AreShort (bytes_step authenticator share peer.connection moment piece).outputs →
         record { share = t.share; peer = t.peer } ≡ piece_taken share peer moment piece → t.moments ≡ moments ++ moment ∷ [] → t.ran_out ≡ false → PieceTaken piece share peer moments t
     stops_in_piece : (moment performed : ℕ) → is_open share peer.connection ≡ true → PieceEnds share peer moment piece performed t.share t.peer →
         t.moments ≡ moments ++ moment ∷ [] → t.ran_out ≡ true → PieceTaken piece share peer moments t

@@ -16,7 +16,7 @@ ghost use Rattle.smb_request.specs.Smb1.{reply_to_smb1};
 ghost use Rattle.smb_engine.specs.Run.{is_negotiate_request, message_ids, keeps_negotiate_rule, admitted, reply_to, one_performed, first_negotiate, first_step, chain_step, payload_step};
 ghost use Rattle.smb_engine.specs.Held.{StoppedAfter};
 ghost use Rattle.smb_request.specs.Held.{is_performed};
-ghost use Rattle.smb_engine.specs.Output.{reply_frame, output_bytes};
+ghost use Rattle.smb_engine.specs.Output.{longest_reply, output_bytes, reply_frame};
 ghost use Rattle.smb_engine.specs.InPlace.{chain_state_behind, step_behind};
 
 use super::arrival::Arrival;
@@ -231,9 +231,10 @@ fn done_behind(others: usize, no_reply: NoReply) -> usize
 fn end_frame(start: usize, out: &mut Vec<u8>)
     requires within { start + 4 ≤ length out.old.items }
     requires fits { length out.old.items < start + 4 + 2 ^ 24 }
-    ensures { (connection : ℕ) (before payload : List ℕ) →
+    ensures framed { (connection : ℕ) (before payload : List ℕ) →
         start ≡ length before → out.old.items ≡ (before ++ replicate 4 0) ++ payload →
         out.new.items ≡ before ++ flat_map output_bytes (reply_frame connection payload) }
+    ensures len { length out.new.items ≤ length out.old.items }
 {
     if out.len() == start + 4 {
         out.truncate(start);
@@ -258,6 +259,7 @@ fn chain_payload<A: Authenticator + Drop, T: Tree + Drop, O: Opens + Drop>(
         ≡ step_behind output_bytes out.old.items (chain_step A.meaning arrival server.old connection.old payload.now)) }
     ensures count { IfOk result (λ count. IfSome count (λ n. n ≡ length
         (chain_step A.meaning arrival server.old connection.old payload.now).requests)) }
+    ensures len { OnOk result (length out.new.items ≤ length out.old.items + (4 + longest_reply)) }
     ensures kept { OnErr result (out.new.items ≡ out.old.items) }
     ensures err { IfErr result (λ ran_out. StoppedAfter server.old
         (chain_step A.meaning arrival server.old connection.old payload.now) ran_out.done server.new) }
@@ -308,6 +310,7 @@ fn frame_smb1<A: Authenticator + Drop, T: Tree + Drop, O: Opens + Drop>(
     ensures ok { OnTrue result (out.new.items ≡ out.old.items
         ++ flat_map output_bytes (reply_frame arrival.connection_id (joined_replies (reply_to_smb1
         (negotiate_answer server.now.settings.guid (hello_of A.meaning server.now) arrival.moment answer.dialect answer.dialect_revision) ∷ [])))) }
+    ensures len { OnTrue result (length out.new.items ≤ length out.old.items + (4 + longest_reply)) }
     ensures kept { OnFalse result (out.new.items ≡ out.old.items) }
 {
     let Ok(start) = open_frame(out) else {
@@ -342,6 +345,7 @@ fn first_payload<A: Authenticator + Drop, T: Tree + Drop, O: Opens + Drop>(
         ≡ step_behind output_bytes out.old.items (first_step A.meaning arrival server.now connection.old dialects)) }
     ensures count { IfOk result (λ count. IfSome count (λ n. n ≡ length
         (first_step A.meaning arrival server.now connection.old dialects).requests)) }
+    ensures len { OnOk result (length out.new.items ≤ length out.old.items + (4 + longest_reply)) }
     ensures err { IfErr result (λ ran_out. ran_out.done ≡ 0) }
     ensures kept { OnErr result (out.new.items ≡ out.old.items) }
 {
@@ -374,6 +378,7 @@ pub(crate) fn perform_payload<A: Authenticator + Drop, T: Tree + Drop, O: Opens 
         (payload_step A.meaning arrival server.old connection.old payload.now)) }
     ensures count { IfOk result (λ count. IfSome count (λ n. n ≡ length
         (payload_step A.meaning arrival server.old connection.old payload.now).requests)) }
+    ensures len { OnOk result (length out.new.items ≤ length out.old.items + (4 + longest_reply)) }
     ensures kept { OnErr result (out.new.items ≡ out.old.items) }
     ensures err { IfErr result (λ ran_out. StoppedAfter server.old
         (payload_step A.meaning arrival server.old connection.old payload.now) ran_out.done server.new) }

@@ -4,6 +4,7 @@ ghost use Rattle.std.specs.Prelude.{◌≡◌, ◌≤◌, [], drop, length, nat_
 ghost use Rattle.smb_engine.specs.ServedPeers.{dropped};
 ghost use Rattle.smb_engine.specs.Run.{bytes_step};
 ghost use Rattle.smb_engine.specs.Stream.{unread};
+ghost use Rattle.smb_engine.specs.Output.{AreShort};
 ghost use Rattle.smb_engine.specs.Serving.{piece_taken, with_replies, PieceEnds};
 
 use super::fault::{OutOfMemoryAfter, ServeFault};
@@ -16,6 +17,9 @@ use std::marker::Model;
 
 /// The most bytes that a peer may be owed.
 const MOST_OWED: usize = 33_554_432;
+
+/// The most room, in bytes, that a peer keeps while it is owed nothing.
+const ROOM_KEPT: usize = 1_048_576;
 
 /// A peer: its number, its connection in the share, and the bytes that it is owed.
 #[derive(Drop)]
@@ -78,6 +82,16 @@ impl ServedPeer {
             self.owed.copy_within(taken..length, 0);
             self.owed.truncate(length - taken);
             self.taken = 0;
+            self.give_back_room();
+        }
+    }
+
+    /// Gives room back that was made for many bytes, where it is owed none.
+    fn give_back_room(&mut self)
+        ensures { self.new ≡ self.old }
+    {
+        if self.owed.is_empty() {
+            self.owed.shrink_to(ROOM_KEPT);
         }
     }
 
@@ -87,6 +101,7 @@ impl ServedPeer {
     {
         self.owed.clear();
         self.taken = 0;
+        self.give_back_room();
     }
 
     /// Takes a piece of its stream at a moment; the replies are owed to it.
@@ -99,6 +114,7 @@ impl ServedPeer {
         ensures share { OnOk result (share.new ≡ unread
             (bytes_step A.meaning share.old self.old.connection moment piece.now).state) }
         ensures peer { OnOk result (self.new ≡ with_replies A.meaning share.old self.old moment piece.now) }
+        ensures short { OnOk result (AreShort (bytes_step A.meaning share.old self.old.connection moment piece.now).outputs) }
         ensures err { IfErr result (λ ran_out. PieceEnds A.meaning share.old self.old moment piece.now ran_out.done share.new self.new) }
     {
         match share.feed(self.connection, moment, piece, &mut self.owed) {
@@ -121,6 +137,7 @@ impl ServedPeer {
     ) -> Result<(), OutOfMemoryAfter>
         ensures ok { OnOk result (record { share = share.new; peer = self.new }
             ≡ piece_taken A.meaning share.old self.old moment piece.now) }
+        ensures short { OnOk result (AreShort (bytes_step A.meaning share.old self.old.connection moment piece.now).outputs) }
         ensures err { IfErr result (λ ran_out. PieceEnds A.meaning share.old self.old moment piece.now ran_out.done share.new self.new) }
     {
         self.feed(share, moment, piece)?;

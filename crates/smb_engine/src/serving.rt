@@ -50,7 +50,7 @@ pub enum Opening {
     NoMemory,
 }
 
-/// Opens a connection of the share for a new peer. Room for the peer is made first.
+/// Opens a connection of the share for a new peer, where the share has room. Room for the peer is made first.
 fn begin<A: Authenticator + Drop, T: Tree + Drop, O: Opens + Drop>(
     share: &mut Share<A, T, O>,
     served_peers: &mut Vec<ServedPeer>,
@@ -58,6 +58,9 @@ fn begin<A: Authenticator + Drop, T: Tree + Drop, O: Opens + Drop>(
 ) -> Opening
     ensures { Begins number share.old served_peers.old.items share.new served_peers.new.items result }
 {
+    if !share.has_room() {
+        return Opening::Refused;
+    }
     match served_peers.reserve(1) {
         Ok(()) => {}
         Err(_) => return Opening::NoMemory,

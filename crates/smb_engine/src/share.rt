@@ -1,15 +1,16 @@
 //! The share over its connections.
 
-ghost use Rattle.std.specs.Prelude.{◌≡◌, ◌<◌, ◌+◌, ◌++◌, [], true, false, Some, None, OnOk, OnErr, IfOk, IfErr, if◌then◌else◌};
+ghost use Rattle.std.specs.Prelude.{◌≡◌, ◌<◌, ◌+◌, ◌-◌, ◌^◌, ◌++◌, [], true, false, Some, None, OnOk, OnErr, IfOk, IfErr, length, if◌then◌else◌};
 ghost use Rattle.std.specs.List.{AllByRecursion, flat_map};
 ghost use Rattle.std.specs.Map.{remove_entry};
 ghost use Rattle.std.specs.BTreeMap.{is_at, insert_entry};
 ghost use Rattle.std.specs.Ordering.{nat_cmp};
+ghost use Rattle.smb_wire.specs.Limits.{most_connections};
 ghost use Rattle.smb_tree.specs.Content.{new_content};
 ghost use Rattle.smb_request.specs.Settings.{settings_of, is_lawful};
 ghost use Rattle.smb_request.specs.State.{connection_added};
 ghost use Rattle.smb_engine.specs.Event.{brings, text_of, events_of, connection_at};
-ghost use Rattle.smb_engine.specs.Output.{output_bytes, outputs_of};
+ghost use Rattle.smb_engine.specs.Output.{AreShort, output_bytes, outputs_of};
 ghost use Rattle.smb_engine.specs.Refusals.{MakingRefused, EventOutOfMemory, OpeningRefused, PieceStopped, run_behind, EventStopped, RunStopped};
 ghost use Rattle.smb_engine.specs.State.{new_share, new_stream, stream_of, is_open, opened, ended};
 ghost use Rattle.smb_engine.specs.Run.{opening_refusal, bytes_step, unknown_refusal, event_refusal, event_step, run};
@@ -194,6 +195,15 @@ impl<A: Authenticator + Drop, T: Tree + Drop, O: Opens + Drop> Share<A, T, O> {
         self.server.allocator()
     }
 
+    /// Whether the share has room for another connection, and a number.
+    pub(crate) fn has_room(&self) -> bool
+        ensures refusal { opening_refusal self.now ≡ (if result then None else Some ServeFault.TooManyConnections) }
+        ensures few { result ≡ true → length self.now.streams < most_connections }
+        ensures next { result ≡ true → self.now.next < 2 ^ 64 - 1 }
+    {
+        self.streams.len() < MOST_CONNECTIONS && self.next < u64::MAX
+    }
+
     /// Opens a connection, and gives its number: 1, 2, 3 and so on, none twice.
     ///
     /// [`ServeFault::TooManyConnections`] where 64 are open or the numbers are spent, and else
@@ -205,10 +215,10 @@ impl<A: Authenticator + Drop, T: Tree + Drop, O: Opens + Drop> Share<A, T, O> {
         ensures err { IfErr result (OpeningRefused self.old) }
         ensures kept { OnErr result (self.new ≡ self.old) }
     {
-        let connection = self.next;
-        if self.streams.len() >= MOST_CONNECTIONS || connection == u64::MAX {
+        if !self.has_room() {
             return Err(ServeFault::TooManyConnections);
         }
+        let connection = self.next;
         let stream = new_stream(self.server.allocator());
         match add_connection(&mut self.server, &mut self.streams, connection, stream) {
             Ok(()) => {}
@@ -241,6 +251,7 @@ impl<A: Authenticator + Drop, T: Tree + Drop, O: Opens + Drop> Share<A, T, O> {
         ensures outputs { OnOk result (K.content out.new ≡ K.content out.old ++ flat_map K.hears
             (bytes_step A.meaning self.old connection moment piece.now).outputs) }
         ensures fate { IfOk result (λ fate. fate ≡ (if is_open self.new connection then Fate.Open else Fate.Ended)) }
+        ensures short { OnOk result (AreShort (bytes_step A.meaning self.old connection moment piece.now).outputs) }
         ensures err { IfErr result (λ ran_out. EventOutOfMemory A.meaning self.old
             (brings connection moment piece.now) ran_out.done self.new) }
         ensures kept { OnErr result (K.content out.new ≡ K.content out.old) }
@@ -287,7 +298,9 @@ impl<A: Authenticator + Drop, T: Tree + Drop, O: Opens + Drop> Share<A, T, O> {
     /// `moment` is in units of 100 ns since 1601. On a connection that is not open the piece is passed over:
     /// nothing changes, and the connection is [`Fate::Ended`]. After [`ServeFault::NoMemory`], the only refusal,
     /// the connection was open and `out` is as it was; the first `done` requests of the piece were performed,
-    /// and then the connection has ended.
+    /// and then the connection has ended. One that was performed and found no memory for its response counts.
+    ///
+    /// The payload of a frame that is added has at most 1,049,856 bytes, fewer than 2^24.
     pub fn feed(
         &mut self,
         connection: u64,
@@ -300,6 +313,7 @@ impl<A: Authenticator + Drop, T: Tree + Drop, O: Opens + Drop> Share<A, T, O> {
         ensures outputs { OnOk result (out.new.items ≡ out.old.items ++ flat_map output_bytes
             (bytes_step A.meaning self.old connection moment piece.now).outputs) }
         ensures fate { IfOk result (λ fate. fate ≡ (if is_open self.new connection then Fate.Open else Fate.Ended)) }
+        ensures short { OnOk result (AreShort (bytes_step A.meaning self.old connection moment piece.now).outputs) }
         ensures err { IfErr result (λ fault. PieceStopped A.meaning self.old connection moment piece.now fault self.new) }
         ensures kept { OnErr result (out.new.items ≡ out.old.items) }
         ensures passed { OnOk result (stream_of connection self.old.streams ≡ None → self.new ≡ self.old) }
@@ -327,6 +341,7 @@ impl<A: Authenticator + Drop, T: Tree + Drop, O: Opens + Drop> Share<A, T, O> {
         ensures state { OnOk result (self.new ≡ unread (event_step A.meaning self.old (text_of event.now)).state) }
         ensures outputs { OnOk result (outputs_of answers.new.items ≡ outputs_of answers.old.items ++
             (event_step A.meaning self.old (text_of event.now)).outputs) }
+        ensures short { OnOk result (AreShort (event_step A.meaning self.old (text_of event.now)).outputs) }
         ensures err { IfErr result (λ fault. EventStopped A.meaning self.old (text_of event.now) fault self.new) }
         ensures kept { OnErr result (outputs_of answers.new.items ≡ outputs_of answers.old.items) }
     {
@@ -371,6 +386,7 @@ impl<A: Authenticator + Drop, T: Tree + Drop, O: Opens + Drop> Share<A, T, O> {
         ensures err { IfErr result (λ e. RunStopped A.meaning self.old (events_of events.now) e.place e.fault self.new
             (outputs_of answers.old.items) (outputs_of answers.new.items)) }
         ensures connection { IfErr result (λ e. connection_at (events_of events.now) e.place ≡ Some e.connection) }
+        ensures short { AreShort (outputs_of answers.old.items) → AreShort (outputs_of answers.new.items) }
     {
         let _ = &self.server;
         let mut place = 0;
@@ -397,13 +413,15 @@ impl<A: Authenticator + Drop, T: Tree + Drop, O: Opens + Drop> Share<A, T, O> {
     /// performed, and their answers added. A refused event ([`ServeFault::BadEvent`],
     /// [`ServeFault::TooManyConnections`]) changes nothing. After [`ServeFault::NoMemory`] the first `done` requests of
     /// the event were performed, without a reply, and then its connection has ended; an opening changed nothing. Memory
-    /// never runs out at the end of a connection, nor at a piece on one that is not open.
+    /// never runs out at the end of a connection, nor at a piece on one that is not open. The payload of a frame that is
+    /// added has at most 1,049,856 bytes, fewer than 2^24.
     pub fn run(&mut self, events: &[Event], answers: &mut Vec<Answer>) -> Result<(), RunFault>
         ensures ok { OnOk result (record { state = self.new; outputs = outputs_of answers.new.items; stop = None }
             ≡ run_behind (outputs_of answers.old.items) (run A.meaning self.old (events_of events.now))) }
         ensures err { IfErr result (λ e. RunStopped A.meaning self.old (events_of events.now) e.place e.fault self.new
             (outputs_of answers.old.items) (outputs_of answers.new.items)) }
         ensures connection { IfErr result (λ e. connection_at (events_of events.now) e.place ≡ Some e.connection) }
+        ensures short { AreShort (outputs_of answers.old.items) → AreShort (outputs_of answers.new.items) }
         ensures good { GoodState self.new }
     {
         let result = self.run_events(events, answers);

@@ -7,6 +7,7 @@ ghost use Rattle.smb_frame.specs.Reading.{first, fault_of, payloads, rest};
 ghost use Rattle.smb_engine.specs.Run.{payload_step, payload_steps, piece_step};
 ghost use Rattle.smb_engine.specs.Held.{Waits, IsPieceHeld, StoppedAfter};
 ghost use Rattle.smb_engine.specs.InPlace.{step_behind};
+ghost use Rattle.smb_engine.specs.Output.{AreShort};
 
 use super::arrival::Arrival;
 use super::chain::perform_payload;
@@ -34,6 +35,7 @@ fn put_payload<A: Authenticator + Drop, T: Tree + Drop, O: Opens + Drop, K: Sink
         (payload_step A.meaning arrival server.old connection.old payload.now)) }
     ensures count { IfOk result (λ count. IfSome count (λ n. n ≡ length
         (payload_step A.meaning arrival server.old connection.old payload.now).requests)) }
+    ensures short { OnOk result (AreShort (payload_step A.meaning arrival server.old connection.old payload.now).outputs) }
     ensures err { IfErr result (λ ran_out. StoppedAfter server.old
         (payload_step A.meaning arrival server.old connection.old payload.now) ran_out.done server.new) }
     ensures kept { OnErr result (K.content out.new ≡ K.content out.old) }
@@ -78,6 +80,8 @@ fn take_payloads<A: Authenticator + Drop, T: Tree + Drop, O: Opens + Drop, K: Si
     ensures err { IfErr result (λ ran_out. StoppedAfter server.old
         (payload_steps A.meaning arrival server.old connection.old (payloads longest_payload buffer.old.bytes))
         ran_out.done server.new) }
+    ensures short { OnOk result (AreShort
+        (payload_steps A.meaning arrival server.old connection.old (payloads longest_payload buffer.old.bytes)).outputs) }
     ensures kept { take (length (K.content out.old)) (K.content out.new) ≡ K.content out.old }
     ensures limit { buffer.new.limit ≡ longest_payload }
     ensures known { server.new.sessions.table.connections ≡ server.old.sessions.table.connections }
@@ -124,6 +128,7 @@ pub(crate) fn take_piece<A: Authenticator + Drop, T: Tree + Drop, O: Opens + Dro
         (piece_step A.meaning arrival server.old stream.old piece.now) server.new stream.new stays_open) }
     ensures outputs { OnOk result (K.content out.new ≡ K.content out.old ++ flat_map K.hears
         (piece_step A.meaning arrival server.old stream.old piece.now).outputs) }
+    ensures short { OnOk result (AreShort (piece_step A.meaning arrival server.old stream.old piece.now).outputs) }
     ensures err { IfErr result (λ ran_out. StoppedAfter server.old
         (piece_step A.meaning arrival server.old stream.old piece.now) ran_out.done server.new) }
     ensures kept { OnErr result (K.content out.new ≡ K.content out.old) }

@@ -18,4 +18,4 @@ returns-clause-ok g c =
     let closed = c.close_reply.ensures.closed before [] (reply_spelling response) c.begin-writer.ensures.placed place (body ∙ ap (λ bytes. bytes ++ reply_spelling response) opened) in
     let spelled = ap (λ (bytes : List ℕ). bytes ++ joined_replies (record { header = c.reply_header.result; body = reply_spelling response } ∷ [])) c.in-Ok.ensures.ok in
     let headed = ap (λ h. (c.args.out.now.items ++ replicate 4 0) ++ joined_replies (record { header = h; body = reply_spelling response } ∷ [])) (c.reply_header.ensures response) in
-    c.end_frame.ensures c.args.arrival.connection_id c.args.out.now.items _ c.in-Ok.ensures.start (closed ∙ spelled ∙ headed)
+    c.end_frame.ensures.framed c.args.arrival.connection_id c.args.out.now.items _ c.in-Ok.ensures.start (closed ∙ spelled ∙ headed)

@@ -5,7 +5,7 @@ use Rattle.smb_engine.proofs.serving.feed_peer.Goals as goal
 pub returns-in-Ok : goal.returns-in-Ok
 returns-in-Ok g c = λ k.
     let t = c.moment-moment.ensures k in
-    (t.0, takes_piece c.moment-moment.result (search rules) c.in-Ok.ensures.ok t.1 refl)
+    (t.0, takes_piece c.moment-moment.result (search rules) c.in-Ok.ensures.short c.in-Ok.ensures.ok t.1 refl)
 
 pub returns-in-Err : goal.returns-in-Err
 returns-in-Err g c = λ k.

@@ -5,6 +5,7 @@ use Rattle.smb_engine.specs.Refusals.{server_after}
 use Rattle.smb_engine.specs.Run.{payload_step}
 use Rattle.smb_engine.proofs.Chains.{payload_whole}
 use Rattle.smb_engine.proofs.Steps.{frame_of, no_frame}
+use Rattle.smb_engine.proofs.Short.{step_short}
 use Rattle.smb_engine.proofs.stream.put_payload.Goals as goal
 
 pub returns-in-Err-give_frame-clause-err : goal.returns-in-Err-give_frame-clause-err
@@ -25,6 +26,14 @@ returns-in-Ok-clause-ok g c =
     f.2 (g.K.Sink.content c.args.out.now) (g.K.Sink.content c.give_frame.new.self)
     (c.in-Ok.ensures.ok c.take_bytes-bytes.result.items f.0 c.take_bytes-bytes.ensures.lent f.1
     ∙ ap (λ t. t ++ flat_map g.K.Sink.hears (reply_frame c.args.arrival.connection_id f.0)) c.take_bytes-bytes.ensures.content)
+
+pub returns-in-Ok-clause-short : goal.returns-in-Ok-clause-short
+returns-in-Ok-clause-short g c =
+    step_short (payload_step g.A.Authenticator.meaning c.args.arrival c.args.server.now c.args.connection.now c.args.payload.now) _ _ _ c.take_bytes-bytes.result.items _ c.in-Ok-Some.ensures.ok c.in-Ok-Some.ensures.len
+
+pub returns-in-Ok-None-clause-short : goal.returns-in-Ok-None-clause-short
+returns-in-Ok-None-clause-short g c =
+    step_short (payload_step g.A.Authenticator.meaning c.args.arrival c.args.server.now c.args.connection.now c.args.payload.now) _ _ _ c.take_bytes-bytes.result.items _ c.in-Ok-None.ensures.ok c.in-Ok-None.ensures.len
 
 pub returns-in-Ok-None-clause-ok : goal.returns-in-Ok-None-clause-ok
 returns-in-Ok-None-clause-ok g c =

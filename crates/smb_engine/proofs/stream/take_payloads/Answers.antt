@@ -1,6 +1,6 @@
 use Rattle.std.proofs.Common.{sym, ap, ◌∙◌, rules}
 use Rattle.smb_engine.proofs.Chains.{count_few, within_few}
-use Rattle.smb_engine.proofs.Steps.{steps_more, steps_over, steps_refused, steps_all, held_all, steps_stopped, steps_stopped_in, steps_within, steps_done, front_kept, kept_more, at_limit}
+use Rattle.smb_engine.proofs.Steps.{steps_more, steps_over, steps_over_short, steps_refused, steps_all, steps_all_short, held_all, steps_stopped, steps_stopped_in, steps_within, steps_done, front_kept, kept_more, at_limit}
 use Rattle.smb_engine.proofs.stream.take_payloads.Goals as goal
 
 pub returns-in-Err-clause-err : goal.returns-in-Err-clause-err
@@ -28,6 +28,13 @@ pub returns-in-Ok-None-clause-kept : goal.returns-in-Ok-None-clause-kept
 returns-in-Ok-None-clause-kept g c =
     kept_more _ _ _ c.loop-payload.invariant.kept (front_kept _ _ _ (ap (λ p. p.out) c.in-Ok-None.ensures.ok))
 
+pub returns-in-Ok-None-clause-short : goal.returns-in-Ok-None-clause-short
+returns-in-Ok-None-clause-short g c =
+    let e = rw c.in-Ok-None.field-0-is at c.in-Ok-None.ensures.ok in
+    steps_over_short g.A.Authenticator.meaning g.K.Sink.hears _ _ _ _ _ _ _ _ _ _ _ c.loop-payload.invariant.so_far
+    (at_limit c.loop-payload.buffer.limit c.loop-payload.buffer.bytes _ c.loop-payload.invariant.limit c.in-Some.ensures.first)
+    (sym (ap (λ p. p.stays_open) e)) c.in-Ok-None.ensures.short
+
 pub loop-payload-preserved : goal.loop-payload-preserved
 loop-payload-preserved g c =
     let e = rw c.in-Ok-Some.field-0-is at c.in-Ok-Some.ensures.ok in
@@ -36,7 +43,8 @@ loop-payload-preserved g c =
           (at_limit c.loop-payload.buffer.limit c.loop-payload.buffer.bytes _ c.loop-payload.invariant.limit c.in-Some.ensures.first)
           e (rw c.in-Ok-Some.field-0-is at c.in-Ok-Some.ensures.count)
           (ap (λ b. b.bytes) (c.done.ensures _ (sym c.in-Some.ensures.first)))
-          (count_few g.A.Authenticator.meaning _ _ _ _ _ (rw c.in-Ok-Some.field-0-is at c.in-Ok-Some.ensures.count));
+          (count_few g.A.Authenticator.meaning _ _ _ _ _ (rw c.in-Ok-Some.field-0-is at c.in-Ok-Some.ensures.count))
+          c.in-Ok-Some.ensures.short;
       kept = kept_more _ _ _ c.loop-payload.invariant.kept (front_kept _ _ _ (ap (λ p. p.out) e));
       known = c.put_payload.ensures.known ∙ c.loop-payload.invariant.known;
       limit = ap (λ b. b.limit) (c.done.ensures _ (sym c.in-Some.ensures.first)) ∙ c.loop-payload.invariant.limit;
@@ -45,6 +53,10 @@ loop-payload-preserved g c =
 pub returns-clause-ok : goal.returns-clause-ok
 returns-clause-ok g c =
     steps_all g.A.Authenticator.meaning g.K.Sink.hears _ _ _ _ _ _ _ _ _ _ c.loop-payload.invariant.so_far (at_limit c.loop-payload.buffer.limit c.loop-payload.buffer.bytes _ c.loop-payload.invariant.limit c.in_default.ensures.first)
+
+pub returns-clause-short : goal.returns-clause-short
+returns-clause-short g c =
+    steps_all_short g.A.Authenticator.meaning g.K.Sink.hears _ _ _ _ _ _ _ _ _ _ c.loop-payload.invariant.so_far (at_limit c.loop-payload.buffer.limit c.loop-payload.buffer.bytes _ c.loop-payload.invariant.limit c.in_default.ensures.first)
 
 pub returns-clause-rest : goal.returns-clause-rest
 returns-clause-rest g c = λ t. (

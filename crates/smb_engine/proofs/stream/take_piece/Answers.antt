@@ -1,5 +1,5 @@
 use Rattle.std.proofs.Common.{refl, ◌∙◌}
-use Rattle.smb_engine.proofs.Pieces.{held_with, stopped_in, stays_as, ends_as}
+use Rattle.smb_engine.proofs.Pieces.{held_with, stopped_in, short_in, stays_as, ends_as}
 use Rattle.smb_engine.proofs.stream.take_piece.Goals as goal
 
 pub returns-in-Err-take_payloads-clause-err : goal.returns-in-Err-take_payloads-clause-err
@@ -42,3 +42,15 @@ returns-clause-outputs g c =
     c.in-Ok-put_end.ensures.ok ∙
     rw (← c.stream.view_is) (ends_as g.A.Authenticator.meaning c.args.arrival g.K.Sink.hears c.args.server.now _ (record { received = c.stream.inside.buffer.bytes; connection = c.stream.inside.connection }) c.args.piece.now _ _ _ _ _ _ _ w held.1
     c.in-Ok-take_payloads.ensures.ok c.in-Ok-take_payloads.ensures.rest c.if-stays_open.ensures).1
+
+pub returns-then-stays_open-clause-short : goal.returns-then-stays_open-clause-short
+returns-then-stays_open-clause-short g c =
+    let w = rw (← c.stream.view_is) at c.requires in
+    let held = held_with _ c.stream.inside.buffer c.push.new.self c.args.piece.now c.stream.invariant refl w c.in-Ok.ensures.ok in
+    rw (← c.stream.view_is) (short_in g.A.Authenticator.meaning c.args.arrival c.args.server.now _ c.args.piece.now _ w held.1 c.in-Ok-take_payloads.ensures.short)
+
+pub returns-clause-short : goal.returns-clause-short
+returns-clause-short g c =
+    let w = rw (← c.stream.view_is) at c.requires in
+    let held = held_with _ c.stream.inside.buffer c.push.new.self c.args.piece.now c.stream.invariant refl w c.in-Ok.ensures.ok in
+    rw (← c.stream.view_is) (short_in g.A.Authenticator.meaning c.args.arrival c.args.server.now _ c.args.piece.now _ w held.1 c.in-Ok-take_payloads.ensures.short)

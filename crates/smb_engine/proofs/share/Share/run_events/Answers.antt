@@ -1,10 +1,11 @@
 use Rattle.std.proofs.Common.{refl, arith}
 use Rattle.smb_engine.proofs.Streams.{same_unread}
 use Rattle.smb_engine.proofs.Runs.{run_none, run_more, run_stops, connection_read}
+use Rattle.smb_engine.proofs.Short.{more_short, same_short}
 use Rattle.smb_engine.proofs.share.Share.run_events.Goals as goal
 
 pub loop-event-init : goal.loop-event-init
-loop-event-init g c = record { so_far = run_none g.A.Authenticator.meaning _ _ _ (rw (← c.self.view_is) (same_unread _ c.self.invariant.waits)); place = refl }
+loop-event-init g c = record { so_far = run_none g.A.Authenticator.meaning _ _ _ (rw (← c.self.view_is) (same_unread _ c.self.invariant.waits)); place = refl; short = λ h. h }
 
 pub returns-in-Err-clause-err : goal.returns-in-Err-clause-err
 returns-in-Err-clause-err g c =
@@ -18,4 +19,8 @@ pub loop-event-preserved : goal.loop-event-preserved
 loop-event-preserved g c = record {
   so_far = run_more g.A.Authenticator.meaning _ _ _ _ _ _ _ _ _ c.loop-event.invariant.so_far c.loop-event-test.true c.event-item.is c.in-Ok.ensures.unrefused c.in-Ok.ensures.state c.in-Ok.ensures.outputs;
   place = omega arith;
+  short = λ h. more_short _ _ _ c.in-Ok.ensures.outputs (c.loop-event.invariant.short h) c.in-Ok.ensures.short;
 }
+
+pub returns-in-Err-clause-short : goal.returns-in-Err-clause-short
+returns-in-Err-clause-short g c = λ h. same_short _ _ c.in-Err.ensures.kept (c.loop-event.invariant.short h)

@@ -1,6 +1,6 @@
 use Rattle.std.proofs.Common.{◌≡◌}
 use Rattle.smb_engine.specs.Event.{events_of}
-use Rattle.smb_engine.specs.Output.{outputs_of}
+use Rattle.smb_engine.specs.Output.{AreShort, outputs_of}
 use Rattle.smb_engine.proofs.Runs.{RunSoFar}
 use Rattle.smb_engine.proofs.share.Share.run_events.Given as goal
 
@@ -8,4 +8,5 @@ abbrev pub invariant-loop-event : goal.invariant-loop-event
 invariant-loop-event g l = record {
   so_far : RunSoFar g.A.Authenticator.meaning l.fn.self l.self (outputs_of l.fn.answers.items) (outputs_of l.answers.items) (events_of l.events) l.event-index;
   place : l.place ≡ l.event-index;
+  short : AreShort (outputs_of l.fn.answers.items) → AreShort (outputs_of l.answers.items);
 }
