@@ -14,9 +14,9 @@ import random
 import sys
 
 sys.path.insert(0, str(pathlib.Path(__file__).resolve().parent.parent / 'tools'))
-import serving
+import served
 from frames import create, read, set_info, write
-from serving import ALL_ACCESS, LONGEST_PIECE, OPEN_IF, Served, opens_a_file
+from served import ALL_ACCESS, LONGEST_PIECE, OPEN_IF, Served, opens_a_file
 from exchanging import processor_seconds, seconds_for
 
 FILE_SIZE, PAGE, FILE_END_OF_FILE = 16 * 1024 * 1024, 4_096, 20
@@ -111,7 +111,7 @@ def memory():
 
 
 if __name__ == '__main__':
-    serving.PROGRAM = sys.argv[1] if len(sys.argv) > 1 else serving.PROGRAM
+    served.PROGRAM = sys.argv[1] if len(sys.argv) > 1 else served.PROGRAM
     exchanges()
     print()
     memory()

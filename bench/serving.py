@@ -15,7 +15,7 @@ import time
 sys.path.insert(0, str(pathlib.Path(__file__).resolve().parent.parent / 'tools'))
 from exchanging import processor_seconds, seconds_for
 from frames import close, create, echoes, read, session_setup, tree_connect, write
-from serving import ALL_ACCESS, LONGEST_PIECE, OPEN_IF, Served, opens_a_file
+from served import ALL_ACCESS, LONGEST_PIECE, OPEN_IF, Served, opens_a_file
 
 IDLE_SECONDS = 10
 PIECE = bytes(LONGEST_PIECE)

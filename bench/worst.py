@@ -15,7 +15,7 @@ import time
 sys.path.insert(0, str(pathlib.Path(__file__).resolve().parent.parent / 'tools'))
 from frames import (chain, close, create, frame, header, lock, query_directory, query_info, rename, session_setup, set_info, tree_connect,
                     write)
-from serving import ALL_ACCESS, OPEN_IF, Served
+from served import ALL_ACCESS, OPEN_IF, Served
 
 DIRECTORY_FILE, DELETE_ON_CLOSE, OPEN = 1, 0x1000, 1
 MOST_ENTRIES, MOST_OPENS, MOST_LOCKS, LONGEST_NAME = 4_096, 1_024, 256, 255

@@ -19,7 +19,7 @@ import sys
 TOP = pathlib.Path(__file__).resolve().parent.parent
 sys.path.insert(0, str(TOP / "tools"))
 from frame import Unread, as_bytes, read, write
-from serving import Client
+from served import Client
 
 ANSWERS = "examples/demo.answers"
 PATIENCE = 60

@@ -11,107 +11,19 @@ pass but where the program itself is to wait; where an answer does not come at a
 import hashlib
 import hmac
 import os
-import resource
-import socket
 import struct
 import subprocess
 import sys
 import tempfile
+import time
 
-TOP = os.path.dirname(os.path.dirname(os.path.abspath(__file__)))
-sys.path.insert(0, os.path.join(TOP, 'bench'))
+sys.path.insert(0, os.path.dirname(os.path.abspath(__file__)))
+from served import (ALL_ACCESS, CHAIN, LONGEST_PIECE, OPEN_IF, PATIENCE, PROGRAM, STATUS_AT, TOP, Served, memory_of,
+                    opens_a_file, opens_the_root, search)
 from frames import close, create, echoes, negotiate, read, session_setup, tree_connect, write
 
-ALL_ACCESS, OPEN_IF, LONGEST_PIECE = 0x1F01FF, 3, 65_536
-PATIENCE = 60
-STATUS_AT = 12
 # Where a NEGOTIATE's reply has the moment, in units of 100 ns since 1601, and which one is that of 1970.
 MOMENT_AT, OF_1970 = 104, 116_444_736_000_000_000
-
-
-class Served:
-    """The program, serving on a free port."""
-
-    def __init__(self, *words, descriptors=None, system=None):
-        def limited():
-            if descriptors:
-                resource.setrlimit(resource.RLIMIT_NOFILE, (descriptors, descriptors))
-
-        self.process = subprocess.Popen([PROGRAM, 'serve', '--listen', '127.0.0.1:0', *words], stdin=subprocess.DEVNULL,
-                                        stdout=subprocess.PIPE, stderr=subprocess.PIPE, preexec_fn=limited, env=system)
-        line = self.process.stderr.readline().decode()
-        if not line.startswith('listening on 127.0.0.1:'):
-            raise AssertionError(f'the first line is {line!r}')
-        self.port = int(line.rsplit(':', 1)[1])
-
-    def __enter__(self):
-        return self
-
-    def __exit__(self, *_):
-        self.process.kill()
-        self.process.communicate()
-
-    def client(self):
-        return Client(self.port)
-
-
-class Client:
-    """A client's stream."""
-
-    def __init__(self, port):
-        self.stream = socket.create_connection(('127.0.0.1', port), PATIENCE)
-
-    def send(self, data):
-        self.stream.sendall(data)
-        return self
-
-    def reply(self):
-        """The payload of the next frame; none where the stream has ended."""
-        head = self.bytes(4)
-        return self.bytes(struct.unpack('>I', head)[0]) if len(head) == 4 else b''
-
-    def bytes(self, count):
-        found = b''
-        while len(found) < count:
-            try:
-                part = self.stream.recv(count - len(found))
-            except ConnectionResetError:
-                part = b''
-            if not part:
-                break
-            found += part
-        return found
-
-    def asks(self, data):
-        """The status that answers a frame of one request."""
-        self.send(data)
-        reply = self.reply()
-        return struct.unpack_from('<I', reply, STATUS_AT - 4)[0] if len(reply) >= 64 else None
-
-    def negotiates(self):
-        return self.asks(negotiate()) == 0
-
-    def is_served(self):
-        """Whether it negotiates and gets an answer to an ECHO."""
-        return self.negotiates() and self.asks(echoes(1, 1)) == 0
-
-    def is_ended(self):
-        """Whether the share ends it, with nothing before."""
-        return self.bytes(1) == b''
-
-    def end(self):
-        self.stream.close()
-
-    def reset(self):
-        """Ends it so that the share's next read or send fails."""
-        self.stream.setsockopt(socket.SOL_SOCKET, socket.SO_LINGER, struct.pack('ii', 1, 0))
-        self.stream.close()
-
-
-def opens_a_file(client):
-    """Open 1 of a file, in session 1 and tree 1; the next MessageId is 4."""
-    return (client.negotiates() and client.asks(session_setup(1)) == 0 and client.asks(tree_connect(2, 1)) == 0
-            and client.asks(create(3, 'a', ALL_ACCESS, OPEN_IF, 0, 1, 1)) == 0)
 
 
 def a_client_is_served():
@@ -239,6 +151,89 @@ def silence_is_an_end():
                 if speaking.asks(echoes(message_id, 1)) != 0:
                     return False
                 message_id += 1
+
+
+def what_is_taken_is_life(count=200, seconds=9):
+    """With a limit of five seconds a client that says nothing for longer, but takes what it asked for, is not ended."""
+    with Served('--idle', '5') as share:
+        client = share.client()
+        if not opens_a_file(client) or client.asks(write(4, 1, 0, b'x' * LONGEST_PIECE, 1, 1)) != 0:
+            return False
+        client.send(b''.join(read(5 + i, 1, 0, LONGEST_PIECE, 1, 1) for i in range(count)))
+        begin = time.monotonic()
+        for i in range(count):
+            if client.reply()[-LONGEST_PIECE:] != b'x' * LONGEST_PIECE:
+                return False
+            time.sleep(max(0, begin + seconds * i / count - time.monotonic()))
+        return client.asks(echoes(5 + count, 1)) == 0
+
+
+def others_go_on_beside_a_search(files=300, chains=39):
+    """Of a piece that holds many chains of queries one is performed, and then others are heard, before the next."""
+    with Served() as share:
+        searching, beside = share.client(), share.client()
+        if not beside.negotiates() or not opens_the_root(searching):
+            return False
+        for i in range(files):
+            name = f'{i:04}' + 'b' * 200
+            searching.send(create(4 + 2 * i, name, ALL_ACCESS, 2, 0, 1, 1) + close(5 + 2 * i, 2 + i, 1, 1))
+            if not searching.reply() or not searching.reply():
+                return False
+        first = 4 + 2 * files
+        searching.send(b''.join(search(first + CHAIN * i) for i in range(chains)))
+        one = len(searching.reply())
+        return one > 0 and beside.asks(echoes(1, 1)) == 0 and searching.waiting() < one * (chains - 1)
+
+
+def searches_come_in_parts():
+    """Each frame of a stream of queries and ECHOs is answered once and in order, however its bytes are cut."""
+    with Served() as share:
+        client, first = share.client(), 4
+        if not opens_the_root(client):
+            return False
+        for part in (1, 3, 61, 1667, 1668, 1669, 4096, 2 * LONGEST_PIECE):
+            frames = []
+            for i in range(8 if part < 61 else 50):
+                frames.append((first, search(first)) if i % 3 != 1 else (first, echoes(first, CHAIN)))
+                first += CHAIN
+            stream = b''.join(one for _, one in frames)
+            for at in range(0, len(stream), part):
+                client.send(stream[at:at + part])
+            if any(struct.unpack_from('<Q', client.reply(), 24)[0] != number for number, _ in frames):
+                return False
+        return client.asks(echoes(first, 1)) == 0
+
+
+def who_is_never_answered_is_ended():
+    """After two seconds, whether or not bytes come; who was answered stays."""
+    with Served('--idle-new', '2') as share:
+        silent, answered, slow = share.client(), share.client(), share.client()
+        if not answered.negotiates():
+            return False
+        slow.stream.settimeout(0.2)
+        for byte in negotiate():
+            try:
+                slow.send(bytes([byte]))
+                if slow.stream.recv(1) == b'':
+                    break
+            except TimeoutError:
+                pass
+            except ConnectionError:
+                break
+        else:
+            return False
+        return silent.is_ended() and answered.asks(echoes(1, 1)) == 0
+
+
+def one_never_answered_makes_room():
+    """Where all places are taken, a newcomer gets that of the first that was never answered; who was answered stays."""
+    with Served() as share:
+        answered = share.client()
+        if not answered.negotiates():
+            return False
+        silent = [share.client() for _ in range(63)]
+        return (share.client().is_served() and silent[0].is_ended() and share.client().is_served()
+                and silent[1].is_ended() and silent[2].negotiates() and answered.asks(echoes(1, 1)) == 0)
 
 
 def ran(*words, system=None):
@@ -396,10 +391,17 @@ def challenges_come_from_the_seed():
     return b'NTLMSSP\0' in given and given == again and len({given, one, other}) == 3
 
 
-def memory_of(share):
-    """How many bytes of memory the program has."""
-    with open(f'/proc/{share.process.pid}/statm', encoding='ascii') as it:
-        return int(it.read().split()[1]) * resource.getpagesize()
+def room_is_given_back(count=400):
+    """The room for what a client was owed, 26 MB, is not kept once it took all, though it stays: less than 8 MiB are."""
+    system = {**os.environ, 'ASAN_OPTIONS': 'quarantine_size_mb=0:thread_local_quarantine_size_kb=0'}
+    with Served(system=system) as share:
+        client = share.client()
+        if not opens_a_file(client) or client.asks(write(4, 1, 0, b'x' * LONGEST_PIECE, 1, 1)) != 0:
+            return False
+        before = memory_of(share)
+        client.send(b''.join(read(5 + i, 1, 0, LONGEST_PIECE, 1, 1) for i in range(count)))
+        taken = all(client.reply()[-LONGEST_PIECE:] == b'x' * LONGEST_PIECE for _ in range(count))
+        return taken and client.asks(echoes(5 + count, 1)) == 0 and memory_of(share) - before < 8_388_608
 
 
 def begins_logins(share, connections):
@@ -436,6 +438,7 @@ def words_are_refused():
 
 TESTS = (a_client_is_served, a_file_is_written_and_read, bytes_come_one_by_one, an_end_is_told, sixty_four_are_served, others_go_on_beside_ends,
          one_that_never_reads_holds_up_nobody, slow_reader_takes_every_byte, without_descriptors_it_goes_on, silence_is_an_end,
+         others_go_on_beside_a_search, searches_come_in_parts, what_is_taken_is_life, who_is_never_answered_is_ended, one_never_answered_makes_room, room_is_given_back,
          so_many_turns_are_taken, addresses_are_refused, configurations_are_looked_at_first, two_clients_are_replayed,
          words_are_refused, guests_log_in_by_ntlm, an_account_logs_in_by_its_password, challenges_come_from_the_seed,
          unfinished_logins_take_no_memory, a_clock_before_1970_is_1970, a_port_that_is_not_allowed_is_refused)
@@ -459,6 +462,5 @@ def main():
     return 0 if passed == len(TESTS) else 1
 
 
-PROGRAM = os.path.abspath(sys.argv[1]) if len(sys.argv) > 1 else os.path.join(TOP, 'crates/smbshare/out/smbshare')
 if __name__ == '__main__':
     sys.exit(main())

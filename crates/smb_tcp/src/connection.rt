@@ -1,8 +1,18 @@
 //! A connection of a peer.
 
+use super::lending::Lending;
 use mio::event::Event;
 use mio::net::TcpStream;
+use std::alloc::Global;
 use std::time::Duration;
+
+/// Whether so long has passed since then; never where there is no limit.
+fn has_passed(since: Duration, now: Duration, limit: Option<Duration>) -> bool {
+    match limit {
+        Some(limit) => now.saturating_sub(since) >= limit,
+        None => false,
+    }
+}
 
 /// A peer's stream, under its number.
 #[derive(Drop)]
@@ -11,38 +21,102 @@ pub(crate) struct Connection {
     pub(crate) stream: TcpStream,
     /// It may have bytes: no read has found it empty since the system last spoke of it.
     pub(crate) readable: bool,
+    /// What came of it, and is lent by and by.
+    pub(crate) lending: Lending,
     /// The peer has ended its side, so that the end may stand behind the last bytes.
     pub(crate) closing: bool,
     /// Its end was told.
     pub(crate) ended: bool,
     /// The last send took only a part. It is not read until a send takes all: so a peer that never reads is owed little.
     pub(crate) blocked: bool,
-    /// When bytes came last, by the system's time.
+    /// When it was accepted, by the system's time.
+    pub(crate) accepted: Duration,
+    /// When bytes of it came last, or were taken last of what was sent to it.
     pub(crate) heard: Duration,
+    /// Something that was sent to it was taken.
+    pub(crate) answered: bool,
+}
+
+/// How long a peer may do nothing; None: for ever.
+#[derive(Clone, Copy, Debug)]
+pub(crate) struct SilenceLimits {
+    // Since it last said or took something.
+    idle: Option<Duration>,
+    // Since it was accepted, where it was never answered.
+    unanswered: Option<Duration>,
+}
+
+impl SilenceLimits {
+    /// No limit.
+    pub(crate) fn none() -> Self {
+        SilenceLimits {
+            idle: None,
+            unanswered: None,
+        }
+    }
+
+    /// These limits, with one for how long it may neither say nor take anything.
+    pub(crate) fn with_idle(self, limit: Duration) -> Self {
+        SilenceLimits {
+            idle: Some(limit),
+            unanswered: self.unanswered,
+        }
+    }
+
+    /// These limits, with one for how long it may stay without an answer.
+    pub(crate) fn with_unanswered(self, limit: Duration) -> Self {
+        SilenceLimits {
+            idle: self.idle,
+            unanswered: Some(limit),
+        }
+    }
 }
 
 impl Connection {
     /// A connection that was accepted at this time.
-    pub(crate) fn new(number: u64, stream: TcpStream, now: Duration) -> Self {
+    pub(crate) fn new(alloc: Global, number: u64, stream: TcpStream, now: Duration) -> Self {
         Connection {
             number,
             stream,
             readable: false,
+            lending: Lending::new(alloc),
             closing: false,
             ended: false,
             blocked: false,
+            accepted: now,
             heard: now,
+            answered: false,
         }
     }
 
-    /// Whether a read may bring something.
+    /// Whether a read may bring something, or something that came before is to be lent.
     pub(crate) fn may_be_read(&self) -> bool {
-        self.readable && !self.ended && !self.blocked
+        (self.readable || self.lending.has_more()) && !self.ended && !self.blocked
     }
 
-    /// Whether nothing came from it for so long, and its end was not told.
-    pub(crate) fn is_silent(&self, now: Duration, limit: Duration) -> bool {
-        !self.ended && now.saturating_sub(self.heard) >= limit
+    /// Whether a limit of silence has passed, and its end was not told.
+    pub(crate) fn is_silent(&self, now: Duration, limits: SilenceLimits) -> bool {
+        !self.ended
+            && (has_passed(self.heard, now, limits.idle)
+                || !self.answered && has_passed(self.accepted, now, limits.unanswered))
+    }
+
+    /// Whether it may make room for another one: it was never answered, and its end was not told.
+    pub(crate) fn may_make_room(&self) -> bool {
+        !self.answered && !self.ended
+    }
+
+    /// Notes that bytes of it came.
+    pub(crate) fn hear(&mut self, now: Duration) {
+        self.heard = now;
+    }
+
+    /// Notes that it took so many bytes of what was sent to it.
+    pub(crate) fn take(&mut self, now: Duration, count: usize) {
+        if count > 0 {
+            self.heard = now;
+            self.answered = true;
+        }
     }
 
     /// Notes what the system says of it.

@@ -8,6 +8,7 @@
 
 mod clock;
 mod connection;
+mod lending;
 mod piece;
 mod tcp;
 

@@ -1,6 +1,6 @@
 //! The bytes that came last.
 
-ghost use Rattle.std.specs.Prelude.{◌≡◌, ◌≤◌, take, IfOk, vec_len};
+ghost use Rattle.std.specs.Prelude.{◌≡◌, ◌≤◌, length, take, IfOk, vec_len};
 
 use std::alloc::{AllocError, Global};
 use std::io;
@@ -18,6 +18,14 @@ pub(crate) struct Piece {
     ghost within: { filled ≤ 65536 },
 }
 
+/// Puts bytes to the front of others.
+fn put_front(buffer: &mut [u8], bytes: &[u8])
+    requires { length bytes.now ≤ length buffer.old }
+    ensures { length buffer.new ≡ length buffer.old }
+{
+    buffer[..bytes.len()].copy_from_slice(bytes);
+}
+
 impl Piece {
     /// A piece of no bytes.
     pub(crate) fn new(alloc: Global) -> Result<Piece, AllocError> {
@@ -29,7 +37,8 @@ impl Piece {
 
     /// Its bytes.
     pub(crate) fn bytes(&self) -> &[u8]
-        ensures { result.now ≡ take self.now.filled self.now.buffer.items }
+        ensures bytes { result.now ≡ take self.now.filled self.now.buffer.items }
+        ensures few { length result.now ≤ 65536 }
     {
         &self.buffer[..self.filled]
     }
@@ -37,6 +46,19 @@ impl Piece {
     /// Drops its bytes.
     pub(crate) fn clear(&mut self) {
         self.filled = 0;
+    }
+
+    /// Makes these bytes the piece.
+    pub(crate) fn fill(&mut self, bytes: &[u8])
+        requires { length bytes.now ≤ 65536 }
+    {
+        put_front(&mut self.buffer, bytes);
+        self.filled = bytes.len();
+    }
+
+    /// Leaves so many of its bytes, at most as many as it has.
+    pub(crate) fn cut(&mut self, count: usize) {
+        self.filled = self.filled.min(count);
     }
 
     /// Reads what a stream has, and tells how many bytes.

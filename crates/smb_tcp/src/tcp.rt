@@ -4,7 +4,7 @@ ghost use Rattle.std.specs.Prelude.{◌≡◌, ◌<◌, ◌≤◌, ◌+◌, true
 ghost use Rattle.smb_engine.specs.Peers.{OpensOnce};
 ghost use Rattle.smb_tcp.specs.Numbers.{numbers_to};
 
-use super::connection::Connection;
+use super::connection::{Connection, SilenceLimits};
 use super::piece::{PIECE_SIZE, Piece};
 use mio::net::{TcpListener, TcpStream};
 use mio::{Events, Interest, Poll, Token};
@@ -15,24 +15,31 @@ use std::net::Net;
 use std::time::{Clock, Duration};
 use std::{io, net};
 
-/// How many streams are kept at most.
+/// How many streams are kept at most: those of the connections that a share may have, and a newcomer's.
 pub const MOST_STREAMS: usize = 65;
+
+/// A turn that takes so long is dear: until one of the same peer does not, it is lent one frame at a time.
+const DEAR_TURN_MILLISECONDS: u64 = 4;
 
 /// The listener's token. No connection gets this number.
 const LISTENER: Token = Token(usize::MAX);
 
 /// The streams of a listener: at most 65, numbered from 1 as they are accepted, and read in turn. All their room is made first.
 ///
-/// No call waits for a peer. A stream of which a send took only a part is not read until one takes all. One that says nothing for as long as
-/// the idle limit has ended, as if by its peer.
+/// No call waits for a peer. A stream of which a send took only a part is not read until one takes all. One that neither says nor takes
+/// anything for as long as the idle limit has ended, as if by its peer; so has one that was never answered after a limit of its own. Where 64
+/// streams are open and another one comes, that of those never answered which is silent longest has ended, and makes room for it.
 #[derive(Drop)]
 pub struct TcpPeers<'a, R: Net + Clock> {
     system: &'a R,
+    alloc: Global,
     poll: Poll,
     events: Events,
     listener: TcpListener,
     // A connection may wait to be accepted.
     acceptable: bool,
+    // It was accepted, and has no number yet.
+    newcomer: Option<TcpStream>,
     // An accept failed, as it does where no descriptor is left: the next one waits.
     refused: bool,
     // In the order of their numbers.
@@ -41,16 +48,18 @@ pub struct TcpPeers<'a, R: Net + Clock> {
     // The number of the stream that was looked at last.
     turn: u64,
     piece: Piece,
+    // Who was lent bytes last, and when.
+    lent: Option<(u64, Duration)>,
     failures: u64,
     wait: Duration,
     // Since a start that is the system's own.
     time: Duration,
-    idle_limit: Option<Duration>,
+    limits: SilenceLimits,
     ghost few: { vec_len connections ≤ 65 },
 }
 
 impl<'a, R: Net + Clock> TcpPeers<'a, R> {
-    /// The peers of a listener. They never wait: where nothing is to do, `next` is `Idle` at once. There is no idle limit.
+    /// The peers of a listener. They never wait: where nothing is to do, `next` is `Idle` at once. There is no limit of silence.
     pub fn new(system: &'a R, alloc: Global, listener: net::TcpListener) -> io::Result<Self> {
         TcpPeers::waiting(system, alloc, listener, Duration::ZERO)
     }
@@ -71,25 +80,36 @@ impl<'a, R: Net + Clock> TcpPeers<'a, R> {
         let connections = Vec::with_capacity(alloc, MOST_STREAMS)?;
         Ok(TcpPeers {
             system,
+            alloc,
             poll,
             events,
             listener,
             acceptable: true,
+            newcomer: None,
             refused: false,
             connections,
             opened: 0,
             turn: 0,
             piece: Piece::new(alloc)?,
+            lent: None,
             failures: 0,
             wait,
             time: system.monotonic()?,
-            idle_limit: None,
+            limits: SilenceLimits::none(),
         })
     }
 
-    /// With a time after which a connection has ended that says nothing. It is looked at between two waits.
+    /// With a time after which a connection has ended that says nothing and takes nothing of what is sent to it. It is looked at
+    /// between two waits.
     pub fn with_idle_limit(mut self, limit: Duration) -> Self {
-        self.idle_limit = Some(limit);
+        self.limits = self.limits.with_idle(limit);
+        self
+    }
+
+    /// With a time after which a connection has ended that took nothing since it was accepted: it was never answered. It is looked
+    /// at between two waits.
+    pub fn with_unanswered_limit(mut self, limit: Duration) -> Self {
+        self.limits = self.limits.with_unanswered(limit);
         self
     }
 
@@ -118,30 +138,72 @@ impl<'a, R: Net + Clock> TcpPeers<'a, R> {
             && connection.may_be_read())
     }
 
-    /// The place of the first connection that said nothing for as long as the limit.
+    /// The place of the first connection for which a limit of silence has passed.
     fn silent_place(&self) -> Option<usize>
         ensures { IfSome result (λ i. i < vec_len self.now.connections) }
     {
-        let limit = self.idle_limit?;
         self.connections
             .iter()
-            .position(|connection| connection.is_silent(self.time, limit))
+            .position(|connection| connection.is_silent(self.time, self.limits))
     }
 
-    /// Ends a connection that said nothing for as long as the limit, as if its peer had.
+    /// Ends the connection at a place, as if its peer had.
+    fn end(&mut self, place: usize) -> PeerEvent
+        requires { place < vec_len self.old.connections }
+        ensures opened { self.new.opened ≡ self.old.opened }
+        ensures once { OpensOnce result (numbers_to self.old.opened) (numbers_to self.old.opened) }
+    {
+        let connection = &mut self.connections[place];
+        connection.ended = true;
+        PeerEvent::Ended(connection.number)
+    }
+
+    /// Ends a connection for which a limit of silence has passed.
     fn end_silent(&mut self) -> Option<PeerEvent>
         ensures opened { self.new.opened ≡ self.old.opened }
         ensures once { IfSome result (λ event. OpensOnce event (numbers_to self.old.opened) (numbers_to self.old.opened)) }
     {
         let place = self.silent_place()?;
-        let connection = &mut self.connections[place];
-        connection.ended = true;
-        Some(PeerEvent::Ended(connection.number))
+        Some(self.end(place))
+    }
+
+    /// Whether as many connections go on as a share may have.
+    fn is_full(&self) -> bool {
+        let going_on = self.connections.iter().filter(|it| !it.ended).count();
+        going_on + 1 >= MOST_STREAMS
+    }
+
+    /// The place of the connection that makes room for another: of those that were never answered the one that is silent longest.
+    fn place_to_clear(&self) -> Option<usize>
+        ensures { IfSome result (λ i. i < vec_len self.now.connections) }
+    {
+        let mut found = None;
+        let mut since = Duration::MAX;
+        for (place, connection) in self.connections.iter().enumerate() {
+            if connection.may_make_room() && connection.heard < since {
+                since = connection.heard;
+                found = Some(place);
+            }
+        }
+        found
+    }
+
+    /// Ends a connection that was never answered, where a newcomer waits and all places are taken.
+    fn make_room(&mut self) -> Option<PeerEvent>
+        ensures opened { self.new.opened ≡ self.old.opened }
+        ensures once { IfSome result (λ event. OpensOnce event (numbers_to self.old.opened) (numbers_to self.old.opened)) }
+    {
+        if self.newcomer.is_none() || !self.is_full() {
+            return None;
+        }
+        let place = self.place_to_clear()?;
+        Some(self.end(place))
     }
 
     /// Whether something is left to do without a wait.
     fn is_busy(&self) -> bool {
-        self.acceptable && self.has_room()
+        self.newcomer.is_some()
+            || self.acceptable && self.has_room()
             || self
                 .connections
                 .iter()
@@ -173,27 +235,34 @@ impl<'a, R: Net + Clock> TcpPeers<'a, R> {
         }
     }
 
-    /// Takes in one connection, where one waits and there is room.
-    fn accept(&mut self) -> Option<u64>
-        ensures none { IfNone result (self.new.opened ≡ self.old.opened) }
-        ensures some { IfSome result (λ number. (number ≡ self.old.opened + 1) × (self.new.opened ≡ self.old.opened + 1)) }
+    /// Takes in one connection as the newcomer, where one waits and there is room.
+    fn accept(&mut self)
+        ensures opened { self.new.opened ≡ self.old.opened }
     {
-        if !self.acceptable || !self.has_room() {
-            return None;
+        if self.newcomer.is_some() || !self.acceptable || !self.has_room() {
+            return;
         }
         match self.listener.accept() {
-            Ok((stream, _)) => self.admit(stream),
-            Err(error) if error.kind() == ErrorKind::WouldBlock => {
-                self.acceptable = false;
-                None
-            }
+            Ok((stream, _)) => self.newcomer = Some(stream),
+            Err(error) if error.kind() == ErrorKind::WouldBlock => self.acceptable = false,
             Err(_) => {
                 self.failures = self.failures.saturating_add(1);
                 self.acceptable = false;
                 self.refused = true;
-                None
             }
         }
+    }
+
+    /// Gives the newcomer the next number, where there is one.
+    fn admit_newcomer(&mut self) -> Option<u64>
+        ensures none { IfNone result (self.new.opened ≡ self.old.opened) }
+        ensures some { IfSome result (λ number. (number ≡ self.old.opened + 1) × (self.new.opened ≡ self.old.opened + 1)) }
+    {
+        if !self.has_room() {
+            return None;
+        }
+        let stream = self.newcomer.take()?;
+        self.admit(stream)
     }
 
     /// Gives a stream the next number.
@@ -218,7 +287,7 @@ impl<'a, R: Net + Clock> TcpPeers<'a, R> {
         }
         if self
             .connections
-            .push(Connection::new(number, stream, self.time))
+            .push(Connection::new(self.alloc, number, stream, self.time))
             .is_err()
         {
             self.failures = self.failures.saturating_add(1);
@@ -228,7 +297,8 @@ impl<'a, R: Net + Clock> TcpPeers<'a, R> {
         Some(number)
     }
 
-    /// Reads from the connections in turn, up to the first that brings something.
+    /// Reads from the connections in turn, up to the first that brings something. One whose turn was dear, or that asks for
+    /// listings, is lent one frame at a time, and the others between two of them.
     fn read_on(&mut self) -> PeerEvent
         ensures { OpensOnce result (numbers_to self.old.opened) (numbers_to self.new.opened) }
     {
@@ -243,7 +313,38 @@ impl<'a, R: Net + Clock> TcpPeers<'a, R> {
         PeerEvent::Idle
     }
 
-    /// Reads from the connection at a place.
+    /// Notes whether the turn in which bytes were lent took long.
+    fn note_turn(&mut self)
+        ensures opened { self.new.opened ≡ self.old.opened }
+    {
+        let Some((number, since)) = self.lent.take() else {
+            return;
+        };
+        let Ok(now) = self.system.monotonic() else {
+            return;
+        };
+        if let Some(place) = self.place_of(number) {
+            let took_long = now.saturating_sub(since)
+                >= Duration::from_millis(DEAR_TURN_MILLISECONDS);
+            self.connections[place].lending.note_turn(took_long);
+        }
+    }
+
+    /// Notes that the peer at a place is lent bytes now, where its turn is to be timed.
+    fn note_lent(&mut self, place: usize)
+        requires { place < vec_len self.old.connections }
+        ensures opened { self.new.opened ≡ self.old.opened }
+    {
+        let connection = &self.connections[place];
+        if !connection.lending.is_timed() {
+            return;
+        }
+        if let Ok(now) = self.system.monotonic() {
+            self.lent = Some((connection.number, now));
+        }
+    }
+
+    /// Reads from the connection at a place, or lends what came of it before.
     fn read(&mut self, place: usize) -> Option<PeerEvent>
         requires { place < vec_len self.old.connections }
         ensures opened { self.new.opened ≡ self.old.opened }
@@ -252,16 +353,23 @@ impl<'a, R: Net + Clock> TcpPeers<'a, R> {
         let connection = &mut self.connections[place];
         let number = connection.number;
         self.turn = number;
+        if connection.lending.has_more() {
+            connection.lending.lend_next(&mut self.piece);
+            self.note_lent(place);
+            return Some(PeerEvent::Bytes(number));
+        }
         match self.piece.read(&mut connection.stream) {
             Ok(0) => {
                 connection.ended = true;
                 Some(PeerEvent::Ended(number))
             }
             Ok(count) => {
-                connection.heard = self.time;
+                connection.hear(self.time);
                 if count < PIECE_SIZE && !connection.closing {
                     connection.readable = false;
                 }
+                connection.lending.keep_back(&mut self.piece);
+                self.note_lent(place);
                 Some(PeerEvent::Bytes(number))
             }
             Err(error) if error.kind() == ErrorKind::WouldBlock => {
@@ -311,12 +419,17 @@ impl<R: Net + Clock> Peers for TcpPeers<'_, R> {
 
     fn next(&mut self) -> PeerEvent {
         self.piece.clear();
+        self.note_turn();
         if self.failures == u64::MAX {
             return PeerEvent::Idle;
         }
         if self.next_place().is_none() {
             self.look();
-            if let Some(number) = self.accept() {
+            self.accept();
+            if let Some(event) = self.make_room() {
+                return event;
+            }
+            if let Some(number) = self.admit_newcomer() {
                 return PeerEvent::Opened(number);
             }
             if let Some(event) = self.end_silent() {
@@ -341,6 +454,7 @@ impl<R: Net + Clock> Peers for TcpPeers<'_, R> {
         match connection.stream.write(bytes) {
             Ok(count) => {
                 connection.blocked = count < bytes.len();
+                connection.take(self.time, count);
                 Ok(count)
             }
             Err(error) if error.kind() == ErrorKind::WouldBlock => {

@@ -120,7 +120,16 @@ fn serve_command<'a>(alloc: Global) -> Result<Command<'a>, AllocError> {
         .long("idle")
         .value_name("SECONDS")
         .value_parser(ValueParser::Unsigned(0, u64::MAX))
-        .help("After how long a client is gone that says nothing, 0 for never [default: 3600]");
+        .help(
+            "After how long a client is gone that says nothing and takes nothing, 0 for never [default: 3600]",
+        );
+    let unanswered = Arg::new(alloc, "idle-new")
+        .long("idle-new")
+        .value_name("SECONDS")
+        .value_parser(ValueParser::Unsigned(0, u64::MAX))
+        .help(
+            "After how long a client is gone that was never answered anything, 0 for never [default: 30]",
+        );
     Command::new(alloc, "serve")
         .about("Serves a new share over TCP")
         .after_help(SERVE_HELP)
@@ -131,7 +140,8 @@ fn serve_command<'a>(alloc: Global) -> Result<Command<'a>, AllocError> {
         .arg(accounts_option(alloc))?
         .arg(seed_option(alloc))?
         .arg(turns)?
-        .arg(idle)
+        .arg(idle)?
+        .arg(unanswered)
 }
 
 /// The command that replays.

@@ -154,6 +154,7 @@ fn serve_clients(
         listen: word_of(words, "listen"),
         turns: words.get_one("turns").unwrap_or(u64::MAX),
         idle_seconds: words.get_one("idle").unwrap_or(3600),
+        unanswered_seconds: words.get_one("idle-new").unwrap_or(30),
     };
     match serve_share(rt, &serve_words) {
         Ok(()) => ExitCode::SUCCESS,

@@ -25,8 +25,10 @@ pub struct ServeWords<'a> {
     /// An IP address with a port.
     pub listen: &'a str,
     pub turns: u64,
-    /// After how many seconds a connection ends that says nothing; 0: after none.
+    /// After how many seconds a connection ends that says nothing and takes nothing; 0: after none.
     pub idle_seconds: u64,
+    /// After how many seconds a connection ends that was never answered; 0: after none.
+    pub unanswered_seconds: u64,
 }
 
 /// Why a call of the system failed that makes a listener or its peers.
@@ -55,21 +57,24 @@ fn announce(rt: &HostRuntime, listener: &net::TcpListener) {
     }
 }
 
-/// The peers of a listener, with the idle limit that the words say.
+/// The peers of a listener, with the limits of silence that the words say.
 fn peers<'a>(
     rt: &'a HostRuntime,
+    words: &ServeWords<'_>,
     listener: net::TcpListener,
-    idle_seconds: u64,
 ) -> Result<TcpPeers<'a, HostRuntime>, CommandFault> {
     let wait = Duration::from_secs(LONGEST_WAIT);
-    let peers = match TcpPeers::waiting(rt, rt.alloc(), listener, wait) {
+    let mut peers = match TcpPeers::waiting(rt, rt.alloc(), listener, wait) {
         Ok(peers) => peers,
         Err(error) => return Err(fault_of(error)),
     };
-    match idle_seconds {
-        0 => Ok(peers),
-        seconds => Ok(peers.with_idle_limit(Duration::from_secs(seconds))),
+    if words.idle_seconds > 0 {
+        peers = peers.with_idle_limit(Duration::from_secs(words.idle_seconds));
     }
+    if words.unanswered_seconds > 0 {
+        peers = peers.with_unanswered_limit(Duration::from_secs(words.unanswered_seconds));
+    }
+    Ok(peers)
 }
 
 /// Serves a share, for so many turns.
@@ -82,7 +87,7 @@ fn serve_share_of<A: Authenticator + Drop>(
 ) -> Result<(), CommandFault> {
     announce(rt, &listener);
     say_notices(rt, words.texts, words.login, entrance);
-    let mut peers = peers(rt, listener, words.idle_seconds)?;
+    let mut peers = peers(rt, words, listener)?;
     let mut clock = SystemClock::new(rt);
     let _ = serve(&mut share, &mut peers, &mut clock, words.turns);
     Ok(())

@@ -1,0 +1,218 @@
+//! Which part of the bytes that came of a peer it is lent at once.
+
+ghost use Rattle.std.specs.Prelude.{◌≤◌, length, vec_len, IfSome};
+
+use super::piece::Piece;
+use smb_wire::{Command, u16_at, u32_at};
+use std::alloc::Global;
+
+/// How many bytes the length of a frame takes ([MS-SMB2] 2.1).
+const HEAD: usize = 4;
+
+/// Where a request has its command, and the way to the next one of its chain ([MS-SMB2] 2.2.1.2).
+const COMMAND_AT: usize = 12;
+
+const NEXT_COMMAND_AT: usize = 20;
+
+/// How many requests of a chain are looked at.
+const MOST_LOOKED_AT: usize = 16;
+
+/// How far a stream has come in its current frame.
+#[derive(Clone, Copy, Debug)]
+pub(crate) struct FrameCursor {
+    /// How many bytes of its length have come, and what they say so far, the first one highest.
+    head_bytes: usize,
+    head: u32,
+    /// How many bytes of its payload are still to come.
+    left: usize,
+}
+
+impl FrameCursor {
+    /// Before the first frame of a stream.
+    pub(crate) fn new() -> Self {
+        FrameCursor {
+            head_bytes: 0,
+            head: 0,
+            left: 0,
+        }
+    }
+
+    /// Whether no byte of a frame has come.
+    fn is_between(&self) -> bool {
+        self.head_bytes == 0 && self.left == 0
+    }
+
+    /// Takes a byte of a frame's length, and tells whether it was the last one.
+    fn take_head(&mut self, byte: u8) -> bool {
+        self.head = self.head << 8 | u32::from(byte);
+        self.head_bytes = self.head_bytes.saturating_add(1);
+        if self.head_bytes < HEAD {
+            return false;
+        }
+        self.left = (self.head & 0xff_ffff) as usize;
+        self.head_bytes = 0;
+        self.head = 0;
+        true
+    }
+
+    /// Goes over bytes that come next up to the end of a frame, and tells how many these are; None where no frame ends.
+    fn end_of_frame(&mut self, bytes: &[u8]) -> Option<usize>
+        ensures { IfSome result (λ end. end ≤ length bytes.now) }
+    {
+        let mut at = 0;
+        for byte in bytes {
+            if self.left > 0 {
+                break;
+            }
+            at += 1;
+            if self.take_head(*byte) && self.left == 0 {
+                return Some(at);
+            }
+        }
+        if self.left == 0 {
+            return None;
+        }
+        let there = bytes.len() - at;
+        if self.left > there {
+            self.left -= there;
+            return None;
+        }
+        at += self.left;
+        self.left = 0;
+        Some(at)
+    }
+
+    /// Goes over bytes that begin with a frame, and tells whether one of their frames lists a folder.
+    fn has_listing(&mut self, bytes: &[u8]) -> bool {
+        let mut rest = bytes;
+        let mut found = false;
+        for _ in 0..bytes.len() {
+            found = found || lists_a_folder(rest);
+            match self.end_of_frame(rest) {
+                Some(end) => rest = &rest[end..],
+                None => break,
+            }
+        }
+        found
+    }
+
+    /// Goes over what is lent of bytes that come next, and tells how many these are: all of them, or where the peer is dear, or
+    /// one of their frames lists a folder, those up to the end of the first frame. It tells too whether there are others behind it.
+    fn lend(&mut self, bytes: &[u8], is_dear: bool) -> (usize, bool)
+        ensures { result.0 ≤ length bytes.now }
+    {
+        let begins = self.is_between();
+        let Some(first) = self.end_of_frame(bytes) else {
+            return (bytes.len(), false);
+        };
+        let others = first < bytes.len();
+        let behind_first = *self;
+        if is_dear
+            || begins && lists_a_folder(&bytes[..first])
+            || self.has_listing(&bytes[first..])
+        {
+            *self = behind_first;
+            return (first, others);
+        }
+        (bytes.len(), others)
+    }
+}
+
+/// Whether a QUERY_DIRECTORY is among the requests of the frame that bytes begin with, as far as it is there.
+fn lists_a_folder(bytes: &[u8]) -> bool {
+    let mut at = HEAD;
+    for _ in 0..MOST_LOOKED_AT {
+        let Some(command) = u16_at(bytes, at.saturating_add(COMMAND_AT)) else {
+            return false;
+        };
+        if command == Command::QueryDirectory.code().0 {
+            return true;
+        }
+        match u32_at(bytes, at.saturating_add(NEXT_COMMAND_AT)) {
+            None | Some(0) => return false,
+            Some(next) => at = at.saturating_add(next as usize),
+        }
+    }
+    false
+}
+
+/// The bytes that came of a peer, and are lent to the share one frame after the other where a frame may be dear: so others
+/// are read between two of them.
+#[derive(Drop)]
+pub(crate) struct Lending {
+    cursor: FrameCursor,
+    // What came and is kept back, and how many of these bytes were lent since.
+    bytes: Vec<u8>,
+    lent: usize,
+    is_dear: bool,
+    is_timed: bool,
+    ghost few: { vec_len bytes ≤ 65536 },
+    ghost within: { lent ≤ vec_len bytes },
+}
+
+impl Lending {
+    /// Of a stream of which nothing came. It takes no memory.
+    pub(crate) fn new(alloc: Global) -> Self {
+        Lending {
+            cursor: FrameCursor::new(),
+            bytes: Vec::new(alloc),
+            lent: 0,
+            is_dear: false,
+            is_timed: false,
+        }
+    }
+
+    /// Whether bytes are kept back.
+    pub(crate) fn has_more(&self) -> bool {
+        self.lent < self.bytes.len()
+    }
+
+    /// Whether it is to be seen how long the turn takes in which the bytes are that were lent last: so it is where several frames
+    /// were there, or the peer is dear. A frame that comes alone is lent alone in any case.
+    pub(crate) fn is_timed(&self) -> bool {
+        self.is_timed
+    }
+
+    /// Notes whether a turn of the peer took long.
+    pub(crate) fn note_turn(&mut self, took_long: bool) {
+        self.is_dear = took_long;
+    }
+
+    /// Gives up the room of what was lent.
+    fn give_up(&mut self) {
+        self.lent = 0;
+        self.bytes.clear();
+        self.bytes.shrink_to_fit();
+    }
+
+    /// Makes the next bytes that are lent of those kept back the piece.
+    pub(crate) fn lend_next(&mut self, piece: &mut Piece) {
+        let bytes = &self.bytes[self.lent..];
+        let (count, others) = self.cursor.lend(bytes, self.is_dear);
+        self.is_timed = self.is_dear || others;
+        piece.fill(&bytes[..count]);
+        self.lent += count;
+        if self.lent == self.bytes.len() {
+            self.give_up();
+        }
+    }
+
+    /// Cuts a piece that came to what is lent of it at once, and keeps the rest back. Where there is no memory for that, all
+    /// of it is lent.
+    pub(crate) fn keep_back(&mut self, piece: &mut Piece) {
+        let bytes = piece.bytes();
+        let (count, others) = self.cursor.lend(bytes, self.is_dear);
+        self.is_timed = self.is_dear || others;
+        if count == bytes.len() {
+            return;
+        }
+        self.lent = 0;
+        self.bytes.clear();
+        match self.bytes.extend_from_slice(&bytes[count..]) {
+            Ok(()) => piece.cut(count),
+            Err(_) => {
+                let _ = self.cursor.has_listing(&bytes[count..]);
+            }
+        }
+    }
+}
