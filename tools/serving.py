@@ -232,8 +232,12 @@ def one_never_answered_makes_room():
         if not answered.negotiates():
             return False
         silent = [share.client() for _ in range(63)]
-        return (share.client().is_served() and silent[0].is_ended() and share.client().is_served()
-                and silent[1].is_ended() and silent[2].negotiates() and answered.asks(echoes(1, 1)) == 0)
+        newcomers = []
+        for one in silent[:2]:
+            newcomers.append(share.client())
+            if not newcomers[-1].is_served() or not one.is_ended():
+                return False
+        return silent[2].negotiates() and answered.asks(echoes(1, 1)) == 0
 
 
 def ran(*words, system=None):
