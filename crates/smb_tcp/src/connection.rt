@@ -25,7 +25,7 @@ pub(crate) struct Connection {
     pub(crate) lending: Lending,
     /// The peer has ended its side, so that the end may stand behind the last bytes.
     pub(crate) closing: bool,
-    /// Its end was told.
+    /// `Ended` was given for it.
     pub(crate) ended: bool,
     /// The last send took only a part. It is not read until a send takes all: so a peer that never reads is owed little.
     pub(crate) blocked: bool,
@@ -94,14 +94,14 @@ impl Connection {
         (self.readable || self.lending.has_more()) && !self.ended && !self.blocked
     }
 
-    /// Whether a limit of silence has passed, and its end was not told.
+    /// Whether a limit of silence has passed, and no `Ended` was given for the connection.
     pub(crate) fn is_silent(&self, now: Duration, limits: SilenceLimits) -> bool {
         !self.ended
             && (has_passed(self.heard, now, limits.idle)
                 || !self.answered && has_passed(self.accepted, now, limits.unanswered))
     }
 
-    /// Whether it may make room for another one: it was never answered, and its end was not told.
+    /// Whether the connection may end for a newcomer: it was never answered, and no `Ended` was given for it.
     pub(crate) fn may_make_room(&self) -> bool {
         !self.answered && !self.ended
     }

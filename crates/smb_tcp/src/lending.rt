@@ -185,10 +185,11 @@ impl Lending {
         self.bytes.shrink_to_fit();
     }
 
-    /// Makes the next bytes that are lent of those kept back the piece.
+    /// Makes the next frame of the bytes that are kept back the piece, or what is there of it. These bytes are lent one frame at a
+    /// time without another look at what the frames are: so each of them is gone over once.
     pub(crate) fn lend_next(&mut self, piece: &mut Piece) {
         let bytes = &self.bytes[self.lent..];
-        let (count, others) = self.cursor.lend(bytes, self.is_dear);
+        let (count, others) = self.cursor.lend(bytes, true);
         self.is_timed = self.is_dear || others;
         piece.fill(&bytes[..count]);
         self.lent += count;

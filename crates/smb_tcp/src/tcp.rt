@@ -210,7 +210,8 @@ impl<'a, R: Net + Clock> TcpPeers<'a, R> {
                 .any(|connection| connection.may_be_read())
     }
 
-    /// Begins a round: asks the system what is ready, and waits where nothing was left to do.
+    /// Asks the system what is ready, and waits where nothing was left to do. Where no connection behind the turn may be read, a
+    /// new round begins.
     fn look(&mut self)
         ensures opened { self.new.opened ≡ self.old.opened }
     {
@@ -219,7 +220,6 @@ impl<'a, R: Net + Clock> TcpPeers<'a, R> {
         } else {
             self.wait
         };
-        self.turn = 0;
         if self.poll.poll(&mut self.events, Some(wait)).is_err() {
             self.failures = self.failures.saturating_add(1);
         }
@@ -232,6 +232,9 @@ impl<'a, R: Net + Clock> TcpPeers<'a, R> {
         }
         if mark_all(&mut self.connections, &self.events) {
             self.acceptable = true;
+        }
+        if self.next_place().is_none() {
+            self.turn = 0;
         }
     }
 
