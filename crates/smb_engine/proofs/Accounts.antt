@@ -1,16 +1,19 @@
 -- What came of each number of the peers, and what came for it.
-use Rattle.std.proofs.Common.{◌≡◌, ◌⊎◌, inl, inr, ℕ, zero, suc, ◌<◌, eqb, Bool, true, false, ◌||◌, List, [], ◌∷◌, ◌++◌, length, take, drop, Option, None, Some, is_some, refl, sym, ap, ◌∙◌, append_assoc}
+use Rattle.std.proofs.Common.{◌≡◌, ◌⊎◌, inl, inr, ℕ, zero, suc, ◌+◌, ◌<◌, eqb, cond, Bool, true, false, ◌||◌, List, [], ◌∷◌, ◌++◌, length, take, drop, Option, None, Some, is_some, refl, sym, ap, ◌∙◌, append_assoc}
 use Rattle.std.specs.List.{AllByRecursion, flat_map, list_any}
 use Rattle.std.proofs.lemmas.List.{append-nil, take-append-drop}
 use Rattle.std.proofs.lemmas.List.Concat.{flat_map-append}
 use Rattle.std.proofs.lemmas.List.Folds.{list_any-append}
+use Rattle.std.proofs.lemmas.List.Sums.{sum_by-append}
 use Rattle.std.proofs.lemmas.Bool.{eq-eqb, eqb-true, true≢false}
 use Rattle.smb_engine.specs.Event.{EventText, opens, brings, ends, connection_of}
+use Rattle.smb_engine.specs.Happenings.{Happening, performed, cut_short}
 use Rattle.smb_engine.specs.Output.{Output, output_bytes}
 use Rattle.smb_engine.specs.State.{StreamState}
 use Rattle.smb_engine.specs.Laws.{receiver}
-use Rattle.smb_engine.specs.Record.{PeerCall, next_opened, next_bytes, next_ended, next_idle, send, close, sent_in, sent_by, taken_by}
-use Rattle.smb_engine.specs.ServingLaws.{sent_when_open, opens_in, is_opened, OpensEachOnce, brought_in, brought_to, ends_in, is_ended, bytes_for, put_out_to}
+use Rattle.smb_engine.specs.Record.{PeerCall, next_opened, next_bytes, next_ended, next_idle, send, close, sent_in, sent_by, taken_by, is_close, closes_of}
+use Rattle.smb_engine.proofs.Happenings.{concerns}
+use Rattle.smb_engine.specs.ServingLaws.{sent_when_open, opens_in, is_opened, OpensEachOnce, brought_by, brought_in, brought_to, is_end_of, ends_in, is_ended, bytes_for, put_out_to}
 
 heard_at : (n : ℕ) (call : PeerCall) (xs ys : List PeerCall) (b : Bool) → opens_in n call ≡ b → (is_opened n xs ≡ true → sent_when_open n (xs ++ ys) ≡ sent_when_open n xs ++ sent_by n ys) →
     is_opened n (call ∷ xs) ≡ true → sent_when_open n (call ∷ (xs ++ ys)) ≡ sent_when_open n (call ∷ xs) ++ sent_by n ys
@@ -52,55 +55,69 @@ pub record IsQuiet (n : ℕ) (calls : List PeerCall) : Type 0 where
   pub sent : sent_by n calls ≡ []
   pub taken : taken_by n calls ≡ []
   pub opened : is_opened n calls ≡ false
+  pub closes : closes_of n calls ≡ 0
 
 pub no_calls : (n : ℕ) → IsQuiet n []
-no_calls n = record { sent = refl; taken = refl; opened = refl }
+no_calls n = record { sent = refl; taken = refl; opened = refl; closes = refl }
 
 pub quiet_idle : (n : ℕ) → IsQuiet n (next_idle ∷ [])
-quiet_idle n = record { sent = refl; taken = refl; opened = refl }
+quiet_idle n = record { sent = refl; taken = refl; opened = refl; closes = refl }
 
 pub quiet_bytes : (k n : ℕ) (piece : List ℕ) → eqb k n ≡ false → IsQuiet n (next_bytes k piece ∷ [])
-quiet_bytes k n piece d = record { sent = rw d refl; taken = refl; opened = refl }
+quiet_bytes k n piece d = record { sent = rw d refl; taken = refl; opened = refl; closes = refl }
 
 pub quiet_end : (k n : ℕ) → IsQuiet n (next_ended k ∷ [])
-quiet_end k n = record { sent = refl; taken = refl; opened = refl }
+quiet_end k n = record { sent = refl; taken = refl; opened = refl; closes = refl }
 
 pub quiet_opening : (k n : ℕ) → eqb k n ≡ false → IsQuiet n (next_opened k ∷ [])
-quiet_opening k n d = record { sent = refl; taken = refl; opened = rw d refl }
+quiet_opening k n d = record { sent = refl; taken = refl; opened = rw d refl; closes = refl }
 
 pub quiet_refusal : (k n : ℕ) → eqb k n ≡ false → IsQuiet n (next_opened k ∷ close k ∷ [])
-quiet_refusal k n d = record { sent = refl; taken = refl; opened = rw d refl }
+quiet_refusal k n d = record { sent = refl; taken = refl; opened = rw d refl; closes = rw d refl }
 
 pub quiet_take : (k n offered : ℕ) (bytes : List ℕ) → eqb k n ≡ false → IsQuiet n (send k offered (Some bytes) ∷ [])
-quiet_take k n offered bytes d = record { sent = refl; taken = rw d refl; opened = refl }
+quiet_take k n offered bytes d = record { sent = refl; taken = rw d refl; opened = refl; closes = refl }
 
 pub quiet_failure : (k n offered : ℕ) → IsQuiet n (send k offered None ∷ [])
-quiet_failure k n offered = record { sent = refl; taken = refl; opened = refl }
+quiet_failure k n offered = record { sent = refl; taken = refl; opened = refl; closes = refl }
 
-pub quiet_close : (k n : ℕ) → IsQuiet n (close k ∷ [])
-quiet_close k n = record { sent = refl; taken = refl; opened = refl }
+pub quiet_close : (k n : ℕ) → eqb k n ≡ false → IsQuiet n (close k ∷ [])
+quiet_close k n d = record { sent = refl; taken = refl; opened = refl; closes = rw d refl }
 
--- events that are not on a connection bring it nothing, and do not end it
-abbrev pub AreElsewhere : ℕ → List EventText → Type 0
-AreElsewhere c events = AllByRecursion (λ event. eqb (connection_of event) c ≡ false) events
+pub closes_more : (n : ℕ) (xs ys : List PeerCall) → closes_of n (xs ++ ys) ≡ closes_of n xs + closes_of n ys
+closes_more n xs ys = sum_by-append (λ call. cond (is_close n call) 1 0) xs ys
 
-brings_none : (c : ℕ) (event : EventText) → eqb (connection_of event) c ≡ false → brought_in c event ≡ []
-brings_none c (opens k) h = refl
-brings_none c (brings k moment piece) h = rw h refl
-brings_none c (ends k) h = refl
+-- happenings that are not of a connection bring it nothing, and do not end it
+abbrev pub AreElsewhere : ℕ → List Happening → Type 0
+AreElsewhere c happenings = AllByRecursion (λ x. concerns c x ≡ false) happenings
 
-ends_none : (c : ℕ) (event : EventText) → eqb (connection_of event) c ≡ false → ends_in c event ≡ false
-ends_none c (opens k) h = refl
-ends_none c (brings k moment piece) h = refl
-ends_none c (ends k) h = h
+piece_none : (c : ℕ) (event : EventText) → eqb (connection_of event) c ≡ false → brought_by c event ≡ []
+piece_none c (opens k) h = refl
+piece_none c (brings k moment piece) h = rw h refl
+piece_none c (ends k) h = refl
 
-pub brought_none : (c : ℕ) (events : List EventText) → AreElsewhere c events → brought_to c events ≡ []
+end_none : (c : ℕ) (event : EventText) → eqb (connection_of event) c ≡ false → is_end_of c event ≡ false
+end_none c (opens k) h = refl
+end_none c (brings k moment piece) h = refl
+end_none c (ends k) h = h
+
+brings_none : (c : ℕ) (x : Happening) → concerns c x ≡ false → brought_in c x ≡ []
+brings_none c (performed event) h = piece_none c event h
+brings_none c (cut_short (opens k) done) h = refl
+brings_none c (cut_short (brings k moment piece) done) h = rw h refl
+brings_none c (cut_short (ends k) done) h = refl
+
+ends_none : (c : ℕ) (x : Happening) → concerns c x ≡ false → ends_in c x ≡ false
+ends_none c (performed event) h = end_none c event h
+ends_none c (cut_short event done) h = h
+
+pub brought_none : (c : ℕ) (happenings : List Happening) → AreElsewhere c happenings → brought_to c happenings ≡ []
 brought_none c [] h = refl
-brought_none c (event ∷ events) h = rw (brings_none c event h.0, brought_none c events h.1) refl
+brought_none c (x ∷ happenings) h = rw (brings_none c x h.0, brought_none c happenings h.1) refl
 
-pub ended_none : (c : ℕ) (events : List EventText) → AreElsewhere c events → is_ended c events ≡ false
+pub ended_none : (c : ℕ) (happenings : List Happening) → AreElsewhere c happenings → is_ended c happenings ≡ false
 ended_none c [] h = refl
-ended_none c (event ∷ events) h = rw (ends_none c event h.0, ended_none c events h.1) refl
+ended_none c (x ∷ happenings) h = rw (ends_none c x h.0, ended_none c happenings h.1) refl
 
 pub put_none : (c : ℕ) (outputs : List Output) → AllByRecursion (λ output. eqb (receiver output) c ≡ false) outputs → put_out_to c outputs ≡ []
 put_none c [] h = refl
@@ -120,7 +137,7 @@ put_own c (output ∷ outputs) h =
     rw (own_at c output (eqb c (receiver output)) refl (λ k d. (h k d).0), put_own c outputs (λ k d. (h k d).1)) refl
 
 -- how far what was put out for a number has come: all of it was taken or is owed; or the rest was dropped, where its connection
--- was ended, and this was since the number was broken off, or the rest was too long
+-- was ended, and this was since the number was broken off or memory ran out in a piece of it, or the rest was too long
 pub data Fate (limit : ℕ) (stream : Option StreamState) (ended broken : Bool) (owed taken out : List ℕ) : Type 0 where
   there : ended ≡ false → taken ++ owed ≡ out → Fate limit stream ended broken owed taken out
   gone : (left : List ℕ) → stream ≡ None → owed ≡ [] → taken ++ left ≡ out → (broken ≡ true) ⊎ (limit < length left) → Fate limit stream ended broken owed taken out

@@ -1,5 +1,5 @@
 -- The books of a share that is served: the run of events that serving comes to so far, and what it owes to each number.
-use Rattle.std.proofs.Common.{◌≡◌, ℕ, ◌<◌, ◌≤◌, eqb, Bool, true, false, ◌||◌, List, [], ◌∷◌, ◌++◌, length, Option, None, Some, refl, sym, ap, subst, ◌∙◌, append_assoc, arith}
+use Rattle.std.proofs.Common.{◌≡◌, ℕ, ◌+◌, ◌<◌, ◌≤◌, eqb, Bool, true, false, ◌||◌, List, [], ◌∷◌, ◌++◌, length, Option, None, Some, is_some, if◌then◌else◌, refl, sym, ap, subst, ◌∙◌, append_assoc, arith}
 use Rattle.std.specs.List.{AllByRecursion, list_any}
 use Rattle.std.specs.Option.{option_map, option_map_or}
 use Rattle.std.specs.BTreeMap.{is_at}
@@ -11,29 +11,35 @@ use Rattle.std.proofs.lemmas.Bool.{eqb-true}
 use Rattle.smb_session.specs.Authenticator.{Meaning}
 use Rattle.smb_engine.specs.State.{StreamState, ShareState, stream_of}
 use Rattle.smb_engine.specs.Stream.{unread, unread_stream}
-use Rattle.smb_engine.specs.Run.{run}
 use Rattle.smb_engine.specs.Refusals.{run_behind}
 use Rattle.smb_engine.specs.Laws.{StreamsInOrder, moved, run_after}
-use Rattle.smb_engine.specs.Event.{EventText}
-use Rattle.smb_engine.specs.Record.{PeerCall, next_opened, close, sent_by, taken_in, taken_by}
+use Rattle.smb_engine.specs.Happenings.{Happening, runs_out_in, runs_out_of_memory, run_of}
+use Rattle.smb_engine.specs.Record.{PeerCall, next_opened, close, sent_by, taken_in, taken_by, closes_of}
 use Rattle.smb_engine.specs.ServedPeers.{PeerState}
 use Rattle.smb_engine.specs.Serving.{most_owed}
-use Rattle.smb_engine.specs.ServingLaws.{sent_when_open, opens_in, is_opened, breaks_in, is_broken_off, brought_in, brought_to, ends_in, is_ended, bytes_for, put_out_to, moments_of, IsRefused}
+use Rattle.smb_engine.specs.ServingLaws.{sent_when_open, opens_in, is_opened, breaks_in, is_broken_off, brought_in, brought_to, ends_in, is_ended, bytes_for, put_out_to, moments_of, OpeningFails, is_full, finds_no_memory, IsRefused}
 use Rattle.smb_engine.proofs.Streams.{stream_of-unread}
-use Rattle.smb_engine.proofs.Order.{others_left, run_in_order}
-use Rattle.smb_engine.proofs.Cuts.{run_goes_on, unread_is_enough}
 use Rattle.smb_engine.proofs.Runs.{unread-unread}
-use Rattle.smb_engine.proofs.Moments.{moments_more, moments_same, order_unread}
+use Rattle.smb_engine.proofs.Happenings.{plays_on, plays_unread, plays_in_order, others_kept, moments_more, moments_same, order_unread}
 use Rattle.smb_engine.proofs.Numbers.{found, Apart}
-use Rattle.smb_engine.proofs.Accounts.{heard_more, any_more, IsQuiet, AreElsewhere, brought_none, ended_none, put_none, Fate, fate_same}
+use Rattle.smb_engine.proofs.Accounts.{heard_more, any_more, IsQuiet, closes_more, AreElsewhere, brought_none, ended_none, put_none, Fate, fate_same}
 
 abbrev pub owed_of : Option PeerState → List ℕ
 owed_of o = option_map_or (λ peer. peer.owed) o []
+
+-- how often a number is closed whose peer this is
+abbrev pub closes_due : Option PeerState → ℕ
+closes_due o = if is_some o then 0 else 1
 
 -- the served peers have the connections of their numbers, and no two have the same number
 pub record AreListed (connections : ℕ → Option ℕ) (served_peers : List PeerState) : Type 0 where
   pub known : AllByRecursion (λ peer. connections peer.number ≡ Some peer.connection) served_peers
   pub apart : Apart served_peers
+
+pub both_more : (a a' b b' : Bool) → (a ≡ true → a' ≡ true) → (b ≡ true → b' ≡ true) → (a || b) ≡ true → (a' || b') ≡ true
+both_more true a' b b' f g h = rw (f refl) refl
+both_more false true b b' f g h = refl
+both_more false false b b' f g h = g h
 
 -- a connection that is closed, seen from what is unread
 closed_unread : (o : Option StreamState) → o ≡ None → option_map unread_stream o ≡ None
@@ -46,46 +52,55 @@ any_none test (x ∷ xs) ys h = ap (λ b. test x || b) (any_none test xs ys h)
 pub more_none : (xs ys : List ℕ) → ys ≡ [] → xs ++ ys ≡ xs
 more_none xs ys h = ap (λ zs. xs ++ zs) h ∙ append-nil xs
 
--- nothing is taken for a number without a connection, and if it was opened, it was refused
-abbrev pub IsOut : {S : Type 0} → Meaning S → ShareState S → ℕ → List PeerCall → List EventText → Type 0
-IsOut m s0 number calls events = (taken_by number calls ≡ []) × (is_opened number calls ≡ true → IsRefused m s0 number calls events)
+pub plus_none : (n : ℕ) → n + 0 ≡ n
+plus_none n = omega arith
 
--- it stays so where nothing is taken for it and it is not opened
-pub refused_more : {S : Type 0} (m : Meaning S) (s0 : ShareState S) (number : ℕ) (calls cs : List PeerCall) (events evs : List EventText) → taken_by number cs ≡ [] → is_opened number cs ≡ false →
-    IsOut m s0 number calls events → IsOut m s0 number (calls ++ cs) (events ++ evs)
-refused_more m s0 number calls cs events evs taken opened r = (
-  flat_map-append (taken_in number) calls cs ∙ more_none _ _ taken ∙ r.0,
-  λ h.
-      let c = r.1 (sym (any_none (opens_in number) calls cs opened) ∙ h) in
-      record {
-        before = c.before;
-        after = c.after ++ cs;
-        closed = ap (λ t. t ++ cs) c.closed ∙ append_assoc c.before (next_opened number ∷ close number ∷ c.after) cs;
-        front = c.front;
-        back = c.back ++ evs;
-        point = ap (λ t. t ++ evs) c.point ∙ append_assoc c.front c.back evs;
-        refusal = c.refusal;
-      },
-)
+-- nothing is taken for a number without a connection, it is closed as often as it was opened, and if it was, it was refused
+abbrev pub IsOut : {S : Type 0} → Meaning S → ShareState S → ℕ → List PeerCall → List Happening → Type 0
+IsOut m s0 number calls events = (taken_by number calls ≡ []) × (closes_of number calls ≡ (if is_opened number calls then 1 else 0)) × (is_opened number calls ≡ true → IsRefused m s0 number calls events)
 
-pub still_refused : {S : Type 0} (m : Meaning S) (s0 : ShareState S) (number : ℕ) (calls cs : List PeerCall) (events evs : List EventText) → IsQuiet number cs →
+fails_still : {S : Type 0} (share : ShareState S) (back evs : List Happening) → OpeningFails share back → OpeningFails share (back ++ evs)
+fails_still share back evs (is_full h) = is_full h
+fails_still share back evs (finds_no_memory done others h) = finds_no_memory done (others ++ evs) (ap (λ t. t ++ evs) h)
+
+-- it stays so where nothing is taken for it, and it is neither opened nor closed
+pub refused_more : {S : Type 0} (m : Meaning S) (s0 : ShareState S) (number : ℕ) (calls cs : List PeerCall) (events evs : List Happening) → taken_by number cs ≡ [] → is_opened number cs ≡ false → closes_of number cs ≡ 0 →
     IsOut m s0 number calls events → IsOut m s0 number (calls ++ cs) (events ++ evs)
-still_refused m s0 number calls cs events evs q r = refused_more m s0 number calls cs events evs q.taken q.opened r
+refused_more m s0 number calls cs events evs taken opened closes r =
+    let same : is_opened number (calls ++ cs) ≡ is_opened number calls = any_none (opens_in number) calls cs opened in (
+      flat_map-append (taken_in number) calls cs ∙ more_none _ _ taken ∙ r.0,
+      closes_more number calls cs ∙ ap (λ n. closes_of number calls + n) closes ∙ plus_none (closes_of number calls) ∙ r.1 ∙ ap (λ b. if b then 1 else 0) (sym same),
+      λ h.
+          let c = r.2 (sym same ∙ h) in
+          record {
+            before = c.before;
+            after = c.after ++ cs;
+            closed = ap (λ t. t ++ cs) c.closed ∙ append_assoc c.before (next_opened number ∷ close number ∷ c.after) cs;
+            front = c.front;
+            back = c.back ++ evs;
+            point = ap (λ t. t ++ evs) c.point ∙ append_assoc c.front c.back evs;
+            reason = fails_still (run_of m s0 c.front).state c.back evs c.reason;
+          },
+    )
+
+pub still_refused : {S : Type 0} (m : Meaning S) (s0 : ShareState S) (number : ℕ) (calls cs : List PeerCall) (events evs : List Happening) → IsQuiet number cs →
+    IsOut m s0 number calls events → IsOut m s0 number (calls ++ cs) (events ++ evs)
+still_refused m s0 number calls cs events evs q r = refused_more m s0 number calls cs events evs q.taken q.opened q.closes r
 
 module _ {S : Type 0} (m : Meaning S) (s0 : ShareState S) (moments0 : List ℕ) where
   -- events behind others, from the share as it is held
-  pub record Extended (share : ShareState S) (events evs : List EventText) : Type 0 where
-    pub goes : (run m s0 (events ++ evs)).stop ≡ None
-    pub state : unread (run m share evs).state ≡ unread (run m s0 (events ++ evs)).state
-    pub outputs : (run m s0 (events ++ evs)).outputs ≡ (run m s0 events).outputs ++ (run m share evs).outputs
+  pub record Extended (share : ShareState S) (events evs : List Happening) : Type 0 where
+    pub goes : (run_of m s0 (events ++ evs)).stop ≡ None
+    pub state : unread (run_of m share evs).state ≡ unread (run_of m s0 (events ++ evs)).state
+    pub outputs : (run_of m s0 (events ++ evs)).outputs ≡ (run_of m s0 events).outputs ++ (run_of m share evs).outputs
     pub moments : moments_of m s0 (events ++ evs) ≡ moments_of m s0 events ++ moments_of m share evs
 
-  pub extend : (share : ShareState S) (events evs : List EventText) → (run m s0 events).stop ≡ None → share ≡ unread (run m s0 events).state → (run m share evs).stop ≡ None → Extended share events evs
+  pub extend : (share : ShareState S) (events evs : List Happening) → (run_of m s0 events).stop ≡ None → share ≡ unread (run_of m s0 events).state → (run_of m share evs).stop ≡ None → Extended share events evs
   extend share events evs g h r =
-      let before = run m s0 events in
-      let whole : run m s0 (events ++ evs) ≡ run_after (length events) before.outputs (run m before.state evs) = run_goes_on m s0 events evs g in
-      let same : run_behind [] (run m share evs) ≡ run_behind [] (run m before.state evs) =
-      ap (λ t. run_behind [] (run m t evs)) h ∙ unread_is_enough m before.state evs in
+      let before = run_of m s0 events in
+      let whole : run_of m s0 (events ++ evs) ≡ run_after (length events) before.outputs (run_of m before.state evs) = plays_on m s0 events evs g in
+      let same : run_behind [] (run_of m share evs) ≡ run_behind [] (run_of m before.state evs) =
+      ap (λ t. run_behind [] (run_of m t evs)) h ∙ plays_unread m before.state evs in
       record {
         goes = ap (λ d. d.stop) whole ∙ ap (option_map (moved (length events))) (sym (ap (λ d. d.stop) same) ∙ r);
         state = ap (λ d. d.state) same ∙ ap (λ d. unread d.state) (sym whole);
@@ -95,23 +110,24 @@ module _ {S : Type 0} (m : Meaning S) (s0 : ShareState S) (moments0 : List ℕ) 
       }
 
   -- the account of a number that has a connection
-  pub record Account (share : ShareState S) (served_peers : List PeerState) (calls : List PeerCall) (events : List EventText) (number connection : ℕ) : Type 0 where
+  pub record Account (share : ShareState S) (served_peers : List PeerState) (calls : List PeerCall) (events : List Happening) (number connection : ℕ) : Type 0 where
     pub given : (0 < connection) × (connection < share.next)
     pub opened : is_opened number calls ≡ true
     pub brought : brought_to connection events ≡ sent_when_open number calls
-    pub fate : Fate most_owed (stream_of connection share.streams) (is_ended connection events) (is_broken_off number calls) (owed_of (found number served_peers)) (taken_by number calls)
-        (put_out_to connection (run m s0 events).outputs)
+    pub fate : Fate most_owed (stream_of connection share.streams) (is_ended connection events) (is_broken_off number calls || runs_out_of_memory connection events) (owed_of (found number served_peers)) (taken_by number calls)
+        (put_out_to connection (run_of m s0 events).outputs)
     pub closed : found number served_peers ≡ None → stream_of connection share.streams ≡ None
+    pub closes : closes_of number calls ≡ closes_due (found number served_peers)
 
   -- a connection that was not given yet
-  pub record IsUnused (events : List EventText) (connection : ℕ) : Type 0 where
+  pub record IsUnused (events : List Happening) (connection : ℕ) : Type 0 where
     pub brought : brought_to connection events ≡ []
     pub unended : is_ended connection events ≡ false
-    pub says : put_out_to connection (run m s0 events).outputs ≡ []
+    pub says : put_out_to connection (run_of m s0 events).outputs ≡ []
 
-  pub record Books (share : ShareState S) (served_peers : List PeerState) (calls : List PeerCall) (moments : List ℕ) (events : List EventText) (connections : ℕ → Option ℕ) : Type 0 where
-    pub goes : (run m s0 events).stop ≡ None
-    pub state : share ≡ unread (run m s0 events).state
+  pub record Books (share : ShareState S) (served_peers : List PeerState) (calls : List PeerCall) (moments : List ℕ) (events : List Happening) (connections : ℕ → Option ℕ) : Type 0 where
+    pub goes : (run_of m s0 events).stop ≡ None
+    pub state : share ≡ unread (run_of m s0 events).state
     pub told : moments ≡ moments0 ++ moments_of m s0 events
     pub order : StreamsInOrder share
     pub from_one : 0 < share.next
@@ -122,16 +138,17 @@ module _ {S : Type 0} (m : Meaning S) (s0 : ShareState S) (moments0 : List ℕ) 
     pub unused : (connection : ℕ) → share.next ≤ connection → IsUnused events connection
 
   -- what calls and events change of the account of their own number
-  pub record Own (share share' : ShareState S) (served_peers served_peers' : List PeerState) (calls cs : List PeerCall) (events evs : List EventText) (number connection : ℕ) : Type 0 where
+  pub record Own (share share' : ShareState S) (served_peers served_peers' : List PeerState) (calls cs : List PeerCall) (events evs : List Happening) (number connection : ℕ) : Type 0 where
     pub brought : brought_to connection evs ≡ sent_by number cs
-    pub fate : Fate most_owed (stream_of connection share.streams) (is_ended connection events) (is_broken_off number calls) (owed_of (found number served_peers)) (taken_by number calls)
-        (put_out_to connection (run m s0 events).outputs) →
-        Fate most_owed (stream_of connection share'.streams) (is_ended connection events || is_ended connection evs) (is_broken_off number calls || is_broken_off number cs) (owed_of (found number served_peers'))
-        (taken_by number calls ++ taken_by number cs) (put_out_to connection (run m s0 events).outputs ++ put_out_to connection (run m share evs).outputs)
+    pub fate : Fate most_owed (stream_of connection share.streams) (is_ended connection events) (is_broken_off number calls || runs_out_of_memory connection events) (owed_of (found number served_peers)) (taken_by number calls)
+        (put_out_to connection (run_of m s0 events).outputs) →
+        Fate most_owed (stream_of connection share'.streams) (is_ended connection events || is_ended connection evs) ((is_broken_off number calls || is_broken_off number cs) || (runs_out_of_memory connection events || runs_out_of_memory connection evs)) (owed_of (found number served_peers'))
+        (taken_by number calls ++ taken_by number cs) (put_out_to connection (run_of m s0 events).outputs ++ put_out_to connection (run_of m share evs).outputs)
     pub closed : found number served_peers' ≡ None → stream_of connection share'.streams ≡ None
+    pub closes : closes_due (found number served_peers) + closes_of number cs ≡ closes_due (found number served_peers')
 
-  module _ (share share' : ShareState S) (served_peers served_peers' : List PeerState) (calls cs : List PeerCall) (events evs : List EventText) (x : Extended share events evs) (next : share.next ≤ share'.next)
-      (is : share' ≡ unread (run m share evs).state) where
+  module _ (share share' : ShareState S) (served_peers served_peers' : List PeerState) (calls cs : List PeerCall) (events evs : List Happening) (x : Extended share events evs) (next : share.next ≤ share'.next)
+      (is : share' ≡ unread (run_of m share evs).state) where
     -- the account of the number itself
     own_account : (number connection : ℕ) → Own share share' served_peers served_peers' calls cs events evs number connection → Account share served_peers calls events number connection →
         Account share' served_peers' (calls ++ cs) (events ++ evs) number connection
@@ -143,49 +160,52 @@ module _ {S : Type 0} (m : Meaning S) (s0 : ShareState S) (moments0 : List ℕ) 
       fate = rw (
         list_any-append (ends_in connection) events evs,
         list_any-append (breaks_in number) calls cs,
+        list_any-append (runs_out_in connection) events evs,
         flat_map-append (taken_in number) calls cs,
         x.outputs,
-        flat_map-append (bytes_for connection) (run m s0 events).outputs (run m share evs).outputs,
+        flat_map-append (bytes_for connection) (run_of m s0 events).outputs (run_of m share evs).outputs,
       ) (o.fate a.fate);
       closed = o.closed;
+      closes = closes_more number calls cs ∙ ap (λ n. n + closes_of number cs) a.closes ∙ o.closes;
     }
 
     -- that of another number
     pub other_account : (number connection : ℕ) → AreElsewhere connection evs → IsQuiet number cs → found number served_peers' ≡ found number served_peers → Account share served_peers calls events number connection →
         Account share' served_peers' (calls ++ cs) (events ++ evs) number connection
     other_account number connection e q f a =
-        let left = others_left m share evs connection e in
+        let left = others_kept m share evs connection e in
         let stream : stream_of connection share'.streams ≡ option_map unread_stream (stream_of connection share.streams) =
-        ap (λ t. stream_of connection t.streams) is ∙ stream_of-unread (is_at (nat_cmp connection)) (run m share evs).state.streams ∙ ap (option_map unread_stream) left.0 in
+        ap (λ t. stream_of connection t.streams) is ∙ stream_of-unread (is_at (nat_cmp connection)) (run_of m share evs).state.streams ∙ ap (option_map unread_stream) left.0 in
         let stays : stream_of connection share.streams ≡ None → stream_of connection share'.streams ≡ None = λ h. stream ∙ closed_unread (stream_of connection share.streams) h in
         record {
           given = (a.given.0, omega (arith, a.given.1, next));
           opened = any_more (opens_in number) calls cs a.opened;
           brought = flat_map-append (brought_in connection) events evs ∙ more_none _ _ (brought_none connection evs e) ∙ a.brought
               ∙ sym (heard_more number calls cs a.opened ∙ more_none _ _ q.sent);
-          fate = fate_same most_owed _ _ _ _ _ _ _ _ _ _ _ _ stays (any_none (ends_in connection) events evs (ended_none connection evs e)) (any_more (breaks_in number) calls cs) (ap owed_of f)
+          fate = fate_same most_owed _ _ _ _ _ _ _ _ _ _ _ _ stays (any_none (ends_in connection) events evs (ended_none connection evs e)) (both_more _ _ _ _ (any_more (breaks_in number) calls cs) (any_more (runs_out_in connection) events evs)) (ap owed_of f)
               (flat_map-append (taken_in number) calls cs ∙ more_none _ _ q.taken)
-              (ap (put_out_to connection) x.outputs ∙ flat_map-append (bytes_for connection) (run m s0 events).outputs (run m share evs).outputs ∙ more_none _ _ (put_none connection (run m share evs).outputs left.1)) a.fate;
+              (ap (put_out_to connection) x.outputs ∙ flat_map-append (bytes_for connection) (run_of m s0 events).outputs (run_of m share evs).outputs ∙ more_none _ _ (put_none connection (run_of m share evs).outputs left.1)) a.fate;
           closed = λ h. stays (a.closed (sym f ∙ h));
+          closes = closes_more number calls cs ∙ ap (λ n. closes_of number calls + n) q.closes ∙ plus_none _ ∙ a.closes ∙ sym (ap closes_due f);
         }
 
     pub still_unused : (connection : ℕ) → AreElsewhere connection evs → IsUnused events connection → IsUnused (events ++ evs) connection
     still_unused connection e u =
-        let left = others_left m share evs connection e in
+        let left = others_kept m share evs connection e in
         record {
           brought = flat_map-append (brought_in connection) events evs ∙ more_none _ _ (brought_none connection evs e) ∙ u.brought;
           unended = any_none (ends_in connection) events evs (ended_none connection evs e) ∙ u.unended;
-          says = ap (put_out_to connection) x.outputs ∙ flat_map-append (bytes_for connection) (run m s0 events).outputs (run m share evs).outputs
-              ∙ more_none _ _ (put_none connection (run m share evs).outputs left.1) ∙ u.says;
+          says = ap (put_out_to connection) x.outputs ∙ flat_map-append (bytes_for connection) (run_of m s0 events).outputs (run_of m share evs).outputs
+              ∙ more_none _ _ (put_none connection (run_of m share evs).outputs left.1) ∙ u.says;
         }
 
   -- calls of one number, and events on its connection if it has one
-  module _ (share share' : ShareState S) (served_peers served_peers' : List PeerState) (calls cs : List PeerCall) (moments moments' : List ℕ) (events evs : List EventText) (connections : ℕ → Option ℕ)
+  module _ (share share' : ShareState S) (served_peers served_peers' : List PeerState) (calls cs : List PeerCall) (moments moments' : List ℕ) (events evs : List Happening) (connections : ℕ → Option ℕ)
       (number : ℕ) (b : Books share served_peers calls moments events connections) (own : (c : ℕ) → connections number ≡ Some c → Own share share' served_peers served_peers' calls cs events evs number c)
       (refused : connections number ≡ None → IsOut m s0 number calls events → IsOut m s0 number (calls ++ cs) (events ++ evs))
       (elsewhere : (j c : ℕ) → connections j ≡ Some c → eqb number j ≡ false → AreElsewhere c evs) (quiet : (j : ℕ) → eqb number j ≡ false → IsQuiet j cs)
       (same : (j : ℕ) → eqb number j ≡ false → found j served_peers' ≡ found j served_peers) where
-    account_at : Extended share events evs → share.next ≤ share'.next → share' ≡ unread (run m share evs).state → (j c : ℕ) (x : Bool) → eqb number j ≡ x → connections j ≡ Some c →
+    account_at : Extended share events evs → share.next ≤ share'.next → share' ≡ unread (run_of m share evs).state → (j c : ℕ) (x : Bool) → eqb number j ≡ x → connections j ≡ Some c →
         Account share' served_peers' (calls ++ cs) (events ++ evs) j c
     account_at x next is j c true t e =
         let j' : number ≡ j = eqb-true number j t in
@@ -203,7 +223,7 @@ module _ {S : Type 0} (m : Meaning S) (s0 : ShareState S) (moments0 : List ℕ) 
         subst P j' (refused e' (b.others number e'))
     refused_at j false t e = still_refused m s0 j calls cs events evs (quiet j t) (b.others j e)
 
-    pub move : (run m share evs).stop ≡ None → share' ≡ unread (run m share evs).state → share'.next ≡ share.next → moments' ≡ moments ++ moments_of m share evs →
+    pub move : (run_of m share evs).stop ≡ None → share' ≡ unread (run_of m share evs).state → share'.next ≡ share.next → moments' ≡ moments ++ moments_of m share evs →
         ((c : ℕ) → share.next ≤ c → AreElsewhere c evs) → AreListed connections served_peers' → Books share' served_peers' (calls ++ cs) moments' (events ++ evs) connections
     move goes is next told beyond listed =
         let x = extend share events evs b.goes b.state goes in
@@ -213,7 +233,7 @@ module _ {S : Type 0} (m : Meaning S) (s0 : ShareState S) (moments0 : List ℕ) 
           state = is ∙ x.state;
           told = told ∙ ap (λ t. t ++ moments_of m share evs) b.told ∙ append_assoc moments0 (moments_of m s0 events) (moments_of m share evs)
               ∙ ap (λ t. moments0 ++ t) (sym x.moments);
-          order = rw is (order_unread (run m share evs).state (run_in_order m share evs b.order));
+          order = rw is (order_unread (run_of m share evs).state (plays_in_order m share evs b.order));
           from_one = rw next b.from_one;
           listed = listed;
           distinct = b.distinct;

@@ -239,7 +239,7 @@ later_more : (k : ℕ) (o : Option Stop) → option_map later (option_map (later
 later_more k None = refl
 later_more k (Some f) = ap Some (later_more_at k f _ refl)
 
-moved_none : (o : Option Stop) → o ≡ option_map (moved 0) o
+pub moved_none : (o : Option Stop) → o ≡ option_map (moved 0) o
 moved_none None = refl
 moved_none (Some f) = let e : 0 + f.place ≡ f.place = omega arith in rw e refl
 
@@ -281,14 +281,14 @@ module _ {S : Type 0} (m : Meaning S) where
       cut_more d (length before) s _ _ (event_refusal s x) (cuts_do_not_matter d.state (order_step m s x h) before after n moment a b)
 
   -- runs one after the other
-  goes_on_at : (s : ShareState S) (d : EventStep S) (k : ℕ) (r whole second : Ran S) (o : Option ServeFault) →
+  pub goes_on_at : (s : ShareState S) (d : EventStep S) (k : ℕ) (r whole second : Ran S) (o : Option ServeFault) →
       (r.stop ≡ None → whole ≡ run_after k r.outputs second) → (option_map_or (refused_at_once s) o (then_ran d r)).stop ≡ None →
       option_map_or (refused_at_once s) o (then_ran d whole) ≡ run_after (suc k) (option_map_or (refused_at_once s) o (then_ran d r)).outputs second
   goes_on_at s d k r whole second None ih h =
       rw (ih (stop_none r.stop h), append_assoc d.outputs r.outputs second.outputs) (ap (λ t. record { state = second.state; outputs = d.outputs ++ (r.outputs ++ second.outputs); stop = t }) (moved_more k second.stop))
   goes_on_at s d k r whole second (Some why) ih h = cc
 
-  state_at : (s : ShareState S) (d : EventStep S) (r : Ran S) (o : Option ServeFault) → (option_map_or (refused_at_once s) o (then_ran d r)).stop ≡ None →
+  pub state_at : (s : ShareState S) (d : EventStep S) (r : Ran S) (o : Option ServeFault) → (option_map_or (refused_at_once s) o (then_ran d r)).stop ≡ None →
       (option_map_or (refused_at_once s) o (then_ran d r)).state ≡ r.state
   state_at s d r None h = refl
   state_at s d r (Some why) h = cc
@@ -317,7 +317,7 @@ module _ {S : Type 0} (m : Meaning S) where
   run_stays s events others fault h = stays_by s events others (rw h refl)
 
   -- a run from what is unread
-  same_at : (s s' : ShareState S) (d d' : EventStep S) (r r' : Ran S) (o : Option ServeFault) → unread s ≡ unread s' → unread_step d ≡ unread_step d' → run_behind [] r ≡ run_behind [] r' →
+  pub same_at : (s s' : ShareState S) (d d' : EventStep S) (r r' : Ran S) (o : Option ServeFault) → unread s ≡ unread s' → unread_step d ≡ unread_step d' → run_behind [] r ≡ run_behind [] r' →
       run_behind [] (option_map_or (refused_at_once s) o (then_ran d r)) ≡ run_behind [] (option_map_or (refused_at_once s') o (then_ran d' r'))
   same_at s s' d d' r r' None h e ih =
       let outputs = ap (λ t. t.outputs) e in

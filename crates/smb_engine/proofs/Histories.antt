@@ -6,8 +6,7 @@ use Rattle.std.proofs.lemmas.List.Folds.{list_any-append}
 use Rattle.std.proofs.lemmas.Bool.{eqb-true, true≢false}
 use Rattle.smb_session.specs.Authenticator.{Meaning}
 use Rattle.smb_engine.specs.State.{StreamState, ShareState}
-use Rattle.smb_engine.specs.Run.{run}
-use Rattle.smb_engine.specs.Event.{EventText}
+use Rattle.smb_engine.specs.Happenings.{Happening, run_of}
 use Rattle.smb_engine.specs.Record.{PeerCall, next_opened, taken_in, taken_by}
 use Rattle.smb_engine.specs.ServedPeers.{PeerState}
 use Rattle.smb_engine.specs.Serving.{most_owed}
@@ -57,6 +56,9 @@ whole_of limit stream e b owed taken out (there x y) h q = (x, y)
 whole_of limit stream e b owed taken out (gone left x y z (inl w)) h q = absurd (true≢false (sym w ∙ h))
 whole_of limit stream e b owed taken out (gone left x y z (inr w)) h q = absurd (too_long limit taken left out z w q)
 
+pub neither : (x y : Bool) → x ≡ false → y ≡ false → (x || y) ≡ false
+neither x y h k = rw (h, k) refl
+
 any_front : (x y : Bool) → (x || y) ≡ false → x ≡ false
 any_front true y h = h
 any_front false y h = refl
@@ -73,20 +75,20 @@ none_sent k (call ∷ calls) h = none_sent_at k call calls (opens_in k call) ref
 
 module _ {S : Type 0} (m : Meaning S) (s0 : ShareState S) where
   -- at a point of the record and one of the run each number is answered
-  abbrev pub AreAnswered : (ℕ → Option ℕ) → List PeerCall → List EventText → Type 0
+  abbrev pub AreAnswered : (ℕ → Option ℕ) → List PeerCall → List Happening → Type 0
   AreAnswered connections calls events =
-      (number connection : ℕ) → connections number ≡ Some connection → IsAnswered number connection calls events (run m s0 events).outputs
+      (number connection : ℕ) → connections number ≡ Some connection → IsAnswered number connection calls events (run_of m s0 events).outputs
 
   -- each point of the record has such a point of the run
-  abbrev pub History : (ℕ → Option ℕ) → List PeerCall → List EventText → Type 0
+  abbrev pub History : (ℕ → Option ℕ) → List PeerCall → List Happening → Type 0
   History connections calls events =
-      (before after : List PeerCall) → calls ≡ before ++ after → (front back : List EventText) × (events ≡ front ++ back) × AreAnswered connections before front
+      (before after : List PeerCall) → calls ≡ before ++ after → (front back : List Happening) × (events ≡ front ++ back) × AreAnswered connections before front
 
-  pub answered_now : (moments0 : List ℕ) (share : ShareState S) (served_peers : List PeerState) (calls : List PeerCall) (moments : List ℕ) (events : List EventText) (connections : ℕ → Option ℕ) →
+  pub answered_now : (moments0 : List ℕ) (share : ShareState S) (served_peers : List PeerState) (calls : List PeerCall) (moments : List ℕ) (events : List Happening) (connections : ℕ → Option ℕ) →
       Books m s0 moments0 share served_peers calls moments events connections → AreAnswered connections calls events
   answered_now moments0 share served_peers calls moments events connections b = λ number connection e.
       let a = b.accounts number connection e in
-      record { brought = a.brought; beginning = beginning_of most_owed _ _ _ _ _ _ a.fate; unended = λ g. (whole_of most_owed _ _ _ _ _ _ a.fate g.unbroken g.few).0 }
+      record { brought = a.brought; beginning = beginning_of most_owed _ _ _ _ _ _ a.fate; unended = λ g. (whole_of most_owed _ _ _ _ _ _ a.fate (neither _ _ g.unbroken g.remembered) g.few).0 }
 
   pub no_history : (connections : ℕ → Option ℕ) → AreAnswered connections [] [] → History connections [] []
   no_history connections a = λ before after e.
@@ -94,25 +96,25 @@ module _ {S : Type 0} (m : Meaning S) (s0 : ShareState S) where
       let P : List PeerCall → Type 0 = λ t. AreAnswered connections t [] in
       ([], [], refl, subst P (sym n.0) a)
 
-  pub events_more : (connections : ℕ → Option ℕ) (calls : List PeerCall) (events evs : List EventText) → History connections calls events → History connections calls (events ++ evs)
+  pub events_more : (connections : ℕ → Option ℕ) (calls : List PeerCall) (events evs : List Happening) → History connections calls events → History connections calls (events ++ evs)
   events_more connections calls events evs h = λ before after e.
       let x = h before after e in
       (x.0, x.1 ++ evs, ap (λ t. t ++ evs) x.2 ∙ append_assoc x.0 x.1 evs, x.3)
 
-  call_at : (connections : ℕ → Option ℕ) (calls : List PeerCall) (call : PeerCall) (events : List EventText) (before after : List PeerCall) → History connections calls events →
+  call_at : (connections : ℕ → Option ℕ) (calls : List PeerCall) (call : PeerCall) (events : List Happening) (before after : List PeerCall) → History connections calls events →
       AreAnswered connections (calls ++ call ∷ []) events → StandsBehind calls call before after ⊎ (before ≡ calls ++ call ∷ []) →
-      (front back : List EventText) × (events ≡ front ++ back) × AreAnswered connections before front
+      (front back : List Happening) × (events ≡ front ++ back) × AreAnswered connections before front
   call_at connections calls call events before after h a (inl s) = h before s.others s.whole
   call_at connections calls call events before after h a (inr e) =
       let P : List PeerCall → Type 0 = λ t. AreAnswered connections t events in
       (events, [], sym (append-nil events), subst P (sym e) a)
 
-  pub call_more : (connections : ℕ → Option ℕ) (calls : List PeerCall) (call : PeerCall) (events : List EventText) → History connections calls events →
+  pub call_more : (connections : ℕ → Option ℕ) (calls : List PeerCall) (call : PeerCall) (events : List Happening) → History connections calls events →
       AreAnswered connections (calls ++ call ∷ []) events → History connections (calls ++ call ∷ []) events
   call_more connections calls call events h a = λ before after e. call_at connections calls call events before after h a (last_part calls call before after e)
 
   -- a refused opening changes nothing
-  pub opening_more : (moments0 : List ℕ) (share : ShareState S) (served_peers : List PeerState) (calls : List PeerCall) (moments : List ℕ) (events : List EventText) (connections : ℕ → Option ℕ) (k : ℕ) →
+  pub opening_more : (moments0 : List ℕ) (share : ShareState S) (served_peers : List PeerState) (calls : List PeerCall) (moments : List ℕ) (events : List Happening) (connections : ℕ → Option ℕ) (k : ℕ) →
       Books m s0 moments0 share served_peers calls moments events connections → AreAnswered connections (calls ++ next_opened k ∷ []) events
   opening_more moments0 share served_peers calls moments events connections k b = λ number connection e.
       let a = b.accounts number connection e in
@@ -122,31 +124,31 @@ module _ {S : Type 0} (m : Meaning S) (s0 : ShareState S) where
         brought = a.brought ∙ sym (heard_more number calls (next_opened k ∷ []) a.opened ∙ more_none _ _ refl);
         beginning = (left.0, ap (λ t. t ++ left.0) same ∙ left.1);
         unended = λ g.
-            let few : length (put_out_to connection (run m s0 events).outputs) ≤ length (taken_by number calls) + most_owed = rw same at g.few in
-            (whole_of most_owed _ _ _ _ _ _ a.fate (sym (any_none (breaks_in number) calls (next_opened k ∷ []) refl) ∙ g.unbroken) few).0;
+            let few : length (put_out_to connection (run_of m s0 events).outputs) ≤ length (taken_by number calls) + most_owed = rw same at g.few in
+            (whole_of most_owed _ _ _ _ _ _ a.fate (neither _ _ (sym (any_none (breaks_in number) calls (next_opened k ∷ []) refl) ∙ g.unbroken) g.remembered) few).0;
       }
 
   -- a number that gets its connection had nothing before
-  module _ (connections : ℕ → Option ℕ) (calls : List PeerCall) (events : List EventText) (number c : ℕ) (fresh : is_opened number calls ≡ false) (taken : taken_by number calls ≡ [])
+  module _ (connections : ℕ → Option ℕ) (calls : List PeerCall) (events : List Happening) (number c : ℕ) (fresh : is_opened number calls ≡ false) (taken : taken_by number calls ≡ [])
       (brought : brought_to c events ≡ []) (unended : is_ended c events ≡ false) where
-    new_answered : (before after : List PeerCall) (front back : List EventText) → calls ≡ before ++ after → events ≡ front ++ back → IsAnswered number c before front (run m s0 front).outputs
+    new_answered : (before after : List PeerCall) (front back : List Happening) → calls ≡ before ++ after → events ≡ front ++ back → IsAnswered number c before front (run_of m s0 front).outputs
     new_answered before after front back e f =
         let none = nothing_in (brought_to c front) (brought_to c back) (sym (flat_map-append (brought_in c) front back) ∙ sym (ap (brought_to c) f) ∙ brought) in
         let none' = nothing_in (taken_by number before) (taken_by number after) (sym (flat_map-append (taken_in number) before after) ∙ sym (ap (taken_by number) e) ∙ taken) in
         let unopened = any_front (is_opened number before) (is_opened number after) (sym (list_any-append (opens_in number) before after) ∙ sym (ap (is_opened number) e) ∙ fresh) in
         record {
           brought = none.0 ∙ sym (none_sent number before unopened);
-          beginning = (put_out_to c (run m s0 front).outputs, ap (λ t. t ++ put_out_to c (run m s0 front).outputs) none'.0);
+          beginning = (put_out_to c (run_of m s0 front).outputs, ap (λ t. t ++ put_out_to c (run_of m s0 front).outputs) none'.0);
           unended = λ g. any_front (is_ended c front) (is_ended c back) (sym (list_any-append (ends_in c) front back) ∙ sym (ap (is_ended c) f) ∙ unended);
         }
 
-    all_answered : (before after : List PeerCall) (front back : List EventText) → calls ≡ before ++ after → events ≡ front ++ back → AreAnswered connections before front →
-        (j d : ℕ) (b : Bool) → eqb j number ≡ b → connected connections number c j ≡ Some d → IsAnswered j d before front (run m s0 front).outputs
+    all_answered : (before after : List PeerCall) (front back : List Happening) → calls ≡ before ++ after → events ≡ front ++ back → AreAnswered connections before front →
+        (j d : ℕ) (b : Bool) → eqb j number ≡ b → connected connections number c j ≡ Some d → IsAnswered j d before front (run_of m s0 front).outputs
     all_answered before after front back e f a j d true t h =
         let same : number ≡ j = sym (eqb-true j number t) in
         let same' : c ≡ d = some_same c d (rw t at h) in
-        let P : ℕ → Type 0 = λ i. IsAnswered i d before front (run m s0 front).outputs in
-        let Q : ℕ → Type 0 = λ i. IsAnswered number i before front (run m s0 front).outputs in
+        let P : ℕ → Type 0 = λ i. IsAnswered i d before front (run_of m s0 front).outputs in
+        let Q : ℕ → Type 0 = λ i. IsAnswered number i before front (run_of m s0 front).outputs in
         subst P same (subst Q same' (new_answered before after front back e f))
     all_answered before after front back e f a j d false t h = a j d (rw t at h)
 

@@ -14,7 +14,7 @@ pub mod Cuts
 pub mod Turning
 pub mod Numbers
 pub mod Accounts
-pub mod Moments
+pub mod Happenings
 pub mod Books
 pub mod Moves
 pub mod Accounting
@@ -22,6 +22,7 @@ pub mod NewNumbers
 pub mod Histories
 pub mod ServedRuns
 pub mod ServingLaw
+pub mod Once
 pub mod Scripts
 pub mod HeldCalls
 pub mod MemoryCalls

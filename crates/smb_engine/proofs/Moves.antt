@@ -5,12 +5,13 @@ use Rattle.std.proofs.lemmas.Bool.{lt-ltb, ne_eqb, eq-eqb, true≢false}
 use Rattle.smb_session.specs.Authenticator.{Meaning}
 use Rattle.smb_engine.specs.State.{ShareState}
 use Rattle.smb_engine.specs.Stream.{unread}
-use Rattle.smb_engine.specs.Run.{Ran, run, event_refusal, event_step, unknown_refusal}
-use Rattle.smb_engine.specs.Event.{EventText, connection_of}
+use Rattle.smb_engine.specs.Run.{Ran, event_refusal, unknown_refusal}
+use Rattle.smb_engine.specs.Happenings.{Happening, event_of, happening_step, run_of}
 use Rattle.smb_engine.specs.Record.{PeerCall}
 use Rattle.smb_engine.specs.ServedPeers.{PeerState}
 use Rattle.smb_engine.specs.ServingLaws.{moments_of}
 use Rattle.smb_engine.proofs.Runs.{unread-unread}
+use Rattle.smb_engine.proofs.Happenings.{concerns}
 use Rattle.smb_engine.proofs.Numbers.{found, found_same, found_other, apart_more, apart_less, all_more, all_less}
 use Rattle.smb_engine.proofs.Accounts.{IsQuiet}
 use Rattle.smb_engine.proofs.Books.{IsOut, AreListed, Books, Own, move}
@@ -73,19 +74,19 @@ module _ {S : Type 0} (m : Meaning S) (s0 : ShareState S) (moments0 : List ℕ) 
   pub knows : (s : ShareState S) (c : ℕ) → (0 < c) × (c < s.next) → unknown_refusal s c ≡ None
   knows s c p = rw (lt-ltb 0 c p.0, lt-ltb c s.next p.1) refl
 
-  abbrev pub one : ShareState S → EventText → Ran S
-  one s event = record { state = (event_step m s event).state; outputs = (event_step m s event).outputs ++ []; stop = None }
+  abbrev pub one : ShareState S → Happening → Ran S
+  one s event = record { state = (happening_step m s event).state; outputs = (happening_step m s event).outputs ++ []; stop = None }
 
-  pub run_one : (s : ShareState S) (event : EventText) → event_refusal s event ≡ None → run m s (event ∷ []) ≡ one s event
+  pub run_one : (s : ShareState S) (event : Happening) → event_refusal s (event_of event) ≡ None → run_of m s (event ∷ []) ≡ one s event
   run_one s event h = rw h refl
 
-  module _ (share : ShareState S) (served_peers : List PeerState) (calls : List PeerCall) (moments : List ℕ) (events : List EventText) (connections : ℕ → Option ℕ)
+  module _ (share : ShareState S) (served_peers : List PeerState) (calls : List PeerCall) (moments : List ℕ) (events : List Happening) (connections : ℕ → Option ℕ)
       (b : Books m s0 moments0 share served_peers calls moments events connections) where
     -- the share is held as what is unread
     pub held : share ≡ unread share
-    held = b.state ∙ sym (unread-unread (run m s0 events).state) ∙ ap unread (sym b.state)
+    held = b.state ∙ sym (unread-unread (run_of m s0 events).state) ∙ ap unread (sym b.state)
 
-    not_its : (k j c c' : ℕ) → connections k ≡ Some c → connections j ≡ Some c' → eqb k j ≡ false → eqb c c' ≡ false
+    pub not_its : (k j c c' : ℕ) → connections k ≡ Some c → connections j ≡ Some c' → eqb k j ≡ false → eqb c c' ≡ false
     not_its k j c c' e e' d = ne_eqb c c' (λ x. true≢false (sym (eq-eqb k j (b.distinct k j c' (e ∙ ap Some x) e')) ∙ d))
 
     not_beyond : (c d : ℕ) → c < share.next → share.next ≤ d → eqb c d ≡ false
@@ -101,9 +102,9 @@ module _ {S : Type 0} (m : Meaning S) (s0 : ShareState S) (moments0 : List ℕ) 
           move m s0 moments0 share share served_peers served_peers' calls cs moments moments events [] connections number b own refused (λ j c e d. tt) quiet same refl held refl (sym (append-nil moments)) (λ c p. tt) listed
 
     -- calls and an event on the connection
-    module _ (share' : ShareState S) (served_peers' : List PeerState) (cs : List PeerCall) (moments' : List ℕ) (event : EventText) (number c : ℕ) (at : connections number ≡ Some c) (on : connection_of event ≡ c)
+    module _ (share' : ShareState S) (served_peers' : List PeerState) (cs : List PeerCall) (moments' : List ℕ) (event : Happening) (number c : ℕ) (at : connections number ≡ Some c) (on : (d : ℕ) → concerns d event ≡ eqb c d)
         (listed : AreListed connections served_peers') (same : (j : ℕ) → eqb number j ≡ false → found j served_peers' ≡ found j served_peers) (quiet : (j : ℕ) → eqb number j ≡ false → IsQuiet j cs) where
-      pub one_event : event_refusal share event ≡ None → share' ≡ unread (event_step m share event).state → share'.next ≡ share.next → moments' ≡ moments ++ moments_of m share (event ∷ []) →
+      pub one_event : event_refusal share (event_of event) ≡ None → share' ≡ unread (happening_step m share event).state → share'.next ≡ share.next → moments' ≡ moments ++ moments_of m share (event ∷ []) →
           Own m s0 moments0 share share' served_peers served_peers' calls cs events (event ∷ []) number c → Books m s0 moments0 share' served_peers' (calls ++ cs) moments' (events ++ event ∷ []) connections
       one_event unrefused is next told own =
           let r = run_one share event unrefused in
@@ -111,8 +112,8 @@ module _ {S : Type 0} (m : Meaning S) (s0 : ShareState S) (moments0 : List ℕ) 
           move m s0 moments0 share share' served_peers served_peers' calls cs moments moments' events (event ∷ []) connections number b
           (λ c' e. let c'' : c ≡ c' = some_same c c' (sym at ∙ e) in subst (λ (x : ℕ). Own m s0 moments0 share share' served_peers served_peers' calls cs events (event ∷ []) number x) c'' own)
           (λ e. absurd (some_none c (sym at ∙ e)))
-          (λ j c' e d. (ap (λ x. eqb x c') on ∙ not_its number j c c' at e d, tt))
+          (λ j c' e d. (on c' ∙ not_its number j c c' at e d, tt))
           quiet same
           (ap (λ t. t.stop) r) (is ∙ ap (λ t. unread t.state) (sym r)) next told
-          (λ c' p. (ap (λ x. eqb x c') on ∙ not_beyond c c' known.1 p, tt))
+          (λ c' p. (on c' ∙ not_beyond c c' known.1 p, tt))
           listed

@@ -96,6 +96,19 @@ split n c (d ∷ cs) h = split_at n c d cs (eqb d.number n) refl (split n c cs) 
 pub other_way : (a b : ℕ) → eqb a b ≡ false → eqb b a ≡ false
 other_way a b h = ne_eqb b a (λ e. true≢false (sym (eq-eqb a b (sym e)) ∙ h))
 
+-- a number that no peer has
+unnamed_at : (n : ℕ) (c : PeerState) (cs : List PeerState) (b : Bool) → eqb c.number n ≡ b → found n (c ∷ cs) ≡ None → (eqb n c.number ≡ false) × (found n cs ≡ None)
+unnamed_at n c cs true t h = let h' = rw t at h in cc
+unnamed_at n c cs false t h = (other_way c.number n t, rw t at h)
+
+pub none_named : (n : ℕ) (front back : List PeerState) → found n (front ++ back) ≡ None → AllByRecursion (λ c. eqb n c.number ≡ false) front
+none_named n [] back h = tt
+none_named n (c ∷ front) back h = let x = unnamed_at n c (front ++ back) _ refl h in (x.0, none_named n front back x.1)
+
+pub all_first : (P : PeerState → Type 0) (front back : List PeerState) → AllByRecursion P (front ++ back) → AllByRecursion P front
+all_first P [] back h = tt
+all_first P (c ∷ front) back h = (h.0, all_first P front back h.1)
+
 -- one peer more among others
 module _ (c : PeerState) where
   same_at : (x : PeerState) (xs ys : List PeerState) (b : Bool) → eqb x.number c.number ≡ b → (found c.number (xs ++ ys) ≡ None → found c.number (xs ++ c ∷ ys) ≡ Some c) →

@@ -74,7 +74,7 @@ order_set s t n new e f h = record {
   given = rw (e, f) (all_set (λ x. x.0 < s.next) (is_at (nat_cmp n)) s.streams new (λ x p. p) h.given);
 }
 
-order_without : {S : Type 0} (s t : ShareState S) (n : ℕ) → t.streams ≡ remove_entry (is_at (nat_cmp n)) s.streams → t.next ≡ s.next → StreamsInOrder s → StreamsInOrder t
+pub order_without : {S : Type 0} (s t : ShareState S) (n : ℕ) → t.streams ≡ remove_entry (is_at (nat_cmp n)) s.streams → t.next ≡ s.next → StreamsInOrder s → StreamsInOrder t
 order_without s t n e f h = record {
   rising = rw (e, numbers-remove n s.streams h.rising) (rising-filter _ (numbers_of s.streams) h.rising);
   given = rw (e, f) (all_remove (λ x. x.0 < s.next) (is_at (nat_cmp n)) s.streams h.given);

@@ -135,7 +135,7 @@ module _ {S : Type 0} (m : Meaning S) where
       rw (whole, run-cons s x events p.0, run-refused first.state events others event i why h p.1 r') refl
 
   -- where memory ran out in an event over rests
-  stopped-unread : (s : ShareState S) (event : EventText) (k : ℕ) → unread (stopped m (unread s) event k) ≡ unread (stopped m s event k)
+  pub stopped-unread : (s : ShareState S) (event : EventText) (k : ℕ) → unread (stopped m (unread s) event k) ≡ unread (stopped m s event k)
   stopped-unread s (opens n) k = unread-unread s
   stopped-unread s (brings n moment piece) k =
       let same = ap (λ d. d.requests) (bytes_step-unread s n moment piece) in

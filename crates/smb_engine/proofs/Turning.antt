@@ -11,15 +11,15 @@ use Rattle.smb_engine.specs.State.{ShareState}
 use Rattle.smb_engine.specs.Record.{PeerCall, send, close, Keeping}
 use Rattle.smb_engine.specs.Peers.{send_call}
 use Rattle.smb_engine.specs.ServedPeers.{PeerState, place_of, peer_of, with_peer, dropped}
-use Rattle.smb_engine.specs.Serving.{ServingState, serving, PieceTaken, PieceFollows, is_for, peers_behind_end, share_behind_end, behind_end, Follows, EventTaken, Line, IsSent, takes, stays, kept_peers, closing_calls, IsServed, AreServed, Turn, Turns}
+use Rattle.smb_engine.specs.Serving.{ServingState, serving, told, PieceTaken, PieceFollows, is_for, peers_behind_end, share_behind_end, behind_end, Follows, Line, IsSent, takes, stays, kept_peers, closing_calls, IsServed, AreServed, Turn, Turns}
 
--- an event, from what its call of `next` told
-pub event_taken : {S : Type 0} (m : Meaning S) (share share' : ShareState S) (served_peers served_peers' : List PeerState) (calls told calls' : List PeerCall) (moments moments' : List ℕ) (n n' : ℕ)
-    (call : PeerCall) → told ≡ calls ++ call ∷ [] → Follows m call (serving share served_peers told moments n) (serving share' served_peers' calls' moments' n') →
-    EventTaken m (serving share served_peers calls moments n) (serving share' served_peers' calls' moments' n')
-event_taken m share share' served_peers served_peers' calls told calls' moments moments' n n' call e h =
+-- what follows on a call of `next`, from what it told
+pub follows_told : {S : Type 0} (m : Meaning S) (share share' : ShareState S) (served_peers served_peers' : List PeerState) (calls told' calls' : List PeerCall) (moments moments' : List ℕ) (n n' : ℕ)
+    (call : PeerCall) → told' ≡ calls ++ call ∷ [] → Follows m call (serving share served_peers told' moments n) (serving share' served_peers' calls' moments' n') →
+    Follows m call (told (serving share served_peers calls moments n) call) (serving share' served_peers' calls' moments' n')
+follows_told m share share' served_peers served_peers' calls told' calls' moments moments' n n' call e h =
     let P : List PeerCall → Type 0 = λ cs. Follows m call (serving share served_peers cs moments n) (serving share' served_peers' calls' moments' n') in
-    (call, subst P e h)
+    subst P e h
 
 -- one peer more
 AreServed-snoc : {S : Type 0} (served_peers : List PeerState) (peer : PeerState) (s middle t : ServingState S) →

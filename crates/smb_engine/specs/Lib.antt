@@ -4,6 +4,7 @@ pub mod State
 pub mod Stream
 pub mod Run
 pub mod Refusals
+pub mod Happenings
 pub mod Good
 pub mod Laws
 pub mod Sink

@@ -1,17 +1,18 @@
 -- Serving is a run of events for its peers.
-use Rattle.std.specs.Prelude.{◌≡◌, ℕ, ◌+◌, ◌≤◌, Bool, true, false, ◌==◌, List, [], ◌∷◌, ◌++◌, length, Option, None, Some, is_some, if◌then◌else◌}
+use Rattle.std.specs.Prelude.{◌≡◌, ℕ, ◌+◌, ◌≤◌, Bool, true, false, ◌||◌, ◌==◌, nat_lt, List, [], ◌∷◌, ◌++◌, length, map, Option, None, Some, is_some, if◌then◌else◌}
 use Rattle.std.specs.Option.{option_map_or}
 use Rattle.std.specs.List.{flat_map, list_any}
 use Rattle.smb_engine.specs.declared.fault.ServeFault.TheVariants.{TooManyConnections}
 use Rattle.smb_session.specs.Authenticator.{Meaning}
-use Rattle.smb_engine.specs.State.{ShareState, stream_of}
+use Rattle.smb_engine.specs.State.{ShareState, stream_of, is_open}
 use Rattle.smb_engine.specs.Good.{GoodState}
-use Rattle.smb_engine.specs.Run.{opening_refusal, event_step, run}
+use Rattle.smb_engine.specs.Run.{opening_refusal, run}
 use Rattle.smb_engine.specs.Stream.{unread}
 use Rattle.smb_engine.specs.Laws.{receiver}
-use Rattle.smb_engine.specs.Event.{EventText, brings, ends}
+use Rattle.smb_engine.specs.Event.{EventText, opens, brings, ends}
+use Rattle.smb_engine.specs.Happenings.{Happening, performed, cut_short, event_of, times_out_of_memory, runs_out_in, runs_out_of_memory, happening_step, run_of}
 use Rattle.smb_engine.specs.Output.{Output, output_bytes}
-use Rattle.smb_engine.specs.Record.{PeerCall, next_opened, next_ended, send, close, sent_by, taken_by}
+use Rattle.smb_engine.specs.Record.{PeerCall, next_opened, next_ended, send, close, sent_by, taken_by, closes_of}
 use Rattle.smb_engine.specs.ServedPeers.{PeerState, peer_of}
 use Rattle.smb_engine.specs.Serving.{most_owed, Served}
 
@@ -41,20 +42,29 @@ abbrev pub sent_when_open : ℕ → List PeerCall → List ℕ
 sent_when_open number [] = []
 sent_when_open number (call ∷ calls) = if opens_in number call then sent_by number calls else sent_when_open number calls
 
--- the bytes that events bring to a connection, and whether one of them is its end
-abbrev pub brought_in : ℕ → EventText → List ℕ
-brought_in connection (brings other moment piece) = if other == connection then piece else []
-brought_in connection event = []
+-- the bytes that happenings bring to a connection, and whether one of them is its end
+abbrev pub brought_by : ℕ → EventText → List ℕ
+brought_by connection (opens other) = []
+brought_by connection (brings other moment piece) = if other == connection then piece else []
+brought_by connection (ends other) = []
 
-abbrev pub brought_to : ℕ → List EventText → List ℕ
-brought_to connection events = flat_map (brought_in connection) events
+abbrev pub brought_in : ℕ → Happening → List ℕ
+brought_in connection happening = brought_by connection (event_of happening)
 
-abbrev pub ends_in : ℕ → EventText → Bool
-ends_in connection (ends other) = other == connection
-ends_in connection event = false
+abbrev pub brought_to : ℕ → List Happening → List ℕ
+brought_to connection happenings = flat_map (brought_in connection) happenings
 
-abbrev pub is_ended : ℕ → List EventText → Bool
-is_ended connection events = list_any (ends_in connection) events
+abbrev pub is_end_of : ℕ → EventText → Bool
+is_end_of connection (opens other) = false
+is_end_of connection (brings other moment piece) = false
+is_end_of connection (ends other) = other == connection
+
+abbrev pub ends_in : ℕ → Happening → Bool
+ends_in connection (performed event) = is_end_of connection event
+ends_in connection (cut_short event done) = runs_out_in connection (cut_short event done)
+
+abbrev pub is_ended : ℕ → List Happening → Bool
+is_ended connection happenings = list_any (ends_in connection) happenings
 
 -- the bytes that outputs have for a connection
 abbrev pub bytes_for : ℕ → Output → List ℕ
@@ -69,57 +79,75 @@ owed_to number served_peers = option_map_or (λ peer. peer.owed) (peer_of number
 
 -- the moment of a piece on an open connection
 abbrev pub moment_of : {S : Type 0} → ShareState S → EventText → List ℕ
+moment_of share (opens connection) = []
 moment_of share (brings connection moment piece) = if is_some (stream_of connection share.streams) then moment ∷ [] else []
-moment_of share event = []
+moment_of share (ends connection) = []
 
--- a number was not broken off, and of what was put out for it no more is left than may be owed
-pub record GoesOn (number connection : ℕ) (calls : List PeerCall) (outputs : List Output) : Type 0 where
+-- a number was not broken off, memory ran out in none of its pieces, and of what was put out for it no more is left than may
+-- be owed
+pub record GoesOn (number connection : ℕ) (calls : List PeerCall) (happenings : List Happening) (outputs : List Output) : Type 0 where
   pub unbroken : is_broken_off number calls ≡ false
+  pub remembered : runs_out_of_memory connection happenings ≡ false
   pub few : length (put_out_to connection outputs) ≤ length (taken_by number calls) + most_owed
 
 -- a connection is brought what came of its number behind the opening, all of it and nothing else; what was taken for the
--- number is the beginning of what is put out to the connection; and while the number goes on, no event ends the connection
-pub record IsAnswered (number connection : ℕ) (calls : List PeerCall) (events : List EventText) (outputs : List Output) : Type 0 where
-  pub brought : brought_to connection events ≡ sent_when_open number calls
+-- number is the beginning of what is put out to the connection; and while the number goes on, nothing ends the connection
+-- but the share
+pub record IsAnswered (number connection : ℕ) (calls : List PeerCall) (happenings : List Happening) (outputs : List Output) : Type 0 where
+  pub brought : brought_to connection happenings ≡ sent_when_open number calls
   pub beginning : (left : List ℕ) × (taken_by number calls ++ left ≡ put_out_to connection outputs)
-  pub unended : GoesOn number connection calls outputs → is_ended connection events ≡ false
+  pub unended : GoesOn number connection calls happenings outputs → is_ended connection happenings ≡ false
+
+-- why an opening gets no connection: the share refuses it, or memory runs out at it
+pub data OpeningFails {S : Type 0} (share : ShareState S) (behind : List Happening) : Type 0 where
+  is_full : opening_refusal share ≡ Some TooManyConnections → OpeningFails share behind
+  finds_no_memory : (done : ℕ) (others : List Happening) → behind ≡ cut_short (opens share.next) done ∷ others → OpeningFails share behind
 
 module _ {S : Type 0} (authenticator : Meaning S) where
-  -- the moments of all such pieces, in the order of a run's events
-  abbrev pub moments_of : ShareState S → List EventText → List ℕ
+  -- the moments of all pieces on open connections, in order
+  abbrev pub moments_of : ShareState S → List Happening → List ℕ
   moments_of share [] = []
-  moments_of share (event ∷ events) = moment_of share event ++ moments_of (event_step authenticator share event).state events
+  moments_of share (happening ∷ happenings) = moment_of share (event_of happening) ++ moments_of (happening_step authenticator share happening).state happenings
 
-  -- a number was closed at its opening, at a point of the run at which the share refused one
-  pub record IsRefused (share : ShareState S) (number : ℕ) (calls : List PeerCall) (events : List EventText) : Type 0 where
+  -- a number was closed at its opening, at a point of the run at which it could not get a connection
+  pub record IsRefused (share : ShareState S) (number : ℕ) (calls : List PeerCall) (happenings : List Happening) : Type 0 where
     pub before : List PeerCall
     pub after : List PeerCall
     pub closed : calls ≡ before ++ next_opened number ∷ close number ∷ after
-    pub front : List EventText
-    pub back : List EventText
-    pub point : events ≡ front ++ back
-    pub refusal : opening_refusal (run authenticator share front).state ≡ Some TooManyConnections
+    pub front : List Happening
+    pub back : List Happening
+    pub point : happenings ≡ front ++ back
+    pub reason : OpeningFails (run_of authenticator share front).state back
 
-  -- a record of calls is that of a run of events, none of them refused, which leaves the share as it is now; the clock gave the moments
-  -- of its pieces. Numbers have connections of their own. At each point of the record there is a point of the run up to which
-  -- each of them is answered; and so is each at the end, where what was taken for a number that goes on, and what it is owed, are
-  -- all that is put out to its connection. For a number without a connection nothing was taken, and if it was opened at all,
-  -- it was refused
-  pub record IsRun (share share' : ShareState S) (served_peers : List PeerState) (calls : List PeerCall) (moments : List ℕ) (events : List EventText) (connections : ℕ → Option ℕ) : Type 0 where
-    pub unrefused : (run authenticator share events).stop ≡ None
-    pub state : share' ≡ unread (run authenticator share events).state
-    pub told : moments ≡ moments_of share events
+  -- a record of calls is that of a run of happenings, none of them refused, which leaves the share as it is now; memory ran out
+  -- so often; the clock gave the moments of its pieces. Numbers have connections of their own. At each point of the record there
+  -- is a point of the run up to which each of them is answered; and so is each at the end, where what was taken for a number
+  -- that goes on, and what it is owed, are all that is put out to its connection. A number is closed once where its connection
+  -- has ended and it is owed nothing, and else it is not closed. For a number without a connection nothing was taken, and if it
+  -- was opened at all, it was closed once, at its opening
+  pub record IsRun (share share' : ShareState S) (served_peers : List PeerState) (calls : List PeerCall) (moments : List ℕ) (ran_out : ℕ) (happenings : List Happening) (connections : ℕ → Option ℕ) : Type 0 where
+    pub unrefused : (run_of authenticator share happenings).stop ≡ None
+    pub state : share' ≡ unread (run_of authenticator share happenings).state
+    pub counted : ran_out ≡ times_out_of_memory happenings
+    pub told : moments ≡ moments_of share happenings
     pub apart : (number other connection : ℕ) → connections number ≡ Some connection → connections other ≡ Some connection → number ≡ other
-    pub points : (before after : List PeerCall) → calls ≡ before ++ after → (front back : List EventText) × (events ≡ front ++ back)
-        × ((number connection : ℕ) → connections number ≡ Some connection → IsAnswered number connection before front (run authenticator share front).outputs)
+    pub points : (before after : List PeerCall) → calls ≡ before ++ after → (front back : List Happening) × (happenings ≡ front ++ back)
+        × ((number connection : ℕ) → connections number ≡ Some connection → IsAnswered number connection before front (run_of authenticator share front).outputs)
     pub answered : (number connection : ℕ) → connections number ≡ Some connection →
-        IsAnswered number connection calls events (run authenticator share events).outputs
-        × (GoesOn number connection calls (run authenticator share events).outputs → taken_by number calls ++ owed_to number served_peers ≡ put_out_to connection (run authenticator share events).outputs)
-    pub others : (number : ℕ) → connections number ≡ None → (taken_by number calls ≡ []) × (is_opened number calls ≡ true → IsRefused share number calls events)
+        IsAnswered number connection calls happenings (run_of authenticator share happenings).outputs
+        × (GoesOn number connection calls happenings (run_of authenticator share happenings).outputs → taken_by number calls ++ owed_to number served_peers ≡ put_out_to connection (run_of authenticator share happenings).outputs)
+    pub closed : (number connection : ℕ) → connections number ≡ Some connection →
+        closes_of number calls ≡ (if is_open share' connection || nat_lt 0 (length (owed_to number served_peers)) then 0 else 1)
+    pub others : (number : ℕ) → connections number ≡ None → (taken_by number calls ≡ [])
+        × (closes_of number calls ≡ (if is_opened number calls then 1 else 0)) × (is_opened number calls ≡ true → IsRefused share number calls happenings)
 
-  -- serving a share without connections, if memory never ran out and no number was opened twice, is a run of events
+  -- serving a share without connections, if no number was opened twice, is a run of happenings
   abbrev pub ServingIsARun : Type 0
   ServingIsARun =
-      (turns : ℕ) (share share' : ShareState S) (calls more : List PeerCall) (moments later : List ℕ) →
-      GoodState share → share.streams ≡ [] → OpensEachOnce more → (served : Served authenticator turns share calls moments share' (calls ++ more) (moments ++ later) 0) →
-      (events : List EventText) × (connections : ℕ → Option ℕ) × IsRun share share' served.0 more later events connections
+      (turns : ℕ) (share share' : ShareState S) (calls more : List PeerCall) (moments later : List ℕ) (ran_out : ℕ) →
+      GoodState share → share.streams ≡ [] → OpensEachOnce more → (served : Served authenticator turns share calls moments share' (calls ++ more) (moments ++ later) ran_out) →
+      (happenings : List Happening) × (connections : ℕ → Option ℕ) × IsRun share share' served.0 more later ran_out happenings connections
+
+  -- happenings in which memory never runs out are a run of events
+  abbrev pub WithMemoryItIsARun : Type 0
+  WithMemoryItIsARun = (share : ShareState S) (events : List EventText) → run_of authenticator share (map performed events) ≡ run authenticator share events

@@ -1,7 +1,7 @@
 //! The laws of shares.
 
 ghost use Rattle.smb_engine.specs.Laws.{StatesAreInOrder, ACutDoesNotMatter, CutsDoNotMatter, RunsAreOne, UnreadIsEnough, OthersAreLeft, SessionsAreInOrder, SessionsOfOthersAreLeft, WhatIsOverStaysOver, AnEndIsTheLast};
-ghost use Rattle.smb_engine.specs.ServingLaws.{ServingIsARun};
+ghost use Rattle.smb_engine.specs.ServingLaws.{ServingIsARun, WithMemoryItIsARun};
 
 use smb_session::Authenticator;
 
@@ -23,12 +23,18 @@ pub fn laws_of_shares<A: Authenticator>()
     ensures last { AnEndIsTheLast A.meaning }
 {}
 
-/// What `serve` did in its turns, from a share without connections on, is a run of events, if memory never ran out and
-/// no number was opened twice: each number that the peers opened has a connection in it, or was refused. At each point
-/// of the record all that came of a number, and nothing else, was brought to its connection, and what was taken for the
-/// number is the beginning of what the run put out to it. It is all of that but what is still owed, unless the peers
-/// ended the number, a send to it failed, or it was owed too much. This is so with any authenticator: the contract is
-/// the statement, and the body does nothing.
+/// What [`serve`](crate::serve) did in its turns, from a share without connections on, is a run of events, in some of which memory
+/// may have run out; `serve` told how often that was. Peers open no number twice, which `serve` says of its record.
+///
+/// Each number that they opened has a connection in the run, or was closed at its opening, since the share was full or memory ran
+/// out. At each point of the record all that came of a number, and nothing else, was brought to its connection, and what was
+/// taken for the number is the beginning of what the run put out to it. It is all of that but what is still owed, unless the
+/// peers ended the number, a send to it failed, memory ran out in a piece of it, or it was owed too much: what befalls another
+/// number changes none of that. A number is closed once: when its connection has ended and it is owed nothing. Where memory never
+/// ran out, the run is that of [`run`](crate::Share::run).
+///
+/// This is so with any authenticator: the contract is the statement, and the body does nothing.
 pub fn laws_of_serving<A: Authenticator>()
     ensures run { ServingIsARun A.meaning }
+    ensures memory { WithMemoryItIsARun A.meaning }
 {}

@@ -4,11 +4,11 @@ ghost use Rattle.std.specs.Prelude.{◌≡◌, ◌&&◌, ◌+◌, ◌++◌, ◌�
 ghost use Rattle.std.specs.List.{position};
 ghost use Rattle.smb_engine.specs.Record.{Keeping, PeerCall, close};
 ghost use Rattle.smb_engine.specs.ServedPeers.{place_of, place_for};
-ghost use Rattle.smb_engine.specs.Serving.{serving, OpeningFollows, PieceTaken, PieceFollows, share_behind_end, peers_behind_end, EventTaken, IsSent, stays, AreServed, Turn, Served};
-ghost use Rattle.smb_engine.specs.Openings.{Begins};
+ghost use Rattle.smb_engine.specs.Serving.{serving, told, OpeningFollows, PieceTaken, PieceFollows, share_behind_end, peers_behind_end, Follows, IsSent, stays, AreServed, Served};
+ghost use Rattle.smb_engine.specs.Openings.{Begins, OpensIn, TurnOf};
+ghost use Rattle.smb_engine.specs.ServingLaws.{OpensEachOnce};
 
 use super::clock::Clock;
-use super::fault::ServeFault;
 use super::peers::{PeerEvent, Peers};
 use super::served_peer::ServedPeer;
 use super::share::Share;
@@ -65,10 +65,8 @@ fn begin<A: Authenticator + Drop, T: Tree + Drop, O: Opens + Drop>(
         Ok(()) => {}
         Err(_) => return Opening::NoMemory,
     }
-    let connection = match share.opened() {
-        Ok(connection) => connection,
-        Err(ServeFault::NoMemory { .. }) => return Opening::NoMemory,
-        Err(_) => return Opening::Refused,
+    let Ok(connection) = share.opened() else {
+        return Opening::NoMemory;
     };
     let place = place_behind(served_peers, number);
     let peer = ServedPeer::new(share.allocator(), number, connection);
@@ -85,9 +83,10 @@ fn open_peer<A: Authenticator + Drop, T: Tree + Drop, O: Opens + Drop, P: Peers>
     served_peers: &mut Vec<ServedPeer>,
     number: u64,
 ) -> bool
-    ensures { Keeping (P.keeps peers.old) (P.keeps peers.new) ((moments : List ℕ) (n : ℕ) →
+    ensures follows { Keeping (P.keeps peers.old) (P.keeps peers.new) ((moments : List ℕ) (n : ℕ) →
         OpeningFollows number (serving share.old served_peers.old.items (P.calls peers.old) moments n)
         (serving share.new served_peers.new.items (P.calls peers.new) moments (if result then n + 1 else n))) }
+    ensures opened { P.opened peers.new ≡ P.opened peers.old }
 {
     if find_peer(served_peers, number).is_some() {
         return false;
@@ -166,9 +165,10 @@ fn take_event<A: Authenticator + Drop, T: Tree + Drop, O: Opens + Drop, P: Peers
     clock: &mut C,
     served_peers: &mut Vec<ServedPeer>,
 ) -> bool
-    ensures { Keeping (P.keeps peers.old && C.keeps clock.old) (P.keeps peers.new && C.keeps clock.new) ((n : ℕ) →
-        EventTaken A.meaning (serving share.old served_peers.old.items (P.calls peers.old) (C.moments clock.old) n)
-        (serving share.new served_peers.new.items (P.calls peers.new) (C.moments clock.new) (if result then n + 1 else n))) }
+    ensures { Keeping (P.keeps peers.old && C.keeps clock.old) (P.keeps peers.new && C.keeps clock.new)
+        ((call : PeerCall) × OpensIn call (P.opened peers.old) (P.opened peers.new) × ((n : ℕ) →
+        Follows A.meaning call (told (serving share.old served_peers.old.items (P.calls peers.old) (C.moments clock.old) n) call)
+        (serving share.new served_peers.new.items (P.calls peers.new) (C.moments clock.new) (if result then n + 1 else n)))) }
 {
     match peers.next() {
         PeerEvent::Opened(number) => open_peer(share, peers, served_peers, number),
@@ -187,8 +187,9 @@ fn send_owed<A: Authenticator + Drop, T: Tree + Drop, O: Opens + Drop, P: Peers>
     peers: &mut P,
     peer: &mut ServedPeer,
 )
-    ensures { Keeping (P.keeps peers.old) (P.keeps peers.new)
+    ensures sent { Keeping (P.keeps peers.old) (P.keeps peers.new)
         (IsSent peer.old share.old (P.calls peers.old) (record { share = share.new; peer = peer.new; calls = P.calls peers.new })) }
+    ensures opened { P.opened peers.new ≡ P.opened peers.old }
 {
     if !peer.is_owed() {
         return;
@@ -211,6 +212,7 @@ fn settle<A: Authenticator + Drop, T: Tree + Drop, O: Opens + Drop, P: Peers>(
     ensures stays { result ≡ stays share.now peer.now }
     ensures told { Keeping (P.keeps peers.old) (P.keeps peers.new)
         (P.calls peers.new ≡ (if stays share.now peer.now then P.calls peers.old else P.calls peers.old ++ close peer.now.number ∷ [])) }
+    ensures opened { P.opened peers.new ≡ P.opened peers.old }
 {
     if peer.is_owed() || share.is_open(peer.connection) {
         return true;
@@ -225,8 +227,9 @@ fn send_all<A: Authenticator + Drop, T: Tree + Drop, O: Opens + Drop, P: Peers>(
     peers: &mut P,
     served_peers: &mut Vec<ServedPeer>,
 )
-    ensures { Keeping (P.keeps peers.old) (P.keeps peers.new) ((moments : List ℕ) (n : ℕ) →
+    ensures served { Keeping (P.keeps peers.old) (P.keeps peers.new) ((moments : List ℕ) (n : ℕ) →
         AreServed served_peers.old.items (serving share.old [] (P.calls peers.old) moments n) (serving share.new served_peers.new.items (P.calls peers.new) moments n)) }
+    ensures opened { P.opened peers.new ≡ P.opened peers.old }
 {
     let mut place = 0;
     while place < served_peers.len() {
@@ -246,9 +249,10 @@ fn turn<A: Authenticator + Drop, T: Tree + Drop, O: Opens + Drop, P: Peers, C: C
     clock: &mut C,
     served_peers: &mut Vec<ServedPeer>,
 ) -> bool
-    ensures { Keeping (P.keeps peers.old && C.keeps clock.old) (P.keeps peers.new && C.keeps clock.new) ((n : ℕ) →
-        Turn A.meaning (serving share.old served_peers.old.items (P.calls peers.old) (C.moments clock.old) n)
-        (serving share.new served_peers.new.items (P.calls peers.new) (C.moments clock.new) (if result then n + 1 else n))) }
+    ensures { Keeping (P.keeps peers.old && C.keeps clock.old) (P.keeps peers.new && C.keeps clock.new)
+        ((call : PeerCall) × OpensIn call (P.opened peers.old) (P.opened peers.new) × ((n : ℕ) →
+        TurnOf A.meaning call (serving share.old served_peers.old.items (P.calls peers.old) (C.moments clock.old) n)
+        (serving share.new served_peers.new.items (P.calls peers.new) (C.moments clock.new) (if result then n + 1 else n)))) }
 {
     let ran_out = take_event(share, peers, clock, served_peers);
     send_all(share, peers, served_peers);
@@ -265,8 +269,10 @@ pub fn serve<A: Authenticator + Drop, T: Tree + Drop, O: Opens + Drop, P: Peers,
     clock: &mut C,
     turns: u64,
 ) -> u64
-    ensures { Keeping (P.keeps peers.old && C.keeps clock.old) (P.keeps peers.new && C.keeps clock.new)
+    ensures served { Keeping (P.keeps peers.old && C.keeps clock.old) (P.keeps peers.new && C.keeps clock.new)
         (Served A.meaning turns share.old (P.calls peers.old) (C.moments clock.old) share.new (P.calls peers.new) (C.moments clock.new) result) }
+    ensures once { Keeping (P.keeps peers.old && C.keeps clock.old) (P.keeps peers.new && C.keeps clock.new)
+        ((more : List PeerCall) → P.calls peers.new ≡ P.calls peers.old ++ more → OpensEachOnce more) }
 {
     let mut served_peers = Vec::new(share.allocator());
     let mut count = 0;

@@ -12,7 +12,8 @@ loop-place-preserved-then-settle g c =
           c.args.share.now c.loop-place.share c.send_owed.new.share c.args.served_peers.now.items c.loop-place.served_peers.items
           (g.P.Peers.calls c.args.peers.now) (g.P.Peers.calls c.loop-place.peers) (g.P.Peers.calls c.send_owed.new.peers) (g.P.Peers.calls c.settle.new.peers)
           c.loop-place.place c.index_mut.result.now c.send_owed.new.peer c.index.result.now
-          c.loop-place.invariant.so_far within c.index_mut.ensures.value c.index.ensures c.send_owed.ensures c.settle.ensures.told (sym c.settle.ensures.stays ∙ c.if-settle.true);
+          c.loop-place.invariant.so_far within c.index_mut.ensures.value c.index.ensures c.send_owed.ensures.sent c.settle.ensures.told (sym c.settle.ensures.stays ∙ c.if-settle.true);
+      opened = c.settle.ensures.opened ∙ c.send_owed.ensures.opened ∙ c.loop-place.invariant.opened;
     }
 
 pub loop-place-preserved : goal.loop-place-preserved
@@ -25,10 +26,11 @@ loop-place-preserved g c =
           (g.P.Peers.calls c.args.peers.now) (g.P.Peers.calls c.loop-place.peers) (g.P.Peers.calls c.send_owed.new.peers) (g.P.Peers.calls c.settle.new.peers)
           c.loop-place.place c.index_mut.result.now c.send_owed.new.peer c.index.result.now
           c.remove.new.self.items c.remove.ensures.items
-          c.loop-place.invariant.so_far within c.index_mut.ensures.value c.index.ensures c.send_owed.ensures c.settle.ensures.told (sym c.settle.ensures.stays ∙ c.if-settle.false);
+          c.loop-place.invariant.so_far within c.index_mut.ensures.value c.index.ensures c.send_owed.ensures.sent c.settle.ensures.told (sym c.settle.ensures.stays ∙ c.if-settle.false);
+      opened = c.settle.ensures.opened ∙ c.send_owed.ensures.opened ∙ c.loop-place.invariant.opened;
     }
 
-pub returns : goal.returns
-returns g c =
+pub returns-clause-served : goal.returns-clause-served
+returns-clause-served g c =
     let past : length c.loop-place.served_peers.items ≤ c.loop-place.place = omega arith in
     sent_all c.loop-place.invariant.so_far (take_all c.loop-place.place c.loop-place.served_peers.items past) (drop_all c.loop-place.place c.loop-place.served_peers.items past)
