@@ -5,4 +5,5 @@ pub mod Words
 pub mod BitRows
 pub mod SymbolSets
 pub mod RowSteps
+pub mod HeldRows
 pub mod RowWords

@@ -15,11 +15,11 @@ use Rattle.smb_patterns.proofs.Words.{above_zero, below-suc, or-false}
 use Rattle.smb_patterns.proofs.PatternSteps.{Taken, skipped, taken_end, answered}
 
 -- the last n units of a pattern
-abbrev rest : List ℕ → ℕ → List ℕ
+abbrev pub rest : List ℕ → ℕ → List ℕ
 rest ps n = drop (length ps - n) ps
 
 -- the rest of one unit more is that unit and the rest
-one_more : (ps : List ℕ) (n : ℕ) → suc n ≤ length ps → rest ps (suc n) ≡ get_or ps (length ps - suc n) 0 ∷ rest ps n
+pub one_more : (ps : List ℕ) (n : ℕ) → suc n ≤ length ps → rest ps (suc n) ≡ get_or ps (length ps - suc n) 0 ∷ rest ps n
 one_more ps n h =
     let next : length ps - suc n + 1 ≡ length ps - n = omega arith in
     drop_more ps (length ps - suc n) 0 (omega arith) ∙ ap (λ (j : ℕ). get_or ps (length ps - suc n) 0 ∷ drop j ps) next
@@ -30,7 +30,7 @@ from_rest ps us b n h d = subst (λ (xs : List ℕ). Decides b (Matches xs us)) 
 at_rest : (ps us : List ℕ) (b : Bool) (n : ℕ) → suc n ≤ length ps → Decides b (Matches (rest ps (suc n)) us) → Decides b (Taken (symbol_at ps (suc n)) (rest ps n) us)
 at_rest ps us b n h d = subst (λ (xs : List ℕ). Decides b (Matches xs us)) (one_more ps n h) d
 
-no_unit : (ps us : List ℕ) (u : ℕ) → Decides false (Matches (rest ps 0) (u ∷ us))
+pub no_unit : (ps us : List ℕ) (u : ℕ) → Decides false (Matches (rest ps 0) (u ∷ us))
 no_unit ps us u = subst (λ (xs : List ℕ). Decides false (Matches xs (u ∷ us))) (sym (drop_all (length ps - 0) ps (omega arith))) (λ e. absurd (false≢true e), λ e. cc)
 
 -- ---- a row carried over a unit
@@ -39,21 +39,32 @@ no_unit ps us u = subst (λ (xs : List ℕ). Decides false (Matches xs (u ∷ us
 abbrev pub Answers : List ℕ → Place → (ℕ → Bool) → (ℕ → Bool) → Type 0
 Answers ps place old new = (n : ℕ) → n ≤ length ps → new n ≡ rest_answer ps place n (known_at old new n)
 
-pub carried_row : (ps us : List ℕ) (place : Place) (old new : ℕ → Bool) → IsPatternPlace place us → IsRow ps us old → Answers ps place old new → IsRow ps (place.unit ∷ us) new
-carried_row ps us place old new p r a zero h =
-    subst (λ (b : Bool). Decides b (Matches (rest ps 0) (place.unit ∷ us))) (sym (a zero h)) (no_unit ps us place.unit)
-carried_row ps us place old new p r a (suc n) h =
+pub answer_is : (ps : List ℕ) (place : Place) (old new : ℕ → Bool) (n : ℕ) → Answers ps place old new → suc n ≤ length ps → new (suc n) ≡ answer_of (symbol_at ps (suc n)) place (known_at old new (suc n))
+answer_is ps place old new n a h =
+    a (suc n) h ∙ ap (λ (b : Bool). cond b false (answer_of (symbol_at ps (suc n)) place (known_at old new (suc n)))) (above_zero n)
+
+-- the rest of one unit more is answered right where the row behind the unit is right for both, and this one for the shorter
+pub answered_more : (ps us : List ℕ) (place : Place) (old new : ℕ → Bool) (n : ℕ) → IsPatternPlace place us → Answers ps place old new → suc n ≤ length ps → Decides (old (suc n)) (Matches (rest ps (suc n)) us) → Decides (old n) (Matches (rest ps n) us) → Decides (new n) (Matches (rest ps n) (place.unit ∷ us)) → Decides (new (suc n)) (Matches (rest ps (suc n)) (place.unit ∷ us))
+answered_more ps us place old new n p a h stays moves skips =
     let s : Symbol = symbol_at ps (suc n) in
     let known : Known = known_at old new (suc n) in
-    let stay : Decides known.stays (Taken s (rest ps n) us) = at_rest ps us (old (suc n)) n h (r (suc n) h) in
+    let stay : Decides known.stays (Taken s (rest ps n) us) = at_rest ps us (old (suc n)) n h stays in
     let move : Decides known.moves (Matches (rest ps n) us) =
-    subst (λ (b : Bool). Decides b (Matches (rest ps n) us)) (sym (below-suc false old n)) (r n (omega arith)) in
+    subst (λ (b : Bool). Decides b (Matches (rest ps n) us)) (sym (below-suc false old n)) moves in
     let skip : Decides known.skips (Matches (rest ps n) (place.unit ∷ us)) =
-    subst (λ (b : Bool). Decides b (Matches (rest ps n) (place.unit ∷ us))) (sym (below-suc false new n)) (carried_row ps us place old new p r a n (omega arith)) in
-    let here : new (suc n) ≡ answer_of s place known =
-    a (suc n) h ∙ ap (λ (b : Bool). cond b false (answer_of s place known)) (above_zero n) in
+    subst (λ (b : Bool). Decides b (Matches (rest ps n) (place.unit ∷ us))) (sym (below-suc false new n)) skips in
     from_rest ps (place.unit ∷ us) (new (suc n)) n h
-    (subst (λ (b : Bool). Decides b (Taken s (rest ps n) (place.unit ∷ us))) (sym here) (answered s (rest ps n) place us known p stay move skip))
+    (subst (λ (b : Bool). Decides b (Taken s (rest ps n) (place.unit ∷ us))) (sym (answer_is ps place old new n a h)) (answered s (rest ps n) place us known p stay move skip))
+
+-- the rest of no unit
+pub answered_none : (ps us : List ℕ) (place : Place) (old new : ℕ → Bool) → Answers ps place old new → Decides (new 0) (Matches (rest ps 0) (place.unit ∷ us))
+answered_none ps us place old new a =
+    subst (λ (b : Bool). Decides b (Matches (rest ps 0) (place.unit ∷ us))) (sym (a 0 (omega arith))) (no_unit ps us place.unit)
+
+pub carried_row : (ps us : List ℕ) (place : Place) (old new : ℕ → Bool) → IsPatternPlace place us → IsRow ps us old → Answers ps place old new → IsRow ps (place.unit ∷ us) new
+carried_row ps us place old new p r a zero h = answered_none ps us place old new a
+carried_row ps us place old new p r a (suc n) h =
+    answered_more ps us place old new n p a h (r (suc n) h) (r n (omega arith)) (carried_row ps us place old new p r a n (omega arith))
 
 -- ---- the row at the end of a name
 
@@ -146,7 +157,7 @@ stays_none ps [] us r = r
 stays_none ps (x ∷ xs) us r =
     carried_row ps (xs ++ us) (record { unit = x; is_last_dot = (x == 46) && not (has_dot (xs ++ us)) }) no_rest no_rest refl (stays_none ps xs us r) (nothing_answered ps (record { unit = x; is_last_dot = (x == 46) && not (has_dot (xs ++ us)) }))
 
-all_of : (ps us : List ℕ) (b : Bool) → Decides b (Matches (rest ps (length ps)) us) → Decides b (Matches ps us)
+pub all_of : (ps us : List ℕ) (b : Bool) → Decides b (Matches (rest ps (length ps)) us) → Decides b (Matches ps us)
 all_of ps us b d =
     let none : length ps - length ps ≡ 0 = omega arith in
     subst (λ (k : ℕ). Decides b (Matches (drop k ps) us)) none d
@@ -157,9 +168,6 @@ none_matches ps us at row r z m =
     let empty : IsRow ps (drop at us) no_rest = λ n h. subst (λ (b : Bool). Decides b (Matches (rest ps n) (drop at us))) (z n h) (r n h) in
     let whole : IsRow ps us no_rest = subst (λ (xs : List ℕ). IsRow ps xs no_rest) (take-append-drop at us) (stays_none ps (take at us) (drop at us) empty) in
     false≢true ((all_of ps us false (whole (length ps) (omega arith))).1 m)
-
-pub all_matches : (ps us : List ℕ) (row : ℕ → Bool) → IsRow ps us row → Decides (row (length ps)) (Matches ps us)
-all_matches ps us row r = all_of ps us (row (length ps)) (r (length ps) (omega arith))
 
 -- ---- a row from one unit of a name to the next
 
@@ -174,13 +182,6 @@ dots_before us at next b d s h e f =
     f_of true d false f = refl
     f_of false d true f = f
     f_of false d false f = f
-
-pub row_before : (ps us : List ℕ) (at next : ℕ) (place : Place) (has_dots : Bool) (old new : ℕ → Bool) → next ≡ at + 1 → at < length us → place.unit ≡ get_or us at 0 → place.is_last_dot ≡ ((get_or us at 0 == 46) && not has_dots) → has_dots ≡ has_dot (drop next us) → IsRow ps (drop next us) old → Answers ps place old new → IsRow ps (drop at us) new
-row_before ps us at next place has_dots old new s h u d e r a =
-    let back : List ℕ = drop next us in
-    let here : IsPatternPlace place back = d ∙ ap (λ (b : Bool). (get_or us at 0 == 46) && not b) e ∙ ap (λ (x : ℕ). (x == 46) && not (has_dot back)) (sym u) in
-    let whole : drop at us ≡ place.unit ∷ back = drop_more us at 0 h ∙ ap (λ (k : ℕ). get_or us at 0 ∷ drop k us) (sym s) ∙ ap (λ (x : ℕ). x ∷ back) (sym u) in
-    subst (λ (xs : List ℕ). IsRow ps xs new) (sym whole) (carried_row ps back place old new here r a)
 
 pub nothing_behind : (us : List ℕ) (at : ℕ) → at ≡ length us → drop at us ≡ []
 nothing_behind us at e = drop_all at us (omega arith)

@@ -3,9 +3,9 @@ use Rattle.std.proofs.Common.{◌≡◌, ℕ, zero, suc, ◌+◌, ◌-◌, ◌*�
 use mir.Val.{bool_byte}
 use Rattle.std.specs.Prelude.{bit_and, bit_or}
 use Rattle.std.proofs.lemmas.Bool.{cases_eq, eq-eqb, ne_eqb, true≢false, false≢true, and_right, and_parts}
-use Rattle.std.specs.Int.{bit_at, w64}
+use Rattle.std.specs.Int.{bit_at, trailing_zeros, w64}
 use Rattle.std.proofs.lemmas.Nat.{shr_split, one_shl}
-use Rattle.std.proofs.lemmas.Nat.Bits.{bit_at_lowest, bit_at-suc, bit_at-zero, bit_at-lt, bit_at_and, bit_at_or, bit_at_not, bit_at_cat_low, bit_at-pow_same, bit_at-pow_other, shr_and_one}
+use Rattle.std.proofs.lemmas.Nat.Bits.{bit_at_lowest, bit_at-suc, bit_at-zero, bit_at-lt, bit_at_and, bit_at_or, bit_at_not, bit_at_cat_low, bit_at-trailing_zeros, bit_at-pow_same, bit_at-pow_other, shr_and_one}
 use Rattle.smb_patterns.specs.Bits.{bit, below}
 
 max_bits : (x y : ℕ) → x < 2 → y < 2 → (max x y == 1) ≡ ((x == 1) || (y == 1))
@@ -237,7 +237,14 @@ filled word skips entered first i h e =
     fill_bit word skips entered i h (λ t. (and_parts (below first (bit word) i) (bit skips i) (sym (e i h) ∙ t)).1)
     ∙ ap (λ (b : Bool). bit word i || b) (goes_up word skips entered first i h e)
 
--- ---- one bit more, and the top bit
+-- ---- one bit more, the top bit, and some bit
+
+-- a word that is not 0 has a bit
+pub some_bit : (n : ℕ) → 0 < n → n < 18446744073709551616 → (i : ℕ) × (i < 64) × (bit n i ≡ true)
+unfolding bit
+some_bit n h f =
+    let found = bit_at-trailing_zeros w64 n h f in
+    (trailing_zeros w64 n, found.0, ap (λ (x : ℕ). x == 1) found.1)
 
 pub or_turned : (a b : Bool) → (a || b) ≡ (b || a)
 or_turned true true = refl

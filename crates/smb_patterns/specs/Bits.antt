@@ -1,6 +1,6 @@
 -- For the proofs; nothing here need be believed.
 -- Bits of words, and answers by them.
-use Rattle.std.specs.Prelude.{◌≡◌, ℕ, ◌+◌, ◌-◌, ◌*◌, ◌/◌, ◌%◌, ◌<◌, Bool, false, not, ◌==◌, ◌&&◌, ◌||◌, nat_le, if◌then◌else◌, List, slice_index}
+use Rattle.std.specs.Prelude.{◌≡◌, ℕ, ◌+◌, ◌-◌, ◌*◌, ◌/◌, ◌%◌, ◌<◌, ◌≤◌, ◌⊎◌, Bool, true, false, not, ◌==◌, ◌&&◌, ◌||◌, nat_le, if◌then◌else◌, List, slice_index}
 use Rattle.std.specs.Int.{bit_at}
 use Rattle.smb_wire.specs.Names.{folded_unit}
 use Rattle.smb_patterns.specs.PatternRows.{Known, begins}
@@ -105,6 +105,26 @@ pub record IsStep (symbols : Symbols) (place : Place) (at : ℕ) (step : Step) :
 abbrev pub carried_at : Symbols → Place → (ℕ → Bool) → (ℕ → Bool) → ℕ → Bool
 carried_at symbols place old new n =
     answer_by (takes_at symbols place n) (stays_at symbols place n) (skips_at symbols place n) (known_at old new n)
+
+-- 64 answers from a unit on, from the rest of 64 * at units on, by those behind it;
+-- `old` and `new` are the answers for the rest one shorter, behind the unit and from it on
+abbrev pub IsCarried : Symbols → Place → ℕ → ℕ → Bool → Bool → ℕ → Type 0
+IsCarried symbols place at word old new carried =
+    (i : ℕ) → i < 64 → bit carried i ≡
+    answer_by (takes_at symbols place (64 * at + i)) (stays_at symbols place (64 * at + i)) (skips_at symbols place (64 * at + i))
+    (record { moves = below old (bit word) i; stays = bit word i; skips = below new (bit carried) i })
+
+-- in this word of a row a rest is set that begins with `*`, if it is not the first word
+abbrev pub HasAsterisk : Symbols → (ℕ → Bool) → ℕ → Type 0
+HasAsterisk symbols row at =
+    (at ≡ 0) ⊎ ((n : ℕ) × (64 * at ≤ n) × (n < 256) × (has symbols.asterisk n ≡ true) × (row n ≡ true))
+
+-- a row keeps the rests of at least this many units, where the rest of so many begins with `*` and is set, or all are kept
+pub record IsNarrowed (symbols : Symbols) (old new : ℕ → Bool) : Type 0 where
+  pub shortest : ℕ
+  pub few : shortest < 256
+  pub kept : (n : ℕ) → shortest ≤ n → new n ≡ old n
+  pub set : (shortest ≡ 0) ⊎ ((has symbols.asterisk shortest ≡ true) × (old shortest ≡ true))
 
 -- the rests of at most `count` units that pass a test, by the symbol that each begins with
 abbrev pub IsShown : (Symbol → Bool) → List ℕ → ℕ → (ℕ → Bool) → Type 0

@@ -6,7 +6,7 @@ ghost use Rattle.smb_patterns.specs.Patterns.{Matches};
 
 use super::pattern::Pattern;
 use super::rests::Rests;
-use super::rows::{carry, end_row, place_of};
+use super::rows::{carry, end_row, narrow, place_of};
 use super::symbols::Symbols;
 use smb_wire::Units;
 use std::marker::Model;
@@ -46,17 +46,23 @@ impl Matcher {
 
     /// Whether the pattern matches a name. The name is read from its end to its front. At each place a row of answers is
     /// held: which rests of the pattern match the name from there on, in a word for each 64 units of the pattern. The row at
-    /// a place follows from the one behind it, in some steps for each word, whatever the pattern is. It ends where no
-    /// rest is left, and allocates nothing.
+    /// a place follows from the one behind it, in some steps for each word in which a rest is left that matters. It ends
+    /// where no rest is left, or where the whole pattern begins with `*` and is left, and allocates nothing.
     pub fn matches(&self, name: Units<'_>) -> bool
         ensures { IsTrue result ↔ Matches self.now (units_of name.entry) }
     {
         let count = self.pattern.len();
+        let words = count / 64 + 1;
+        let asterisk_first = self.symbols.asterisk.has(count);
         let mut row = self.end;
         let mut has_dot = false;
         for at in (0..name.len()).rev() {
+            if asterisk_first && row.has(count) {
+                return true;
+            }
+            narrow(&self.symbols, words, at, &mut row);
             let place = place_of(name.unit(at), has_dot);
-            if !carry(&self.symbols, count / 64 + 1, place, &mut row) {
+            if !carry(&self.symbols, words, place, &mut row) {
                 return false;
             }
             has_dot = has_dot || place.is_last_dot;

@@ -53,4 +53,15 @@ impl Rests {
     {
         self.words[at] = word;
     }
+
+    /// Takes out the rests in front of word `at`.
+    pub fn clear_front(&mut self, at: usize)
+        requires { at ≤ 4 }
+        ensures shorter { (n : ℕ) → n < 64 * at → has self.new n ≡ false }
+        ensures longer { (n : ℕ) → 64 * at ≤ n → has self.new n ≡ has self.old n }
+    {
+        for i in 0..at {
+            self.set_word(i, 0);
+        }
+    }
 }

@@ -2,7 +2,7 @@
 
 ghost use Rattle.std.specs.Prelude.{◌≡◌, ℕ, ◌*◌, ◌<◌, ◌≤◌, [], false, not, ◌==◌, ◌&&◌, bit_or, if◌then◌else◌};
 ghost use Rattle.smb_patterns.specs.PatternRows.{IsRow};
-ghost use Rattle.smb_patterns.specs.Bits.{has, IsStep, carried_at};
+ghost use Rattle.smb_patterns.specs.Bits.{has, IsStep, IsCarried, carried_at, HasAsterisk, IsNarrowed};
 
 use super::pattern::Pattern;
 use super::rests::Rests;
@@ -88,6 +88,19 @@ fn skipping(is_dot: bool, asterisk: u64, dos_star: u64, dos_qm: u64) -> u64
     asterisk | dos_star | if is_dot { dos_qm } else { 0 }
 }
 
+// The answers for 64 rests from a unit on, from the rest of `64 * at` units on, by those behind it; `old` and `new` are the
+// answers for the rest one shorter than all 64, behind the unit and from it on. Where nothing is set, nothing is looked up.
+fn carried_word(symbols: &Symbols, place: Place, at: usize, word: u64, old: bool, new: bool) -> u64
+    requires { at < 4 }
+    ensures { IsCarried symbols.now place at word old new result }
+{
+    if word == 0 && !old && !new {
+        0
+    } else {
+        step_at(symbols, place, at).carried(word, old, new)
+    }
+}
+
 /// Carries a row over the unit in front of its place, of the rests in the first `words` words, and tells whether
 /// any of them is left.
 pub fn carry(symbols: &Symbols, words: usize, place: Place, row: &mut Rests) -> bool
@@ -100,11 +113,36 @@ pub fn carry(symbols: &Symbols, words: usize, place: Place, row: &mut Rests) -> 
     let mut left = 0u64;
     for at in 0..words {
         let word = row.word(at);
-        let carried = step_at(symbols, place, at).carried(word, old, new);
+        let carried = carried_word(symbols, place, at, word, old, new);
         row.set_word(at, carried);
         old = top_bit(word);
         new = top_bit(carried);
         left |= carried;
     }
     left != 0
+}
+
+// The last of the first `words` words in which a rest is set that begins with `*`, or 0 where there is none.
+fn last_asterisk(symbols: &Symbols, words: usize, row: &Rests) -> usize
+    requires { words ≤ 4 }
+    ensures few { result < 4 }
+    ensures set { HasAsterisk symbols.now (has row.now) result }
+{
+    for at in (1..words).rev() {
+        if row.word(at) & symbols.asterisk.word(at) != 0 {
+            return at;
+        }
+    }
+    0
+}
+
+/// Takes rests out of a row that no longer matter, at every 16th place of a name. A rest that begins with `*` and matches
+/// what is behind a place matches whatever else is put in front of that, so that no shorter rest can change an answer.
+pub fn narrow(symbols: &Symbols, words: usize, at: usize, row: &mut Rests)
+    requires { words ≤ 4 }
+    ensures { IsNarrowed symbols.now (has row.old) (has row.new) }
+{
+    if at % 16 == 0 {
+        row.clear_front(last_asterisk(symbols, words, row));
+    }
 }

@@ -1,4 +1,4 @@
-use Rattle.std.proofs.Common.{ℕ, Bool, ◌≡◌, ◌+◌, ◌*◌, ◌/◌, ◌%◌, ◌==◌, not, ◌&&◌, ◌||◌, cond, refl, ap, ◌∙◌}
+use Rattle.std.proofs.Common.{ℕ, Bool, ◌+◌, ◌*◌, ◌/◌, ◌%◌, ◌==◌, not, ◌&&◌, ◌||◌, cond, refl, ap, ◌∙◌}
 use Rattle.std.specs.Prelude.{bit_or}
 use Rattle.smb_wire.specs.Names.{folded_unit}
 use Rattle.smb_patterns.specs.Bits.{bit, has, has_for}
