@@ -10,6 +10,8 @@ mod faults;
 #[cfg(test)]
 mod memory;
 #[cfg(test)]
+mod reads;
+#[cfg(test)]
 mod scripted;
 #[cfg(test)]
 mod served;
