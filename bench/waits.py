@@ -6,7 +6,8 @@ Prints the rows of bench/FIGURES.md.
     (cd crates/smbshare && rt run < stdin > /dev/null)     builds crates/smbshare/out/smbshare
     python3 bench/waits.py [PROGRAM]
 
-One client sends a piece of 39 chains of 16 queries whose pattern matches no name, or of as many as fit; the other one ECHO after the other.
+One client sends a piece of 39 chains of 16 queries whose pattern matches no name, or of as many as fit; the other one
+ECHO after the other.
 """
 import pathlib
 import sys
@@ -19,7 +20,8 @@ from frames import chain, close, create, echoes, query_directory
 from served import ALL_ACCESS, LONGEST_PIECE, Served, opens_the_root
 
 FILES, NAME, CHAIN, CREATE, WANTED = 4_080, 251, 16, 2, 1_024
-PATTERNS = (('`*b*x`', '*b*x'), ('`*b`, `*a` 126 times', '*b' + '*a' * 126))
+# The first ends at the last unit of each name; the others are looked at up to its first one.
+PATTERNS = (('`*b*x`', '*b*x'), ('`x`, `*b` 127 times', 'x' + '*b' * 127), ('`x`, `<b` 127 times', 'x' + '<b' * 127))
 
 
 def fill(client):

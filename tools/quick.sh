@@ -61,6 +61,8 @@ the_program() {
     python3 tools/demo.py --check "$program"
     python3 tools/program.py --unproved "$program"
     python3 tools/serving.py "$program"
+    python3 tools/load.py --unproved "$program"
+    python3 tools/hostile.py --count 200 "$program"
 }
 
 # How many tasks run side by side: one a processor, and one for each 2 GB of memory that is free.
@@ -95,6 +97,6 @@ Left out: all proofs, the must-fail edits, allocations and what is done where me
 and the second compiler. bash tools/test.sh has them all.
 END
 cd "$logs" || exit 1
-awk '/^(files|rows|smb_layer_tests|smb_tests|stored|demo|program|serving): [0-9]+ passed, [0-9]+ failed$/ {
+awk '/^(files|rows|smb_layer_tests|smb_tests|stored|demo|program|serving|load|hostile): [0-9]+ passed, [0-9]+ failed$/ {
          passed += $2; failed += $4; tried++ }
-     END { failed += 8 - tried; print "quick: " passed " passed, " failed " failed"; exit failed > 0 }' "${names[@]}"
+     END { failed += 10 - tried; print "quick: " passed " passed, " failed " failed"; exit failed > 0 }' "${names[@]}"

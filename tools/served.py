@@ -18,10 +18,11 @@ STATUS_AT = 12
 class Served:
     """The program, serving on a free port."""
 
-    def __init__(self, *words, descriptors=None, system=None):
+    def __init__(self, *words, descriptors=None, memory=None, system=None):
         def limited():
-            if descriptors:
-                resource.setrlimit(resource.RLIMIT_NOFILE, (descriptors, descriptors))
+            for kind, most in ((resource.RLIMIT_NOFILE, descriptors), (resource.RLIMIT_AS, memory)):
+                if most:
+                    resource.setrlimit(kind, (most, most))
 
         self.process = subprocess.Popen([PROGRAM, 'serve', '--listen', '127.0.0.1:0', *words], stdin=subprocess.DEVNULL,
                                         stdout=subprocess.PIPE, stderr=subprocess.PIPE, preexec_fn=limited, env=system)
@@ -123,8 +124,42 @@ def search(first):
 
 def memory_of(share):
     """How many bytes of memory the program has."""
+    return pages_of(share, 1)
+
+
+def addresses_of(share):
+    """How many bytes of addresses the program has: what its limit of memory counts."""
+    return pages_of(share, 0)
+
+
+def pages_of(share, column):
     with open(f'/proc/{share.process.pid}/statm', encoding='ascii') as it:
-        return int(it.read().split()[1]) * resource.getpagesize()
+        return int(it.read().split()[column]) * resource.getpagesize()
+
+
+def descriptors_of(share):
+    """How many descriptors the program has open."""
+    return len(os.listdir(f'/proc/{share.process.pid}/fd'))
+
+
+def passes(tool, test):
+    """Whether a test returns True, and says so in a line."""
+    try:
+        if test():
+            print(f'{tool} {test.__name__} ... ok', flush=True)
+            return True
+        why = 'it is not so'
+    except Exception as error:
+        why = repr(error)
+    print(f'{tool} {test.__name__} ... FAILED: {why}', flush=True)
+    return False
+
+
+def tests_passed(tool, tests):
+    """The status of a tool that runs these tests, whose last line counts them."""
+    passed = sum(passes(tool, test) for test in tests)
+    print(f'{tool}: {passed} passed, {len(tests) - passed} failed')
+    return 0 if passed == len(tests) else 1
 
 
 PROGRAM = os.path.abspath(sys.argv[1]) if len(sys.argv) > 1 else os.path.join(TOP, 'crates/smbshare/out/smbshare')

@@ -19,7 +19,7 @@ import time
 
 sys.path.insert(0, os.path.dirname(os.path.abspath(__file__)))
 from served import (ALL_ACCESS, CHAIN, LONGEST_PIECE, OPEN_IF, PATIENCE, PROGRAM, STATUS_AT, TOP, Served, memory_of,
-                    opens_a_file, opens_the_root, search)
+                    opens_a_file, opens_the_root, search, tests_passed)
 from frames import close, create, echoes, negotiate, read, session_setup, tree_connect, write
 
 # Where a NEGOTIATE's reply has the moment, in units of 100 ns since 1601, and which one is that of 1970.
@@ -448,23 +448,5 @@ TESTS = (a_client_is_served, a_file_is_written_and_read, bytes_come_one_by_one, 
          unfinished_logins_take_no_memory, a_clock_before_1970_is_1970, a_port_that_is_not_allowed_is_refused)
 
 
-def passes(test):
-    try:
-        if test():
-            print(f'serving {test.__name__} ... ok', flush=True)
-            return True
-        why = 'it is not so'
-    except Exception as error:
-        why = repr(error)
-    print(f'serving {test.__name__} ... FAILED: {why}', flush=True)
-    return False
-
-
-def main():
-    passed = sum(passes(test) for test in TESTS)
-    print(f'serving: {passed} passed, {len(TESTS) - passed} failed')
-    return 0 if passed == len(TESTS) else 1
-
-
 if __name__ == '__main__':
-    sys.exit(main())
+    sys.exit(tests_passed('serving', TESTS))

@@ -1,0 +1,354 @@
+#!/usr/bin/env python3
+"""load.py: puts load on the program over TCP, with clients that check each answer, beside others that misbehave.
+
+    python3 tools/load.py [--unproved] [PROGRAM]
+
+The program is crates/smbshare/out/smbshare where none is named. Each client has a file of its own and a model of it
+(tools/working.py); what it does, and the order in which clients come, is from one seed. The last line is
+'load: N passed, M failed'. With --unproved the tests in which memory runs out are left out: the run-time checks of an
+unproved program need more addresses than a limit leaves them, and have memory of their own.
+"""
+import os
+import random
+import subprocess
+import sys
+import tempfile
+import threading
+import time
+
+sys.path.insert(0, os.path.dirname(os.path.abspath(__file__)))
+import served
+from frames import frame, negotiate, read, write
+from served import LONGEST_PIECE, PATIENCE, Served, addresses_of, descriptors_of, memory_of, tests_passed
+from working import DELETE_ON_CLOSE, Ended, Working
+
+SEED, PLACES, WORKING, SECONDS, WARM_UP = 20_261_126, 64, 56, 10, 3
+MIB = 1 << 20
+# How much more memory the program may have behind the load than behind the warm-up.
+MOST_MORE = 16 * MIB
+# How much memory the program may take beside what it has at its start, where it is to run out; and how many clients
+# at work meet it there, how many that want to be owed much, and for how many seconds.
+ROOMS, AT_WORK, HUNGRY, SHORT = (8 * MIB, 12 * MIB), 28, 6, 5
+
+
+class Load:
+    """Clients, each in a thread of its own, until a time has passed; and what went wrong."""
+
+    def __init__(self, share, seed, seconds):
+        self.share, self.seed, self.seconds = share, seed, seconds
+        self.faults, self.answered, self.ended, self.lock = [], 0, {}, threading.Lock()
+        self.is_over, self.threads = threading.Event(), []
+
+    def begin(self, doing, *words):
+        self.threads.append(threading.Thread(target=self.run, args=(doing, words)))
+
+    def run(self, doing, words):
+        try:
+            doing(self, *words)
+        except Exception as error:
+            with self.lock:
+                self.faults.append(repr(error))
+
+    def is_well(self):
+        """Runs all threads, in an order by chance, and prints what went wrong."""
+        random.Random(self.seed).shuffle(self.threads)
+        for thread in self.threads:
+            thread.start()
+        time.sleep(self.seconds)
+        self.is_over.set()
+        for thread in self.threads:
+            thread.join()
+        for fault in self.faults[:10]:
+            print(f'  {fault}', flush=True)
+        return not self.faults and self.share.process.poll() is None
+
+    def count(self, client, ended=None):
+        """Counts a client's answers, and its end as one of this kind where the share ended it."""
+        with self.lock:
+            self.answered += client.answered
+            if ended:
+                self.ended[ended] = self.ended.get(ended, 0) + 1
+
+
+def works_to_the_end(load, client):
+    """Works until the time is over; then the file is deleted. That the share ends the client is a fault."""
+    before = client.answered
+    while not load.is_over.is_set():
+        client.works()
+    if client.answered == before:
+        raise AssertionError(f'client {client.number}: nothing was answered')
+    client.goes()
+    load.count(client)
+
+
+# Clients that misbehave: each comes, does something, and goes or is ended.
+
+def asks_for_much(client, pieces):
+    """A file of 65,536 bytes, and so many pieces of as many READs of all of it as the client has to send at once."""
+    client.asks(write(client.next_id(), client.file, 0, bytes(LONGEST_PIECE), client.session, 1), 0, None)
+    for count in pieces:
+        reads = [read(client.next_id(), client.file, 0, LONGEST_PIECE, client.session, 1) for _ in range(count)]
+        client.client.send(b''.join(reads))
+
+
+def leaves(client, chance):
+    """Closes or resets the stream."""
+    client.end() if chance.random() < 0.5 else client.reset()
+
+
+def resets_in_a_frame(load, chance, number):
+    client = Working(load.share, number, chance.random(), DELETE_ON_CLOSE)
+    if chance.random() < 0.7:
+        client.comes_in()
+    whole = chance.choice((negotiate(client.next_id()), write(client.next_id(), 1, 0, bytes(5_000), client.session, 1)))
+    client.client.send(whole[:chance.randrange(1, len(whole))])
+    load.is_over.wait(chance.uniform(0, 0.05))
+    client.client.reset()
+
+
+def stops_reading(load, chance, number):
+    """It is owed up to 26 MB, or in one piece more than may be owed to one client; nothing of it is read."""
+    client = Working(load.share, number, chance.random(), DELETE_ON_CLOSE)
+    client.comes_in()
+    client.client.stream.settimeout(0.5)
+    try:
+        asks_for_much(client, chance.choice(((400,), (560,), (1, 300, 300, 300, 300))))
+    finally:
+        load.is_over.wait(chance.uniform(0.05, 1))
+        leaves(client.client, chance)
+
+
+def sends_single_bytes(load, chance, number):
+    """A byte a second, or ten, of a NEGOTIATE, or of a request behind a login."""
+    client = Working(load.share, number, chance.random(), DELETE_ON_CLOSE)
+    if chance.random() < 0.5:
+        client.comes_in()
+    for byte in negotiate()[:chance.choice((2, 30))]:
+        client.client.send(bytes([byte]))
+        if load.is_over.wait(chance.choice((0.1, 0.1, 1))):
+            break
+    leaves(client.client, chance)
+
+
+def sends_garbage(load, chance, number):
+    """Random bytes, in a frame or not, before a login or behind it."""
+    client = Working(load.share, number, chance.random(), DELETE_ON_CLOSE)
+    if chance.random() < 0.5:
+        client.comes_in()
+    client.client.stream.settimeout(0.5)
+    raw = chance.randbytes(chance.randint(1, 5_000))
+    client.client.send(frame(b'\xfeSMB' + raw) if chance.random() < 0.5 else raw)
+    client.client.bytes(1)
+    leaves(client.client, chance)
+
+
+MISBEHAVING = (resets_in_a_frame, stops_reading, sends_single_bytes, sends_garbage)
+
+
+def misbehaves(load, number):
+    """Comes and goes until the time is over; that the share ends it is no fault."""
+    chance = random.Random(f'{load.seed}/{number}')
+    while not load.is_over.is_set():
+        try:
+            chance.choice(MISBEHAVING)(load, chance, number)
+        except (Ended, ConnectionError, TimeoutError):
+            load.is_over.wait(0.01)
+
+
+def the_next_is_ended(share):
+    """Whether others come to all places that are left, and the next one is ended with no byte."""
+    others = [share.client() for _ in range(PLACES - WORKING)]
+    is_full = all(other.negotiates() for other in others) and share.client().is_ended()
+    for other in others:
+        other.end()
+    return is_full
+
+
+def is_loaded(share, seed, seconds):
+    """Whether clients at work are answered as they have to be, beside others that misbehave."""
+    clients = [Working(share, number, seed) for number in range(WORKING)]
+    for client in clients:
+        client.comes_in()
+    if not the_next_is_ended(share):
+        return False
+    load = Load(share, seed, seconds)
+    for client in clients:
+        load.begin(works_to_the_end, client)
+    for number in range(WORKING, PLACES):
+        load.begin(misbehaves, number)
+    is_well = load.is_well()
+    print(f'  {load.answered:,} answers were checked in {seconds} seconds', flush=True)
+    return is_well
+
+
+def descriptors_without_clients(share):
+    """How many descriptors the program has where nobody is connected. It opens one after it says that it listens."""
+    client = share.client()
+    if not client.is_served():
+        raise AssertionError('a client is not served')
+    descriptors = descriptors_of(share) - 1
+    client.end()
+    return descriptors
+
+
+def is_left(share, descriptors):
+    """Whether the program comes to have so many descriptors again: all clients are gone then."""
+    deadline = time.monotonic() + PATIENCE
+    while descriptors_of(share) != descriptors:
+        if time.monotonic() > deadline:
+            return False
+        time.sleep(0.01)
+    return True
+
+
+def keeps_no_memory(share, descriptors, before):
+    """Whether the program has its descriptors again, and no more memory than before but what is allowed."""
+    left = is_left(share, descriptors)
+    more = memory_of(share) - before
+    print(f'  {more:,} bytes of memory more than before, {descriptors_of(share)} descriptors', flush=True)
+    return left and more <= MOST_MORE
+
+
+def sixty_clients_are_answered_beside_others_that_misbehave():
+    """After a warm-up the load takes no descriptor and at most 8 MiB of memory that it does not give back."""
+    system = {**os.environ, 'ASAN_OPTIONS': 'quarantine_size_mb=0:thread_local_quarantine_size_kb=0'}
+    with Served(system=system) as share:
+        descriptors = descriptors_without_clients(share)
+        if not is_loaded(share, SEED + 1, WARM_UP) or not is_left(share, descriptors):
+            return False
+        before = memory_of(share)
+        print(f'  {before:,} bytes of memory behind the warm-up', flush=True)
+        return is_loaded(share, SEED, SECONDS) and keeps_no_memory(share, descriptors, before)
+
+
+# Clients of a share whose memory runs out: who meets it is ended, and comes back.
+
+def works_again(load, number):
+    """Works until the time is over. Where the share ends the client, its file is gone, and it comes again."""
+    while not load.is_over.is_set():
+        client, is_ended = None, False
+        try:
+            client = Working(load.share, number, f'{load.seed}/{time.monotonic()}', DELETE_ON_CLOSE)
+            client.comes_in()
+            while not load.is_over.is_set():
+                client.works()
+        except (Ended, ConnectionError):
+            is_ended = True
+            load.is_over.wait(0.01)
+        if client is not None:
+            client.client.end()
+            load.count(client, is_ended and 'at work')
+
+
+def is_hungry(load, number):
+    """Asks over and over for 3 to 26 MB at once, less than may be owed to one client, and takes it."""
+    chance = random.Random(f'{load.seed}/{number}')
+    while not load.is_over.is_set():
+        client, is_ended = None, False
+        try:
+            client = Working(load.share, number, chance.random(), DELETE_ON_CLOSE)
+            client.comes_in()
+            count = chance.randint(50, 400)
+            asks_for_much(client, (count,))
+            for _ in range(count):
+                reply, is_whole = client.reply()
+                if not is_whole:
+                    raise Ended
+                if reply[-LONGEST_PIECE:] != bytes(LONGEST_PIECE):
+                    raise AssertionError(f'client {number}: a READ is answered wrongly')
+        except (Ended, ConnectionError):
+            is_ended = True
+        if client is not None:
+            client.client.end()
+            load.count(client, is_ended and 'owed much')
+
+
+def runs_out(share, seed, seconds):
+    """Clients at work beside hungry ones: the load, where all answers are right and some clients ended; or None."""
+    load = Load(share, seed, seconds)
+    for number in range(AT_WORK):
+        load.begin(works_again, number)
+    for number in range(PLACES - HUNGRY, PLACES):
+        load.begin(is_hungry, number)
+    is_well = load.is_well()
+    print(f'  {load.answered:,} answers were checked; clients that were ended: {load.ended}', flush=True)
+    return load if is_well and load.ended and load.answered > 0 else None
+
+
+def writable(share):
+    """How many times a client that is alone writes 65,536 bytes to a file until memory runs out or the file is full."""
+    client, count = Working(share, AT_WORK, SEED, DELETE_ON_CLOSE), 0
+    try:
+        client.comes_in()
+        while count < (16 * MIB // LONGEST_PIECE):
+            frame = write(client.next_id(), client.file, count * LONGEST_PIECE, bytes(LONGEST_PIECE), client.session, 1)
+            client.asks(frame, 0, None)
+            count += 1
+    except Ended:
+        pass
+    client.client.end()
+    return count
+
+
+def goes_on_without_memory(share):
+    """Whether the share serves behind a load in which its memory ran out, and most of the memory is to be had again."""
+    descriptors, before = descriptors_without_clients(share), writable(share)
+    if not runs_out(share, SEED, SHORT) or not is_left(share, descriptors):
+        return False
+    after = writable(share)
+    print(f'  a client alone writes 64 KiB {before} times before, {after} times behind it', flush=True)
+    newcomer = Working(share, 1, SEED)
+    newcomer.comes_in()
+    newcomer.works()
+    newcomer.goes()
+    return 4 * after >= 3 * before and is_left(share, descriptors)
+
+
+def those_who_meet_no_memory_are_closed_alone():
+    """The program may have 8 MiB, then 12, beside those of its start. Nobody breaks a rule, but some are ended."""
+    with Served() as share:
+        start = addresses_of(share)
+    for room in ROOMS:
+        with Served(memory=start + room) as share:
+            if not goes_on_without_memory(share):
+                return False
+    return True
+
+
+# Behind which allocation one in so many is refused: by then the program listens.
+AT_ITS_START, ONE_IN = 3_000, (5_000, 50)
+
+
+def refuses(folder, one_in):
+    """The environment in which one in so many allocations is refused, and the file that has a byte for each."""
+    library, refused = os.path.join(folder, 'refuse.so'), os.path.join(folder, f'refused {one_in}')
+    source = os.path.join(served.TOP, 'tools', 'refuse_allocation.c')
+    subprocess.run(['cc', '-shared', '-fPIC', '-O2', '-o', library, source], check=True)
+    words = {'LD_PRELOAD': library, 'REFUSE': str(AT_ITS_START), 'REFUSE_ONE_IN': str(one_in), 'REFUSED': refused}
+    return {**os.environ, **words}, refused
+
+
+def those_whose_allocations_are_refused_are_closed_alone():
+    """One allocation in 5,000 is refused, then one in 50. Each ends at most one client; others get right answers."""
+    for one_in in ONE_IN:
+        with tempfile.TemporaryDirectory() as folder:
+            system, refused = refuses(folder, one_in)
+            with Served(system=system) as share:
+                descriptors = descriptors_without_clients(share)
+                load = runs_out(share, SEED, SHORT)
+                if not load or not is_left(share, descriptors):
+                    return False
+                count = os.path.getsize(refused)
+                print(f'  {count} allocations were refused', flush=True)
+                if sum(load.ended.values()) > count:
+                    return False
+    return True
+
+
+TESTS = (sixty_clients_are_answered_beside_others_that_misbehave,)
+TESTS_OF_MEMORY = (those_who_meet_no_memory_are_closed_alone, those_whose_allocations_are_refused_are_closed_alone)
+
+if __name__ == '__main__':
+    NAMED = [word for word in sys.argv[1:] if word != '--unproved']
+    served.PROGRAM = os.path.abspath(NAMED[0]) if NAMED else os.path.join(served.TOP, 'crates/smbshare/out/smbshare')
+    sys.exit(tests_passed('load', TESTS if '--unproved' in sys.argv else TESTS + TESTS_OF_MEMORY))
