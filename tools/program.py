@@ -23,6 +23,7 @@ sys.path.insert(0, os.path.dirname(os.path.abspath(__file__)))
 import frame as frame_tool
 from refusals import (ACCOUNTS, BAD_EVENTS, BROKEN, BROKEN_ACCOUNTS, ENDINGS, HASH, NEGOTIATE, NOTICES, SHARE_RULE,
                       UNREADABLE, frame, request, session_setup_body)
+from served import tests_passed
 
 TOP = os.path.dirname(os.path.dirname(os.path.abspath(__file__)))
 PATIENCE = 60
@@ -513,26 +514,6 @@ TESTS = (
     each_event_of_a_part_and_the_next_is_performed,
 )
 
-
-def passes(test):
-    try:
-        if test():
-            print(f'program {test.__name__} ... ok', flush=True)
-            return True
-        why = 'it is not so'
-    except Exception as error:
-        why = repr(error)
-    print(f'program {test.__name__} ... FAILED: {why}', flush=True)
-    return False
-
-
-def main():
-    tests = TESTS if IS_UNPROVED else TESTS_OF_MEMORY + TESTS
-    passed = sum(passes(test) for test in tests)
-    print(f'program: {passed} passed, {len(tests) - passed} failed')
-    return 0 if passed == len(tests) else 1
-
-
 IS_UNPROVED = '--unproved' in sys.argv
 NAMED = [word for word in sys.argv[1:] if word != '--unproved']
 PROGRAM = os.path.abspath(NAMED[0]) if NAMED else os.path.join(TOP, 'crates', 'smbshare', 'out', 'smbshare')
@@ -542,4 +523,4 @@ if __name__ == '__main__':
         LIBRARY = os.path.join(built, 'refuse.so')
         SOURCE = os.path.join(TOP, 'tools', 'refuse_allocation.c')
         subprocess.run(['cc', '-shared', '-fPIC', '-O2', '-o', LIBRARY, SOURCE], check=True)
-        sys.exit(main())
+        sys.exit(tests_passed('program', TESTS if IS_UNPROVED else TESTS_OF_MEMORY + TESTS))
