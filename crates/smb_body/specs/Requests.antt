@@ -99,6 +99,16 @@ file_id_of (asks_query_directory a) = Some a.file_id
 file_id_of (asks_query_info a) = Some a.file_id
 file_id_of (asks_set_info a) = Some a.file_id
 
+-- how many bytes it sends or asks for, by which it is charged: Length in READ and WRITE, OutputBufferLength in QUERY_INFO
+-- and QUERY_DIRECTORY, BufferLength in SET_INFO, and 0 in all others ([MS-SMB2] 3.3.5.2.5)
+abbrev pub payload_of : RequestValue → ℕ
+payload_of (asks_read a) = a.length
+payload_of (asks_write a) = length a.buffer
+payload_of (asks_query_directory a) = a.output_buffer_length
+payload_of (asks_query_info a) = a.output_buffer_length
+payload_of (asks_set_info a) = length a.buffer
+payload_of _ = 0
+
 -- the bytes of a request, its header among them, say this in its body
 abbrev pub SaysBody : List ℕ → RequestValue → Type 0
 SaysBody request (asks_negotiate a) = SaysNegotiate request a

@@ -9,7 +9,7 @@ use Rattle.smb_request.specs.Settings.{is_lawful}
 use Rattle.smb_request.specs.Owners.{AreOwned}
 use Rattle.smb_engine.specs.State.{StreamState, ShareState, new_stream}
 
--- a connection between calls: at most 131,075 bytes are unread, and its window is good; and while no payload came it is
+-- a connection between calls: at most 1,048,579 bytes are unread, and its window is good; and while no payload came it is
 -- as it was opened, without a dialect and with the window {0}
 pub record IsGoodStream (stream : StreamState) : Type 0 where
   pub unread : length stream.received ≤ longest_payload + 3

@@ -14,10 +14,11 @@ use Rattle.smb_head.specs.Chains.{chain_of, is_related}
 use Rattle.smb_head.specs.Replies.{Reply, joined_replies}
 use Rattle.smb_body.specs.Smb1.{smb1_of}
 use Rattle.smb_body.specs.declared.smb1.Smb1Dialects.{Smb1Dialects}
-use Rattle.smb_session.specs.Window.{first_window, may_use, without_ids, credits_granted, with_more}
+use Rattle.smb_session.specs.Window.{first_window, may_use, without_ids, numbers_of, credits_granted, with_more}
 use Rattle.smb_session.specs.Authenticator.{Meaning}
 use Rattle.smb_request.specs.declared.context.Context.{Context}
 use Rattle.smb_wire.specs.NtStatus.{status_code}
+use Rattle.smb_request.specs.Charge.{charge_of}
 use Rattle.smb_request.specs.Negotiate.{negotiate_answer}
 use Rattle.smb_request.specs.Smb1.{answer_to_smb1, reply_to_smb1}
 use Rattle.smb_request.specs.Context.{first_context}
@@ -109,9 +110,15 @@ is_cancel request = (header_of request).command.0 == code_of Cancel
 abbrev pub is_negotiate_request : List ℕ → Bool
 is_negotiate_request request = (header_of request).command.0 == code_of Negotiate
 
--- the MessageIds that a chain uses: those of its requests, but for CANCEL (3.3.5.2.3)
-abbrev pub message_ids : List (List ℕ) → List ℕ
-message_ids requests = map (λ request. (header_of request).message_id) (filter (λ request. not (is_cancel request)) requests)
+-- the MessageIds that a chain uses in a dialect, by request: its own, and how many from there upward; a CANCEL uses none
+-- (3.3.5.2.3)
+abbrev pub runs_of : Option Dialect → List (List ℕ) → List (ℕ × ℕ)
+runs_of dialect requests =
+    map (λ request. ((header_of request).message_id, charge_of dialect (header_of request).credit_charge)) (filter (λ request. not (is_cancel request)) requests)
+
+-- and all of them
+abbrev pub message_ids : Option Dialect → List (List ℕ) → List ℕ
+message_ids dialect requests = numbers_of (runs_of dialect requests)
 
 -- until a dialect is negotiated a chain is one NEGOTIATE alone, and afterwards it holds none (3.3.5.2, 3.3.5.4)
 abbrev pub keeps_negotiate_rule : Option Dialect → List (List ℕ) → Bool
@@ -124,14 +131,14 @@ keeps_negotiate_rule (Some dialect) requests = not (list_any is_negotiate_reques
 unfoldable pub admitted : Connection → List ℕ → Option (List (List ℕ))
 admitted connection payload =
     option_map_or
-    (λ requests. if keeps_negotiate_rule connection.dialect requests && may_use connection.window (message_ids requests) then Some requests else None)
+    (λ requests. if keeps_negotiate_rule connection.dialect requests && may_use connection.window (message_ids connection.dialect requests) then Some requests else None)
     (chain_of payload) None
 
 -- where a chain begins: its MessageIds are no more in the window (3.3.1.1)
 abbrev pub chain_begun : {S : Type 0} → ServerState S → Connection → List (List ℕ) → ChainState S
 chain_begun server connection requests = record {
   server = server;
-  connection = record connection { payload_came = true; window = without_ids connection.window (message_ids requests) };
+  connection = record connection { payload_came = true; window = without_ids connection.window (message_ids connection.dialect requests) };
   context = first_context;
   replies = [];
 }

@@ -11,6 +11,7 @@ use Rattle.smb_request.specs.declared.call.Call.{Call}
 use Rattle.smb_request.specs.declared.context.HeaderIds.{HeaderIds}
 use Rattle.smb_request.specs.declared.context.Context.{Context}
 use Rattle.smb_request.specs.declared.context.ContextOpen.{ContextOpen}
+use Rattle.smb_request.specs.Charge.{charge_of}
 use Rattle.smb_request.specs.Context.{open_named, number_named}
 
 -- the session and the tree connect that a request acts under: its own, or of a related one those of the request before
@@ -42,6 +43,7 @@ call_of connection moment dialect context request =
       connection = connection;
       moment = moment;
       dialect = dialect;
+      charge = charge_of dialect (header_of request).credit_charge;
       command = command;
       ids = request_ids context request;
       inherited = inherited;

@@ -3,6 +3,7 @@ pub mod Negotiate
 pub mod State
 pub mod Owners
 pub mod Context
+pub mod Charge
 pub mod Call
 pub mod Response
 pub mod Smb1

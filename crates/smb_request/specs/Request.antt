@@ -1,5 +1,5 @@
 -- One request: the checks in their order, and the table of commands ([MS-SMB2] 3.3.5.2).
-use Rattle.std.specs.Prelude.{ℕ, ◌&&◌, false, not, List, Option, Some, None, if◌then◌else◌}
+use Rattle.std.specs.Prelude.{ℕ, ◌&&◌, false, not, nat_lt, List, Option, Some, None, if◌then◌else◌}
 use Rattle.std.specs.Option.{option_map_or, option_and_then}
 use Rattle.smb_wire.specs.Dialects.{revision_of}
 use Rattle.smb_wire.specs.declared.dialect.Dialect.{Dialect}
@@ -7,7 +7,7 @@ use Rattle.smb_session.specs.Authenticator.{Meaning}
 use Rattle.smb_session.specs.Negotiate.{best_of}
 use Rattle.smb_session.specs.Table.{knows_session, knows_tree}
 use Rattle.smb_access.specs.declared.open_row.OpenRow.{OpenRow}
-use Rattle.smb_body.specs.Requests.{RequestValue, asks_negotiate, asks_session_setup, asks_logoff, asks_tree_connect, asks_tree_disconnect, asks_create, asks_close, asks_flush, asks_read, asks_write, asks_lock, asks_cancel, asks_echo, asks_query_directory, asks_query_info, asks_set_info}
+use Rattle.smb_body.specs.Requests.{RequestValue, payload_of, asks_negotiate, asks_session_setup, asks_logoff, asks_tree_connect, asks_tree_disconnect, asks_create, asks_close, asks_flush, asks_read, asks_write, asks_lock, asks_cancel, asks_echo, asks_query_directory, asks_query_info, asks_set_info}
 use Rattle.smb_body.specs.Replies.{answers_flush, answers_echo}
 use Rattle.smb_request.specs.declared.call.Call.{Call}
 use Rattle.smb_request.specs.declared.context.HeaderIds.{HeaderIds}
@@ -16,6 +16,7 @@ use Rattle.smb_request.specs.declared.context.ContextOpen.{ContextOpen}
 use Rattle.smb_request.specs.declared.context.ContextOpen.TheVariants.{Nothing, Named, Refused}
 use Rattle.smb_wire.specs.declared.nt_status.NtStatus.{NtStatus}
 use Rattle.smb_wire.specs.declared.nt_status.NtStatus.TheVariants.{InvalidParameter, NotSupported, NetworkNameDeleted, FileClosed, UserSessionDeleted}
+use Rattle.smb_request.specs.Charge.{due_of}
 use Rattle.smb_request.specs.Call.{body_of, call_of, named_open}
 use Rattle.smb_request.specs.Context.{open_for_next_related, named_on}
 use Rattle.smb_request.specs.Needs.{needs_of, needs_session, needs_tree, is_unsupported, is_cancel_command}
@@ -74,7 +75,7 @@ open_refusal opens ids (Refused status) = Some status
 -- P8. the FileId is that of no open of its session and tree connect (3.3.5.10)
 open_refusal opens ids (Named id) = if names_open opens ids id then None else Some FileClosed
 
--- why a request whose body is read is refused
+-- why a request whose charge is enough is refused
 abbrev pub check_session_tree_and_open : {S : Type 0} → ServerState S → Call → RequestValue → Option NtStatus
 check_session_tree_and_open server call asked =
     -- P4. the SessionId is that of no finished session of the connection (3.3.5.2.9)
@@ -85,6 +86,12 @@ check_session_tree_and_open server call asked =
     then Some NetworkNameDeleted else
     option_and_then (open_refusal server.store.opens call.ids) (named_open call)
 
+-- why a request whose body is read is refused, its charge looked at first
+abbrev pub check_request : {S : Type 0} → ServerState S → Call → RequestValue → Option NtStatus
+check_request server call asked =
+    -- P3b. it takes fewer MessageIds than it has to, by the bytes that it sends or asks for (3.3.5.2.5)
+    if nat_lt call.charge (due_of (payload_of asked)) then Some InvalidParameter else check_session_tree_and_open server call asked
+
 -- a request other than CANCEL: it is refused by the first row that holds, or performed
 abbrev pub performed_by : {S : Type 0} → Meaning S → ServerState S → Call → Option RequestValue → CommandStep S
 performed_by authenticator server call body =
@@ -93,7 +100,7 @@ performed_by authenticator server call body =
     option_map_or
     (λ asked. option_map_or
     (refused server call.ids)
-    (check_session_tree_and_open server call asked)
+    (check_request server call asked)
     (acted authenticator server call asked))
     body
     -- P1, P3. no such command, or a body that cannot be read

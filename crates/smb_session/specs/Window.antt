@@ -1,6 +1,6 @@
 -- The message window of a connection: the MessageIds that its client may use ([MS-SMB2] 3.3.1.1, 3.3.5.2.3).
 use Rattle.std.specs.Prelude.{ℕ, zero, suc, ◌+◌, ◌-◌, ◌<◌, ◌≤◌, Bool, true, ◌&&◌, not, List, [], ◌∷◌, ◌++◌, length, filter, min, max}
-use Rattle.std.specs.List.{list_all, AllByRecursion}
+use Rattle.std.specs.List.{list_all, flat_map, AllByRecursion}
 use Rattle.smb_wire.specs.Limits.{most_credits}
 pub use Rattle.smb_session.specs.Numbers.{contains}
 use Rattle.smb_session.specs.Numbers.{IsRising}
@@ -36,6 +36,10 @@ credits_granted window credits = min (max credits 1) (min (most_credits - length
 abbrev pub upward : ℕ → ℕ → List ℕ
 upward first zero = []
 upward first (suc count) = first ∷ upward (first + 1) count
+
+-- the numbers of requests that each begin at one and take so many ([MS-SMB2] 3.3.5.2.3)
+abbrev pub numbers_of : List (ℕ × ℕ) → List ℕ
+numbers_of runs = flat_map (λ run. upward run.0 run.1) runs
 
 -- the window when the next numbers were granted, so many
 abbrev pub with_more : Numbers → ℕ → Numbers

@@ -8,11 +8,11 @@ use Rattle.smb_wire.specs.declared.dialect.Dialect.TheVariants.{Smb202, Smb210}
 abbrev pub most_at_once : Option Dialect → ℕ
 most_at_once None = 65536
 most_at_once (Some Smb202) = 65536
-most_at_once (Some Smb210) = 65536
+most_at_once (Some Smb210) = 524288
 
 -- the greatest of these
 abbrev pub most_in_any_dialect : ℕ
-most_in_any_dialect = 65536
+most_in_any_dialect = 524288
 
 -- the most bytes of a response's body: the longest fixed part in front of data, and the data
 abbrev pub longest_body : ℕ
@@ -24,7 +24,7 @@ longest_response = 64 + longest_body
 
 -- the most bytes of a frame's payload, from a client
 abbrev pub longest_payload : ℕ
-longest_payload = 131072
+longest_payload = 1048576
 
 -- the most requests of a chain
 abbrev pub most_requests : ℕ
