@@ -53,7 +53,7 @@ pub use query_directory::QueryDirectoryRequest;
 pub use query_info::{QueryInfoFlags, QueryInfoRequest};
 pub use read::{ReadFlags, ReadRequest, ReadResponse, put_read_head};
 pub use reply::{Reply, write_reply};
-pub use request::{Request, laws_of_requests, read_body, write_request};
+pub use request::{Request, laws_of_requests, payload, read_body, write_request};
 pub use reserved::ReservedRequest;
 pub use session_setup::{
     SessionFlags, SessionSecurityMode, SessionSetupFlags, SessionSetupRequest, SessionSetupResponse,

@@ -10,6 +10,7 @@ use Rattle.smb_head.proofs.Chaining.{chain_is}
 use Rattle.smb_session.specs.Window.{may_use}
 use Rattle.std.proofs.lemmas.Bool.{and_parts, leb-true}
 use Rattle.smb_body.specs.Smb1.{smb1_of, is_smb1}
+use Rattle.smb_wire.specs.declared.dialect.Dialect.{Dialect}
 use Rattle.smb_body.specs.declared.smb1.Smb1Dialects.{Smb1Dialects}
 use Rattle.smb_request.specs.declared.smb1.Smb1Answer.{Smb1Answer}
 use Rattle.smb_request.specs.Smb1.{answer_to_smb1}
@@ -24,21 +25,23 @@ use Rattle.smb_request.specs.Context.{first_context}
 use Rattle.smb_request.specs.State.{ServerState}
 use Rattle.smb_request.specs.Response.{Performed}
 use Rattle.smb_request.specs.Request.{performed}
-use Rattle.smb_engine.specs.Run.{PerformedRequest, is_cancel, is_negotiate_request, message_ids, keeps_negotiate_rule, ChainState, replied, one_performed, all_performed, requests_of_chain, admitted, chain_begun, Step, refused_step, first_negotiate, first_step, framed_chain, chain_step, payload_step}
+use Rattle.smb_engine.specs.Run.{PerformedRequest, is_cancel, is_negotiate_request, runs_of, message_ids, keeps_negotiate_rule, ChainState, replied, one_performed, all_performed, requests_of_chain, admitted, chain_begun, Step, refused_step, first_negotiate, first_step, framed_chain, chain_step, payload_step}
 use Rattle.smb_engine.specs.Output.{reply_frame}
 use Rattle.smb_engine.specs.Refusals.{server_after}
 use Rattle.smb_request.specs.declared.response.NoReply.{NoReply}
 use Rattle.smb_request.specs.declared.response.NoReply.TheVariants.{NotPerformed, Performed as WasPerformed}
+use Rattle.smb_request.specs.Charge.{charge_of}
 use Rattle.smb_request.specs.Held.{is_performed}
 use Rattle.smb_engine.specs.InPlace.{ChainStatePlaced, chain_state_behind}
 use Rattle.smb_engine.proofs.Lists.{drop_found}
 
--- the MessageIds that are left, behind those that were found
-pub ids_cancel : (request : List ℕ) (rest : List (List ℕ)) → eqb (header_of request).command.0 12 ≡ true → message_ids (request ∷ rest) ≡ message_ids rest
-ids_cancel request rest h = rw h refl
+-- the runs of MessageIds that are left, behind those that were found
+pub runs_cancel : (dialect : Option Dialect) (request : List ℕ) (rest : List (List ℕ)) → eqb (header_of request).command.0 12 ≡ true → runs_of dialect (request ∷ rest) ≡ runs_of dialect rest
+runs_cancel dialect request rest h = rw h refl
 
-pub ids_other : (request : List ℕ) (rest : List (List ℕ)) → eqb (header_of request).command.0 12 ≡ false → message_ids (request ∷ rest) ≡ (header_of request).message_id ∷ message_ids rest
-ids_other request rest h = rw h refl
+pub runs_other : (dialect : Option Dialect) (request : List ℕ) (rest : List (List ℕ)) → eqb (header_of request).command.0 12 ≡ false →
+    runs_of dialect (request ∷ rest) ≡ ((header_of request).message_id, charge_of dialect (header_of request).credit_charge) ∷ runs_of dialect rest
+runs_other dialect request rest h = rw h refl
 
 neg_test : (request : List ℕ) (n : ℕ) → n ≡ (header_of request).command.0 → eqb n 0 ≡ is_negotiate_request request
 neg_test request n h = ap (λ m. eqb m 0) h
@@ -55,20 +58,21 @@ rule_of_one (request ∷ []) holds h = h ∙ or_false (is_negotiate_request requ
 rule_of_one (request ∷ other ∷ requests) holds h =
     let e : eqb (length (request ∷ other ∷ requests)) 1 ≡ false = ne_eqb (length (request ∷ other ∷ requests)) 1 (λ n. absurd (omega arith)) in rw e refl
 
--- the MessageIds, one request further
-pub ids_skip : (requests : List (List ℕ)) (i : ℕ) (request : List ℕ) (found : List ℕ) → slice_get requests i ≡ Some request →
-    found ++ message_ids (drop i requests) ≡ message_ids requests → is_cancel request ≡ true →
-    found ++ message_ids (drop (i + 1) requests) ≡ message_ids requests
-ids_skip requests i request found at h e =
-    let step : message_ids (drop i requests) ≡ message_ids (drop (i + 1) requests) = rw (drop_found requests i request at) (ids_cancel request (drop (i + 1) requests) e) in
+-- the runs, one request further
+pub runs_skip : (dialect : Option Dialect) (requests : List (List ℕ)) (i : ℕ) (request : List ℕ) (found : List (ℕ × ℕ)) → slice_get requests i ≡ Some request →
+    found ++ runs_of dialect (drop i requests) ≡ runs_of dialect requests → is_cancel request ≡ true →
+    found ++ runs_of dialect (drop (i + 1) requests) ≡ runs_of dialect requests
+runs_skip dialect requests i request found at h e =
+    let step : runs_of dialect (drop i requests) ≡ runs_of dialect (drop (i + 1) requests) = rw (drop_found requests i request at) (runs_cancel dialect request (drop (i + 1) requests) e) in
     ap (λ t. found ++ t) (sym step) ∙ h
 
-pub ids_more : (requests : List (List ℕ)) (i : ℕ) (request : List ℕ) (found : List ℕ) → slice_get requests i ≡ Some request →
-    found ++ message_ids (drop i requests) ≡ message_ids requests → is_cancel request ≡ false →
-    (found ++ (header_of request).message_id ∷ []) ++ message_ids (drop (i + 1) requests) ≡ message_ids requests
-ids_more requests i request found at h e =
-    let step : message_ids (drop i requests) ≡ (header_of request).message_id ∷ message_ids (drop (i + 1) requests) = rw (drop_found requests i request at) (ids_other request (drop (i + 1) requests) e) in
-    append_assoc found ((header_of request).message_id ∷ []) (message_ids (drop (i + 1) requests)) ∙ ap (λ t. found ++ t) (sym step) ∙ h
+pub runs_more : (dialect : Option Dialect) (requests : List (List ℕ)) (i : ℕ) (request : List ℕ) (found : List (ℕ × ℕ)) → slice_get requests i ≡ Some request →
+    found ++ runs_of dialect (drop i requests) ≡ runs_of dialect requests → is_cancel request ≡ false →
+    (found ++ ((header_of request).message_id, charge_of dialect (header_of request).credit_charge) ∷ []) ++ runs_of dialect (drop (i + 1) requests) ≡ runs_of dialect requests
+runs_more dialect requests i request found at h e =
+    let run : ℕ × ℕ = ((header_of request).message_id, charge_of dialect (header_of request).credit_charge) in
+    let step : runs_of dialect (drop i requests) ≡ run ∷ runs_of dialect (drop (i + 1) requests) = rw (drop_found requests i request at) (runs_other dialect request (drop (i + 1) requests) e) in
+    append_assoc found (run ∷ []) (runs_of dialect (drop (i + 1) requests)) ∙ ap (λ t. found ++ t) (sym step) ∙ h
 
 -- one more request at the end of a chain
 pub performed-more : {S : Type 0} (m : Meaning S) (arrival : Arrival) (chain : ChainState S) (i : ℕ) (requests : List (List ℕ)) (request : List ℕ) → slice_get requests i ≡ Some request →
@@ -159,9 +163,9 @@ requests_short (request ∷ requests) h =
 
 -- the requests that are performed are those of the chain
 admitted_at : (connection : Connection) (o : Option (List (List ℕ))) (requests : List (List ℕ)) →
-    option_map_or (λ rs. if keeps_negotiate_rule connection.dialect rs && may_use connection.window (message_ids rs) then Some rs else None) o None ≡ Some requests → o ≡ Some requests
+    option_map_or (λ rs. if keeps_negotiate_rule connection.dialect rs && may_use connection.window (message_ids connection.dialect rs) then Some rs else None) o None ≡ Some requests → o ≡ Some requests
 admitted_at connection None requests h = cc
-admitted_at connection (Some rs) requests h = let both = cond_some (keeps_negotiate_rule connection.dialect rs && may_use connection.window (message_ids rs)) rs requests h in ap (λ t. Some t) both.1
+admitted_at connection (Some rs) requests h = let both = cond_some (keeps_negotiate_rule connection.dialect rs && may_use connection.window (message_ids connection.dialect rs)) rs requests h in ap (λ t. Some t) both.1
 
 admitted_chain : (connection : Connection) (payload : List ℕ) (requests : List (List ℕ)) → admitted connection payload ≡ Some requests → chain_of payload ≡ Some requests
 unfolding admitted

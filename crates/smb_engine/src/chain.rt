@@ -13,7 +13,7 @@ ghost use Rattle.smb_head.specs.Replies.{joined_replies};
 ghost use Rattle.smb_request.specs.Negotiate.{negotiate_answer};
 ghost use Rattle.smb_request.specs.State.{hello_of};
 ghost use Rattle.smb_request.specs.Smb1.{reply_to_smb1};
-ghost use Rattle.smb_engine.specs.Run.{is_negotiate_request, message_ids, keeps_negotiate_rule, admitted, reply_to, one_performed, first_negotiate, first_step, chain_step, payload_step};
+ghost use Rattle.smb_engine.specs.Run.{is_negotiate_request, runs_of, message_ids, keeps_negotiate_rule, admitted, reply_to, one_performed, first_negotiate, first_step, chain_step, payload_step};
 ghost use Rattle.smb_engine.specs.Held.{StoppedAfter};
 ghost use Rattle.smb_request.specs.Held.{is_performed};
 ghost use Rattle.smb_engine.specs.Output.{longest_reply, output_bytes, reply_frame};
@@ -29,7 +29,7 @@ use smb_frame::{close_frame, open_frame};
 use smb_head::{Chain, Header, HeaderFlags, ReplyWriter, read_chain};
 use smb_opens::Opens;
 use smb_request::smb1::Smb1Answer;
-use smb_request::{Answered, Context, NoReply, Server, smb1};
+use smb_request::{Answered, Context, NoReply, Server, charge_of, smb1};
 use smb_session::{Authenticator, Window};
 use smb_tree::Tree;
 use smb_wire::limits::MOST_REQUESTS;
@@ -74,19 +74,20 @@ fn keeps_negotiate_rule(dialect: Option<Dialect>, chain: &Chain<'_>) -> bool
     }
 }
 
-/// The MessageIds that a chain uses, those of CANCEL left out.
-fn message_ids(chain: &Chain<'_>) -> ArrayVec<u64, MOST_REQUESTS>
+/// The MessageIds that a chain uses in a dialect, by request: the first, and how many from there upward. CANCEL uses none.
+fn runs_of(dialect: Option<Dialect>, chain: &Chain<'_>) -> ArrayVec<(u64, u16), MOST_REQUESTS>
     requires { length chain.now ≤ 16 }
-    ensures { result.items ≡ message_ids chain.now }
+    ensures { result.items ≡ runs_of dialect chain.now }
 {
-    let mut ids = ArrayVec::new();
+    let mut runs = ArrayVec::new();
     for i in 0..chain.len() {
         let (header, _) = request_at(chain, i);
         if header.command.0 != Command::Cancel.code().0 {
-            ids.push(header.message_id);
+            let charge = charge_of(dialect, header.credit_charge);
+            runs.push((header.message_id, charge));
         }
     }
-    ids
+    runs
 }
 
 /// The requests of a payload that are performed, their MessageIds taken from the window; None where the
@@ -96,15 +97,15 @@ fn admit<'a>(connection: &mut Connection, payload: &'a [u8]) -> Option<Chain<'a>
     ensures chain { result ≡ admitted connection.old payload.now }
     ensures few { IfSome result (λ chain. length chain ≤ 16) }
     ensures taken { IfSome result (λ chain. connection.new
-        ≡ record connection.old { payload_came = true; window = without_ids connection.old.window (message_ids chain) }) }
+        ≡ record connection.old { payload_came = true; window = without_ids connection.old.window (message_ids connection.old.dialect chain) }) }
     ensures kept { IfNone result (connection.new ≡ connection.old) }
 {
     let chain = read_chain(payload).ok()?;
     if !keeps_negotiate_rule(connection.dialect, &chain) {
         return None;
     }
-    let ids = message_ids(&chain);
-    if !connection.window.take_all(&ids) {
+    let runs = runs_of(connection.dialect, &chain);
+    if !connection.window.take_runs(&runs) {
         return None;
     }
     connection.payload_came = true;

@@ -8,7 +8,7 @@ use smb_session::Authenticator;
 /// What a run leaves and puts out does not depend on how bytes that come at one moment were cut into pieces, nor on how
 /// the events were cut into runs; events on other connections leave a connection as it was, and put nothing out to it;
 /// they leave each of its sessions too, with its trees and opens, or one of their requests replaced it, and what is over
-/// stays over; and the share ends a connection at most once, with nothing behind it. This is so with any authenticator:
+/// stays over; and the share ends a connection at most once, with nothing behind it. The laws hold of every authenticator:
 /// the contract is the statement, and the body does nothing.
 pub fn laws_of_shares<A: Authenticator>()
     ensures order { StatesAreInOrder A.meaning }
@@ -24,7 +24,8 @@ pub fn laws_of_shares<A: Authenticator>()
 {}
 
 /// What [`serve`](crate::serve) did in its turns, from a share without connections on, is a run of events, in some of which memory
-/// may have run out; `serve` told how often that was. Peers open no number twice, which `serve` says of its record.
+/// may have run out; the result of `serve` is how often memory ran out. Clause `once` of `serve` has that no number is opened
+/// twice.
 ///
 /// Each number that they opened has a connection in the run, or was closed at its opening, since the share was full or memory ran
 /// out. At each point of the record all that came of a number, and nothing else, was brought to its connection, and what was
@@ -33,7 +34,7 @@ pub fn laws_of_shares<A: Authenticator>()
 /// number changes none of that. A number is closed once: when its connection has ended and it is owed nothing. Where memory never
 /// ran out, the run is that of [`run`](crate::Share::run).
 ///
-/// This is so with any authenticator: the contract is the statement, and the body does nothing.
+/// The laws hold of every authenticator: the contract is the statement, and the body does nothing.
 pub fn laws_of_serving<A: Authenticator>()
     ensures run { ServingIsARun A.meaning }
     ensures memory { WithMemoryItIsARun A.meaning }

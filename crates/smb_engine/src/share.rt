@@ -300,7 +300,7 @@ impl<A: Authenticator + Drop, T: Tree + Drop, O: Opens + Drop> Share<A, T, O> {
     /// the connection was open and `out` is as it was; the first `done` requests of the piece were performed,
     /// and then the connection has ended. One that was performed and found no memory for its response counts.
     ///
-    /// The payload of a frame that is added has at most 1,049,856 bytes, fewer than 2^24.
+    /// The payload of a frame that is added has at most 8,389,888 bytes, fewer than 2^24.
     pub fn feed(
         &mut self,
         connection: u64,
@@ -414,7 +414,7 @@ impl<A: Authenticator + Drop, T: Tree + Drop, O: Opens + Drop> Share<A, T, O> {
     /// [`ServeFault::TooManyConnections`]) changes nothing. After [`ServeFault::NoMemory`] the first `done` requests of
     /// the event were performed, without a reply, and then its connection has ended; an opening changed nothing. Memory
     /// never runs out at the end of a connection, nor at a piece on one that is not open. The payload of a frame that is
-    /// added has at most 1,049,856 bytes, fewer than 2^24.
+    /// added has at most 8,389,888 bytes, fewer than 2^24.
     pub fn run(&mut self, events: &[Event], answers: &mut Vec<Answer>) -> Result<(), RunFault>
         ensures ok { OnOk result (record { state = self.new; outputs = outputs_of answers.new.items; stop = None }
             ≡ run_behind (outputs_of answers.old.items) (run A.meaning self.old (events_of events.now))) }

@@ -5,7 +5,7 @@ use smb_body::{Request, Smb1Dialects, read_body, read_smb1_negotiate};
 use smb_engine::Event;
 use smb_frame::{FrameBuffer, FrameFault};
 use smb_head::{Chain, HeadFault, Header, read_chain};
-use smb_request::smb1;
+use smb_request::{charge_of, smb1};
 use smb_session::Window;
 use smb_wire::limits::LONGEST_PAYLOAD;
 use smb_wire::{Command, Dialect};
@@ -54,7 +54,7 @@ fn chain_rule(fault: HeadFault) -> &'static str {
 fn frame_rule(fault: FrameFault) -> &'static str {
     match fault {
         FrameFault::FirstByte => "F1: a frame's first byte is not 0",
-        FrameFault::TooLong => "F2: a frame is longer than 131072 bytes",
+        FrameFault::TooLong => "F2: a frame is longer than 1048576 bytes",
         FrameFault::PayloadTooLong => "F3: a payload is too long for a frame",
         FrameFault::NoMemory => "F4: no memory",
     }
@@ -87,7 +87,7 @@ impl fmt::Display for Ending {
 #[derive(Drop)]
 struct Agreed {
     payload_came: bool,
-    has_dialect: bool,
+    dialect: Option<Dialect>,
     window: Window,
 }
 
@@ -101,20 +101,27 @@ fn is_cancel(header: &Header) -> bool {
     header.command == Command::Cancel.code()
 }
 
-/// Whether a request lists a dialect of the share.
-fn lists_dialect(header: &Header, request: &[u8]) -> bool {
+/// The greatest dialect of the share that a NEGOTIATE lists; None where it lists none, or the request is another.
+fn dialect_listed(header: &Header, request: &[u8]) -> Option<Dialect> {
     let Ok(Request::Negotiate(asked)) = read_body(header.command.0, request) else {
-        return false;
+        return None;
     };
+    let mut best = None;
     for i in 0..asked.dialects.len() {
         let revision = asked.dialects.get(i).map(|dialect| dialect.0);
-        if revision == Some(Dialect::Smb202.revision())
-            || revision == Some(Dialect::Smb210.revision())
-        {
-            return true;
+        if revision == Some(Dialect::Smb210.revision()) {
+            return Some(Dialect::Smb210);
+        }
+        if revision == Some(Dialect::Smb202.revision()) {
+            best = Some(Dialect::Smb202);
         }
     }
-    false
+    best
+}
+
+/// The MessageIds that a request takes in a dialect: the first, and how many from there upward.
+fn run_of(dialect: Option<Dialect>, header: &Header) -> (u64, u16) {
+    (header.message_id, charge_of(dialect, header.credit_charge))
 }
 
 /// How many NEGOTIATEs a chain has.
@@ -135,7 +142,7 @@ impl Agreed {
     fn new() -> Self {
         Agreed {
             payload_came: false,
-            has_dialect: false,
+            dialect: None,
             window: Window::new(0),
         }
     }
@@ -146,7 +153,7 @@ impl Agreed {
             return Some(Ending::Smb1NoDialect);
         };
         self.payload_came = true;
-        self.has_dialect = answer.dialect.is_some();
+        self.dialect = answer.dialect;
         self.window = Window::new(1);
         None
     }
@@ -165,11 +172,25 @@ impl Agreed {
     /// The rule about NEGOTIATE, where a chain breaks it.
     fn negotiate_rule(&self, chain: &Chain<'_>) -> Option<Ending> {
         let count = count_negotiates(chain);
-        if self.has_dialect && count > 0 {
+        if self.dialect.is_some() && count > 0 {
             return Some(Ending::SecondNegotiate);
         }
-        if !self.has_dialect && !(count == 1 && chain.len() == 1) {
+        if self.dialect.is_none() && !(count == 1 && chain.len() == 1) {
             return Some(Ending::NoDialect);
+        }
+        None
+    }
+
+    /// The first MessageId of a request that the window does not have; at most as many are looked for as it has, and one.
+    fn missing_id(&self, header: &Header) -> Option<u64> {
+        let (first, count) = run_of(self.dialect, header);
+        for i in 0..u64::from(count) {
+            let Some(number) = first.checked_add(i) else {
+                return Some(first);
+            };
+            if !self.window.holds(number) {
+                return Some(number);
+            }
         }
         None
     }
@@ -178,14 +199,18 @@ impl Agreed {
     fn take_ids(&mut self, chain: &Chain<'_>) -> Option<Ending> {
         for i in 0..chain.len() {
             if let Some((header, _)) = chain.get(i) {
-                if !is_cancel(&header) && !self.window.holds(header.message_id) {
-                    return Some(Ending::NotInWindow(header.message_id));
+                if is_cancel(&header) {
+                    continue;
+                }
+                if let Some(number) = self.missing_id(&header) {
+                    return Some(Ending::NotInWindow(number));
                 }
             }
         }
         for i in 0..chain.len() {
             if let Some((header, _)) = chain.get(i) {
-                if !is_cancel(&header) && !self.window.take_all(&[header.message_id]) {
+                let run = run_of(self.dialect, &header);
+                if !is_cancel(&header) && !self.window.take_runs(&[run]) {
                     return Some(Ending::Twice);
                 }
             }
@@ -200,8 +225,8 @@ impl Agreed {
                 if !is_cancel(&header) {
                     let _ = self.window.grant(header.credits);
                 }
-                if is_negotiate(&header) && lists_dialect(&header, request) {
-                    self.has_dialect = true;
+                if is_negotiate(&header) {
+                    self.dialect = dialect_listed(&header, request);
                 }
             }
         }

@@ -24,7 +24,7 @@ use Rattle.smb_request.specs.Needs.{needs_of, needs_session, is_unsupported, is_
 use Rattle.smb_request.specs.Files.{names_open}
 use Rattle.smb_request.specs.Negotiate.{negotiate_answer}
 use Rattle.smb_request.specs.Call.{body_of, named_open, call_of}
-use Rattle.smb_request.specs.Request.{open_refusal, check_session_tree_and_open, negotiated, dialect_after, acted, performed_by, performed}
+use Rattle.smb_request.specs.Request.{open_refusal, check_session_tree_and_open, check_request, negotiated, dialect_after, acted, performed_by, performed}
 use Rattle.smb_request.specs.Held.{IsCallOf}
 use Rattle.smb_request.specs.State.{hello_of}
 use Rattle.smb_session.specs.Authenticator.{Meaning}
@@ -68,7 +68,7 @@ use Rattle.smb_request.specs.Laws.{NumbersInOrder, IsInOrder, IsAsItWas, IsOver,
 use Rattle.smb_entry.specs.Bytes.{written_tree}
 use Rattle.smb_access.specs.declared.open_row.Owner.{Owner}
 use Rattle.smb_request.specs.SetInfo.{set_through}
-use Rattle.smb_request.proofs.Handed.{mapped_there}
+use Rattle.smb_request.proofs.Handed.{mapped_there, request_passed}
 use Rattle.smb_request.proofs.Performed.{call_read}
 use Rattle.smb_request.proofs.InfoApart.{set_opens, set_next, queried_left, info_set_left}
 use Rattle.smb_access.specs.declared.scan.Scan.{Scan}
@@ -325,17 +325,17 @@ module _ {S : Type 0} (may : ℕ → SessionState → Type 0) (acts : ℕ → Bo
   acted_left m (asks_set_info x) read cause e =
       info_set_left Left server same call (λ ask. opens_kept (set_through server.store k call.moment ask) (set_opens server.store k call.moment ask) (set_next server.store k call.moment ask)) x
 
-  checked_left : (m : Meaning S) (asked : RequestValue) (refusal : Option NtStatus) → IsCallOf call (Some asked) → Causes m asked → check_session_tree_and_open server call asked ≡ refusal →
+  checked_left : (m : Meaning S) (asked : RequestValue) (refusal : Option NtStatus) → IsCallOf call (Some asked) → Causes m asked → check_request server call asked ≡ refusal →
       Left (option_map_or (refused server call.ids) refusal (acted m server call asked)).server
   checked_left m asked (Some status) read cause e = same
-  checked_left m asked None read cause e = acted_left m asked read cause e
+  checked_left m asked None read cause e = acted_left m asked read cause (request_passed server call asked e)
 
   body_left : (m : Meaning S) (unsupported : Bool) (body : Option RequestValue) → IsCallOf call body → ((value : RequestValue) → body ≡ Some value → Causes m value) →
       Left (let x : CommandStep S = if unsupported then refused server call.ids NotSupported else
-      option_map_or (λ asked. option_map_or (refused server call.ids) (check_session_tree_and_open server call asked) (acted m server call asked)) body (refused server call.ids InvalidParameter) in x).server
+      option_map_or (λ asked. option_map_or (refused server call.ids) (check_request server call asked) (acted m server call asked)) body (refused server call.ids InvalidParameter) in x).server
   body_left m true body read cause = same
   body_left m false None read cause = same
-  body_left m false (Some asked) read cause = checked_left m asked (check_session_tree_and_open server call asked) read (cause asked refl) refl
+  body_left m false (Some asked) read cause = checked_left m asked (check_request server call asked) read (cause asked refl) refl
 
   performed_left : (m : Meaning S) (body : Option RequestValue) → IsCallOf call body → ((value : RequestValue) → body ≡ Some value → Causes m value) → Left (performed_by m server call body).server
   performed_left m body read cause = body_left m (option_map_or is_unsupported call.command false) body read cause

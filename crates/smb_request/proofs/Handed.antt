@@ -1,5 +1,5 @@
 -- The open that a request names: where it is not refused, the open exists.
-use Rattle.std.proofs.Common.{◌≡◌, Bool, true, false, List, Option, None, Some, is_some, IsSome, refl, ap, arith}
+use Rattle.std.proofs.Common.{◌≡◌, nat_lt, Bool, true, false, if◌then◌else◌, List, Option, None, Some, is_some, IsSome, refl, arith}
 use Rattle.std.specs.Option.{option_map, option_map_or, option_and_then}
 use Rattle.smb_access.specs.declared.open_row.OpenRow.{OpenRow}
 use Rattle.smb_access.specs.declared.open_row.Owner.TheVariants.{Tree}
@@ -9,14 +9,13 @@ use Rattle.smb_request.specs.declared.context.ContextOpen.TheVariants.{Nothing, 
 use Rattle.smb_request.specs.declared.context.HeaderIds.{HeaderIds}
 use Rattle.smb_request.specs.Context.{number_named}
 use Rattle.smb_request.specs.Files.{names_open}
-use Rattle.smb_wire.specs.declared.dialect.Dialect.{Dialect}
-use Rattle.smb_body.specs.Requests.{RequestValue, asks_negotiate, file_id_of}
+use Rattle.smb_body.specs.Requests.{RequestValue, payload_of}
 use Rattle.smb_request.specs.declared.call.Call.{Call}
 use Rattle.smb_wire.specs.declared.nt_status.NtStatus.{NtStatus}
-use Rattle.smb_request.specs.Call.{named_open}
-use Rattle.smb_request.specs.Context.{open_named}
+use Rattle.smb_wire.specs.declared.nt_status.NtStatus.TheVariants.{InvalidParameter}
 use Rattle.smb_request.specs.State.{ServerState}
-use Rattle.smb_request.specs.Request.{open_refusal, check_session_tree_and_open, dialect_after}
+use Rattle.smb_request.specs.Charge.{due_of}
+use Rattle.smb_request.specs.Request.{open_refusal, check_session_tree_and_open, check_request}
 
 held_there : (P : OpenRow → Bool) (o : Option OpenRow) → option_map_or P o false ≡ true → IsSome o
 held_there P None h = h
@@ -38,8 +37,10 @@ pub mapped_there : {X Y : Type 0} (f : X → Y) (o : Option X) → is_some o ≡
 mapped_there f None h = h
 mapped_there f (Some x) h = refl
 
--- a NEGOTIATE names no open and needs no session: it passes its checks
-pub refused_dialect : {S : Type 0} (server : ServerState S) (call : Call) (dialect : Option Dialect) (asked : RequestValue) (status : NtStatus) → call.file_id ≡ file_id_of asked →
-    check_session_tree_and_open server call asked ≡ Some status → dialect_after dialect asked ≡ dialect
-refused_dialect server call dialect (asks_negotiate asked) status f e = let none : named_open call ≡ None = ap (option_map (open_named call.inherited)) f in grind (arith, e, none)
-refused_dialect server call dialect other status f e = refl
+-- a request that passed all checks passed those behind the first
+passed_at : (b : Bool) (x : NtStatus) (z : Option NtStatus) → (if b then Some x else z) ≡ None → z ≡ None
+passed_at true x z e = absurd (cc)
+passed_at false x z e = e
+
+pub request_passed : {S : Type 0} (server : ServerState S) (call : Call) (asked : RequestValue) → check_request server call asked ≡ None → check_session_tree_and_open server call asked ≡ None
+request_passed server call asked e = passed_at (nat_lt call.charge (due_of (payload_of asked))) InvalidParameter (check_session_tree_and_open server call asked) e

@@ -1,10 +1,11 @@
 -- One request as the code performs it: what its call and its body say.
-use Rattle.std.proofs.Common.{◌≡◌, ℕ, true, false, if◌then◌else◌, List, Option, None, Some, Result, Ok, Err, IfErr, refl, sym, ap, ◌∙◌}
+use Rattle.std.proofs.Common.{◌≡◌, ◌≤◌, ℕ, true, false, if◌then◌else◌, List, Option, None, Some, Result, Ok, Err, IfErr, refl, sym, ap, ◌∙◌, arith}
 use Rattle.std.specs.Option.{option_map_or}
 use Rattle.smb_wire.specs.Commands.{code_of}
 use Rattle.smb_wire.specs.declared.command.Command.{Command}
 use Rattle.smb_wire.specs.declared.command.Command.TheVariants.{Ioctl, ChangeNotify, OplockBreak}
 use Rattle.smb_wire.specs.declared.dialect.Dialect.{Dialect}
+use Rattle.smb_wire.specs.declared.dialect.Dialect.TheVariants.{Smb202, Smb210}
 use Rattle.smb_body.specs.Requests.{RequestValue, request_of}
 use Rattle.smb_session.specs.Authenticator.{Meaning}
 use Rattle.smb_request.specs.declared.call.Call.{Call}
@@ -13,6 +14,8 @@ use Rattle.smb_request.specs.declared.response.NoReply.{NoReply}
 use Rattle.smb_request.specs.declared.response.Response.{Response}
 use Rattle.smb_request.specs.declared.response.Response.TheVariants.{Ready, Bytes, Listing}
 use Rattle.smb_request.specs.Bodies.{is_listing, no_reply_of}
+use Rattle.smb_head.specs.Headers.{header_of}
+use Rattle.smb_request.specs.Charge.{charge_of}
 use Rattle.smb_request.specs.Call.{body_of, call_of}
 use Rattle.smb_request.specs.Context.{named_on, open_for_next_related}
 use Rattle.smb_request.specs.Held.{is_performed, IsCallOf}
@@ -34,11 +37,18 @@ unsupported_unread : (command : Option Command) (request : List ℕ) → option_
 unsupported_unread None request e = cc
 unsupported_unread (Some command) request e = unread command request e
 
+-- each request takes a MessageId
+charge_some : (dialect : Option Dialect) (credit_charge : ℕ) → 1 ≤ charge_of dialect credit_charge
+charge_some None credit_charge = omega arith
+charge_some (Some Smb202) credit_charge = omega arith
+charge_some (Some Smb210) credit_charge = omega arith
+
 -- what was read of a request
 pub call_read : (connection moment : ℕ) (dialect : Option Dialect) (context : Context) (request : List ℕ) → IsCallOf (call_of connection moment dialect context request) (body_of (call_of connection moment dialect context request).command request)
 call_read connection moment dialect context request = record {
   file_id = refl;
   open_number = refl;
+  charged = charge_some dialect (header_of request).credit_charge;
   unsupported = λ e. unsupported_unread (call_of connection moment dialect context request).command request e;
 }
 

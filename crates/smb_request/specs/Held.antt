@@ -1,5 +1,5 @@
 -- What the code holds of the definitions' values.
-use Rattle.std.specs.Prelude.{◌≡◌, ℕ, Bool, true, false, List}
+use Rattle.std.specs.Prelude.{◌≡◌, ◌≤◌, ℕ, Bool, true, false, List}
 use Rattle.std.specs.Prelude.{Option, None, Some, not, filter}
 use Rattle.smb_session.specs.declared.setup.SetupDone.{SetupDone}
 use Rattle.smb_session.specs.declared.setup.SetupStatus.{SetupStatus}
@@ -47,6 +47,7 @@ is_performed Performed = true
 pub record IsCallOf (call : Call) (body : Option RequestValue) : Type 0 where
   pub file_id : call.file_id ≡ option_and_then file_id_of body
   pub open_number : call.open_number ≡ number_named (named_open call)
+  pub charged : 1 ≤ call.charge
   pub unsupported : option_map_or is_unsupported call.command false ≡ true → body ≡ None
 
 -- the response to a SESSION_SETUP that was not refused

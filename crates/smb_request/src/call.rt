@@ -10,6 +10,7 @@ ghost use Rattle.smb_body.specs.Requests.{request_value, file_id_of};
 ghost use Rattle.smb_request.specs.Call.{request_ids, inherited_open, body_of, named_open, call_of};
 ghost use Rattle.smb_request.specs.Context.{named_on, open_for_next_related};
 
+use super::charge::charge_of;
 use super::context::{
     Context, ContextOpen, HeaderIds, named_by, named_on, number_named, open_for_next_related,
 };
@@ -26,6 +27,8 @@ pub(crate) struct Call {
     pub(crate) moment: u64,
     /// That of its connection as it came; None where none is established.
     pub(crate) dialect: Option<Dialect>,
+    /// How many MessageIds it takes.
+    pub(crate) charge: u16,
     /// None where there is no such command.
     pub(crate) command: Option<Command>,
     /// The session and the tree connect that it acts under.
@@ -110,6 +113,7 @@ impl Call {
             connection,
             moment,
             dialect,
+            charge: charge_of(dialect, header.credit_charge),
             command: header.command.known(),
             ids: request_ids(context, header),
             inherited,

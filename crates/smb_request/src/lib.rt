@@ -16,6 +16,7 @@
 
 mod bytes;
 mod call;
+mod charge;
 mod config;
 mod context;
 mod files;
@@ -34,6 +35,7 @@ mod session;
 mod set_info;
 pub mod smb1;
 
+pub use charge::charge_of;
 pub use config::Config;
 pub use context::{Context, ContextOpen, HeaderIds};
 pub use laws::laws_of_connections;

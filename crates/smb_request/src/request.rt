@@ -13,16 +13,17 @@ ghost use Rattle.smb_request.specs.Bodies.{result_step, is_listing, IsReadyAfter
 ghost use Rattle.smb_request.specs.Held.{is_performed, IsCallOf};
 ghost use Rattle.smb_request.specs.InPlace.{answer_held, answer_behind, performed_behind};
 ghost use Rattle.smb_request.specs.Needs.{needs_of, needs_session, needs_tree};
-ghost use Rattle.smb_request.specs.Request.{negotiated, dialect_after, acted, open_refusal, check_session_tree_and_open, performed_by, performed};
+ghost use Rattle.smb_request.specs.Request.{negotiated, dialect_after, acted, open_refusal, check_session_tree_and_open, check_request, performed_by, performed};
 ghost use Rattle.smb_request.specs.declared.refusal.Refusal.TheVariants.{NoMemory};
 
 use super::call::{Call, body_of};
+use super::charge::due_of;
 use super::context::{Context, ContextOpen, HeaderIds};
 use super::needs::{is_cancel_command, is_unsupported, needs_of};
 use super::refusal::Refusal;
 use super::response::{Answered, Body, NoReply, Response};
 use super::server::Server;
-use smb_body::{Dialects, Request};
+use smb_body::{Dialects, Request, payload};
 use smb_head::Header;
 use smb_opens::Opens;
 use smb_session::Authenticator;
@@ -61,6 +62,17 @@ impl<A: Authenticator + Drop, T: Tree + Drop, O: Opens + Drop> Server<A, T, O> {
             Some(named) => self.check_open(call.ids, named),
             None => Ok(()),
         }
+    }
+
+    /// Checks that a request takes as many MessageIds as it has to, and that what it needs exists.
+    fn check_request(&self, call: Call, request: &Request<'_>) -> Result<(), NtStatus>
+        ensures ok { OnOk result (check_request self.now call (request_value request.now) ≡ None) }
+        ensures err { IfErr result (λ status. check_request self.now call (request_value request.now) ≡ Some status) }
+    {
+        if u32::from(call.charge) < due_of(payload(request)) {
+            return Err(NtStatus::InvalidParameter);
+        }
+        self.check_session_tree_and_open(call, request)
     }
 
     /// The greatest dialect of the server that a list has.
@@ -161,7 +173,7 @@ impl<A: Authenticator + Drop, T: Tree + Drop, O: Opens + Drop> Server<A, T, O> {
         let Some(request) = body else {
             return Err(Refusal::Status(NtStatus::InvalidParameter));
         };
-        self.check_session_tree_and_open(call, request)?;
+        self.check_request(call, request)?;
         self.act(call, dialect, request)
     }
 

@@ -1,4 +1,6 @@
 pub mod Windows
+pub mod Runs
+pub mod Used
 pub mod Users
 pub mod Units
 pub mod Entries

@@ -1,6 +1,6 @@
 -- For the proofs; nothing here need be believed.
 -- What the table holds besides: for each connection the numbers of its sessions.
-use Rattle.std.specs.Prelude.{◌≡◌, ℕ, ◌-◌, List, map}
+use Rattle.std.specs.Prelude.{◌≡◌, ℕ, ◌+◌, ◌-◌, Bool, nat_le, min, max, List, map}
 use Rattle.std.specs.Option.{option_map_or}
 use Rattle.std.specs.List.{AllByRecursion}
 use Rattle.std.specs.Map.{lookup}
@@ -29,3 +29,7 @@ withdrawn table = record (session_ended table (table.next - 1)) { next = table.n
 pub record IsHeld (index : List (ℕ × List ℕ)) (sessions : List (ℕ × SessionState)) (next : ℕ) : Type 0 where
   pub good : GoodTable (table_of index sessions next)
   pub indexed : AllByRecursion (λ e. e.1 ≡ numbers_on sessions e.0) index
+
+-- two runs of numbers, each a first number and how many, have none in common
+abbrev pub are_apart : ℕ × ℕ → ℕ × ℕ → Bool
+are_apart one other = nat_le (min (one.0 + one.1) (other.0 + other.1)) (max one.0 other.0)

@@ -1,11 +1,13 @@
--- What follows from the definitions of sessions.
-use Rattle.std.specs.Prelude.{◌≡◌, ℕ, ◌<◌, ◌==◌, false}
+-- What follows from the definitions of sessions and of windows.
+use Rattle.std.specs.Prelude.{◌≡◌, ℕ, ◌<◌, ◌==◌, true, false, List}
 use Rattle.std.specs.List.{AllByRecursion}
 use Rattle.smb_session.specs.Authenticator.{Answered}
 use Rattle.smb_session.specs.Good.{GoodTable}
+use Rattle.smb_session.specs.Numbers.{contains}
 use Rattle.smb_session.specs.Session.{SessionState}
 use Rattle.smb_session.specs.Setup.{setup_number, setup_table, table_answered}
 use Rattle.smb_session.specs.Table.{TableState, connected, begun, session_ended, session_changed, knows_session, end_connection_step}
+use Rattle.smb_session.specs.Window.{Numbers, may_use, without_ids, with_more, GoodWindow}
 
 -- a number that was given to a session, and is none's now
 pub record IsGone (table : TableState) (session : ℕ) : Type 0 where
@@ -31,3 +33,25 @@ WhatIsGoneStaysGone =
     × ((change : SessionState → SessionState) (other : ℕ) → IsGone (session_changed change table other) session)
     × ((connection : ℕ) → IsGone (end_connection_step table connection).table session)
     × ((connection other previous : ℕ) (answer : Answered) → IsGone (table_answered (setup_table table connection other) (setup_number table other) previous answer) session)
+
+-- A MESSAGEID IS USED ONCE
+
+-- a MessageId that was granted, and is no more in the window
+pub record IsUsed (window : Numbers) (id : ℕ) : Type 0 where
+  pub granted : id < window.next
+  pub gone : contains window.usable id ≡ false
+
+-- each that a chain takes, of however many credits its requests are, is used
+abbrev pub WhatIsTakenIsUsed : Type 0
+WhatIsTakenIsUsed =
+    (window : Numbers) (ids : List ℕ) (id : ℕ) → GoodWindow window → may_use window ids ≡ true → contains ids id ≡ true → IsUsed (without_ids window ids) id
+
+-- it stays so, whatever is taken and granted afterwards
+abbrev pub WhatIsUsedStaysUsed : Type 0
+WhatIsUsedStaysUsed =
+    (window : Numbers) (id : ℕ) → IsUsed window id →
+    ((ids : List ℕ) → IsUsed (without_ids window ids) id) × ((count : ℕ) → IsUsed (with_more window count) id)
+
+-- and no chain may use it
+abbrev pub WhatIsUsedMayNotBeUsed : Type 0
+WhatIsUsedMayNotBeUsed = (window : Numbers) (ids : List ℕ) (id : ℕ) → IsUsed window id → contains ids id ≡ true → may_use window ids ≡ false

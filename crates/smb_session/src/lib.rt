@@ -33,7 +33,7 @@ mod window;
 
 pub use authenticator::{Answer, Authenticator};
 pub use fault::SessionFault;
-pub use laws::laws_of_sessions;
+pub use laws::{laws_of_sessions, laws_of_windows};
 pub use scripted::Scripted;
 pub use sessions::Sessions;
 pub use setup::{SetupAsk, SetupDone, SetupStatus};

@@ -4,7 +4,9 @@ ghost use Rattle.std.specs.Prelude.{◌≡◌, ◌<◌, ◌≤◌, ◌+◌, ◌+
 ghost use Rattle.std.specs.Bool.{OnTrue, OnFalse};
 ghost use Rattle.std.specs.List.{list_all};
 ghost use Rattle.arrayvec.specs.ArrayVec.{array_vec_len};
-ghost use Rattle.smb_session.specs.Window.{first_window, contains, are_distinct, may_use, without_ids, credits_granted, with_more, upward, GoodWindow};
+ghost use Rattle.smb_session.specs.Window.{first_window, contains, are_distinct, may_use, without_ids, credits_granted, with_more, upward, numbers_of, GoodWindow};
+ghost use Rattle.smb_session.specs.Numbers.{IsRising};
+ghost use Rattle.smb_session.specs.Held.{are_apart};
 
 use arrayvec::ArrayVec;
 use smb_wire::limits::MOST_CREDITS;
@@ -27,13 +29,31 @@ impl Model for Window {
     ghost invariant = { λ w. GoodWindow (record { usable = w.usable.items; next = w.next }) };
 }
 
-/// Whether no number stands twice. At most as many comparisons as pairs: a chain has 16 numbers at most.
-fn all_distinct(numbers: &[u64]) -> bool
-    ensures { result ≡ are_distinct numbers.now }
+/// Whether two runs have no number in common.
+fn are_apart(one: (u64, u16), other: (u64, u16)) -> bool
+    ensures { result ≡ are_apart one other }
 {
-    let mut rest = numbers;
-    while let [first, others @ ..] = rest {
-        if others.contains(first) {
+    if one.0 <= other.0 {
+        other.1 == 0 || other.0 - one.0 >= u64::from(one.1)
+    } else {
+        one.1 == 0 || one.0 - other.0 >= u64::from(other.1)
+    }
+}
+
+/// Whether a run has no number in common with others.
+fn is_apart_from(run: (u64, u16), others: &[(u64, u16)]) -> bool
+    ensures { result ≡ list_all (are_apart run) others.now }
+{
+    others.iter().all(|other| are_apart(run, *other))
+}
+
+/// Whether no number stands twice in runs. At most as many comparisons as pairs: a chain has 16 runs at most.
+fn all_distinct(runs: &[(u64, u16)]) -> bool
+    ensures { result ≡ are_distinct (numbers_of runs.now) }
+{
+    let mut rest = runs;
+    while let [run, others @ ..] = rest {
+        if !is_apart_from(*run, others) {
             return false;
         }
         rest = others;
@@ -41,18 +61,71 @@ fn all_distinct(numbers: &[u64]) -> bool
     true
 }
 
-/// Whether each number is among the usable ones.
-fn has_all(usable: &ArrayVec<u64, MOST_CREDITS>, numbers: &[u64]) -> bool
-    ensures { result ≡ list_all (contains usable.now.items) numbers.now }
+/// Whether each number of a run is among the usable ones. These rise, so those of a run stand one behind the other: one
+/// pass finds them, and ends at the first that is missing.
+fn has_run(usable: &ArrayVec<u64, MOST_CREDITS>, run: (u64, u16)) -> bool
+    requires { IsRising usable.now.items }
+    ensures { result ≡ list_all (contains usable.now.items) (upward run.0 run.1) }
 {
-    numbers.iter().all(|number| usable.contains(number))
+    let (first, count) = run;
+    let mut found: u16 = 0;
+    let mut rest: &[u64] = usable;
+    while found < count {
+        let [number, others @ ..] = rest else {
+            return false;
+        };
+        if first <= *number {
+            if *number - first != u64::from(found) {
+                return false;
+            }
+            found += 1;
+        }
+        rest = others;
+    }
+    true
 }
 
-/// Takes numbers out, in one pass.
-fn take_out(usable: &mut ArrayVec<u64, MOST_CREDITS>, numbers: &[u64])
-    ensures { usable.new.items ≡ filter (λ n. not (contains numbers.now n)) usable.old.items }
+/// Whether each number of runs is among the usable ones.
+fn has_all(usable: &ArrayVec<u64, MOST_CREDITS>, runs: &[(u64, u16)]) -> bool
+    requires { IsRising usable.now.items }
+    ensures { result ≡ list_all (contains usable.now.items) (numbers_of runs.now) }
 {
-    usable.retain(|number| !numbers.contains(number));
+    let mut rest = runs;
+    while let [run, others @ ..] = rest {
+        if !has_run(usable, *run) {
+            return false;
+        }
+        rest = others;
+    }
+    true
+}
+
+/// Whether a number is one of a run.
+fn is_in_run(run: (u64, u16), number: u64) -> bool
+    ensures { result ≡ contains (upward run.0 run.1) number }
+{
+    run.0 <= number && number - run.0 < u64::from(run.1)
+}
+
+/// Whether a number is one of those of runs.
+fn is_taken(runs: &[(u64, u16)], number: u64) -> bool
+    ensures { result ≡ contains (numbers_of runs.now) number }
+{
+    let mut rest = runs;
+    while let [run, others @ ..] = rest {
+        if is_in_run(*run, number) {
+            return true;
+        }
+        rest = others;
+    }
+    false
+}
+
+/// Takes the numbers of runs out, in one pass.
+fn take_out(usable: &mut ArrayVec<u64, MOST_CREDITS>, runs: &[(u64, u16)])
+    ensures { usable.new.items ≡ filter (λ n. not (contains (numbers_of runs.now) n)) usable.old.items }
+{
+    usable.retain(|number| !is_taken(runs, *number));
 }
 
 /// Adds the numbers from `first` upward.
@@ -88,16 +161,18 @@ impl Window {
         self.usable.contains(&number)
     }
 
-    /// Takes the numbers of a chain out, where they are distinct and may each be used. False changes nothing.
-    pub fn take_all(&mut self, numbers: &[u64]) -> bool
-        ensures all { result ≡ may_use self.old numbers.now }
-        ensures taken { OnTrue result (self.new ≡ without_ids self.old numbers.now) }
+    /// Takes the numbers of the requests of a chain out, each given by its first number and how many follow upward from
+    /// there, itself counted; where they are distinct and may each be used. False changes nothing. It costs a pass over
+    /// the window for each of them at most, whatever the numbers are, and one more.
+    pub fn take_runs(&mut self, runs: &[(u64, u16)]) -> bool
+        ensures all { result ≡ may_use self.old (numbers_of runs.now) }
+        ensures taken { OnTrue result (self.new ≡ without_ids self.old (numbers_of runs.now)) }
         ensures kept { OnFalse result (self.new ≡ self.old) }
     {
-        if !all_distinct(numbers) || !has_all(&self.usable, numbers) {
+        if !all_distinct(runs) || !has_all(&self.usable, runs) {
             return false;
         }
-        take_out(&mut self.usable, numbers);
+        take_out(&mut self.usable, runs);
         true
     }
 

@@ -6,7 +6,7 @@ ghost use Rattle.smb_wire.specs.Limits.{most_at_once, most_in_any_dialect};
 use super::dialect::Dialect;
 
 /// The most bytes of a frame's payload, from a client.
-pub const LONGEST_PAYLOAD: u32 = 131_072;
+pub const LONGEST_PAYLOAD: u32 = 1_048_576;
 
 /// The most requests of a chain.
 pub const MOST_REQUESTS: usize = 16;
@@ -52,6 +52,6 @@ pub fn most_at_once(dialect: Option<Dialect>) -> u32
 {
     match dialect {
         Some(Dialect::Smb202) | None => 65_536,
-        Some(Dialect::Smb210) => 65_536,
+        Some(Dialect::Smb210) => 524_288,
     }
 }

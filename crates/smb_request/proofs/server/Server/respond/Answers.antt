@@ -9,7 +9,7 @@ use Rattle.smb_request.specs.Call.{named_open}
 use Rattle.smb_request.specs.Context.{open_named}
 use Rattle.smb_request.specs.Needs.{needs_of, needs_session, needs_tree, is_unsupported}
 use Rattle.smb_request.specs.Request.{open_refusal, dialect_after}
-use Rattle.smb_request.proofs.Handed.{named_there, mapped_there}
+use Rattle.smb_request.proofs.Handed.{named_there, mapped_there, request_passed}
 use Rattle.smb_request.proofs.server.Server.respond.Goals as goal
 
 -- what passes three checks passes the last
@@ -30,7 +30,7 @@ act-requires-clause-open g c f =
     (needs_tree (needs_of asked) && not (knows_tree table c.args.call.ids.session_id c.args.call.ids.tree_id))
     UserSessionDeleted NetworkNameDeleted
     (option_and_then (open_refusal opens c.args.call.ids) (named_open c.args.call))
-    c.in_ok-check_session_tree_and_open.ensures.ok in
+    (request_passed c.args.self.now c.args.call asked c.in_ok-check_request.ensures.ok) in
     let body : option_map request_value c.args.body.now ≡ Some (request_value c.in-Some-body.request) = ap (option_map request_value) c.in-Some-body.is in
     let file : c.args.call.file_id ≡ file_id_of (request_value c.in-Some-body.request) = c.requires.file_id ∙ ap (option_and_then file_id_of) body in
     let some = mapped_there (open_named c.args.call.inherited) c.args.call.file_id (ap is_some file ∙ f) in

@@ -1,5 +1,5 @@
 use Rattle.smb_session.proofs.Windows.{good_without}
-use Rattle.smb_session.proofs.window.Window.take_all.Goals as goal
+use Rattle.smb_session.proofs.window.Window.take_runs.Goals as goal
 
 pub invariant_of-self : goal.invariant_of-self
 invariant_of-self c = rw c.take_out.ensures (good_without _ _ c.self.invariant)
