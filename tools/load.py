@@ -10,6 +10,7 @@ unproved program need more addresses than a limit leaves them, and have memory o
 """
 import os
 import random
+import struct
 import subprocess
 import sys
 import tempfile
@@ -24,6 +25,9 @@ from working import DELETE_ON_CLOSE, Ended, Working
 
 SEED, PLACES, WORKING, SECONDS, WARM_UP = 20_261_126, 64, 56, 10, 3
 MIB = 1 << 20
+# How many credits a client may have, and what one request may read or write in dialect 2.1, by how many credits; how
+# many READs of as much are sent at once by one that has all credits, how many times, and how many by one that guesses.
+ALL_CREDITS, LARGEST, CHARGE, AT_ONCE, ROUNDS, MANY = 256, 524_288, 8, 32, 5, 100
 # How much more memory the program may have behind the load than behind the warm-up.
 MOST_MORE = 16 * MIB
 # How much memory the program may take beside what it has at its start, where it is to run out; and how many clients
@@ -221,6 +225,74 @@ def sixty_clients_are_answered_beside_others_that_misbehave():
         return is_loaded(share, SEED, SECONDS) and keeps_no_memory(share, descriptors, before)
 
 
+# Clients that ask by several credits.
+
+def with_credits(frame, charge, credits):
+    """A frame of a request that takes so many MessageIds, and asks for so many credits."""
+    return frame[:10] + struct.pack('<H', charge) + frame[12:18] + struct.pack('<H', credits) + frame[20:]
+
+
+class Large:
+    """A client with 256 credits, and a file of 524,288 bytes that it wrote by one request."""
+
+    def __init__(self, share):
+        self.client = Working(share, 0, SEED, DELETE_ON_CLOSE)
+        self.client.comes_in()
+        frame, status, body = self.client.looks()
+        self.client.asks(with_credits(frame, 1, ALL_CREDITS), status, body)
+        self.data = random.Random(SEED).randbytes(LARGEST)
+        frame = write(self.next_ids(), self.client.file, 0, self.data, self.client.session, 1)
+        written = struct.pack('<HHIII', 17, 0, LARGEST, 0, 0)
+        self.client.asks(with_credits(frame, CHARGE, CHARGE), 0, written)
+        self.client.bytes[:] = self.data
+
+    def next_ids(self):
+        """The first of as many MessageIds as a request takes."""
+        self.client.message_id += CHARGE
+        return self.client.message_id - CHARGE
+
+    def reads(self, count, credits):
+        """So many READs of the whole file, each of which asks for so many credits; and what has to answer each."""
+        body = struct.pack('<HBBIII', 17, 80, 0, LARGEST, 0, 0) + self.data
+        frames = [read(self.next_ids(), self.client.file, 0, LARGEST, self.client.session, 1) for _ in range(count)]
+        return [(with_credits(frame, CHARGE, credits), 0, body) for frame in frames]
+
+
+def all_credits_are_used_at_once():
+    """32 READs of 524,288 bytes by all 256 credits, in one piece, are answered whole; over and over."""
+    with Served() as share:
+        large = Large(share)
+        for _ in range(ROUNDS):
+            large.client.ask_at_once(large.reads(AT_ONCE, CHARGE))
+        client = large.client
+        print(f'  {ROUNDS * AT_ONCE * LARGEST:,} bytes were read', flush=True)
+        client.works()
+        client.goes()
+        return True
+
+
+def long_answers_are_owed_one_by_one():
+    """100 READs of 524,288 bytes in one piece, by MessageIds that their own answers grant, are answered whole: each is
+    performed alone, and the next one waits until its answer was taken. All at once would be more than may be owed."""
+    with Served() as share:
+        large = Large(share)
+        large.client.ask_at_once(large.reads(MANY, CHARGE))
+        large.client.works()
+        large.client.goes()
+        return True
+
+
+def who_has_no_more_credits_is_ended():
+    """A client with 256 credits is granted one for each READ that takes eight: 36 are answered, and the next ends it."""
+    with Served() as share:
+        large, answered = Large(share), ALL_CREDITS // (CHARGE - 1)
+        requests = large.reads(answered + 4, 1)
+        large.client.client.send(b''.join(frame for frame, _, _ in requests))
+        for request in requests[:answered]:
+            large.client.takes(*request)
+        return large.client.client.is_ended() and share.client().is_served()
+
+
 # Clients of a share whose memory runs out: who meets it is ended, and comes back.
 
 def works_again(load, number):
@@ -345,7 +417,8 @@ def those_whose_allocations_are_refused_are_closed_alone():
     return True
 
 
-TESTS = (sixty_clients_are_answered_beside_others_that_misbehave,)
+TESTS = (sixty_clients_are_answered_beside_others_that_misbehave, all_credits_are_used_at_once,
+         long_answers_are_owed_one_by_one, who_has_no_more_credits_is_ended)
 TESTS_OF_MEMORY = (those_who_meet_no_memory_are_closed_alone, those_whose_allocations_are_refused_are_closed_alone)
 
 if __name__ == '__main__':

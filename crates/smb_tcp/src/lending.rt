@@ -9,7 +9,9 @@ use std::alloc::Global;
 /// How many bytes the length of a frame takes ([MS-SMB2] 2.1).
 const HEAD: usize = 4;
 
-/// Where a request has its command, and the way to the next one of its chain ([MS-SMB2] 2.2.1.2).
+/// Where a request has its CreditCharge, its command, and the way to the next one of its chain ([MS-SMB2] 2.2.1.2).
+const CREDIT_CHARGE_AT: usize = 6;
+
 const COMMAND_AT: usize = 12;
 
 const NEXT_COMMAND_AT: usize = 20;
@@ -82,12 +84,12 @@ impl FrameCursor {
         Some(at)
     }
 
-    /// Goes over bytes that begin with a frame, and tells whether one of their frames lists a folder.
-    fn has_listing(&mut self, bytes: &[u8]) -> bool {
+    /// Goes over bytes that begin with a frame, and tells whether one of their frames asks for much.
+    fn has_much(&mut self, bytes: &[u8]) -> bool {
         let mut rest = bytes;
         let mut found = false;
         for _ in 0..bytes.len() {
-            found = found || lists_a_folder(rest);
+            found = found || asks_for_much(rest);
             match self.end_of_frame(rest) {
                 Some(end) => rest = &rest[end..],
                 None => break,
@@ -97,7 +99,7 @@ impl FrameCursor {
     }
 
     /// Goes over what is lent of bytes that come next, and tells how many these are: all of them, or where the peer is dear, or
-    /// one of their frames lists a folder, those up to the end of the first frame. It tells too whether there are others behind it.
+    /// one of their frames asks for much, those up to the end of the first frame. It tells too whether there are others behind it.
     fn lend(&mut self, bytes: &[u8], is_dear: bool) -> (usize, bool)
         ensures { result.0 ≤ length bytes.now }
     {
@@ -107,10 +109,7 @@ impl FrameCursor {
         };
         let others = first < bytes.len();
         let behind_first = *self;
-        if is_dear
-            || begins && lists_a_folder(&bytes[..first])
-            || self.has_listing(&bytes[first..])
-        {
+        if is_dear || begins && asks_for_much(&bytes[..first]) || self.has_much(&bytes[first..]) {
             *self = behind_first;
             return (first, others);
         }
@@ -118,14 +117,16 @@ impl FrameCursor {
     }
 }
 
-/// Whether a QUERY_DIRECTORY is among the requests of the frame that bytes begin with, as far as it is there.
-fn lists_a_folder(bytes: &[u8]) -> bool {
+/// Whether a QUERY_DIRECTORY, or a request of several credits, is among the requests of the frame that bytes begin with, as far
+/// as it is there.
+fn asks_for_much(bytes: &[u8]) -> bool {
     let mut at = HEAD;
     for _ in 0..MOST_LOOKED_AT {
         let Some(command) = u16_at(bytes, at.saturating_add(COMMAND_AT)) else {
             return false;
         };
-        if command == Command::QueryDirectory.code().0 {
+        let charge = u16_at(bytes, at.saturating_add(CREDIT_CHARGE_AT));
+        if command == Command::QueryDirectory.code().0 || charge.is_some_and(|charge| charge > 1) {
             return true;
         }
         match u32_at(bytes, at.saturating_add(NEXT_COMMAND_AT)) {
@@ -212,7 +213,7 @@ impl Lending {
         match self.bytes.extend_from_slice(&bytes[count..]) {
             Ok(()) => piece.cut(count),
             Err(_) => {
-                let _ = self.cursor.has_listing(&bytes[count..]);
+                let _ = self.cursor.has_much(&bytes[count..]);
             }
         }
     }
