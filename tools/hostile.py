@@ -28,10 +28,10 @@ from frames import frame as frame_of_payload
 PATIENCE, SEED = 60, 20_261_126
 # The row whose stream is cut and changed at each byte: it ends with a chain of CREATE, WRITE, READ and two CLOSEs.
 BY_HAND = 'chain_of_a_create'
-# Where a frame has a request's command, NextCommand and MessageId, and a response's flags.
-COMMAND_AT, NEXT_COMMAND_AT, MESSAGE_ID_AT, FLAGS_AT, HEADER = 16, 24, 28, 20, 64
-EDGES = (0, 1, 2, 7, 8, 63, 64, 65, 72, 0x7FFF, 0x8000, 0xFFFF, 0x10000, 0x10001, 0x20000, 0x7FFFFFFF, 0x80000000,
-         0xFFFFFFF8, 0xFFFFFFFF, 1 << 63, (1 << 64) - 8, (1 << 64) - 2, (1 << 64) - 1)
+# Where a frame has a request's CreditCharge, command, NextCommand and MessageId, and a response's flags.
+CHARGE_AT, COMMAND_AT, NEXT_COMMAND_AT, MESSAGE_ID_AT, FLAGS_AT, HEADER = 10, 16, 24, 28, 20, 64
+EDGES = (0, 1, 2, 7, 8, 63, 64, 65, 72, 0x7FFF, 0x8000, 0xFFFF, 0x10000, 0x10001, 0x80000, 0x80001, 0x100000, 0x100001,
+         0x7FFFFFFF, 0x80000000, 0xFFFFFFF8, 0xFFFFFFFF, 1 << 63, (1 << 64) - 8, (1 << 64) - 2, (1 << 64) - 1)
 
 
 class Rows:
@@ -266,6 +266,10 @@ def set_message_id(chance, frame):
     return put(frame, MESSAGE_ID_AT, edge(chance, 8) if chance.random() < 0.5 else near.to_bytes(8, 'little'))
 
 
+def set_charge(chance, frame):
+    return put(frame, CHARGE_AT, chance.choice((0, 1, 2, 3, 9, 31, 32, 256, 0xFFFF)).to_bytes(2, 'little'))
+
+
 def set_command(chance, frame):
     return put(frame, COMMAND_AT, chance.randrange(0x14).to_bytes(2, 'little'))
 
@@ -296,7 +300,7 @@ def cut_stream(chance, come, at):
 
 
 OF_FRAMES = (set_byte, flip_bit, set_bytes, delete_bytes, insert_bytes, set_field, set_field, set_length,
-             set_next_command, set_message_id, set_command)
+             set_next_command, set_message_id, set_charge, set_command)
 OF_STREAMS = (duplicate_frame, swap_frames, drop_frame, cut_stream)
 
 

@@ -133,9 +133,9 @@ BAD_EVENTS = (
 )
 
 
-def request(message_id, command=13, flags=0, next_command=0, body=bytes([4, 0, 0, 0]), size=64):
+def request(message_id, command=13, flags=0, next_command=0, body=bytes([4, 0, 0, 0]), size=64, charge=0, credits=1):
     """A request, an ECHO unless it is said otherwise."""
-    head = (b'\xfeSMB', size, 0, 0, command, 1, flags, next_command, message_id, 0, 0, 0, b'')
+    head = (b'\xfeSMB', size, charge, 0, command, credits, flags, next_command, message_id, 0, 0, 0, b'')
     return struct.pack('<4sHHIHHIIQIIQ16s', *head) + body
 
 
@@ -158,11 +158,15 @@ def session_setup_body(token):
     return struct.pack('<HBBIIHHQ', 25, 0, 1, 0, 0, 64 + 24, len(token), 0) + token
 
 
-NEGOTIATE = request(0, command=0, body=struct.pack('<HHHHI16sQH', 36, 1, 1, 0, 0, b'', 0, 0x0210))
+def negotiate(dialect, credits):
+    return request(0, command=0, body=struct.pack('<HHHHI16sQH', 36, 1, 1, 0, 0, b'', 0, dialect), credits=credits)
+
+
+NEGOTIATE, MORE_CREDITS, OLD_DIALECT = negotiate(0x0210, 1), negotiate(0x0210, 31), negotiate(0x0202, 1)
 # The last frame of a stream that the share ends, those before it, and the rule by which it does.
 ENDINGS = (
     (b'\x85', (), "F1: a frame's first byte is not 0"),
-    (bytes([0, 2, 0, 1]), (), 'F2: a frame is longer than 131072 bytes'),
+    (bytes([0, 16, 0, 1]), (), 'F2: a frame is longer than 1048576 bytes'),
     (frame(bytes(63)), (), 'H1: fewer than 64 bytes are left for a header'),
     (frame(bytes(64)), (), 'H2: ProtocolId is not 0xFE and the letters SMB'),
     (frame(request(0, size=65)), (), "H3: the header's StructureSize is not 64"),
@@ -173,6 +177,15 @@ ENDINGS = (
     (frame(request(0)), (), 'NEGOTIATE: before a dialect is agreed on, a chain has to be one NEGOTIATE alone'),
     (frame(NEGOTIATE), (NEGOTIATE,), 'NEGOTIATE: a dialect is agreed on already'),
     (frame(request(1)), (NEGOTIATE, request(1)), 'window: MessageId 1 is not in the window'),
+    (frame(request(1, charge=2)), (NEGOTIATE,), 'window: MessageId 2 is not in the window'),
+    (frame(request(1, charge=0xFFFF)), (NEGOTIATE,), 'window: MessageId 2 is not in the window'),
+    (frame(request((1 << 64) - 1, charge=3)), (NEGOTIATE,), 'window: MessageId 18446744073709551615 is not in the window'),
+    (frame(request(2)), (MORE_CREDITS, request(1, charge=3), request(4), request(1, command=12, charge=9)),
+     'window: MessageId 2 is not in the window'),
+    (frame(request(2)), (OLD_DIALECT, request(1, charge=3), request(2, charge=0xFFFF)),
+     'window: MessageId 2 is not in the window'),
+    (frame(request(1, next_command=72, charge=3) + bytes(4) + request(3)), (MORE_CREDITS,),
+     'window: two requests of a chain have one MessageId'),
     (frame(chain(1, 1)), (NEGOTIATE,), 'window: two requests of a chain have one MessageId'),
     (frame(smb1([b'SMB 2.002'])), (NEGOTIATE,), 'SMB_COM_NEGOTIATE: it is not the first payload'),
     (frame(smb1([b'NT LM 0.12'])), (), 'SMB_COM_NEGOTIATE: it lists neither SMB 2.002 nor SMB 2.???'),

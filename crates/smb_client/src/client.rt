@@ -7,13 +7,15 @@ use smb_body::{
     Capabilities, Channel, CloseFlags, CloseRequest, CreateRequest, Dialects, Guid,
     ImpersonationLevel, NegotiateRequest, OplockLevel, ReadFlags, ReadRequest, Request,
     ReservedRequest, SecurityFlags, SecurityMode, SessionSecurityMode, SessionSetupFlags,
-    SessionSetupRequest, SmbCreateFlags, TreeConnectRequest, WriteFlags, WriteRequest,
+    SessionSetupRequest, SmbCreateFlags, TreeConnectRequest, WriteFlags, WriteRequest, payload,
     write_request,
 };
 use smb_frame::put_frame;
 use smb_head::{Header, HeaderFlags, write_header};
+use smb_wire::limits::MOST_CREDITS;
 use smb_wire::{
-    Access, Command, CreateDisposition, CreateOptions, FileAttributes, FileId, ShareAccess, Units,
+    Access, Command, CreateDisposition, CreateOptions, Dialect, FileAttributes, FileId,
+    ShareAccess, Units,
 };
 use std::alloc::Global;
 use std::mem;
@@ -23,6 +25,7 @@ use std::mem;
 pub struct Client {
     alloc: Global,
     number: u64,
+    dialect: Option<Dialect>,
     message_id: u64,
     session_id: u64,
     tree_id: u32,
@@ -51,12 +54,20 @@ fn command_of(request: &Request<'_>) -> Command {
     }
 }
 
+/// How many MessageIds a request has to take in dialect 2.1: one for each 65,536 bytes that it sends or asks for, one at
+/// least ([MS-SMB2] 3.2.4.1.5).
+fn due_of(request: &Request<'_>) -> u16 {
+    let due = payload(request).saturating_sub(1) / 65_536 + 1;
+    due.min(65_535) as u16
+}
+
 impl Client {
     /// A client of the connection of a number, which has said nothing.
     pub fn new(alloc: Global, number: u64) -> Client {
         Client {
             alloc,
             number,
+            dialect: None,
             message_id: 0,
             session_id: 0,
             tree_id: 0,
@@ -74,13 +85,37 @@ impl Client {
         &self.frames
     }
 
-    /// The header of its next request.
-    fn header(&self, command: Command) -> Header {
+    /// How many MessageIds a request takes in the dialect that was agreed on.
+    fn charge(&self, request: &Request<'_>) -> u16 {
+        match self.dialect {
+            Some(Dialect::Smb210) => due_of(request),
+            Some(Dialect::Smb202) | None => 1,
+        }
+    }
+
+    /// The CreditCharge of a request that takes so many MessageIds: 0 where the dialect has none.
+    fn credit_charge(&self, charge: u16) -> u16 {
+        match self.dialect {
+            Some(Dialect::Smb210) => charge,
+            Some(Dialect::Smb202) | None => 0,
+        }
+    }
+
+    /// How many credits a request asks for: a NEGOTIATE for all that a window holds, any other for as many as it takes.
+    fn credits(&self, command: Command, charge: u16) -> u16 {
+        match command {
+            Command::Negotiate => MOST_CREDITS as u16,
+            _ => charge,
+        }
+    }
+
+    /// The header of its next request, which takes so many MessageIds.
+    fn header(&self, command: Command, charge: u16) -> Header {
         Header {
-            credit_charge: 0,
+            credit_charge: self.credit_charge(charge),
             status: 0,
             command: command.code(),
-            credits: 1,
+            credits: self.credits(command, charge),
             flags: HeaderFlags(0),
             next_command: 0,
             message_id: self.message_id,
@@ -91,13 +126,15 @@ impl Client {
         }
     }
 
-    /// Asks for something, under the session and the tree that it was given last. After a refusal it has asked for nothing.
+    /// Asks for something, under the session and the tree that it was given last, and with the CreditCharge that is due in
+    /// the dialect that was agreed on. After a refusal it has asked for nothing.
     pub fn ask(&mut self, request: &Request<'_>) -> Result<(), ClientFault> {
-        let mut payload = Vec::new(self.alloc);
-        write_header(&self.header(command_of(request)), &mut payload)?;
-        write_request(request, &mut payload)?;
-        put_frame(&payload, &mut self.frames)?;
-        self.message_id = self.message_id.saturating_add(1);
+        let charge = self.charge(request);
+        let mut bytes = Vec::new(self.alloc);
+        write_header(&self.header(command_of(request), charge), &mut bytes)?;
+        write_request(request, &mut bytes)?;
+        put_frame(&bytes, &mut self.frames)?;
+        self.message_id = self.message_id.saturating_add(u64::from(charge));
         Ok(())
     }
 
@@ -230,7 +267,7 @@ impl Client {
         self.frames.clear();
     }
 
-    /// Takes the session and the tree that replies give it.
+    /// Takes the dialect, the session and the tree that replies give it.
     pub fn hear(&mut self, frames: &[u8]) {
         let mut replies = Replies::of(frames);
         for _ in 0..frames.len() {
@@ -238,6 +275,9 @@ impl Client {
                 return;
             };
             self.session_id = reply.header.session_id;
+            if reply.header.command == Command::Negotiate.code() {
+                self.dialect = reply.dialect();
+            }
             if reply.header.command == Command::TreeConnect.code() {
                 self.tree_id = reply.header.tree_id;
             }

@@ -25,7 +25,8 @@
 //! Each request is exchanged before the next is made, since a reply may give what the next needs: a SESSION_SETUP the session, a
 //! TREE_CONNECT the tree, a CREATE the FileId. Of requests that need nothing of each other several may be exchanged at once.
 //!
-//! It asks for one credit with each request, takes the session and the tree of the last reply that gives one, and waits for
+//! It asks for 256 credits with a NEGOTIATE, and then for as many as each request takes: in dialect 2.1 one for each 65,536 bytes
+//! that the request sends or asks for. It takes the session and the tree of the last reply that gives one, and waits for
 //! nothing. A request that none of its calls makes, as a CREATE that shares its file, is a [`Request`] for [`Client::ask`]. The
 //! types of all that it says and hears are exported here: beside smb_engine no other crate is needed.
 //!

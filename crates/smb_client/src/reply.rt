@@ -2,7 +2,7 @@
 
 use super::status::Status;
 use smb_head::{Header, read_header};
-use smb_wire::{Command, FileId, u16_at, u32_at, u64_at};
+use smb_wire::{Command, Dialect, FileId, u16_at, u32_at, u64_at};
 
 /// A reply: its header, and its bytes from the header's first on.
 #[derive(Clone, Copy, Debug)]
@@ -20,6 +20,18 @@ impl<'a> Reply<'a> {
     /// How the request ended.
     pub fn status(&self) -> Status {
         Status(self.header.status)
+    }
+
+    /// The dialect that stands in the response to a NEGOTIATE ([MS-SMB2] 2.2.4); None of another revision, as 0x02FF.
+    pub fn dialect(&self) -> Option<Dialect> {
+        let revision = u16_at(self.bytes, 68)?;
+        if revision == Dialect::Smb210.revision() {
+            Some(Dialect::Smb210)
+        } else if revision == Dialect::Smb202.revision() {
+            Some(Dialect::Smb202)
+        } else {
+            None
+        }
     }
 
     /// The FileId that stands in the response to a CREATE ([MS-SMB2] 2.2.14), where it is long enough.

@@ -4,7 +4,7 @@ use smb_frame::{FrameBuffer, FrameFault, laws_of_frames, put_frame};
 use std::alloc::Global;
 
 /// The longest payload of the share.
-const LIMIT: u32 = 131_072;
+const LIMIT: u32 = 1_048_576;
 
 /// Two frames: a payload of 3 bytes, and one of 256.
 const SHORT: [u8; 7] = [0, 0, 0, 3, 0xfe, 0x53, 0x4d];
@@ -58,10 +58,10 @@ fn fault_of(alloc: Global, bytes: &[u8]) -> Option<FrameFault> {
 fn faults(rt: HostRuntime) {
     for (bytes, fault) in [
         ([0x85u8].as_slice(), Some(FrameFault::FirstByte)),
-        (&[1, 2, 0, 1], Some(FrameFault::FirstByte)),
-        (&[0, 3, 0], None),
-        (&[0, 2, 0, 0], None),
-        (&[0, 2, 0, 1], Some(FrameFault::TooLong)),
+        (&[1, 16, 0, 1], Some(FrameFault::FirstByte)),
+        (&[0, 17, 0], None),
+        (&[0, 16, 0, 0], None),
+        (&[0, 16, 0, 1], Some(FrameFault::TooLong)),
     ] {
         assert_eq!(rt; fault_of(rt.alloc(), bytes), fault, "{bytes:?}");
     }

@@ -201,14 +201,41 @@ fn chooses_the_greatest_dialect(rt: HostRuntime) {
     assert_eq!(rt; Dialect::Smb202.revision(), 0x0202);
 }
 
+/// Whether a window that has the numbers from 2 to 255, but 10, gives runs of them whole or not at all.
+fn takes_runs() -> bool {
+    let mut window = Window::new(0);
+    window.grant(255) == 255
+        && window.take_runs(&[(0, 2), (10, 1)])
+        && !window.take_runs(&[(2, 0xffff)])
+        && !window.take_runs(&[(u64::MAX, 3)])
+        && !window.take_runs(&[(254, 3)])
+        && !window.take_runs(&[(8, 3)])
+        && !window.take_runs(&[(20, 4), (16, 5)])
+        && !window.take_runs(&[(16, 5), (20, 4)])
+        && !window.take_runs(&[(16, 2), (9, 2)])
+        && window.take_runs(&[(16, 5), (21, 3), (255, 1), (8, 2)])
+        && !window.holds(8)
+        && !window.holds(23)
+        && window.holds(24)
+        && window.holds(11)
+        && window.take_runs(&[(24, 231), (2, 0)])
+        && !window.holds(254)
+        && window.holds(2)
+}
+
+#[test]
+fn runs_of_a_window(rt: HostRuntime) {
+    assert!(rt; takes_runs());
+}
+
 /// Whether a window has 256 numbers at most, each of which is used once.
 fn grants_and_takes() -> bool {
     let mut window = Window::new(0);
     window.grant(300) == 255
         && window.grant(1) == 0
-        && !window.take_all(&[3, 3])
-        && !window.take_all(&[3, 256])
-        && window.take_all(&[3, 0])
+        && !window.take_runs(&[(3, 1), (3, 1)])
+        && !window.take_runs(&[(3, 1), (256, 1)])
+        && window.take_runs(&[(3, 1), (0, 1)])
         && !window.holds(3)
         && window.grant(0) == 1
         && window.holds(256)

@@ -14,7 +14,7 @@ pub const ECHO: &str = "00000044 fe534d42 4000 z6 0d00 0100 z8 0100000000000000 
 
 /// The same with zeros behind it, to the longest payload.
 pub const LONG_ECHO: &str =
-    "00020000 fe534d42 4000 z6 0d00 0100 z8 0100000000000000 z32 0400 0000 z131004";
+    "00100000 fe534d42 4000 z6 0d00 0100 z8 0100000000000000 z32 0400 0000 z1048508";
 
 /// The reply to both.
 pub const ECHOED: &str =

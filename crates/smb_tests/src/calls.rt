@@ -72,7 +72,7 @@ fn fed(share: &mut Served, alloc: Global) -> Option<Vec<u8>> {
 /// Whether connection 2 ends by a length over the limit, in two pieces, alone.
 fn ends_alone(share: &mut Served, alloc: Global) -> bool {
     let mut out = Vec::new(alloc);
-    let is_so = takes(share, 2, &[0, 2, 0], &mut out, Fate::Open)
+    let is_so = takes(share, 2, &[0, 16, 0], &mut out, Fate::Open)
         && takes(share, 2, &[1], &mut out, Fate::Ended);
     is_so && out.is_empty() && !share.is_open(2)
 }

@@ -6,6 +6,8 @@ mod calls;
 #[cfg(test)]
 mod configs;
 #[cfg(test)]
+mod credits;
+#[cfg(test)]
 mod faults;
 #[cfg(test)]
 mod memory;

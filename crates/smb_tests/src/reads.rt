@@ -21,9 +21,11 @@ const REPLY: usize = LENGTH + 84;
 /// How many bytes the replies before those of the READs have.
 const BEFORE: usize = 132 + 76 + 84 + 156 + 84;
 
-/// What opens a file: a NEGOTIATE that asks for 256 credits, a SESSION_SETUP, a TREE_CONNECT, and a CREATE.
-const OPENING: [&str; 4] = [
-    "00000066 fe534d42 4000 z8 0001 z48 2400 0100 0100 z30 0202",
+/// A NEGOTIATE that asks for 256 credits.
+const NEGOTIATE: &str = "00000066 fe534d42 4000 z8 0001 z48 2400 0100 0100 z30 0202";
+
+/// What opens a file then: a SESSION_SETUP, a TREE_CONNECT, and a CREATE.
+pub(crate) const OPENING: [&str; 3] = [
     "00000059 fe534d42 4000 z6 0100 0100 z8 0100000000000000 z32 1900 00 01 z8 5800 0100 z8 61",
     "00000058 fe534d42 4000 z6 0300 0100 z8 0200000000000000 z8 0100000000000000 z16 0900 0000 4800 1000 5c005c0073005c006400610074006100",
     "0000007a fe534d42 4000 z6 0500 0100 z8 0300000000000000 z4 01000000 0100000000000000 z16 3900 z2 02000000 z16 03000000 z4 07000000 02000000 00000000 7800 0200 z8 6100",
@@ -37,13 +39,14 @@ const READ: &str =
     "00000070 fe534d42 4000 z6 0800 0100 z8 z8 z4 01000000 0100000000000000 z16 3100 z2 00000100 z8 01000000000000000100000000000000 z16";
 
 /// The byte of the file at an offset.
-fn byte_at(offset: usize) -> u8 {
+pub(crate) fn byte_at(offset: usize) -> u8 {
     (offset % 251) as u8
 }
 
 /// The requests before the READs.
 fn opening(alloc: Global) -> Option<Vec<u8>> {
-    let mut bytes = frames(alloc, &OPENING)?;
+    let mut bytes = frames(alloc, &[NEGOTIATE])?;
+    bytes.extend_from_slice(&frames(alloc, &OPENING)?).ok()?;
     bytes.extend_from_slice(&frames(alloc, &[WRITE])?).ok()?;
     for offset in 0..LENGTH {
         bytes.push(byte_at(offset)).ok()?;

@@ -13,7 +13,8 @@ use smb_session::Tokens;
 use smb_wire::{CreateDisposition, FileId, NtStatus};
 use std::alloc::Global;
 
-type Talk = Pair<Tokens, NodeTree, HandleTable>;
+/// A share in memory, and what it answered.
+pub(crate) type Talk = Pair<Tokens, NodeTree, HandleTable>;
 
 /// Whether there are so many replies, each with success.
 fn are_good(replies: &mut Replies<'_>, count: usize) -> bool {
@@ -27,7 +28,11 @@ fn are_good(replies: &mut Replies<'_>, count: usize) -> bool {
 }
 
 /// Whether what a client says is answered with success.
-fn is_told(pair: &mut Talk, client: &mut Client, asked: Result<(), ClientFault>) -> bool {
+pub(crate) fn is_told(
+    pair: &mut Talk,
+    client: &mut Client,
+    asked: Result<(), ClientFault>,
+) -> bool {
     if asked.is_err() {
         return false;
     }
@@ -37,12 +42,8 @@ fn is_told(pair: &mut Talk, client: &mut Client, asked: Result<(), ClientFault>)
     }
 }
 
-/// Whether a client comes in.
-fn comes_in(pair: &mut Talk, client: &mut Client) -> bool {
-    let asked = client.negotiate();
-    if !is_told(pair, client, asked) {
-        return false;
-    }
+/// Whether a client that has a dialect logs in, and is connected to the share.
+pub(crate) fn logs_in(pair: &mut Talk, client: &mut Client) -> bool {
     let asked = client.session_setup(b"a");
     if !is_told(pair, client, asked) {
         return false;
@@ -51,8 +52,14 @@ fn comes_in(pair: &mut Talk, client: &mut Client) -> bool {
     is_told(pair, client, asked)
 }
 
+/// Whether a client comes in.
+pub(crate) fn comes_in(pair: &mut Talk, client: &mut Client) -> bool {
+    let asked = client.negotiate();
+    is_told(pair, client, asked) && logs_in(pair, client)
+}
+
 /// The FileId of a new file.
-fn made(pair: &mut Talk, client: &mut Client, name: &str) -> Option<FileId> {
+pub(crate) fn made(pair: &mut Talk, client: &mut Client, name: &str) -> Option<FileId> {
     client.create(name, CreateDisposition::Create).ok()?;
     let mut replies = pair.exchange(client).ok()?;
     replies.next_reply()?.file_id()
