@@ -1,5 +1,8 @@
 """Exchanges with the proved program over TCP, timed."""
+import struct
 import time
+
+ROOM = memoryview(bytearray(1 << 20))
 
 
 def processor_seconds(process):
@@ -8,9 +11,19 @@ def processor_seconds(process):
         return int(it.read().split()[0]) / 1e9
 
 
+def take(client, count):
+    """So many bytes of a client's stream, at most as many as there is room for."""
+    found = 0
+    while found < count:
+        more = client.stream.recv_into(ROOM[found:count])
+        if more == 0:
+            raise AssertionError('an answer is missing')
+        found += more
+    return ROOM[:count]
+
+
 def take_reply(client):
-    if not client.reply():
-        raise AssertionError('an answer is missing')
+    take(client, struct.unpack('>I', take(client, 4))[0])
 
 
 def seconds_for(client, frames, in_flight):

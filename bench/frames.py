@@ -2,9 +2,19 @@
 import struct
 
 
-def header(command, message_id, next_command=0, session_id=0, tree_id=0):
-    return struct.pack('<4sHHIHHIIQIIQ16s', b'\xfeSMB', 64, 0, 0, command, 31, 0, next_command,
+def header(command, message_id, next_command=0, session_id=0, tree_id=0, charge=0):
+    return struct.pack('<4sHHIHHIIQIIQ16s', b'\xfeSMB', 64, charge, 0, command, 31, 0, next_command,
                        message_id, 0, tree_id, session_id, bytes(16))
+
+
+def charge_of(size):
+    """How many MessageIds a request takes in dialect 2.1 that sends or asks for so many bytes."""
+    return max(size - 1, 0) // 65_536 + 1
+
+
+def charge_field(size):
+    """The CreditCharge that says it: 0 where that is enough."""
+    return charge_of(size) if size > 65_536 else 0
 
 
 def frame(payload):
@@ -57,13 +67,14 @@ def close(message_id, open_number, session_id=0, tree_id=0):
 def read(message_id, open_number, offset, length, session_id=0, tree_id=0):
     """A frame of a READ of an open, in a session and a tree."""
     body = struct.pack('<HBBIQQQIIIHHB', 49, 0, 0, length, offset, open_number, open_number, 0, 0, 0, 0, 0, 0)
-    return frame(header(8, message_id, session_id=session_id, tree_id=tree_id) + body)
+    return frame(header(8, message_id, session_id=session_id, tree_id=tree_id, charge=charge_field(length)) + body)
 
 
 def write(message_id, open_number, offset, buffer, session_id=0, tree_id=0):
     """A frame of a WRITE of bytes to an open, in a session and a tree."""
     body = struct.pack('<HHIQQQIIHHI', 49, 112, len(buffer), offset, open_number, open_number, 0, 0, 0, 0, 0)
-    return frame(header(9, message_id, session_id=session_id, tree_id=tree_id) + body + buffer)
+    charge = charge_field(len(buffer))
+    return frame(header(9, message_id, session_id=session_id, tree_id=tree_id, charge=charge) + body + buffer)
 
 
 def lock(message_id, open_number, elements, session_id=0, tree_id=0):

@@ -2,27 +2,35 @@
 """Times the proved program over TCP on one machine; prints the rows of bench/FIGURES.md.
 
     (cd crates/smbshare && rt run < stdin > /dev/null)     builds crates/smbshare/out/smbshare
-    python3 bench/serving.py
+    python3 bench/serving.py [PROGRAM]
 
 A client keeps so many requests in flight: where that is one, it sends a request, waits for its answer, and so on. The script's own time is a
 part of each figure. A set-up is a connection that negotiates, sets up a session, connects to the share and ends. Idle: processor
-time of the program in ten seconds in which nobody says anything.
+time of the program in ten seconds in which nobody says anything. READs and WRITEs of 65,536 and of 524,288 bytes, each of a CreditCharge of 8,
+stand beside each other, three times; the processor time for each MB is the program's own, with the system's part in it.
 """
 import pathlib
 import sys
 import time
 
 sys.path.insert(0, str(pathlib.Path(__file__).resolve().parent.parent / 'tools'))
+import served
 from exchanging import processor_seconds, seconds_for
-from frames import close, create, echoes, read, session_setup, tree_connect, write
+from frames import charge_of, close, create, echoes, read, session_setup, tree_connect, write
 from served import ALL_ACCESS, LONGEST_PIECE, OPEN_IF, Served, opens_a_file
 
 IDLE_SECONDS = 10
 PIECE = bytes(LONGEST_PIECE)
+AT_ONCE, FILE_SIZE, TIMES = 524_288, 16 << 20, 3
+LONG_PIECE = bytes(AT_ONCE)
 
 
 def place(i):
     return i % 256 * LONGEST_PIECE
+
+
+def long_place(i):
+    return i // charge_of(AT_ONCE) * AT_ONCE % FILE_SIZE
 
 
 def pair_of(i):
@@ -41,6 +49,14 @@ EXCHANGES = (
     ('READ of 65,536 bytes', LONGEST_PIECE, 2_000, 1, lambda i: read(i, 1, place(i), LONGEST_PIECE, 1, 1)),
     ('READ of 65,536 bytes', LONGEST_PIECE, 4_000, 8, lambda i: read(i, 1, place(i), LONGEST_PIECE, 1, 1)),
 )
+
+
+# WRITEs and READs of few and of many bytes: how many each has, and the frame of a MessageId; and how many are in flight of both.
+LENGTHS = tuple((name, size, count, frame) for name, few, many in (
+    ('WRITE', lambda i: write(i, 1, place(i), PIECE, 1, 1), lambda i: write(i, 1, long_place(i), LONG_PIECE, 1, 1)),
+    ('READ', lambda i: read(i, 1, place(i), LONGEST_PIECE, 1, 1), lambda i: read(i, 1, long_place(i), AT_ONCE, 1, 1)),
+) for size, count, frame in ((LONGEST_PIECE, 8_000, few), (AT_ONCE, 1_000, many)))
+BYTES_IN_FLIGHT = (LONGEST_PIECE, AT_ONCE, 4 * AT_ONCE)
 
 
 def beside(share, count):
@@ -66,6 +82,27 @@ def exchanges():
                 message_id += count
                 rate = f'{size * count / took / 1e6:,.0f}' if size else ''
                 print(f'| {name} | {in_flight} | {len(clients)} | {count:,} | {took / count * 1e6:.1f} | {count / took:,.0f} | {rate} |', flush=True)
+
+
+def lengths():
+    print('| bytes in flight | request | bytes | in flight | MB | MB/s by the clock | processor microseconds for each MB |')
+    print('|---|---|---|---|---|---|---|')
+    with Served() as share:
+        client = share.client()
+        if not opens_a_file(client):
+            raise AssertionError('no file was opened')
+        message_id = 4
+        for asked in BYTES_IN_FLIGHT * TIMES:
+            for name, size, count, frame in LENGTHS:
+                in_flight = asked // size
+                if in_flight == 0:
+                    continue
+                end = message_id + count * charge_of(size)
+                before = processor_seconds(share.process)
+                took = seconds_for(client, (frame(i) for i in range(message_id, end, charge_of(size))), in_flight)
+                spent, message_id = processor_seconds(share.process) - before, end
+                megabytes = size * count / 1e6
+                print(f'| {asked:,} | {name} | {size:,} | {in_flight} | {megabytes:,.0f} | {megabytes / took:,.0f} | {spent / megabytes * 1e6:,.0f} |', flush=True)
 
 
 def set_ups(count=5_000):
@@ -94,7 +131,10 @@ def idle():
 
 
 if __name__ == '__main__':
+    served.PROGRAM = sys.argv[1] if len(sys.argv) > 1 else served.PROGRAM
     exchanges()
+    print()
+    lengths()
     print()
     set_ups()
     print()
