@@ -23,6 +23,20 @@ is_writing_attributes access = has_any access.0 FILE_WRITE_ATTRIBUTES
 abbrev pub read_only_access : ℕ
 read_only_access = 0x1F01F9
 
+-- the rights that a session can be granted that may only read: FILE_GENERIC_READ and FILE_GENERIC_EXECUTE together
+abbrev pub reader_access : ℕ
+reader_access = 0x1200A9
+
+-- there is a right that a session does not have that may only read
+abbrev pub is_past_reading : Access → Bool
+is_past_reading access = not (bit_and access.0 reader_access == access.0)
+
+-- all that MAXIMUM_ALLOWED stands for: what a session can have that may only read; else what the entry allows, which
+-- is a read-only file or another entry
+abbrev pub most_allowed : Bool → Bool → ℕ
+most_allowed read_only on_read_only =
+    if read_only then reader_access else if on_read_only then read_only_access else FILE_ALL_ACCESS
+
 -- the rights, MAXIMUM_ALLOWED and the four generic bits
 abbrev pub known_access : ℕ
 known_access = 0xF21F01FF
@@ -35,15 +49,16 @@ is_bad_access access = access == 0 || not (bit_and access known_access == access
 abbrev pub rights_for : ℕ → ℕ → ℕ → ℕ
 rights_for access bit rights = if has_any access bit then rights else 0
 
--- the access that is granted, on a read-only file or on another entry: the rights asked for, those that the generic
--- bits stand for, and with MAXIMUM_ALLOWED all that the entry allows; these five bits themselves are dropped
-abbrev pub granted : ℕ → Bool → Access
-granted access on_read_only = record {
+-- the access that is granted to a session that may only read or to another one, on a read-only file or on another
+-- entry: the rights asked for, those that the generic bits stand for, and with MAXIMUM_ALLOWED all that is allowed; these
+-- five bits themselves are dropped
+abbrev pub granted : ℕ → Bool → Bool → Access
+granted access read_only on_read_only = record {
   0 =
       bit_or (bit_and access FILE_ALL_ACCESS)
       (bit_or (rights_for access GENERIC_ALL FILE_ALL_ACCESS)
       (bit_or (rights_for access GENERIC_EXECUTE FILE_GENERIC_EXECUTE)
       (bit_or (rights_for access GENERIC_WRITE FILE_GENERIC_WRITE)
       (bit_or (rights_for access GENERIC_READ FILE_GENERIC_READ)
-      (rights_for access MAXIMUM_ALLOWED (if on_read_only then read_only_access else FILE_ALL_ACCESS))))));
+      (rights_for access MAXIMUM_ALLOWED (most_allowed read_only on_read_only))))));
 }

@@ -1,7 +1,10 @@
 -- What a CREATE request asks ([MS-SMB2] 2.2.13).
-use Rattle.std.specs.Prelude.{ℕ, Bool, List, if◌then◌else◌, bit_and, bit_or}
+use Rattle.std.specs.Prelude.{ℕ, Bool, List, ◌||◌, ◌&&◌, if◌then◌else◌, bit_and, bit_or}
 use Rattle.smb_wire.specs.Units.{units_of}
 use Rattle.smb_wire.specs.Access.{has_any, FILE_SHARE_ALL}
+use Rattle.smb_wire.specs.declared.access.Access.{Access}
+use Rattle.smb_wire.specs.Dispositions.{overwrites_by, must_be_new_by}
+use Rattle.smb_access.specs.Access.{is_past_reading}
 use Rattle.smb_wire.specs.declared.access.ShareAccess.{ShareAccess}
 use Rattle.smb_wire.specs.CreateOptions.{FILE_DIRECTORY_FILE, FILE_NON_DIRECTORY_FILE, FILE_DELETE_ON_CLOSE, FILE_OPEN_BY_FILE_ID}
 use Rattle.smb_wire.specs.Attributes.{FILE_ATTRIBUTE_READONLY, FILE_ATTRIBUTE_ARCHIVE}
@@ -19,6 +22,8 @@ pub record FileAsked : Type 0 where
   pub options : ℕ
   pub session : ℕ
   pub tree : ℕ
+  -- the session that asks may only read
+  pub read_only : Bool
 
 abbrev pub asked : CreateAsk → FileAsked
 asked ask = record {
@@ -30,6 +35,7 @@ asked ask = record {
   options = ask.options.0;
   session = ask.session;
   tree = ask.tree;
+  read_only = ask.read_only;
 }
 
 -- what the open is to share: of the mask three bits count ([MS-SMB2] 2.2.13)
@@ -55,6 +61,11 @@ asks_delete ask = has_any ask.options FILE_DELETE_ON_CLOSE
 -- FILE_ATTRIBUTE_READONLY is given
 abbrev pub asks_read_only : FileAsked → Bool
 asks_read_only ask = has_any ask.attributes FILE_ATTRIBUTE_READONLY
+
+-- a session that may only read asks for more: for a right to change something, or to create or overwrite an entry
+abbrev pub asks_past_reading : FileAsked → Access → Bool
+asks_past_reading ask access =
+    ask.read_only && (is_past_reading access || must_be_new_by ask.disposition || overwrites_by ask.disposition)
 
 -- what an entry becomes that is added
 abbrev pub kind_asked : FileAsked → Kind

@@ -17,7 +17,7 @@ use Rattle.smb_access.specs.declared.fault.StoreFault.TheVariants.{Status, NoMem
 use Rattle.smb_access.specs.declared.found.Target.{Target}
 use Rattle.smb_access.specs.declared.found.CreateLookup.{CreateLookup}
 use Rattle.smb_access.specs.Access.{is_bad_access, granted, is_writing, is_deleting}
-use Rattle.smb_access.specs.Asked.{FileAsked, asks_folder, asks_file, asks_by_number, asks_delete, asks_read_only}
+use Rattle.smb_access.specs.Asked.{FileAsked, asks_folder, asks_file, asks_by_number, asks_delete, asks_read_only, asks_past_reading}
 use Rattle.smb_access.specs.StatusRows.{StatusRow}
 use Rattle.smb_access.specs.Sharing.{use_asked, has_conflict}
 
@@ -51,7 +51,7 @@ target_becomes_read_only ask (Some target) = not (is_folder_kind target.kind) &&
 
 abbrev pub target_conflicts : List OpenRow → FileAsked → Option Target → Bool
 target_conflicts opens ask None = false
-target_conflicts opens ask (Some target) = has_conflict opens target.number (use_asked ask (granted ask.access (is_read_only_target (Some target))))
+target_conflicts opens ask (Some target) = has_conflict opens target.number (use_asked ask (granted ask.access ask.read_only (is_read_only_target (Some target))))
 
 -- the first five rows, which need the request alone
 abbrev pub asked_rows : FileAsked → List StatusRow
@@ -63,15 +63,18 @@ asked_rows ask =
     ∷ (is_some (path_fault ask.name), ObjectNameInvalid)
     ∷ []
 
--- rows 6 to 10: whether an entry may be there
+-- rows 6 to 10, with 6b and 9b: whether an entry may be there
 abbrev pub place_rows : FileAsked → CreateLookup → List StatusRow
 place_rows ask found = (
-  is_bad_access ask.access || asks_delete ask && not (is_deleting (granted ask.access (is_read_only_target found.target))),
+  is_bad_access ask.access
+      || asks_delete ask && not (is_deleting (granted ask.access ask.read_only (is_read_only_target found.target))),
   AccessDenied,
 )
+    ∷ (asks_past_reading ask (granted ask.access ask.read_only (is_read_only_target found.target)), AccessDenied)
     ∷ (not found.reached, ObjectPathNotFound)
     ∷ (found.pending, DeletePending)
     ∷ (is_none found.target && must_exist_by ask.disposition, ObjectNameNotFound)
+    ∷ (ask.read_only && is_none found.target, AccessDenied)
     ∷ (is_some found.target && must_be_new_by ask.disposition, ObjectNameCollision)
     ∷ []
 
@@ -82,7 +85,7 @@ kind_rows ask target =
     ∷ (is_file_target target && asks_folder ask, NotADirectory)
     ∷ (
       is_read_only_target target
-          && (overwrites_by ask.disposition || is_writing (granted ask.access (is_read_only_target target))),
+          && (overwrites_by ask.disposition || is_writing (granted ask.access ask.read_only (is_read_only_target target))),
       AccessDenied,
     )
     ∷ (
@@ -98,7 +101,7 @@ room_rows found =
     ∷ (is_none found.target && found.entries_full, DiskFull)
     ∷ []
 
--- rows 6 to 17, by what was found and the opens
+-- rows 6 to 17, with 6b and 9b, by what was found and the opens
 abbrev pub found_rows : List OpenRow → FileAsked → CreateLookup → List StatusRow
 found_rows opens ask found =
     place_rows ask found

@@ -6,7 +6,8 @@ use Rattle.smb_session.specs.Numbers.{IsRising}
 use Rattle.smb_session.specs.Authenticator.{Meaning}
 use Rattle.smb_session.specs.Session.{SessionState}
 use Rattle.smb_session.specs.Table.{session_at}
-use Rattle.smb_request.specs.Laws.{IsInOrder, IsAsItWas, IsOver, ReplacesSession}
+use Rattle.smb_opens.specs.Readers.{LeavesFiles}
+use Rattle.smb_request.specs.Laws.{IsInOrder, IsAsItWas, IsOver, ReplacesSession, AllMayOnlyRead}
 use Rattle.smb_engine.specs.Event.{EventText, brings, connection_of}
 use Rattle.smb_engine.specs.State.{ShareState, stream_of}
 use Rattle.smb_engine.specs.Good.{GoodState}
@@ -128,3 +129,20 @@ module _ {S : Type 0} (authenticator : Meaning S) where
   -- the share ends a connection at most once, and puts nothing out to it afterwards
   abbrev pub AnEndIsTheLast : Type 0
   AnEndIsTheLast = (s : ShareState S) → StreamsInOrder s → (events : List EventText) (connection : ℕ) → IsLastEnd connection (run authenticator s events).outputs
+
+  -- as each of these requests comes, no session of a connection may write
+  abbrev pub AreReadersRequests : ℕ → List (PerformedRequest S) → Type 0
+  AreReadersRequests connection = AllByRecursion (λ came. AllMayOnlyRead came.before.sessions.table connection)
+
+  -- as each request of these events comes, no session of its connection may write
+  abbrev pub AreOfReaders : ShareState S → List EventText → Type 0
+  AreOfReaders s [] = Unit {0}
+  AreOfReaders s (event ∷ events) = event_refusal s event ≡ None →
+      AreReadersRequests (connection_of event) (event_step authenticator s event).requests × AreOfReaders (event_step authenticator s event).state events
+
+  -- whoever may only read changes no file, whatever it sends: no entry, byte, attribute, time or name, but for what goes with its
+  -- last open
+  abbrev pub AReaderChangesNoFile : Type 0
+  AReaderChangesNoFile =
+      (s : ShareState S) (events : List EventText) → GoodState s → AreOfReaders s events →
+      LeavesFiles s.server.store (run authenticator s events).state.server.store

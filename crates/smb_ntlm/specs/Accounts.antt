@@ -6,14 +6,15 @@ use Rattle.smb_ntlm.specs.declared.account.Account.{Account}
 use Rattle.smb_ntlm.specs.declared.account.AccountFault.{AccountFault}
 use Rattle.smb_ntlm.specs.declared.account.AccountFault.TheVariants.{NameLength, NameCharacter, NameIsGuest, NameTaken}
 
--- a name in ASCII, and the NT hash of its password
+-- a name in ASCII, the NT hash of its password, and whether it may only read
 pub record KnownAccount : Type 0 where
   pub name : List ℕ
   pub nt_hash : List ℕ
+  pub read_only : Bool
 
 -- an account in memory
 abbrev pub known : Account → KnownAccount
-known account = record { name = account.name.items; nt_hash = account.nt_hash }
+known account = record { name = account.name.items; nt_hash = account.nt_hash; read_only = account.read_only }
 
 -- ASCII, but for control characters
 abbrev pub is_printable : ℕ → Bool

@@ -17,7 +17,12 @@ known_entry entry = known entry.account
 
 -- the state that is lent
 abbrev pub gate_state : Gate → NtlmState
-gate_state gate = record { seed = gate.seed.now; accounts = map known_entry gate.entries.now; guest = gate.guest }
+gate_state gate = record {
+  seed = gate.seed.now;
+  accounts = map known_entry gate.entries.now;
+  guest = gate.guest;
+  guest_read_only = gate.guest_read_only;
+}
 
 -- rows 4 and 5: a NEGOTIATE
 abbrev pub negotiate_answer : List ℕ → ℕ → Wrapping → List ℕ → Answered

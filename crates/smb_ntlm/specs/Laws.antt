@@ -21,47 +21,59 @@ login_message read = if is_message read.message && message_type read.message == 
 unfoldable pub login_of : List ℕ → Option LoginAsked
 login_of token = and_then (wrapped_in token) login_message
 
--- a user is an account's, which is named in this token and has its proof there: over the token's domain and blob, and
--- the
--- challenge of this session
-pub record IsProved (state : NtlmState) (session : ℕ) (token user : List ℕ) : Type 0 where
+-- a user is an account's, which is named in this token and has its proof there, over the token's domain and blob, and
+-- the challenge of this session; the user is let in to read only where the account may only read, and else to write too
+pub record IsProved (state : NtlmState) (session : ℕ) (token user : List ℕ) (read_only : Bool) : Type 0 where
   pub account : KnownAccount
   pub login : LoginAsked
   pub among : Contains state.accounts account
   pub name : account.name ≡ user
+  pub right : account.read_only ≡ read_only
   pub read : login_of token ≡ Some login
   pub asked : is_named login.user account ≡ true
   pub long : 44 ≤ length login.response
   pub proved : take 16 login.response
       ≡ proof account login.domain (challenge state.seed session) (drop 16 login.response)
 
--- who is let in as another than the session's guest has proved to be that user
+-- who is let in as another than the session's guest has proved to be that user, and may only read where its account may
 abbrev pub UsersAreProved : Type 0
 UsersAreProved =
-    (state : NtlmState) (session : ℕ) (token user last : List ℕ) (flags : ℕ) →
-    login_answer state session token ≡ accepts user flags last →
-    user ≢ guest_user session → IsProved state session token user
+    (state : NtlmState) (session : ℕ) (token user last : List ℕ) (flags : ℕ) (read_only : Bool) →
+    login_answer state session token ≡ accepts user flags read_only last →
+    user ≢ guest_user session → IsProved state session token user read_only
 
 -- where guests may not come, whoever is let in has proved to be that user, and is no guest
 abbrev pub NoGuestComesUnasked : Type 0
 NoGuestComesUnasked =
-    (state : NtlmState) (session : ℕ) (token user last : List ℕ) (flags : ℕ) → AreLawful state.accounts →
-    state.guest ≡ false → login_answer state session token ≡ accepts user flags last →
-    IsProved state session token user × ((other : ℕ) → user ≢ guest_user other)
+    (state : NtlmState) (session : ℕ) (token user last : List ℕ) (flags : ℕ) (read_only : Bool) →
+    AreLawful state.accounts → state.guest ≡ false →
+    login_answer state session token ≡ accepts user flags read_only last →
+    IsProved state session token user read_only × ((other : ℕ) → user ≢ guest_user other)
 
 -- where there are no accounts, whoever is let in is the session's guest
 abbrev pub WithoutAccountsAllAreGuests : Type 0
 WithoutAccountsAllAreGuests =
-    (state : NtlmState) (session : ℕ) (token user last : List ℕ) (flags : ℕ) → state.accounts ≡ [] →
-    login_answer state session token ≡ accepts user flags last → user ≡ guest_user session
+    (state : NtlmState) (session : ℕ) (token user last : List ℕ) (flags : ℕ) (read_only : Bool) →
+    state.accounts ≡ [] → login_answer state session token ≡ accepts user flags read_only last →
+    user ≡ guest_user session
 
--- a token without an AUTHENTICATE is answered alike whatever the accounts are, and whether or not guests may come
+-- the session's guest is let in to read only where guests may only read, and else to write too
+abbrev pub GuestsHaveTheRightOfGuests : Type 0
+GuestsHaveTheRightOfGuests =
+    (state : NtlmState) (session : ℕ) (token last : List ℕ) (flags : ℕ) (read_only : Bool) →
+    AreLawful state.accounts → login_answer state session token ≡ accepts (guest_user session) flags read_only last →
+    read_only ≡ state.guest_read_only
+
+-- a token without an AUTHENTICATE is answered alike whatever the accounts are, whether or not guests may come, and
+-- whether or not these may only read
 abbrev pub AccountsDoNotShow : Type 0
 AccountsDoNotShow =
-    (seed : List ℕ) (accounts others : List KnownAccount) (guest other : Bool) (session : ℕ) (token : List ℕ) →
-    login_of token ≡ None →
-    login_answer (record { seed = seed; accounts = accounts; guest = guest }) session token
-    ≡ login_answer (record { seed = seed; accounts = others; guest = other }) session token
+    (seed : List ℕ) (accounts others : List KnownAccount) (guest other guest_read_only other_read_only : Bool)
+    (session : ℕ) (token : List ℕ) → login_of token ≡ None →
+    login_answer
+    (record { seed = seed; accounts = accounts; guest = guest; guest_read_only = guest_read_only }) session token
+    ≡ login_answer
+    (record { seed = seed; accounts = others; guest = other; guest_read_only = other_read_only }) session token
 
 -- the front of a token that is a NegTokenInit or a NegTokenResp is denied
 abbrev pub WhatIsCutIsDenied : Type 0
@@ -117,6 +129,7 @@ example_account = record {
   nt_hash =
       0xa4 ∷ 0xf4 ∷ 0x9c ∷ 0x40 ∷ 0x65 ∷ 0x10 ∷ 0xbd ∷ 0xca ∷ 0xb6 ∷ 0x82 ∷ 0x4e ∷ 0xe7 ∷ 0xc3 ∷ 0x0f
       ∷ 0xd8 ∷ 0x52 ∷ [];
+  read_only = false;
 }
 
 -- "Domain" in UTF-16LE

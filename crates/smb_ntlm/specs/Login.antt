@@ -11,11 +11,12 @@ use Rattle.smb_ntlm.specs.Tokens.{Wrapped, wrapped_in, prefers_another, hello_to
 use Rattle.smb_ntlm.specs.declared.token.Wrapping.{Wrapping}
 use Rattle.smb_ntlm.specs.declared.token.Wrapping.TheVariants.{Raw}
 
--- what a login is decided by: a seed of 16 bytes, the accounts, and whether guests may come
+-- what a login is decided by: a seed of 16 bytes, the accounts, whether guests may come, and whether these may only read
 pub record NtlmState : Type 0 where
   pub seed : List ℕ
   pub accounts : List KnownAccount
   pub guest : Bool
+  pub guest_read_only : Bool
 
 -- the guest of a session, as a user: no other session has this one
 unfoldable pub guest_user : ℕ → List ℕ
@@ -30,24 +31,32 @@ abbrev pub first_answer : List AnswerRow → Answered
 first_answer [] = denies
 first_answer (row ∷ rows) = if row.0 then row.1 else first_answer rows
 
--- a user is let in, as a guest ([MS-SMB2] 2.2.6, IS_GUEST)
-abbrev pub lets_in : Wrapping → List ℕ → Answered
-lets_in wrapping user = accepts user 1 (last_token wrapping)
+-- a user is let in, as a guest ([MS-SMB2] 2.2.6, IS_GUEST), to read only or to write too
+abbrev pub lets_in : Wrapping → List ℕ → Bool → Answered
+lets_in wrapping user read_only = accepts user 1 read_only (last_token wrapping)
 
--- whether there is an account and it has its proof; its name
+-- whether there is an account and it has its proof
 abbrev pub is_proved : Option KnownAccount → List ℕ → LoginAsked → Bool
 is_proved account challenge login = option_map_or (λ a. has_proof a challenge login) account false
 
+-- an account's name; whether it may only read
 abbrev pub name_of : Option KnownAccount → List ℕ
 name_of account = option_map_or (λ a. a.name) account []
+
+abbrev pub may_only_read : Option KnownAccount → Bool
+may_only_read account = option_map_or (λ a. a.read_only) account true
+
+-- an account's user is let in, to read only where the account may only read
+abbrev pub lets_account_in : Wrapping → Option KnownAccount → Answered
+lets_account_in wrapping account = lets_in wrapping (name_of account) (may_only_read account)
 
 -- rows 7 to 10: an AUTHENTICATE
 unfoldable pub login_rows : NtlmState → ℕ → Wrapping → LoginAsked → List AnswerRow
 login_rows state session wrapping login =
     let account = account_of state.accounts login.user in
-    (is_proved account (challenge state.seed session) login, lets_in wrapping (name_of account))
+    (is_proved account (challenge state.seed session) login, lets_account_in wrapping account)
     ∷ (is_some account, denies)
-    ∷ (state.guest, lets_in wrapping (guest_user session))
+    ∷ (state.guest, lets_in wrapping (guest_user session) state.guest_read_only)
     ∷ (true, denies)
     ∷ []
 

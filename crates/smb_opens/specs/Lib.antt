@@ -13,3 +13,4 @@ pub mod Close
 pub mod Steps
 pub mod Good
 pub mod Laws
+pub mod Readers

@@ -19,7 +19,6 @@ use Rattle.smb_request.specs.declared.response.Response.TheVariants.{Ready, Byte
 use Rattle.smb_request.specs.declared.response.NoReply.{NoReply}
 use Rattle.smb_request.specs.declared.response.NoReply.TheVariants.{NotPerformed, Performed}
 use Rattle.smb_request.specs.Negotiate.{negotiate_answer}
-use Rattle.smb_request.specs.Session.{tree_response}
 use Rattle.smb_request.specs.State.{ServerState, hello_of}
 use Rattle.smb_request.specs.QueryDirectory.{directory_queried}
 use Rattle.smb_request.specs.Response.{CommandStep, with_body, success, refused}
@@ -30,7 +29,7 @@ body_value authenticator server call Error = answers_error
 body_value authenticator server call (Negotiate dialect) = negotiate_answer server.settings.guid (hello_of authenticator server) call.moment (Some dialect) (revision_of dialect)
 body_value authenticator server call (SessionSetup flags token) = answers_session_setup (record { session_flags = flags; security_buffer = token.items })
 body_value authenticator server call Logoff = answers_logoff
-body_value authenticator server call TreeConnect = answers_tree_connect tree_response
+body_value authenticator server call (TreeConnect response) = answers_tree_connect response
 body_value authenticator server call TreeDisconnect = answers_tree_disconnect
 body_value authenticator server call (Create response) = answers_create response
 body_value authenticator server call (Close response) = answers_close response

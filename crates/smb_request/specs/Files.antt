@@ -22,10 +22,11 @@ use Rattle.smb_request.specs.declared.call.Call.{Call}
 use Rattle.smb_request.specs.declared.context.HeaderIds.{HeaderIds}
 use Rattle.smb_request.specs.State.{ServerState, with_store}
 use Rattle.smb_request.specs.Response.{CommandStep, success, refused, by_status}
+use Rattle.smb_request.specs.Session.{may_only_read}
 
--- what a CREATE asks of the files, under a session and a tree
-abbrev pub file_asked : HeaderIds → CreateAsked → FileAsked
-file_asked ids asked = record {
+-- what a CREATE asks of the files, under a session, which may only read or write too, and a tree
+abbrev pub file_asked : HeaderIds → CreateAsked → Bool → FileAsked
+file_asked ids asked read_only = record {
   name = asked.name;
   access = asked.desired_access.0;
   attributes = asked.file_attributes.0;
@@ -34,6 +35,7 @@ file_asked ids asked = record {
   options = asked.create_options.0;
   session = ids.session_id;
   tree = ids.tree_id;
+  read_only = read_only;
 }
 
 -- what a CREATE that succeeds is answered: no oplock, what was done, the entry as it stands afterwards, and as FileId
@@ -55,7 +57,7 @@ create_response done = record {
 -- CREATE (3.3.5.9)
 unfoldable pub file_created : {S : Type 0} → ServerState S → Call → CreateAsked → CommandStep S
 file_created server call asked =
-    let ask = file_asked call.ids asked in
+    let ask = file_asked call.ids asked (may_only_read server call) in
     by_status server call.ids (create_status server.store ask) (record {
       server = with_store server (created server.store ask call.moment);
       response = success call.ids (answers_create (create_response (create_result server.store ask call.moment)));

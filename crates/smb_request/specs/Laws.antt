@@ -1,5 +1,5 @@
 -- What follows from the definitions.
-use Rattle.std.specs.Prelude.{◌≡◌, ◌⊎◌, ℕ, ◌<◌, ◌==◌, false, List, [], filter, map, Option, None, Some}
+use Rattle.std.specs.Prelude.{◌≡◌, ◌⊎◌, ℕ, ◌<◌, ◌==◌, Bool, false, ◌≢◌, List, [], filter, map, Option, None, Some}
 use Rattle.std.specs.List.{AllByRecursion}
 use Rattle.smb_wire.specs.Commands.{known_command}
 use Rattle.smb_head.specs.Headers.{header_of}
@@ -10,15 +10,17 @@ use Rattle.smb_session.specs.Good.{GoodTable}
 use Rattle.smb_session.specs.Numbers.{IsRising}
 use Rattle.smb_session.specs.Session.{SessionState}
 use Rattle.smb_session.specs.Setup.{setup_number}
-use Rattle.smb_session.specs.Table.{TableState, session_at}
+use Rattle.smb_session.specs.Table.{TableState, session_at, read_only_of}
 use Rattle.smb_access.specs.declared.open_row.Owner.TheVariants.{Session}
 use Rattle.smb_opens.specs.Good.{GoodStore}
+use Rattle.smb_opens.specs.Readers.{LeavesFiles}
 use Rattle.smb_access.specs.Numbers.{AreRising}
 use Rattle.smb_access.specs.Opens.{is_held_by, open_numbers, AreAllBelow}
 use Rattle.smb_opens.specs.State.{StoreState}
 use Rattle.smb_wire.specs.declared.dialect.Dialect.{Dialect}
 use Rattle.smb_request.specs.declared.context.Context.{Context}
 use Rattle.smb_request.specs.Call.{request_ids, body_of}
+use Rattle.smb_request.specs.Owners.{AreOwned}
 use Rattle.smb_request.specs.Request.{performed}
 use Rattle.smb_request.specs.State.{ServerState, connection_added, connection_ended}
 
@@ -64,11 +66,12 @@ pub record ReplacesSession {S : Type 0} (authenticator : Meaning S) (server : Se
   pub asked : SessionSetupAsked
   pub user : List ℕ
   pub flags : ℕ
+  pub read_only : Bool
   pub token : List ℕ
   pub says : body_of (known_command (header_of request).command.0) request ≡ Some (asks_session_setup asked)
   pub accepted :
       authenticator.answer server.sessions.authenticator (setup_number server.sessions.table (request_ids context request).session_id) asked.security_buffer
-      ≡ accepts user flags token
+      ≡ accepts user flags read_only token
   pub same_user : session.user ≡ Some user
   pub previous : asked.previous_session_id ≡ number
 
@@ -79,3 +82,27 @@ ARequestIsAlone {S} authenticator =
     IsInOrder server → session_at server.sessions.table number ≡ Some session → session.connection == connection ≡ false →
     IsAsItWas server (performed authenticator connection moment server dialect context request).server number
     ⊎ (IsOver (performed authenticator connection moment server dialect context request).server number × ReplacesSession authenticator server context request number session)
+
+-- WHOEVER MAY ONLY READ CHANGES NO FILE
+
+-- no finished session of a connection may write
+abbrev pub AllMayOnlyRead : TableState → ℕ → Type 0
+AllMayOnlyRead table connection = (session : ℕ) → read_only_of table connection session ≢ Some false
+
+-- no file is changed, but for what goes with its last open; and each open is owned
+pub record ChangesNoFile {S : Type 0} (before after : ServerState S) : Type 0 where
+  pub files : LeavesFiles before.store after.store
+  pub owned : AreOwned after.sessions.table after.store.opens
+
+-- a request on a connection changes no file where no session of it may write
+abbrev pub ARequestToReadChangesNoFile : {S : Type 0} → Meaning S → Type 0
+ARequestToReadChangesNoFile {S} authenticator =
+    (connection moment : ℕ) (server : ServerState S) (dialect : Option Dialect) (context : Context) (request : List ℕ) →
+    IsInOrder server → AreOwned server.sessions.table server.store.opens → AllMayOnlyRead server.sessions.table connection →
+    ChangesNoFile server (performed authenticator connection moment server dialect context request).server
+
+-- nor does the end of any connection
+abbrev pub AnEndChangesNoFile : {S : Type 0} → Meaning S → Type 0
+AnEndChangesNoFile {S} authenticator =
+    (server : ServerState S) (connection : ℕ) → IsInOrder server → AreOwned server.sessions.table server.store.opens →
+    ChangesNoFile server (connection_ended server connection)

@@ -1,18 +1,18 @@
 -- SESSION_SETUP, LOGOFF, TREE_CONNECT and TREE_DISCONNECT ([MS-SMB2] 3.3.5.5 to 3.3.5.8).
-use Rattle.std.specs.Prelude.{ℕ, List, Option, Some, None, option_and_then}
+use Rattle.std.specs.Prelude.{ℕ, Bool, false, List, Option, Some, None, option_and_then, unwrap_or}
 use Rattle.std.specs.Option.{option_map_or}
-use Rattle.smb_wire.specs.Access.{FILE_ALL_ACCESS}
 use Rattle.smb_body.specs.Replies.{ReplyValue, answers_error, answers_session_setup, answers_logoff, answers_tree_connect, answers_tree_disconnect}
 use Rattle.smb_body.specs.SessionSetup.{SessionSetupAsked}
 use Rattle.smb_body.specs.declared.tree_connect.TreeConnectResponse.{TreeConnectResponse}
 use Rattle.smb_session.specs.Authenticator.{Meaning}
 use Rattle.smb_session.specs.Setup.{SetupResult, setup_refusal}
-use Rattle.smb_session.specs.Table.{session_ended, logoff_refusal, tree_connected, next_tree_of, tree_disconnect_refusal, tree_disconnected}
+use Rattle.smb_session.specs.Table.{read_only_of, session_ended, logoff_refusal, tree_connected, next_tree_of, tree_disconnect_refusal, tree_disconnected}
 use Rattle.smb_session.specs.Sessions.{SetupStep, setup_step, tree_connect_refusal}
 use Rattle.smb_session.specs.declared.fault.SessionFault.{SessionFault}
 use Rattle.smb_session.specs.declared.fault.SessionFault.TheVariants.{UnknownSession, UnknownTree, NoShare, NotAccepted, NoDialect, NoMemory}
 use Rattle.smb_session.specs.declared.setup.SetupStatus.{SetupStatus}
 use Rattle.smb_session.specs.declared.setup.SetupStatus.TheVariants.{Success, MoreProcessingRequired, LogonFailure}
+use Rattle.smb_access.specs.Access.{most_allowed}
 use Rattle.smb_access.specs.declared.open_row.Owner.{Owner}
 use Rattle.smb_access.specs.declared.open_row.Owner.TheVariants.{Session, Tree}
 use Rattle.smb_opens.specs.Close.{closed_all}
@@ -79,13 +79,17 @@ session_logged_off server call = unless_refused server call.ids
       response = success call.ids answers_logoff;
     })
 
--- what a tree is: a disk, without flags and capabilities, and with all access (2.2.10)
-abbrev pub tree_response : TreeConnectResponse
-tree_response = record {
+-- the session that a request acts under may only read
+abbrev pub may_only_read : {S : Type 0} → ServerState S → Call → Bool
+may_only_read server call = unwrap_or (read_only_of server.sessions.table call.connection call.ids.session_id) false
+
+-- what a tree is: a disk, without flags and capabilities, and with all access that a session can be granted (2.2.10)
+abbrev pub tree_response : Bool → TreeConnectResponse
+tree_response read_only = record {
   share_type = record { 0 = 1 };
   share_flags = record { 0 = 0 };
   capabilities = record { 0 = 0 };
-  maximal_access = record { 0 = FILE_ALL_ACCESS };
+  maximal_access = record { 0 = most_allowed read_only false };
 }
 
 -- TREE_CONNECT (3.3.5.7): the answer tells the new tree's number
@@ -96,7 +100,7 @@ tree_joined server call path = unless_refused server call.ids
       server = with_table server (tree_connected server.sessions.table call.ids.session_id);
       response = with_body
           (record call.ids { tree_id = next_tree_of server.sessions.table call.ids.session_id })
-          NtStatus.Success (answers_tree_connect tree_response);
+          NtStatus.Success (answers_tree_connect (tree_response (may_only_read server call)));
     })
 
 -- TREE_DISCONNECT (3.3.5.8): the tree is gone, with its opens

@@ -8,9 +8,9 @@ use Rattle.smb_session.specs.Tokens.{KnownUser}
 -- what an answer says
 abbrev pub answered_by : Answer → Answered
 answered_by (Continue token) = continues token.items
-answered_by (Accept user flags token) = accepts user.items flags token.items
+answered_by (Accept user flags read_only token) = accepts user.items flags read_only token.items
 answered_by Deny = denies
 
 -- what a user is
 abbrev pub known_user : User → KnownUser
-known_user user = record { name = user.name.items; token = user.token.items }
+known_user user = record { name = user.name.items; token = user.token.items; read_only = user.read_only }

@@ -1,11 +1,12 @@
 -- What an authenticator means: who a client is, and the tokens of the exchange that finds it out ([MS-SMB2] 3.3.5.5.3).
-use Rattle.std.specs.Prelude.{ℕ, ◌≤◌, List, length}
+use Rattle.std.specs.Prelude.{ℕ, ◌≤◌, Bool, List, length}
 use Rattle.smb_wire.specs.Limits.{longest_token, longest_user_name}
 
--- an answer to a client's token: more is to come, with a token; a user is accepted, with session flags and a last token; or no
+-- an answer to a client's token: more is to come, with a token; a user is accepted, with session flags, whether it may only
+-- read, and a last token; or no
 pub data Answered : Type 0 where
   continues : List ℕ → Answered
-  accepts : List ℕ → ℕ → List ℕ → Answered
+  accepts : List ℕ → ℕ → Bool → List ℕ → Answered
   denies : Answered
 
 -- an authenticator as functions of its state: the token that it offers first, and what a session and a token are answered and leave
@@ -17,5 +18,5 @@ pub record Meaning (S : Type 0) : Type 0 where
 -- the sizes of an answer: a token has at most 4,096 bytes, a user at most 256, and the flags are IS_GUEST 1 and IS_NULL 2 (2.2.6)
 abbrev pub IsLawful : Answered → Type 0
 IsLawful (continues token) = length token ≤ longest_token
-IsLawful (accepts user flags token) = (length user ≤ longest_user_name) × (flags ≤ 3) × (length token ≤ longest_token)
+IsLawful (accepts user flags read_only token) = (length user ≤ longest_user_name) × (flags ≤ 3) × (length token ≤ longest_token)
 IsLawful denies = Unit {0}

@@ -22,8 +22,8 @@ WhatEndedIsGone = (table : TableState) (session : ℕ) → GoodTable table → s
 abbrev pub WhatIsGoneIsUnknown : Type 0
 WhatIsGoneIsUnknown = (table : TableState) (connection session : ℕ) → IsGone table session → knows_session table connection session ≡ false
 
--- what is gone stays so, whatever is done: connections come, sessions begin, end and change, connections end, and an answer is
--- performed. So no number is given twice
+-- a session's number that is gone stays gone when a connection comes, a session begins, ends or changes, a connection ends, or
+-- an authenticator's answer is performed; no number is given to two sessions
 abbrev pub WhatIsGoneStaysGone : Type 0
 WhatIsGoneStaysGone =
     (table : TableState) (session : ℕ) → IsGone table session →
@@ -41,17 +41,17 @@ pub record IsUsed (window : Numbers) (id : ℕ) : Type 0 where
   pub granted : id < window.next
   pub gone : contains window.usable id ≡ false
 
--- each that a chain takes, of however many credits its requests are, is used
+-- each MessageId that a chain takes is used, of however many credits its requests are
 abbrev pub WhatIsTakenIsUsed : Type 0
 WhatIsTakenIsUsed =
     (window : Numbers) (ids : List ℕ) (id : ℕ) → GoodWindow window → may_use window ids ≡ true → contains ids id ≡ true → IsUsed (without_ids window ids) id
 
--- it stays so, whatever is taken and granted afterwards
+-- a used MessageId stays used, whatever MessageIds chains take and responses grant afterwards
 abbrev pub WhatIsUsedStaysUsed : Type 0
 WhatIsUsedStaysUsed =
     (window : Numbers) (id : ℕ) → IsUsed window id →
     ((ids : List ℕ) → IsUsed (without_ids window ids) id) × ((count : ℕ) → IsUsed (with_more window count) id)
 
--- and no chain may use it
+-- a chain that names a used MessageId is not let in
 abbrev pub WhatIsUsedMayNotBeUsed : Type 0
 WhatIsUsedMayNotBeUsed = (window : Numbers) (ids : List ℕ) (id : ℕ) → IsUsed window id → contains ids id ≡ true → may_use window ids ≡ false

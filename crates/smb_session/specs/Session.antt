@@ -1,23 +1,25 @@
 -- A session ([MS-SMB2] 3.3.1.8).
-use Rattle.std.specs.Prelude.{ℕ, ◌+◌, Bool, ◌||◌, nat_le, length, List, [], ◌∷◌, ◌++◌, Option, None, Some}
+use Rattle.std.specs.Prelude.{ℕ, ◌+◌, Bool, false, ◌||◌, nat_le, length, List, [], ◌∷◌, ◌++◌, Option, None, Some}
 use Rattle.smb_wire.specs.Limits.{most_tree_connects}
 use Rattle.smb_wire.specs.Counters.{is_spent}
 use Rattle.smb_session.specs.Numbers.{without_number}
 
--- its connection, its user once it is finished, the numbers of its trees in rising order, and the next tree's number
+-- its connection, its user once it is finished, whether it may only read, the numbers of its trees in rising order, and the
+-- next tree's number
 pub record SessionState : Type 0 where
   pub connection : ℕ
   pub user : Option (List ℕ)
+  pub read_only : Bool
   pub trees : List ℕ
   pub next_tree : ℕ
 
 -- a session that has begun: no user yet and no tree, and its first tree will be 1
 abbrev pub fresh_session : ℕ → SessionState
-fresh_session connection = record { connection = connection; user = None; trees = []; next_tree = 1 }
+fresh_session connection = record { connection = connection; user = None; read_only = false; trees = []; next_tree = 1 }
 
--- a session that is finished, by a user
-abbrev pub finished_by : List ℕ → SessionState → SessionState
-finished_by user session = record session { user = Some user }
+-- a session that is finished, by a user who may only read or who may write too
+abbrev pub finished_by : List ℕ → Bool → SessionState → SessionState
+finished_by user read_only session = record session { user = Some user; read_only = read_only }
 
 -- a session with one tree more, which has the next number
 abbrev pub with_tree : SessionState → SessionState

@@ -53,14 +53,14 @@ previous_ended table user previous =
     if option_map_or (is_of_user user) (session_at table previous) false then Some previous else None
 
 -- an accepted session is finished, and the previous one ends
-abbrev pub accepted : TableState → ℕ → List ℕ → ℕ → TableState
-accepted table session user previous =
-    session_changed (finished_by user) (option_map_or (session_ended table) (previous_ended table user previous) table) session
+abbrev pub accepted : TableState → ℕ → List ℕ → Bool → ℕ → TableState
+accepted table session user read_only previous =
+    session_changed (finished_by user read_only) (option_map_or (session_ended table) (previous_ended table user previous) table) session
 
 -- the table after an answer about a session
 abbrev pub table_answered : TableState → ℕ → ℕ → Answered → TableState
 table_answered table session previous (continues token) = table
-table_answered table session previous (accepts user flags token) = accepted table session user previous
+table_answered table session previous (accepts user flags read_only token) = accepted table session user read_only previous
 table_answered table session previous denies = session_ended table session
 
 -- what is told of an answer: the session's number, the status, session flags, a token, and the session that ended
@@ -75,7 +75,7 @@ pub record SetupResult : Type 0 where
 abbrev pub setup_result : TableState → ℕ → ℕ → Answered → SetupResult
 setup_result table session previous (continues token) =
     record { session = session; status = MoreProcessingRequired; flags = 0; token = token; ended = None }
-setup_result table session previous (accepts user flags token) =
+setup_result table session previous (accepts user flags read_only token) =
     record { session = session; status = Success; flags = flags; token = token; ended = previous_ended table user previous }
 setup_result table session previous denies =
     record { session = session; status = LogonFailure; flags = 0; token = []; ended = None }

@@ -1,6 +1,6 @@
 -- The table of sessions, with their trees ([MS-SMB2] 3.3.1.5, 3.3.1.8, 3.3.1.9).
 use Rattle.std.specs.Prelude.{ℕ, ◌+◌, Bool, false, ◌&&◌, ◌==◌, not, List, [], ◌∷◌, ◌++◌, Option, None, Some, is_some, if◌then◌else◌, slice_get}
-use Rattle.std.specs.Option.{option_map_or}
+use Rattle.std.specs.Option.{option_map, option_map_or}
 use Rattle.std.specs.Map.{lookup, remove_entry}
 use Rattle.std.specs.BTreeMap.{is_at}
 use Rattle.std.specs.Ordering.{nat_cmp}
@@ -61,6 +61,11 @@ knows_session table connection session =
 -- whether a session is connected to a tree (3.3.5.2.11)
 abbrev pub knows_tree : TableState → ℕ → ℕ → Bool
 knows_tree table session tree = option_map_or (λ state. contains state.trees tree) (session_at table session) false
+
+-- whether a finished session of this connection may only read, as its answer said; None where a number is that of none
+abbrev pub read_only_of : TableState → ℕ → ℕ → Option Bool
+read_only_of table connection session =
+    if knows_session table connection session then option_map (λ state. state.read_only) (session_at table session) else None
 
 -- both, or where no tree is named the first alone
 abbrev pub knows : TableState → ℕ → ℕ → Option ℕ → Bool

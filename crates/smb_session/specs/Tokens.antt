@@ -5,15 +5,17 @@ use Rattle.std.specs.List.{AllByRecursion}
 use Rattle.std.specs.Str.{bytes_eq}
 use Rattle.smb_session.specs.Authenticator.{Answered, accepts, denies, Meaning}
 
--- a user and the token by which it is known
+-- a user, the token by which it is known, and whether it may only read
 pub record KnownUser : Type 0 where
   pub name : List ℕ
   pub token : List ℕ
+  pub read_only : Bool
 
--- its first token, whether guests may come, and the users
+-- its first token, whether guests may come, whether they may only read, and the users
 pub record TokenList : Type 0 where
   pub hello : List ℕ
   pub guest : Bool
+  pub guest_read_only : Bool
   pub users : List KnownUser
 
 -- the user of a token
@@ -21,18 +23,19 @@ abbrev pub user_of : List KnownUser → List ℕ → Option KnownUser
 user_of users token = find (λ user. bytes_eq user.token token) users
 
 -- where a token is no user's: a guest, with IS_GUEST, where guests may come (2.2.6)
-abbrev pub answer_to_stranger : Bool → Answered
-answer_to_stranger guest = if guest then accepts (codes "guest") 1 [] else denies
+abbrev pub answer_to_stranger : Bool → Bool → Answered
+answer_to_stranger guest guest_read_only = if guest then accepts (codes "guest") 1 guest_read_only [] else denies
 
 -- a user's token brings that user, and another a guest or a denial. The token answered is empty
-abbrev pub token_answer : Bool → List KnownUser → List ℕ → Answered
-token_answer guest users token = option_map_or (λ user. accepts user.name 0 []) (user_of users token) (answer_to_stranger guest)
+abbrev pub token_answer : Bool → Bool → List KnownUser → List ℕ → Answered
+token_answer guest guest_read_only users token =
+    option_map_or (λ user. accepts user.name 0 user.read_only []) (user_of users token) (answer_to_stranger guest guest_read_only)
 
 -- answers by the list, which stays as it is
 abbrev pub by_tokens : Meaning TokenList
 by_tokens = record {
   hello = λ list. list.hello;
-  answer = λ list session token. token_answer list.guest list.users token;
+  answer = λ list session token. token_answer list.guest list.guest_read_only list.users token;
   next = λ list session token. list;
 }
 
