@@ -5,7 +5,7 @@ use Rattle.std.specs.Int.Bits.{and_zero_r}
 use lib.Arith.{bin_ind}
 use lib.Bits.{and_step, or_step}
 use Rattle.smb_wire.specs.Access.{has_any, GENERIC_ALL, GENERIC_EXECUTE, GENERIC_WRITE, GENERIC_READ, MAXIMUM_ALLOWED, FILE_ALL_ACCESS, FILE_GENERIC_EXECUTE, FILE_GENERIC_WRITE, FILE_GENERIC_READ, FILE_SHARE_ALL}
-use Rattle.smb_access.specs.Access.{read_only_access, rights_for, granted}
+use Rattle.smb_access.specs.Access.{most_allowed, rights_for, granted}
 use Rattle.smb_access.specs.Asked.{FileAsked, share_asked}
 
 -- of two masks joined the bits within another one are those of each
@@ -26,16 +26,17 @@ within_if : (m n : ℕ) (b : Bool) → bit_and n m ≡ n → bit_and (if b then 
 within_if m n true h = h
 within_if m n false h = refl
 
-all_or_some : (b : Bool) → bit_and (if b then read_only_access else FILE_ALL_ACCESS) FILE_ALL_ACCESS ≡ (if b then read_only_access else FILE_ALL_ACCESS)
-all_or_some true = refl
-all_or_some false = refl
+all_or_some : (r b : Bool) → bit_and (most_allowed r b) FILE_ALL_ACCESS ≡ most_allowed r b
+all_or_some true b = refl
+all_or_some false true = refl
+all_or_some false false = refl
 
 -- the rights that are granted are rights
-pub granted_masked : (access : ℕ) (on_read_only : Bool) → bit_and (granted access on_read_only).0 FILE_ALL_ACCESS ≡ (granted access on_read_only).0
-granted_masked access on_read_only =
+pub granted_masked : (access : ℕ) (read_only on_read_only : Bool) → bit_and (granted access read_only on_read_only).0 FILE_ALL_ACCESS ≡ (granted access read_only on_read_only).0
+granted_masked access read_only on_read_only =
     let m : ℕ = FILE_ALL_ACCESS in
-    let maximum : ℕ = if on_read_only then read_only_access else FILE_ALL_ACCESS in
-    let six = within_if m maximum (has_any access MAXIMUM_ALLOWED) (all_or_some on_read_only) in
+    let maximum : ℕ = most_allowed read_only on_read_only in
+    let six = within_if m maximum (has_any access MAXIMUM_ALLOWED) (all_or_some read_only on_read_only) in
     let five = within_or m (rights_for access GENERIC_READ FILE_GENERIC_READ) _ (within_if m FILE_GENERIC_READ (has_any access GENERIC_READ) refl) six in
     let four = within_or m (rights_for access GENERIC_WRITE FILE_GENERIC_WRITE) _ (within_if m FILE_GENERIC_WRITE (has_any access GENERIC_WRITE) refl) five in
     let three = within_or m (rights_for access GENERIC_EXECUTE FILE_GENERIC_EXECUTE) _ (within_if m FILE_GENERIC_EXECUTE (has_any access GENERIC_EXECUTE) refl) four in

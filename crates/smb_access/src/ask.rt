@@ -21,4 +21,6 @@ pub struct CreateAsk<'a> {
     pub session: u64,
     /// The number of the tree connect, in that session, under which it asks.
     pub tree: u32,
+    /// Whether the session that asks may only read.
+    pub read_only: bool,
 }

@@ -4,18 +4,18 @@ ghost use Rattle.std.specs.Prelude.{◌||◌, ◌&&◌, not, ◌≡◌, ◌≢�
 ghost use Rattle.smb_wire.specs.Paths.{is_separator, path_fault, path_spelled};
 ghost use Rattle.smb_wire.specs.PathViews.{parts_of};
 ghost use Rattle.smb_wire.specs.Units.{units_of};
-ghost use Rattle.smb_access.specs.Asked.{asked, asks_folder, asks_file, asks_by_number, asks_delete, asks_read_only};
+ghost use Rattle.smb_access.specs.Asked.{asked, asks_folder, asks_file, asks_by_number, asks_delete, asks_read_only, asks_past_reading};
 ghost use Rattle.smb_wire.specs.Dispositions.{disposition_code};
 ghost use Rattle.smb_access.specs.Access.{is_bad_access, is_deleting, granted};
 ghost use Rattle.smb_access.specs.StatusRows.{StatusRow, first_status};
 ghost use Rattle.smb_access.specs.Looked.{asked_rows, place_rows, kind_rows, room_rows, is_file_target, is_folder_target, is_read_only_target, is_marked_target, is_root_target, target_becomes_read_only};
 
-use super::access::{granted, is_bad_access, is_deleting, is_writing};
+use super::access::{granted, is_bad_access, is_deleting, is_past_reading, is_writing};
 use super::ask::CreateAsk;
 use super::found::{CreateLookup, ROOT, Target};
 use bitflags::Flags;
 use smb_wire::{
-    CreateDisposition, CreateOptions, FileAttributes, NtStatus, PathView, Units, split_path,
+    Access, CreateDisposition, CreateOptions, FileAttributes, NtStatus, PathView, Units, split_path,
 };
 
 const SEPARATOR: u16 = 0x5C;
@@ -166,13 +166,23 @@ pub fn asked_path<'a>(ask: &CreateAsk<'a>) -> Result<(CreateDisposition, PathVie
 }
 
 // Whether no access is asked for, or an unknown one, or DELETE is needed and not granted.
-fn is_denied(ask: &CreateAsk<'_>, target: &Option<Target>) -> bool
-    ensures { result ≡ (is_bad_access ask.now.access.0 || asks_delete (asked ask.now) && not (is_deleting (granted ask.now.access.0 (is_read_only_target target.now)))) }
+fn is_denied(ask: &CreateAsk<'_>, access: Access) -> bool
+    ensures { result ≡ (is_bad_access ask.now.access.0 || asks_delete (asked ask.now) && not (is_deleting access)) }
 {
     if is_bad_access(ask.access) {
         return true;
     }
-    asks_delete(ask) && !is_deleting(granted(ask.access, is_read_only_target(target)))
+    asks_delete(ask) && !is_deleting(access)
+}
+
+// Whether a session that may only read asks for a right to change something, or to create or overwrite
+// an entry.
+fn asks_past_reading(ask: &CreateAsk<'_>, disposition: CreateDisposition, access: Access) -> bool
+    requires { disposition_code disposition ≡ ask.now.disposition.0 }
+    ensures { result ≡ asks_past_reading (asked ask.now) access }
+{
+    ask.read_only
+        && (is_past_reading(access) || disposition.must_be_new() || disposition.overwrites())
 }
 
 /// Whether an entry may be where a request names it, or the status that answers it.
@@ -187,7 +197,15 @@ pub fn check_place(
     ensures refused { IfErr result (λ status. status ≢ NtStatus.Success) }
 {
     let exists = found.target.is_some();
-    if is_denied(ask, &found.target) {
+    let access = granted(
+        ask.access,
+        ask.read_only,
+        is_read_only_target(&found.target),
+    );
+    if is_denied(ask, access) {
+        return Err(NtStatus::AccessDenied);
+    }
+    if asks_past_reading(ask, disposition, access) {
         return Err(NtStatus::AccessDenied);
     }
     if !found.reached {
@@ -198,6 +216,9 @@ pub fn check_place(
     }
     if !exists && disposition.must_exist() {
         return Err(NtStatus::ObjectNameNotFound);
+    }
+    if ask.read_only && !exists {
+        return Err(NtStatus::AccessDenied);
     }
     if exists && disposition.must_be_new() {
         return Err(NtStatus::ObjectNameCollision);
@@ -224,7 +245,7 @@ pub fn check_kind(
     if is_file_target(target) && asks_folder(ask) {
         return Err(NtStatus::NotADirectory);
     }
-    if read_only && (overwrites || is_writing(granted(ask.access, read_only))) {
+    if read_only && (overwrites || is_writing(granted(ask.access, ask.read_only, read_only))) {
         return Err(NtStatus::AccessDenied);
     }
     if asks_delete(ask)

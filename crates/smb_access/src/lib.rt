@@ -35,6 +35,7 @@ pub mod sharing;
 mod use_kind;
 mod view;
 
+pub use access::most_allowed;
 pub use ask::CreateAsk;
 pub use fault::StoreFault;
 pub use open_row::{OpenNo, OpenRow, Owner};

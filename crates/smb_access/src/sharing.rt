@@ -88,7 +88,7 @@ pub fn conflicts<O: Opens>(
     let Some(found) = target else {
         return false;
     };
-    let access = granted(ask.access, is_read_only_target(target));
+    let access = granted(ask.access, ask.read_only, is_read_only_target(target));
     has_conflict(
         opens,
         found.number,

@@ -8,6 +8,7 @@ pub mod Streams
 pub mod Kept
 pub mod Order
 pub mod Sessions
+pub mod Readers
 pub mod Ends
 pub mod Runs
 pub mod Cuts

@@ -14,7 +14,7 @@
 //!
 //! ```text
 //! let config = Config { share: String::from_str(alloc, "data")?, .. };
-//! let users = Tokens::new(alloc, b"", false, vec![in alloc; ann]?)?;
+//! let users = Tokens::new(alloc, b"", false, false, vec![in alloc; ann]?)?;
 //! let mut share = Share::in_memory(alloc, config, users)?;
 //! serve(&mut share, &mut peers, &mut clock, turns);
 //! ```

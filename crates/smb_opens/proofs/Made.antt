@@ -76,9 +76,9 @@ good_opened state tree row good fine lawful masked present stands number room al
 }
 
 -- an open that is made of an entry, with access that is granted, has no bits outside its masks
-pub masked_open : (ask : FileAsked) (number entry : ℕ) (access : Access) (on_read_only : Bool) (row : OpenRow) → row ≡ opened_by ask number entry access → access ≡ granted ask.access on_read_only → IsMasked row
+pub masked_open : (ask : FileAsked) (number entry : ℕ) (access : Access) (on_read_only : Bool) (row : OpenRow) → row ≡ opened_by ask number entry access → access ≡ granted ask.access ask.read_only on_read_only → IsMasked row
 masked_open ask number entry access on_read_only row r g = record {
-  access = ap (λ (o : OpenRow). bit_and o.access.0 FILE_ALL_ACCESS) r ∙ ap (λ (a : Access). bit_and a.0 FILE_ALL_ACCESS) g ∙ granted_masked ask.access on_read_only ∙ sym (ap (λ (o : OpenRow). o.access.0) r ∙ ap (λ (a : Access). a.0) g);
+  access = ap (λ (o : OpenRow). bit_and o.access.0 FILE_ALL_ACCESS) r ∙ ap (λ (a : Access). bit_and a.0 FILE_ALL_ACCESS) g ∙ granted_masked ask.access ask.read_only on_read_only ∙ sym (ap (λ (o : OpenRow). o.access.0) r ∙ ap (λ (a : Access). a.0) g);
   share = ap (λ (o : OpenRow). bit_and o.share.0 FILE_SHARE_ALL) r ∙ share_masked ask ∙ sym (ap (λ (o : OpenRow). o.share.0) r);
 }
 
@@ -206,7 +206,7 @@ alone_by opens ask entry access h =
     ] h
 
 -- an open conflicts with none where what was asked for does not
-pub alone_opened : (opens : List OpenRow) (ask : FileAsked) (n : ℕ) (target : Target) (access : Access) (row : OpenRow) → access ≡ granted ask.access (is_read_only_target (Some target)) → row ≡ opened_by ask n target.number access → target_conflicts opens ask (Some target) ≡ false → has_conflict opens row.entry (use_of row) ≡ false
+pub alone_opened : (opens : List OpenRow) (ask : FileAsked) (n : ℕ) (target : Target) (access : Access) (row : OpenRow) → access ≡ granted ask.access ask.read_only (is_read_only_target (Some target)) → row ≡ opened_by ask n target.number access → target_conflicts opens ask (Some target) ≡ false → has_conflict opens row.entry (use_of row) ≡ false
 alone_opened opens ask n target access row g r h =
     let asked_for : has_conflict opens target.number (use_asked ask access) ≡ false = ap (λ (a : Access). has_conflict opens target.number (use_asked ask a)) g ∙ h in
     ap (λ (o : OpenRow). has_conflict opens o.entry (use_of o)) r ∙ alone_by opens ask target.number access asked_for

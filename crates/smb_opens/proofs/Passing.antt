@@ -15,7 +15,7 @@ use Rattle.smb_access.specs.declared.fault.StoreFault.TheVariants.{Status, NoMem
 use Rattle.smb_wire.specs.NtStatus.{status_code}
 use Rattle.smb_access.specs.declared.open_row.OpenRow.{OpenRow}
 use Rattle.smb_access.specs.declared.found.CreateLookup.{CreateLookup}
-use Rattle.smb_access.specs.Asked.{FileAsked, asks_file}
+use Rattle.smb_access.specs.Asked.{FileAsked, asks_file, asks_past_reading}
 use Rattle.smb_wire.specs.declared.nt_status.NtStatus.{NtStatus}
 use Rattle.smb_wire.specs.declared.nt_status.NtStatus.TheVariants.{Success, SharingViolation}
 use Rattle.smb_access.specs.declared.found.Target.{Target}
@@ -40,15 +40,17 @@ pub pass_at : (b : Bool) (status code : NtStatus) → status ≢ Success → (co
 pass_at true status code n e = absurd (n e)
 pass_at false status code n e = (refl, e)
 
-pass_all : (rows : List StatusRow) → AllByRecursion (λ row. row.1 ≢ Success) rows → first_status rows ≡ Success → AllByRecursion (λ row. row.0 ≡ false) rows
+pub pass_all : (rows : List StatusRow) → AllByRecursion (λ row. row.1 ≢ Success) rows → first_status rows ≡ Success → AllByRecursion (λ row. row.0 ≡ false) rows
 pass_all [] n e = tt
 pass_all (row ∷ rows) n e =
     let p = pass_at row.0 row.1 (first_status rows) n.0 e in
     (p.0, pass_all rows n.1 p.1)
 
 pub record Passed (rows : List OpenRow) (ask : FileAsked) (found : CreateLookup) : Type 0 where
+  pub past_reading : asks_past_reading ask (granted ask.access ask.read_only (is_read_only_target found.target)) ≡ false
   pub reached : found.reached ≡ true
   pub pending : found.pending ≡ false
+  pub absent : (ask.read_only && is_none found.target) ≡ false
   pub file : (is_folder_target found.target && (asks_file ask || overwrites_by ask.disposition)) ≡ false
   pub alone : target_conflicts rows ask found.target ≡ false
   pub opens : found.opens_full ≡ false
@@ -57,15 +59,17 @@ pub record Passed (rows : List OpenRow) (ask : FileAsked) (found : CreateLookup)
 pub passed : (opens : List OpenRow) (ask : FileAsked) (found : CreateLookup) → first_status (found_rows opens ask found) ≡ Success → Passed opens ask found
 passed opens ask found e =
     let refuses : AllByRecursion (λ row. row.1 ≢ Success) (found_rows opens ask found) =
-    ((λ q. cc), ((λ q. cc), ((λ q. cc), ((λ q. cc), ((λ q. cc), ((λ q. cc), ((λ q. cc), ((λ q. cc), ((λ q. cc), ((λ q. cc), ((λ q. cc), ((λ q. cc), tt)))))))))))) in
+    ((λ q. cc), ((λ q. cc), ((λ q. cc), ((λ q. cc), ((λ q. cc), ((λ q. cc), ((λ q. cc), ((λ q. cc), ((λ q. cc), ((λ q. cc), ((λ q. cc), ((λ q. cc), ((λ q. cc), ((λ q. cc), tt)))))))))))))) in
     let none = pass_all (found_rows opens ask found) refuses e in
     record {
-      reached = grind (arith, none.1.0);
-      pending = none.1.1.0;
-      file = none.1.1.1.1.1.0;
-      alone = none.1.1.1.1.1.1.1.1.1.0;
-      opens = none.1.1.1.1.1.1.1.1.1.1.0;
-      entries = none.1.1.1.1.1.1.1.1.1.1.1.0;
+      past_reading = none.1.0;
+      reached = grind (arith, none.1.1.0);
+      pending = none.1.1.1.0;
+      absent = none.1.1.1.1.1.0;
+      file = none.1.1.1.1.1.1.1.0;
+      alone = none.1.1.1.1.1.1.1.1.1.1.1.0;
+      opens = none.1.1.1.1.1.1.1.1.1.1.1.1.0;
+      entries = none.1.1.1.1.1.1.1.1.1.1.1.1.1.0;
     }
 
 -- the table's rows are those over the request and those over what is found
@@ -184,7 +188,7 @@ read_only_same None = refl
 read_only_same (Some entry) = refl
 
 -- the access that is granted on the target that was found
-pub access_found : (state : StoreState) (ask : FileAsked) (path : Path) (found : CreateLookup) (target : Target) → found ≡ found_at state path → path ≡ path_asked ask → found.target ≡ Some target → granted ask.access (is_read_only_target (Some target)) ≡ access_granted state ask
+pub access_found : (state : StoreState) (ask : FileAsked) (path : Path) (found : CreateLookup) (target : Target) → found ≡ found_at state path → path ≡ path_asked ask → found.target ≡ Some target → granted ask.access ask.read_only (is_read_only_target (Some target)) ≡ access_granted state ask
 access_found state ask path found target f p t =
-    ap (λ (o : Option Target). granted ask.access (is_read_only_target o)) (sym t ∙ ap (λ (x : CreateLookup). x.target) f ∙ ap (λ (q : Path). option_map target_of (entry_at state.tree.rows q)) p)
-    ∙ ap (granted ask.access) (read_only_same (entry_asked state ask))
+    ap (λ (o : Option Target). granted ask.access ask.read_only (is_read_only_target o)) (sym t ∙ ap (λ (x : CreateLookup). x.target) f ∙ ap (λ (q : Path). option_map target_of (entry_at state.tree.rows q)) p)
+    ∙ ap (granted ask.access ask.read_only) (read_only_same (entry_asked state ask))

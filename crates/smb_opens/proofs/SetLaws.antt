@@ -152,5 +152,5 @@ pub not_opened : (state : StoreState) (ask : FileAsked) (entry : Entry) → entr
 not_opened state ask entry at marked =
     let pending : is_pending state.tree.rows (path_asked ask) ≡ true = rw at (rw marked refl) in
     refuses (create_rows state ask (entry_asked state ask))
-    (λ q. cc, (λ q. cc, (λ q. cc, (λ q. cc, (λ q. cc, (λ q. cc, (λ q. cc, (λ q. cc, (λ q. cc, (λ q. cc, (λ q. cc, (λ q. cc, (λ q. cc, (λ q. cc, (λ q. cc, (λ q. cc, (λ q. cc, tt)))))))))))))))))
-    (holds_at (create_rows state ask (entry_asked state ask)) 7 (is_pending state.tree.rows (path_asked ask), DeletePending) refl pending)
+    (λ q. cc, (λ q. cc, (λ q. cc, (λ q. cc, (λ q. cc, (λ q. cc, (λ q. cc, (λ q. cc, (λ q. cc, (λ q. cc, (λ q. cc, (λ q. cc, (λ q. cc, (λ q. cc, (λ q. cc, (λ q. cc, (λ q. cc, (λ q. cc, (λ q. cc, tt)))))))))))))))))))
+    (holds_at (create_rows state ask (entry_asked state ask)) 8 (is_pending state.tree.rows (path_asked ask), DeletePending) refl pending)

@@ -1,6 +1,7 @@
 //! The laws of stores.
 
 ghost use Rattle.smb_opens.specs.Laws.{ANewTreeIsGood, ACreateIsAtOnePath, AnOpenLeavesEntries, ACreateReturnsWhatIsShown, AConflictIsMutual, MoreAccessKeepsAConflict, ACloseIsOfOneEntry, ACloseKeepsBytesAndTimes, WhatIsWrittenIsReadAgain, AWriteIsOfOneFile, ALockKeepsOthersOut, ASharedLockKeepsWritersOut, NoTwoLocksConflict, ACloseTakesItsLocks, ASetOfTimesKeepsBytes, ASetOfAMarkKeepsBytes, ASetOfASizeIsOfOneFile, ASetOfASizeKeepsTheFront, AMarkedEntryIsNotOpened, ARenameKeepsBytes, AScanIsOfOneOpen};
+ghost use Rattle.smb_opens.specs.Readers.{AReaderChangesNothing, AReadersOpenIsRefused, AReadersCreateOpens};
 
 /// A new tree is good, so a store can be made of it; a CREATE changes at most the entry at its own path, and none where
 /// it doesn't overwrite, and returns what its open shows; a conflict is one both ways, and more access never removes
@@ -12,7 +13,10 @@ ghost use Rattle.smb_opens.specs.Laws.{ANewTreeIsGood, ACreateIsAtOnePath, AnOpe
 /// all locks; one of times and attributes, or of a mark, leaves all paths and bytes, and one of a size the bytes before
 /// the smaller of both sizes, with zeros behind those that there were. An entry that is marked isn't opened. A rename
 /// leaves all opens and all locks, and every entry's kind and bytes, but of one that it replaces. A scan is of one
-/// open, and changes nothing else. The contract is the statement, and the body does nothing.
+/// open, and changes nothing else. Whoever may only read changes no file: whatever requests are made, each entry that
+/// was not to go with its last open is as it was, none is new, and no other is to go; an open that may only read is
+/// refused each WRITE and each SET_INFO; and a CREATE of a session that may only read opens an entry that exists to
+/// read it, and leaves the tree. The contract is the statement, and the body does nothing.
 pub fn laws_of_stores()
     ensures new_tree { ANewTreeIsGood }
     ensures one_path { ACreateIsAtOnePath }
@@ -35,4 +39,7 @@ pub fn laws_of_stores()
     ensures not_opened { AMarkedEntryIsNotOpened }
     ensures renamed { ARenameKeepsBytes }
     ensures scans { AScanIsOfOneOpen }
+    ensures readers { AReaderChangesNothing }
+    ensures readers_refused { AReadersOpenIsRefused }
+    ensures readers_create { AReadersCreateOpens }
 {}

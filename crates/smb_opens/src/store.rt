@@ -205,13 +205,13 @@ impl<T: Tree + Drop, O: Opens + Drop> Store<T, O> {
         requires free { add_fault self.old.tree (folded_path (parts_of path.now)) ≡ None }
         requires above { is_marked (entry_at self.old.tree.rows (parent (folded_path (parts_of path.now)))) ≡ false }
         requires room { has_all_opens self.old ≡ false }
-        ensures store { OnOk result (self.new ≡ created_by self.old (asked ask.now) moment (granted ask.now.access.0 false) None) }
-        ensures told { IfOk result (λ done. done ≡ create_result_by self.old (asked ask.now) moment (granted ask.now.access.0 false) None) }
+        ensures store { OnOk result (self.new ≡ created_by self.old (asked ask.now) moment (granted ask.now.access.0 ask.now.read_only false) None) }
+        ensures told { IfOk result (λ done. done ≡ create_result_by self.old (asked ask.now) moment (granted ask.now.access.0 ask.now.read_only false) None) }
         ensures err { OnErr result (self.new ≡ self.old) }
         ensures memory { IfErr result (λ fault. fault ≡ NoMemory) }
     {
         let number = self.next;
-        let access = granted(ask.access, false);
+        let access = granted(ask.access, ask.read_only, false);
         let kind = kind_asked(ask);
         let Some(entry) = self.tree.next_no() else {
             unreachable!();
@@ -250,13 +250,17 @@ impl<T: Tree + Drop, O: Opens + Drop> Store<T, O> {
         requires file { overwrites_by ask.now.disposition.0 ≡ true → is_folder_kind target.kind ≡ false }
         requires alone { target_conflicts self.old.opens (asked ask.now) (Some target) ≡ false }
         requires room { has_all_opens self.old ≡ false }
-        ensures store { OnOk result (self.new ≡ created_by self.old (asked ask.now) moment (granted ask.now.access.0 (is_read_only_target (Some target))) (entry_asked self.old (asked ask.now))) }
-        ensures told { IfOk result (λ done. done ≡ create_result_by self.old (asked ask.now) moment (granted ask.now.access.0 (is_read_only_target (Some target))) (entry_asked self.old (asked ask.now))) }
+        ensures store { OnOk result (self.new ≡ created_by self.old (asked ask.now) moment (granted ask.now.access.0 ask.now.read_only (is_read_only_target (Some target))) (entry_asked self.old (asked ask.now))) }
+        ensures told { IfOk result (λ done. done ≡ create_result_by self.old (asked ask.now) moment (granted ask.now.access.0 ask.now.read_only (is_read_only_target (Some target))) (entry_asked self.old (asked ask.now))) }
         ensures err { OnErr result (self.new ≡ self.old) }
         ensures memory { IfErr result (λ fault. fault ≡ NoMemory) }
     {
         let number = self.next;
-        let access = granted(ask.access, is_read_only_target(&Some(target)));
+        let access = granted(
+            ask.access,
+            ask.read_only,
+            is_read_only_target(&Some(target)),
+        );
         self.opens
             .add(opened_by(ask, number, target.number, access))?;
         if let Err(fault) = overwrite_if_asked(&mut self.tree, ask, disposition, target, moment) {

@@ -62,7 +62,7 @@ use Rattle.smb_body.specs.Replies.{answers_close, answers_lock}
 use Rattle.smb_request.specs.declared.call.Call.{Call}
 use Rattle.smb_wire.specs.declared.nt_status.NtStatus.TheVariants.{InvalidParameter, FileClosed, NotSupported}
 use Rattle.smb_request.specs.Response.{success, refused}
-use Rattle.smb_request.specs.Session.{status_of_refusal, session_logged_off, tree_joined, tree_left}
+use Rattle.smb_request.specs.Session.{may_only_read, status_of_refusal, session_logged_off, tree_joined, tree_left}
 use Rattle.smb_request.specs.State.{ServerState, with_store}
 use Rattle.smb_request.specs.Laws.{NumbersInOrder, IsInOrder, IsAsItWas, IsOver, ReplacesSession}
 use Rattle.smb_entry.specs.Bytes.{written_tree}
@@ -205,7 +205,7 @@ module _ {S : Type 0} (may : ℕ → SessionState → Type 0) (acts : ℕ → Bo
   created_left : (asked : CreateAsked) → IsKnown → Left (file_created server call asked).server
   unfolding file_created
   created_left asked known =
-      let ask = file_asked call.ids asked in
+      let ask = file_asked call.ids asked (may_only_read server call) in
       where_done _ _ (is_success (create_status server.store ask)) (opened_left ask call.moment known)
 
   -- CLOSE
@@ -277,7 +277,7 @@ module _ {S : Type 0} (may : ℕ → SessionState → Type 0) (acts : ℕ → Bo
   negotiated_left m dialects = negotiated_at m (best_of dialects)
 
   -- each command: a request that needs a session acts under one of this connection, and the open that it names exists
-  acts_known : (asked : RequestValue) → needs_session (needs_of asked) ≡ true → check_session_tree_and_open server call asked ≡ None → IsKnown
+  pub acts_known : (asked : RequestValue) → needs_session (needs_of asked) ≡ true → check_session_tree_and_open server call asked ≡ None → IsKnown
   acts_known asked t e = grind (arith, e, t)
 
   open_held : (named : ContextOpen) → open_refusal server.store.opens call.ids named ≡ None → IsHeld (open_of server.store.opens (number_named (Some named)))
@@ -292,7 +292,7 @@ module _ {S : Type 0} (may : ℕ → SessionState → Type 0) (acts : ℕ → Bo
   named_held (Some named) is there e = open_held named e
 
   -- the open of a request that has a FileId
-  id_held : (asked : RequestValue) → IsCallOf call (Some asked) → is_some (file_id_of asked) ≡ true → check_session_tree_and_open server call asked ≡ None → IsHeld (open_of server.store.opens k)
+  pub id_held : (asked : RequestValue) → IsCallOf call (Some asked) → is_some (file_id_of asked) ≡ true → check_session_tree_and_open server call asked ≡ None → IsHeld (open_of server.store.opens k)
   id_held asked read there e =
       let some : is_some (named_open call) ≡ true = mapped_there (open_named call.inherited) call.file_id (ap is_some read.file_id ∙ there) in
       let unrefused : option_and_then (open_refusal server.store.opens call.ids) (named_open call) ≡ None = grind (arith, e) in
@@ -323,7 +323,7 @@ module _ {S : Type 0} (may : ℕ → SessionState → Type 0) (acts : ℕ → Bo
       (λ scan. scanned_left (open_of server.store.opens k) refl (id_held (asks_query_directory x) read refl e) (acts_known (asks_query_directory x) refl e) scan) x
   acted_left m (asks_query_info x) read cause e = queried_left Left server same call x
   acted_left m (asks_set_info x) read cause e =
-      info_set_left Left server same call (λ ask. opens_kept (set_through server.store k call.moment ask) (set_opens server.store k call.moment ask) (set_next server.store k call.moment ask)) x
+      info_set_left Left server same call (λ ask done. opens_kept (set_through server.store k call.moment ask) (set_opens server.store k call.moment ask) (set_next server.store k call.moment ask)) x
 
   checked_left : (m : Meaning S) (asked : RequestValue) (refusal : Option NtStatus) → IsCallOf call (Some asked) → Causes m asked → check_request server call asked ≡ refusal →
       Left (option_map_or (refused server call.ids) refusal (acted m server call asked)).server
@@ -347,10 +347,11 @@ module _ {S : Type 0} (may : ℕ → SessionState → Type 0) (acts : ℕ → Bo
   request_left_but m moment dialect context request replaces =
       let call = call_of c moment dialect context request in
       let left = performed_left may acts call a server o m (body_of call.command request) (call_read c moment dialect context request)
-      (λ value says setup is user flags token session accepted same_user. replaces setup.previous_session_id session (record {
+      (λ value says setup is user flags read_only token session accepted same_user. replaces setup.previous_session_id session (record {
         asked = setup;
         user = user;
         flags = flags;
+        read_only = read_only;
         token = token;
         says = says ∙ ap (λ (v : RequestValue). Some v) is;
         accepted = accepted;

@@ -1,5 +1,5 @@
 -- QUERY_INFO and SET_INFO: what holds of the state that they leave, where it holds with the tree alone changed.
-use Rattle.std.proofs.Common.{◌≡◌, ℕ, Bool, true, false, not, nat_lt, if◌then◌else◌, List, length, Option, None, Some, refl}
+use Rattle.std.proofs.Common.{◌∙◌, ◌≡◌, ℕ, Bool, true, false, not, nat_lt, if◌then◌else◌, List, length, Option, None, Some, refl}
 use Rattle.std.specs.Option.{option_map_or}
 use Rattle.smb_wire.specs.NtStatus.{is_success}
 use Rattle.smb_wire.specs.Paths.{path_spelled}
@@ -16,7 +16,7 @@ use Rattle.smb_entry.specs.SetInfo.{changed_in, delete_set, size_set, entry_set}
 use Rattle.smb_opens.specs.State.{StoreState}
 use Rattle.smb_request.specs.declared.call.Call.{Call}
 use Rattle.smb_wire.specs.declared.nt_status.NtStatus.{NtStatus}
-use Rattle.smb_wire.specs.declared.nt_status.NtStatus.TheVariants.{InvalidParameter, InvalidInfoClass, InfoLengthMismatch}
+use Rattle.smb_wire.specs.declared.nt_status.NtStatus.TheVariants.{Success, InvalidParameter, InvalidInfoClass, InfoLengthMismatch}
 use Rattle.smb_request.specs.QueryInfo.{information_queried}
 use Rattle.smb_request.specs.Response.{CommandStep, success, refused}
 use Rattle.smb_request.specs.SetInfo.{set_type_refusal, set_status, set_through, set_as_asked, class_set, information_set}
@@ -41,23 +41,29 @@ set_opens = set_beside (λ state. state.opens) (λ state tree. refl)
 pub set_next : (store : StoreState) (k moment : ℕ) (ask : SetAsked) → (set_through store k moment ask).next ≡ store.next
 set_next = set_beside (λ state. state.next) (λ state tree. refl)
 
+-- a status that is a success
+pub yes_success : (status : NtStatus) → is_success status ≡ true → status ≡ Success
+unfolding is_success
+yes_success Success t = refl
+yes_success status t = absurd (cc)
+
 module _ {S : Type 0} (Left : ServerState S → Type 0) (server : ServerState S) (same : Left server) (call : Call) where
   pub queried_left : (asked : QueryInfoRequest) → Left (information_queried server call asked).server
   unfolding information_queried
   queried_left asked = same
 
-  module _ (set : (ask : SetAsked) → Left (with_store server (set_through server.store call.open_number call.moment ask))) where
-    by_status : (ask : SetAsked) (status : NtStatus) (b : Bool) →
+  module _ (set : (ask : SetAsked) → set_status server.store call.open_number ask ≡ Success → Left (with_store server (set_through server.store call.open_number call.moment ask))) where
+    by_status : (ask : SetAsked) (status : NtStatus) (b : Bool) → set_status server.store call.open_number ask ≡ status → is_success status ≡ b →
         Left (let x : CommandStep S = if b then record { server = with_store server (set_through server.store call.open_number call.moment ask); response = success call.ids answers_set_info } else refused server call.ids status in x).server
-    by_status ask status true = set ask
-    by_status ask status false = same
+    by_status ask status true is t = set ask (is ∙ yes_success status t)
+    by_status ask status false is t = same
 
     by_class : (buffer : List ℕ) (class : SetInformationClass) (b c : Bool) →
         Left (let x : CommandStep S = if b then refused server call.ids InfoLengthMismatch else if c then refused server call.ids InvalidParameter else set_as_asked server call (asked_of buffer class) in x).server
     by_class buffer class true c = same
     by_class buffer class false true = same
     by_class buffer class false false =
-        by_status (asked_of buffer class) (set_status server.store call.open_number (asked_of buffer class)) (is_success (set_status server.store call.open_number (asked_of buffer class)))
+        by_status (asked_of buffer class) (set_status server.store call.open_number (asked_of buffer class)) (is_success (set_status server.store call.open_number (asked_of buffer class))) refl refl
 
     by_type : (buffer : List ℕ) (class : Option SetInformationClass) (refusal : Option NtStatus) →
         Left (option_map_or (refused server call.ids) refusal (option_map_or (class_set server call buffer) class (refused server call.ids InvalidInfoClass))).server

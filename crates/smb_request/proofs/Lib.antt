@@ -14,3 +14,4 @@ pub mod Apart
 pub mod Handed
 pub mod Refused
 pub mod Performed
+pub mod Readers

@@ -1,8 +1,9 @@
 -- Whose opens stand, after what is done to the sessions and to the opens.
-use Rattle.std.proofs.Common.{◌≡◌, ℕ, ◌<◌, eqb, bit_and, Bool, true, false, not, List, [], ◌∷◌, ◌++◌, filter, Option, None, Some, is_some, refl, ◌∙◌, if◌then◌else◌, arith}
+use Rattle.std.proofs.Common.{◌≡◌, ◌==◌, ◌&&◌, ◌||◌, ℕ, ◌<◌, eqb, bit_and, Bool, true, false, not, List, [], ◌∷◌, ◌++◌, filter, Option, None, Some, is_some, refl, ◌∙◌, if◌then◌else◌, arith, sym, subst}
 use Rattle.std.proofs.lemmas.Bool.{eqb-true, ne_eqb, and_parts}
 use Rattle.std.specs.List.{AllByRecursion}
-use Rattle.std.specs.Option.{option_map_or}
+use Rattle.std.specs.Prelude.{unwrap_or}
+use Rattle.std.specs.Option.{option_map, option_map_or}
 use Rattle.std.specs.Map.{lookup, remove_entry}
 use Rattle.std.specs.BTreeMap.{is_at}
 use Rattle.std.specs.Ordering.{nat_cmp}
@@ -10,18 +11,29 @@ use Rattle.smb_session.specs.declared.fault.SessionFault.TheVariants.{UnknownSes
 use Rattle.smb_session.specs.Authenticator.{Answered, continues, accepts, denies, Meaning}
 use Rattle.smb_session.specs.Numbers.{contains}
 use Rattle.smb_session.specs.Session.{SessionState, fresh_session, finished_by, with_tree, without_tree}
-use Rattle.smb_session.specs.Table.{TableState, session_at, changed_at, connected, begun, session_ended, tree_connected, tree_disconnected}
+use Rattle.smb_session.specs.Table.{TableState, session_at, changed_at, connected, begun, session_ended, session_changed, tree_connected, tree_disconnected, knows_session, knows_tree, read_only_of}
 use Rattle.smb_session.specs.Setup.{known_session_refusal, setup_refusal, setup_number, setup_table, previous_ended, table_answered, setup_result}
-use Rattle.smb_session.specs.Good.{GoodTable}
 use Rattle.smb_session.proofs.Numbers.{equal_back, contains-without}
 use Rattle.smb_session.specs.Sessions.{SessionsState, setup_step}
 use Rattle.smb_access.specs.declared.open_row.OpenRow.{OpenRow}
 use Rattle.smb_access.specs.declared.open_row.Owner.{Owner}
 use Rattle.smb_access.specs.declared.open_row.Owner.TheVariants.{Session, Tree}
 use Rattle.smb_access.specs.Opens.{is_held_by}
-use Rattle.smb_request.specs.Owners.{has_tree, stands, is_owned, AreOwned}
+use Rattle.smb_wire.specs.declared.nt_status.NtStatus.TheVariants.{Success}
+use Rattle.smb_access.specs.Access.{is_past_reading}
+use Rattle.smb_access.specs.Asked.{FileAsked}
+use Rattle.smb_access.specs.Effect.{entry_after, opened_by}
+use Rattle.smb_opens.specs.Create.{access_granted, create_status}
+use Rattle.smb_opens.specs.Found.{entry_asked}
+use Rattle.smb_opens.specs.State.{StoreState}
+use Rattle.smb_opens.proofs.Readers.{reader_opens}
+use Rattle.smb_request.specs.Owners.{has_tree, only_reads, owns, is_owned, AreOwned}
 use Rattle.smb_request.specs.Held.{opens_left}
 use Rattle.smb_request.proofs.Numbered.{at_is, at_same}
+
+-- a tree of a finished session
+abbrev stands : TableState → ℕ → ℕ → Bool
+stands table session tree = option_map_or (has_tree tree) (session_at table session) false
 
 module _ {X : Type 0} (test : X → Bool) (k : ℕ) where
   -- something passes at a number
@@ -79,10 +91,10 @@ module _ {X : Type 0} (test : X → Bool) (k : ℕ) where
   passes-more (e ∷ es) others h = more_at e es others (is_at (nat_cmp k) e.0) refl (passes-more es others) h
 
   -- nothing passes at a number above all where one stands there that does not
-  last_at : (e : ℕ × X) (es : List (ℕ × X)) (x : X) → (0 < e.0) × (e.0 < k) → passes (es ++ (k, x) ∷ []) ≡ false → passes (e ∷ es ++ (k, x) ∷ []) ≡ false
-  last_at e es x a ih = let l = a.1 in let t : eqb e.0 k ≡ false = ne_eqb e.0 k (λ e. omega (arith, l, e)) in rw (at_is k e.0, t) ih
+  last_at : (e : ℕ × X) (es : List (ℕ × X)) (x : X) → e.0 < k → passes (es ++ (k, x) ∷ []) ≡ false → passes (e ∷ es ++ (k, x) ∷ []) ≡ false
+  last_at e es x l ih = let t : eqb e.0 k ≡ false = ne_eqb e.0 k (λ e. omega (arith, l, e)) in rw (at_is k e.0, t) ih
 
-  passes-last : (es : List (ℕ × X)) (x : X) → AllByRecursion (λ e. (0 < e.0) × (e.0 < k)) es → test x ≡ false → passes (es ++ (k, x) ∷ []) ≡ false
+  passes-last : (es : List (ℕ × X)) (x : X) → AllByRecursion (λ e. e.0 < k) es → test x ≡ false → passes (es ++ (k, x) ∷ []) ≡ false
   passes-last [] x a h = rw (at_same k k refl) h
   passes-last (e ∷ es) x a h = last_at e es x a.0 (passes-last es x a.1 h)
 
@@ -119,7 +131,7 @@ owned_connected table c rows a = owned_all table (connected table c) rows (λ ro
     same row h false t = rw t h
 
 owned_begun : (table : TableState) (c : ℕ) (rows : List OpenRow) → AreOwned table rows → AreOwned (begun table c) rows
-owned_begun table c rows a = owned_all table (begun table c) rows (λ row h. passes-more (has_tree row.tree) row.session table.sessions _ h) a
+owned_begun table c rows a = owned_all table (begun table c) rows (λ row h. passes-more (owns row) row.session table.sessions _ h) a
 
 -- the sessions are as they were
 pub owned_same : (table table' : TableState) (rows : List OpenRow) → table'.sessions ≡ table.sessions → AreOwned table rows → AreOwned table' rows
@@ -127,7 +139,7 @@ owned_same table table' rows e a = owned_all table table' rows (λ row h. rw e h
 
 -- a session less, and its opens
 pub owned_ended : (table : TableState) (n : ℕ) (rows : List OpenRow) → AreOwned table rows → AreOwned (session_ended table n) (filter (λ row. not (is_held_by (Session n) row)) rows)
-owned_ended table n rows a = owned_rest table (session_ended table n) (Session n) rows (λ row d h. passes-removed (has_tree row.tree) row.session n table.sessions d ∙ h) a
+owned_ended table n rows a = owned_rest table (session_ended table n) (Session n) rows (λ row d h. passes-removed (owns row) row.session n table.sessions d ∙ h) a
 
 any_at : (m n k : ℕ) (ns : List ℕ) (b : Bool) → eqb m k ≡ b → (contains ns k ≡ true → contains (ns ++ n ∷ []) k ≡ true) → contains (m ∷ ns) k ≡ true → contains (m ∷ ns ++ n ∷ []) k ≡ true
 any_at m n k ns true t ih h = rw t refl
@@ -141,40 +153,70 @@ any-more (m ∷ ns) n k h = any_at m n k ns (eqb m k) refl (any-more ns n k) h
 pub owned_tree : (table : TableState) (n : ℕ) (rows : List OpenRow) → AreOwned table rows → AreOwned (tree_connected table n) rows
 owned_tree table n rows a =
     owned_all table (tree_connected table n) rows
-    (λ row h. passes-changed (has_tree row.tree) row.session with_tree n table.sessions (λ e s u. let p = and_parts (is_some s.user) (contains s.trees row.tree) u in rw (p.0, any-more s.trees s.next_tree row.tree p.1) refl) h) a
+    (λ row h. passes-changed (owns row) row.session with_tree n table.sessions
+    (λ e s u. let q = and_parts (has_tree row.tree s) (not s.read_only || only_reads row) u in let p = and_parts (is_some s.user) (contains s.trees row.tree) q.0 in rw (p.0, any-more s.trees s.next_tree row.tree p.1) q.1) h) a
 
 -- a tree less, and its opens
 pub owned_untree : (table : TableState) (n tree : ℕ) (rows : List OpenRow) → AreOwned table rows → AreOwned (tree_disconnected table n tree) (filter (λ row. not (is_held_by (Tree n tree) row)) rows)
 owned_untree table n tree rows a =
     owned_rest table (tree_disconnected table n tree) (Tree n tree) rows
-    (λ row d h. passes-changed (has_tree row.tree) row.session (without_tree tree) n table.sessions
-    (λ e s u. let p = and_parts (is_some s.user) (contains s.trees row.tree) u in let other : eqb row.tree tree ≡ false = rw e at d in rw (p.0, contains-without s.trees tree row.tree other p.1) refl) h) a
+    (λ row d h. passes-changed (owns row) row.session (without_tree tree) n table.sessions
+    (λ e s u. let q = and_parts (has_tree row.tree s) (not s.read_only || only_reads row) u in let p = and_parts (is_some s.user) (contains s.trees row.tree) q.0 in let other : eqb row.tree tree ≡ false = rw e at d in rw (p.0, contains-without s.trees tree row.tree other p.1) q.1) h) a
 
--- a session is finished
-owned_finished : (table : TableState) (user : List ℕ) (n : ℕ) (rows : List OpenRow) → AreOwned table rows → AreOwned (Rattle.smb_session.specs.Table.session_changed (finished_by user) table n) rows
-owned_finished table user n rows a =
-    owned_all table (Rattle.smb_session.specs.Table.session_changed (finished_by user) table n) rows
-    (λ row h. passes-changed (has_tree row.tree) row.session (finished_by user) n table.sessions (λ e s u. let p = and_parts (is_some s.user) (contains s.trees row.tree) u in p.1) h) a
+-- none of these opens is one of a session
+abbrev AreOfOthers : ℕ → List OpenRow → Type 0
+AreOfOthers n = AllByRecursion (λ row. eqb row.session n ≡ false)
+
+tree_owned : (row : OpenRow) (o : Option SessionState) → option_map_or (owns row) o false ≡ true → option_map_or (has_tree row.tree) o false ≡ true
+tree_owned row None h = cc
+tree_owned row (Some s) h = (and_parts (has_tree row.tree s) (not s.read_only || only_reads row) h).0
+
+-- an owned open is of a session that stands
+owned_stands : (table : TableState) (row : OpenRow) → is_owned table row ≡ true → stands table row.session row.tree ≡ true
+owned_stands table row h = tree_owned row (session_at table row.session) h
+
+-- so none is of a session that stands nowhere
+other_owner : (table : TableState) (n : ℕ) (row : OpenRow) → ((tree : ℕ) → stands table n tree ≡ false) → is_owned table row ≡ true → (b : Bool) → eqb row.session n ≡ b → eqb row.session n ≡ false
+other_owner table n row none h true t = let same : row.session ≡ n = eqb-true row.session n t in let no = none row.tree in let yes : stands table n row.tree ≡ true = rw (← same) (owned_stands table row h) in cc
+other_owner table n row none h false t = t
+
+of_others : (table : TableState) (n : ℕ) (rows : List OpenRow) → ((tree : ℕ) → stands table n tree ≡ false) → AreOwned table rows → AreOfOthers n rows
+of_others table n [] none a = tt
+of_others table n (row ∷ rows) none a = (other_owner table n row none a.0 (eqb row.session n) refl, of_others table n rows none a.1)
+
+others_at : (n : ℕ) (test : OpenRow → Bool) (row : OpenRow) (rows : List OpenRow) (b : Bool) → test row ≡ b → eqb row.session n ≡ false → AreOfOthers n (filter test rows) → AreOfOthers n (filter test (row ∷ rows))
+others_at n test row rows true t d ih = rw t (d, ih)
+others_at n test row rows false t d ih = rw t ih
+
+others_filter : (n : ℕ) (test : OpenRow → Bool) (rows : List OpenRow) → AreOfOthers n rows → AreOfOthers n (filter test rows)
+others_filter n test [] others = tt
+others_filter n test (row ∷ rows) others = others_at n test row rows (test row) refl others.0 (others_filter n test rows others.1)
+
+-- a session is finished that has no opens
+owned_finished : (table : TableState) (user : List ℕ) (read_only : Bool) (n : ℕ) (rows : List OpenRow) → AreOfOthers n rows → AreOwned table rows →
+    AreOwned (session_changed (finished_by user read_only) table n) rows
+owned_finished table user read_only n [] others a = tt
+owned_finished table user read_only n (row ∷ rows) others a =
+    (passes-changed (owns row) row.session (finished_by user read_only) n table.sessions (λ e s u. let d = others.0 in cc) a.0, owned_finished table user read_only n rows others.1 a.1)
 
 -- a session that stands nowhere ends
-owned_denied : (table : TableState) (n : ℕ) (rows : List OpenRow) → ((tree : ℕ) → stands table n tree ≡ false) → AreOwned table rows → AreOwned (session_ended table n) rows
-owned_denied table n rows none a = owned_all table (session_ended table n) rows (λ row h. at row h (eqb row.session n) refl) a
-  where
-    at : (row : OpenRow) → is_owned table row ≡ true → (b : Bool) → eqb row.session n ≡ b → is_owned (session_ended table n) row ≡ true
-    at row h true t = let same : row.session ≡ n = eqb-true row.session n t in let no = none row.tree in let yes : stands table n row.tree ≡ true = rw (← same) h in cc
-    at row h false t = passes-removed (has_tree row.tree) row.session n table.sessions t ∙ h
+owned_denied : (table : TableState) (n : ℕ) (rows : List OpenRow) → AreOfOthers n rows → AreOwned table rows → AreOwned (session_ended table n) rows
+owned_denied table n [] others a = tt
+owned_denied table n (row ∷ rows) others a = (passes-removed (owns row) row.session n table.sessions others.0 ∙ a.0, owned_denied table n rows others.1 a.1)
 
 -- an answer about a session
-owned_accepted : (table : TableState) (user : List ℕ) (n : ℕ) (previous : Option ℕ) (rows : List OpenRow) → AreOwned table rows →
-    AreOwned (Rattle.smb_session.specs.Table.session_changed (finished_by user) (option_map_or (session_ended table) previous table) n) (opens_left previous rows)
-owned_accepted table user n None rows a = owned_finished table user n rows a
-owned_accepted table user n (Some previous) rows a = owned_finished (session_ended table previous) user n _ (owned_ended table previous rows a)
+owned_accepted : (table : TableState) (user : List ℕ) (read_only : Bool) (n : ℕ) (previous : Option ℕ) (rows : List OpenRow) → AreOfOthers n rows → AreOwned table rows →
+    AreOwned (session_changed (finished_by user read_only) (option_map_or (session_ended table) previous table) n) (opens_left previous rows)
+owned_accepted table user read_only n None rows others a = owned_finished table user read_only n rows others a
+owned_accepted table user read_only n (Some previous) rows others a =
+    owned_finished (session_ended table previous) user read_only n _ (others_filter n (λ row. not (is_held_by (Session previous) row)) rows others) (owned_ended table previous rows a)
 
 owned_answered : (table : TableState) (n previous : ℕ) (answer : Answered) (rows : List OpenRow) → ((tree : ℕ) → stands table n tree ≡ false) → AreOwned table rows →
     AreOwned (table_answered table n previous answer) (opens_left (setup_result table n previous answer).ended rows)
 owned_answered table n previous (continues token) rows none a = a
-owned_answered table n previous (accepts user flags token) rows none a = owned_accepted table user n (previous_ended table user previous) rows a
-owned_answered table n previous denies rows none a = owned_denied table n rows none a
+owned_answered table n previous (accepts user flags read_only token) rows none a =
+    owned_accepted table user read_only n (previous_ended table user previous) rows (of_others table n rows none a) a
+owned_answered table n previous denies rows none a = owned_denied table n rows (of_others table n rows none a) a
 
 -- a refusal that is none passes its first row
 past : {F : Type 0} (b : Bool) (fault : F) (others : Option F) → (if b then Some fault else others) ≡ None → others ≡ None
@@ -193,12 +235,12 @@ unfinished_at : (c tree : ℕ) (o : Option SessionState) → option_map_or (know
 unfinished_at c tree None h = cc
 unfinished_at c tree (Some s) h = unfinished c tree s h
 
-module _ (table : TableState) (c number flags : ℕ) (good : GoodTable table) (h : setup_refusal table c number flags ≡ None) where
+module _ (table : TableState) (c number flags : ℕ) (given : AllByRecursion (λ e. e.0 < table.next) table.sessions) (h : setup_refusal table c number flags ≡ None) where
   none_stands : (tree : ℕ) → stands (setup_table table c number) (setup_number table number) tree ≡ false
   none_stands tree = at (eqb number 0) refl
     where
       at : (b : Bool) → eqb number 0 ≡ b → stands (setup_table table c number) (setup_number table number) tree ≡ false
-      at true t = rw t (passes-last (has_tree tree) table.next table.sessions (fresh_session c) good.given refl)
+      at true t = rw t (passes-last (has_tree tree) table.next table.sessions (fresh_session c) given refl)
       at false t = let i = rw t at h in rw t (unfinished_at c tree (session_at table number) (past (not (eqb (bit_and flags 1) 0)) NotAccepted _ i))
 
   begun_owned : (rows : List OpenRow) → AreOwned table rows → AreOwned (setup_table table c number) rows
@@ -209,9 +251,48 @@ module _ (table : TableState) (c number flags : ℕ) (good : GoodTable table) (h
       at false t = rw t a
 
 -- a SESSION_SETUP leaves the opens but those of the session that it ends, and they are owned
-pub owned_setup : {S : Type 0} (m : Meaning S) (s : SessionsState S) (c number previous flags : ℕ) (token : List ℕ) (rows : List OpenRow) → GoodTable s.table →
+pub owned_setup : {S : Type 0} (m : Meaning S) (s : SessionsState S) (c number previous flags : ℕ) (token : List ℕ) (rows : List OpenRow) → AllByRecursion (λ e. e.0 < s.table.next) s.table.sessions →
     setup_refusal s.table c number flags ≡ None → AreOwned s.table rows →
     AreOwned (setup_step m s c number previous token).state.table (opens_left (setup_step m s c number previous token).told.ended rows)
-owned_setup m s c number previous flags token rows good h a =
+owned_setup m s c number previous flags token rows given h a =
     owned_answered (setup_table s.table c number) (setup_number s.table number) previous (m.answer s.authenticator (setup_number s.table number) token) rows
-    (none_stands s.table c number flags good h) (begun_owned s.table c number flags good h rows a)
+    (none_stands s.table c number flags given h) (begun_owned s.table c number flags given h rows a)
+
+-- an open that was made under a session and a tree that the connection knows is owned
+new_at : (connection : ℕ) (row : OpenRow) (o : Option SessionState) → option_map_or (λ state. (state.connection == connection) && is_some state.user) o false ≡ true → option_map_or (λ state. contains state.trees row.tree) o false ≡ true →
+    (unwrap_or (option_map (λ state. state.read_only) o) false ≡ true → only_reads row ≡ true) → option_map_or (owns row) o false ≡ true
+new_at connection row None known tree reads = cc
+new_at connection row (Some s) known tree reads =
+    let p = and_parts (s.connection == connection) (is_some s.user) known in
+    rw (p.1, tree) (either s.read_only refl)
+  where
+    either : (b : Bool) → s.read_only ≡ b → (not s.read_only || only_reads row) ≡ true
+    either true t = rw t (reads t)
+    either false t = rw t refl
+
+pub owned_new : (table : TableState) (connection : ℕ) (row : OpenRow) → knows_session table connection row.session ≡ true → knows_tree table row.session row.tree ≡ true →
+    (unwrap_or (read_only_of table connection row.session) false ≡ true → only_reads row ≡ true) → is_owned table row ≡ true
+owned_new table connection row known tree reads =
+    new_at connection row (session_at table row.session) known tree (λ r. reads (rw known r))
+
+-- and one more
+pub owned_push : (table : TableState) (rows : List OpenRow) (row : OpenRow) → AreOwned table rows → is_owned table row ≡ true → AreOwned table (rows ++ row ∷ [])
+owned_push table [] row own h = (h, tt)
+owned_push table (x ∷ rows) row own h = (own.0, owned_push table rows row own.1 h)
+
+-- the last of two lists that are alike but for it
+last_is : (rows : List OpenRow) (one other : OpenRow) → rows ++ one ∷ [] ≡ rows ++ other ∷ [] → one ≡ other
+last_is [] one other e = cc
+last_is (row ∷ rows) one other e = last_is rows one other (cc)
+
+both_not : (a b : Bool) → a ≡ false → b ≡ false → (not a && not b) ≡ true
+both_not a b e f = rw (e, f) refl
+
+-- the open that a session makes that may only read
+pub reader_only : (store : StoreState) (ask : FileAsked) (moment : ℕ) → ask.read_only ≡ true → create_status store ask ≡ Success →
+    only_reads (opened_by ask store.next (entry_after store.tree ask moment (entry_asked store ask)).number (access_granted store ask)) ≡ true
+reader_only store ask moment reader done =
+    let reads = reader_opens store ask moment reader done in
+    subst (λ (row : OpenRow). only_reads row ≡ true)
+    (sym (last_is store.opens (opened_by ask store.next (entry_after store.tree ask moment (entry_asked store ask)).number (access_granted store ask)) reads.row reads.opens))
+    (both_not (is_past_reading reads.row.access) reads.row.delete_on_close reads.reads reads.keeps)

@@ -19,7 +19,7 @@ ended-connections table (Some n) = refl
 
 answered-connections : (table : TableState) (number previous : ℕ) (answer : Answered) → (table_answered table number previous answer).connections ≡ table.connections
 answered-connections table number previous (continues token) = refl
-answered-connections table number previous (accepts user flags token) = ended-connections table (previous_ended table user previous)
+answered-connections table number previous (accepts user flags read_only token) = ended-connections table (previous_ended table user previous)
 answered-connections table number previous denies = refl
 
 begun-connections : (table : TableState) (connection : ℕ) (b : Bool) → (if b then begun table connection else table).connections ≡ table.connections

@@ -40,7 +40,7 @@ user_is user (Some u) q = ap (λ (text : List ℕ). Some text) ((bytes_eq-Decide
 -- why the session that an answer names as the previous one may be over
 abbrev pub MayReplace : (ℕ → SessionState → Type 0) → ℕ → Answered → Type 0
 MayReplace may previous answer =
-    (user : List ℕ) (flags : ℕ) (token : List ℕ) (session : SessionState) → answer ≡ accepts user flags token → session.user ≡ Some user → may previous session
+    (user : List ℕ) (flags : ℕ) (read_only : Bool) (token : List ℕ) (session : SessionState) → answer ≡ accepts user flags read_only token → session.user ≡ Some user → may previous session
 
 -- what is given the next number is found there
 at_last : (n : ℕ) (x : SessionState) (es : List (ℕ × SessionState)) → AllByRecursion (λ e. e.0 < n) es → lookup (is_at (nat_cmp n)) (es ++ (n, x) ∷ []) ≡ Some x
@@ -80,30 +80,30 @@ module _ (may : ℕ → SessionState → Type 0) (acts : ℕ → Bool) (c : ℕ)
         | false ↦ λ t. apart n session (sym (look_removed n previous table.sessions t) ∙ at) other
       ] refl
 
-  accepted_found : (number previous : ℕ) (user : List ℕ) (found : Option SessionState) → session_at table previous ≡ found → IsApart acts table number →
+  accepted_found : (number previous : ℕ) (user : List ℕ) (read_only : Bool) (found : Option SessionState) → session_at table previous ≡ found → IsApart acts table number →
       ((session : SessionState) → session.user ≡ Some user → may previous session) →
       LeavesBut may acts table store
-      (session_changed (finished_by user) (option_map_or (session_ended table) (if option_map_or (is_of_user user) found false then Some previous else None) table) number)
+      (session_changed (finished_by user read_only) (option_map_or (session_ended table) (if option_map_or (is_of_user user) found false then Some previous else None) table) number)
       (closed_for store (if option_map_or (is_of_user user) found false then Some previous else None))
-  accepted_found number previous user None e apart cause = leaves_changed acts table store o number apart (finished_by user)
-  accepted_found number previous user (Some session) e apart cause =
+  accepted_found number previous user read_only None e apart cause = leaves_changed acts table store o number apart (finished_by user read_only)
+  accepted_found number previous user read_only (Some session) e apart cause =
       elim (is_of_user user session) as (λ b. is_of_user user session ≡ b →
       LeavesBut may acts table store
-      (session_changed (finished_by user) (option_map_or (session_ended table) (if b then Some previous else None) table) number)
+      (session_changed (finished_by user read_only) (option_map_or (session_ended table) (if b then Some previous else None) table) number)
       (closed_for store (if b then Some previous else None))) [
         | true ↦ λ t. (
             let whole = leaves_whole acts table store o previous session e (cause session (user_is user session.user t)) in
-            leaves_then acts table (session_ended table previous) (session_changed (finished_by user) (session_ended table previous) number) store (closed_all store (Session previous)) (closed_all store (Session previous)) o whole
-            (leaves_changed acts (session_ended table previous) (closed_all store (Session previous)) whole.order number (apart_ended number previous apart) (finished_by user)))
-        | false ↦ λ t. leaves_changed acts table store o number apart (finished_by user)
+            leaves_then acts table (session_ended table previous) (session_changed (finished_by user read_only) (session_ended table previous) number) store (closed_all store (Session previous)) (closed_all store (Session previous)) o whole
+            (leaves_changed acts (session_ended table previous) (closed_all store (Session previous)) whole.order number (apart_ended number previous apart) (finished_by user read_only)))
+        | false ↦ λ t. leaves_changed acts table store o number apart (finished_by user read_only)
       ] refl
 
   -- what an answer leaves
   answered_left : (number previous : ℕ) (answer : Answered) → MayReplace may previous answer → IsApart acts table number → LeavesBut may acts table store (table_answered table number previous answer) (closed_for store (setup_result table number previous answer).ended)
   answered_left number previous (continues token) cause apart = leaves_same acts table store o
   answered_left number previous denies cause apart = leaves_ended acts table store o number apart
-  answered_left number previous (accepts user flags token) cause apart =
-      accepted_found number previous user (session_at table previous) refl apart (λ session same. cause user flags token session refl same)
+  answered_left number previous (accepts user flags read_only token) cause apart =
+      accepted_found number previous user read_only (session_at table previous) refl apart (λ session same. cause user flags read_only token session refl same)
 
 module _ (may : ℕ → SessionState → Type 0) (acts : ℕ → Bool) (c : ℕ) (a : acts c ≡ true) (table : TableState) (store : StoreState) (o : NumbersInOrder table store) where
   step_left : (s flags previous : ℕ) (answer : Answered) (b : Bool) → MayReplace may previous answer → (s == 0) ≡ b → setup_refusal table c s flags ≡ None →

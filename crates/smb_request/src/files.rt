@@ -4,7 +4,7 @@ ghost use Rattle.std.specs.Prelude.{◌≡◌, true, IsSome, IfOk, IfErr, IfSome
 ghost use Rattle.smb_access.specs.Opens.{open_of};
 ghost use Rattle.smb_body.specs.Create.{create_asked};
 ghost use Rattle.smb_access.specs.Asked.{asked};
-ghost use Rattle.smb_request.specs.Owners.{stands};
+ghost use Rattle.smb_session.specs.Table.{knows_session, knows_tree};
 ghost use Rattle.smb_request.specs.Files.{file_asked, create_response, file_created, names_open, close_response, file_closed};
 ghost use Rattle.smb_request.specs.Bodies.{response_step, result_step, IsReadyAfter};
 
@@ -19,9 +19,9 @@ use smb_session::Authenticator;
 use smb_tree::Tree;
 use smb_wire::{FileAttributes, FileId};
 
-/// What a CREATE asks of the files, under a session and a tree.
-fn file_asked<'a>(ids: HeaderIds, request: &CreateRequest<'a>) -> CreateAsk<'a>
-    ensures { asked result ≡ file_asked ids (create_asked request.now) }
+/// What a CREATE asks of the files, under a session, which may only read or write too, and a tree.
+fn file_asked<'a>(ids: HeaderIds, request: &CreateRequest<'a>, read_only: bool) -> CreateAsk<'a>
+    ensures { asked result ≡ file_asked ids (create_asked request.now) read_only }
 {
     CreateAsk {
         name: request.name,
@@ -32,6 +32,7 @@ fn file_asked<'a>(ids: HeaderIds, request: &CreateRequest<'a>) -> CreateAsk<'a>
         options: request.create_options,
         session: ids.session_id,
         tree: ids.tree_id,
+        read_only,
     }
 }
 
@@ -108,13 +109,15 @@ impl<A: Authenticator + Drop, T: Tree + Drop, O: Opens + Drop> Server<A, T, O> {
         call: Call,
         request: &CreateRequest<'_>,
     ) -> Result<Response<'a>, Refusal>
-        requires { stands self.old.sessions.table call.ids.session_id call.ids.tree_id ≡ true }
+        requires session { knows_session self.old.sessions.table call.connection call.ids.session_id ≡ true }
+        requires tree { knows_tree self.old.sessions.table call.ids.session_id call.ids.tree_id ≡ true }
         ensures ok { IfSome (result_step A.meaning self.new call result) (λ step. step ≡ file_created self.old call (create_asked request.now)) }
         ensures put { IfOk result (IsReadyAfter self.old self.new call) }
         ensures err { IfErr result (λ refusal. self.new ≡ self.old) }
         ensures known { self.new.sessions.table.connections ≡ self.old.sessions.table.connections }
     {
-        let ask = file_asked(call.ids, request);
+        let read_only = self.may_only_read(call);
+        let ask = file_asked(call.ids, request, read_only);
         let done = self.store.create(&ask, call.moment)?;
         Ok(Response::success(call.ids, Body::Create(create_response(&done))))
     }

@@ -10,10 +10,9 @@ ghost use Rattle.smb_request.specs.Response.{with_body};
 use super::call::Call;
 use super::context::HeaderIds;
 use super::server::Server;
-use super::session::TREE;
 use smb_body::{
     CloseResponse, CreateResponse, QueryDirectoryRequest, QueryResponse, Reply, SessionFlags,
-    SessionSetupResponse, WriteResponse, write_reply,
+    SessionSetupResponse, TreeConnectResponse, WriteResponse, write_reply,
 };
 use smb_opens::{FilePart, Opens};
 use smb_session::Authenticator;
@@ -47,7 +46,7 @@ pub(crate) enum Body {
     Negotiate(Dialect),
     SessionSetup { flags: SessionFlags, token: Vec<u8> },
     Logoff,
-    TreeConnect,
+    TreeConnect(TreeConnectResponse),
     TreeDisconnect,
     Create(CreateResponse),
     Close(CloseResponse),
@@ -119,7 +118,7 @@ impl<A: Authenticator + Drop, T: Tree + Drop, O: Opens + Drop> Server<A, T, O> {
                 security_buffer: token,
             }),
             Body::Logoff => Reply::Logoff,
-            Body::TreeConnect => Reply::TreeConnect(TREE),
+            Body::TreeConnect(response) => Reply::TreeConnect(*response),
             Body::TreeDisconnect => Reply::TreeDisconnect,
             Body::Create(response) => Reply::Create(*response),
             Body::Close(response) => Reply::Close(*response),

@@ -5,7 +5,7 @@
 ghost use Rattle.std.specs.Prelude.{◌≡◌, IfOk, IfErr, IfSome};
 ghost use Rattle.smb_wire.specs.Units.{units_of};
 ghost use Rattle.smb_body.specs.SessionSetup.{session_setup_asked};
-ghost use Rattle.smb_request.specs.Session.{closed_for, status_of_refusal, session_set_up, session_logged_off, tree_response, tree_joined, tree_left};
+ghost use Rattle.smb_request.specs.Session.{closed_for, status_of_refusal, session_set_up, session_logged_off, may_only_read, tree_response, tree_joined, tree_left};
 ghost use Rattle.smb_request.specs.Held.{opens_left, setup_response_of};
 ghost use Rattle.smb_request.specs.Bodies.{result_step, IsReadyAfter};
 ghost use Rattle.smb_request.specs.declared.refusal.Refusal.TheVariants.{NoMemory};
@@ -15,22 +15,28 @@ use super::context::HeaderIds;
 use super::refusal::Refusal;
 use super::response::{Answered, Body, Response};
 use super::server::Server;
+use smb_access::most_allowed;
 use smb_body::{
     Capabilities, SessionFlags, SessionSetupRequest, ShareFlags, ShareType, TreeConnectResponse,
 };
 use smb_opens::{Opens, Owner, Store};
 use smb_session::{Authenticator, SessionFault, SetupAsk, SetupDone, SetupStatus};
 use smb_tree::Tree;
-use smb_wire::{Access, NtStatus, Units};
+use smb_wire::{NtStatus, Units};
 use std::alloc::AllocError;
 
-/// What a tree is: a disk, without flags and capabilities, and with all access ([MS-SMB2] 2.2.10).
-pub(crate) const TREE: TreeConnectResponse = TreeConnectResponse {
-    share_type: ShareType(1),
-    share_flags: ShareFlags(0),
-    capabilities: Capabilities(0),
-    maximal_access: Access::FILE_ALL_ACCESS,
-};
+/// What a tree is: a disk, without flags and capabilities, and with all access that a session can be granted
+/// ([MS-SMB2] 2.2.10).
+fn tree_response(read_only: bool) -> TreeConnectResponse
+    ensures { result ≡ tree_response read_only }
+{
+    TreeConnectResponse {
+        share_type: ShareType(1),
+        share_flags: ShareFlags(0),
+        capabilities: Capabilities(0),
+        maximal_access: most_allowed(read_only, false),
+    }
+}
 
 /// The status of a refusal. Out of memory has none.
 pub(crate) fn status_of_refusal(fault: SessionFault) -> Option<NtStatus>
@@ -127,6 +133,15 @@ impl<A: Authenticator + Drop, T: Tree + Drop, O: Opens + Drop> Server<A, T, O> {
         Ok(Response::success(call.ids, Body::Logoff))
     }
 
+    /// Whether the session that a request acts under may only read.
+    pub(crate) fn may_only_read(&self, call: Call) -> bool
+        ensures { result ≡ may_only_read self.now call }
+    {
+        self.sessions
+            .read_only(call.connection, call.ids.session_id)
+            .unwrap_or(false)
+    }
+
     /// TREE_CONNECT ([MS-SMB2] 3.3.5.7).
     #[tactic(auto, unfolding(crate::specs::Session::tree_joined), using(crate::proofs::Refused::unless_session))]
     pub(crate) fn connect_tree<'a>(
@@ -139,6 +154,7 @@ impl<A: Authenticator + Drop, T: Tree + Drop, O: Opens + Drop> Server<A, T, O> {
         ensures err { IfErr result (λ refusal. self.new ≡ self.old) }
         ensures known { self.new.sessions.table.connections ≡ self.old.sessions.table.connections }
     {
+        let response = tree_response(self.may_only_read(call));
         let session_id = call.ids.session_id;
         let tree_id = self
             .sessions
@@ -147,7 +163,7 @@ impl<A: Authenticator + Drop, T: Tree + Drop, O: Opens + Drop> Server<A, T, O> {
             session_id,
             tree_id,
         };
-        Ok(Response::success(ids, Body::TreeConnect))
+        Ok(Response::success(ids, Body::TreeConnect(response)))
     }
 
     /// TREE_DISCONNECT ([MS-SMB2] 3.3.5.8).

@@ -113,8 +113,8 @@ module _ (index : List (ℕ × List ℕ)) (sessions : List (ℕ × SessionState)
       IsHeld index sessions next → IsHeld index (changed_at f n sessions) next
   held_any f stays step n held = any_at f stays step n (lookup (is_at (nat_cmp n)) sessions) refl held
 
-pub finish_good : (user : List ℕ) → length user ≤ 256 → (s : SessionState) → GoodSession s → GoodSession (finished_by user s)
-finish_good user short s g = record { few = g.few; rising = g.rising; given = g.given; next = g.next; user = short; unfinished = λ e. cc }
+pub finish_good : (user : List ℕ) (read_only : Bool) → length user ≤ 256 → (s : SessionState) → GoodSession s → GoodSession (finished_by user read_only s)
+finish_good user read_only short s g = record { few = g.few; rising = g.rising; given = g.given; next = g.next; user = short; unfinished = λ e. cc }
 
 none_left : (tree : ℕ) (trees : List ℕ) → trees ≡ [] → without_number trees tree ≡ []
 none_left tree trees h = rw h refl

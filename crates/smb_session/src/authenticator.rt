@@ -18,6 +18,8 @@ pub enum Answer {
         user: Vec<u8>,
         /// Session flags: 1 a guest, 2 without a name ([MS-SMB2] 2.2.6).
         flags: u16,
+        /// Whether the user may only read.
+        read_only: bool,
         /// The last token, of at most 4,096 bytes.
         token: Vec<u8>,
     },

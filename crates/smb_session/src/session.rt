@@ -15,6 +15,7 @@ use std::marker::Model;
 pub(crate) struct Session {
     connection: u64,
     user: Option<Vec<u8>>,
+    read_only: bool,
     trees: ArrayVec<u32, MOST_TREE_CONNECTS>,
     next_tree: u32,
 }
@@ -25,7 +26,7 @@ impl Model for Session {
 
     ghost Value = { SessionState };
 
-    ghost view = { λ s. record { connection = s.connection; user = option_map (λ user. user.items) s.user; trees = s.trees.items; next_tree = s.next_tree } };
+    ghost view = { λ s. record { connection = s.connection; user = option_map (λ user. user.items) s.user; read_only = s.read_only; trees = s.trees.items; next_tree = s.next_tree } };
 }
 
 /// Takes a number out, in one pass.
@@ -43,6 +44,7 @@ impl Session {
         Session {
             connection,
             user: None,
+            read_only: false,
             trees: ArrayVec::new(),
             next_tree: 1,
         }
@@ -84,11 +86,19 @@ impl Session {
         self.trees.len() >= MOST_TREE_CONNECTS || self.next_tree == u32::MAX
     }
 
-    /// Finishes the session, by a user.
-    pub(crate) fn finish(&mut self, user: Vec<u8>)
-        ensures { self.new ≡ finished_by user.items self.old }
+    /// Whether the session may only read.
+    pub(crate) fn read_only(&self) -> bool
+        ensures { result ≡ self.now.read_only }
+    {
+        self.read_only
+    }
+
+    /// Finishes the session, by a user who may only read or who may write too.
+    pub(crate) fn finish(&mut self, user: Vec<u8>, read_only: bool)
+        ensures { self.new ≡ finished_by user.items read_only self.old }
     {
         self.user = Some(user);
+        self.read_only = read_only;
     }
 
     /// Connects the session to its next tree, and tells the number.

@@ -7,7 +7,7 @@ ghost use Rattle.smb_wire.specs.Pairs.{units_in};
 ghost use Rattle.smb_wire.specs.Units.{units_of};
 ghost use Rattle.smb_session.specs.Negotiate.{best_of};
 ghost use Rattle.smb_session.specs.Session.{has_all_trees};
-ghost use Rattle.smb_session.specs.Table.{session_at, connected, begun, session_ended, knows, logoff_refusal, tree_disconnect_refusal, tree_disconnected, next_tree_of, tree_connected, end_connection_step};
+ghost use Rattle.smb_session.specs.Table.{session_at, connected, begun, session_ended, knows, read_only_of, logoff_refusal, tree_disconnect_refusal, tree_disconnected, next_tree_of, tree_connected, end_connection_step};
 ghost use Rattle.smb_session.specs.Setup.{has_all_sessions, setup_refusal};
 ghost use Rattle.smb_session.specs.Sessions.{new_sessions, asked_step, setup_step, tree_connect_refusal, IsRefused};
 ghost use Rattle.smb_session.specs.Done.{setup_result_of};
@@ -102,6 +102,14 @@ impl<A: Authenticator + Drop> Sessions<A> {
         self.table.knows(connection, session, tree)
     }
 
+    /// Whether a finished session of the connection may only read, as the authenticator said when it let its
+    /// user in. None where the number is that of no finished session of the connection.
+    pub fn read_only(&self, connection: u64, session: u64) -> Option<bool>
+        ensures { result ≡ read_only_of self.now.table connection session }
+    {
+        self.table.read_only(connection, session)
+    }
+
     /// Asks the authenticator about a session, and performs its answer.
     fn ask(&mut self, session: u64, ask: &SetupAsk<'_>) -> Result<SetupDone, AllocError>
         ensures step { IfOk result (λ done. record { state = self.new; told = setup_result_of done } ≡ asked_step A.meaning self.old session ask.now.previous_session ask.now.token.now) }
@@ -117,8 +125,15 @@ impl<A: Authenticator + Drop> Sessions<A> {
                 token,
                 ended: None,
             }),
-            Answer::Accept { user, flags, token } => {
-                let ended = self.table.accept(session, user, ask.previous_session);
+            Answer::Accept {
+                user,
+                flags,
+                read_only,
+                token,
+            } => {
+                let ended = self
+                    .table
+                    .accept(session, user, read_only, ask.previous_session);
                 Ok(SetupDone {
                     session,
                     status: SetupStatus::Success,

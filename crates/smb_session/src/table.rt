@@ -7,7 +7,7 @@ ghost use Rattle.std.specs.Map.{lookup, remove_entry};
 ghost use Rattle.std.specs.Ordering.{nat_cmp};
 ghost use Rattle.smb_session.specs.Numbers.{without_number};
 ghost use Rattle.smb_session.specs.Session.{fresh_session, finished_by, with_tree, without_tree, has_all_trees};
-ghost use Rattle.smb_session.specs.Table.{no_sessions, session_at, connected, begun, session_ended, session_changed, changed_at, knows, tree_disconnected, next_tree_of, tree_connected, end_connection_step};
+ghost use Rattle.smb_session.specs.Table.{no_sessions, session_at, connected, begun, session_ended, session_changed, changed_at, knows, read_only_of, tree_disconnected, next_tree_of, tree_connected, end_connection_step};
 ghost use Rattle.smb_session.specs.Setup.{has_all_sessions, is_of_user, known_session_refusal, setup_refusal, previous_ended, accepted};
 ghost use Rattle.smb_session.specs.Good.{GoodTable};
 ghost use Rattle.smb_session.specs.Held.{index_without, withdrawn};
@@ -99,11 +99,11 @@ fn take_session(
 }
 
 /// Finishes a session.
-fn finish(sessions: &mut BTreeMap<u64, Session>, number: u64, user: Vec<u8>)
-    ensures { sessions.new.entries ≡ changed_at (finished_by user.items) number sessions.old.entries }
+fn finish(sessions: &mut BTreeMap<u64, Session>, number: u64, user: Vec<u8>, read_only: bool)
+    ensures { sessions.new.entries ≡ changed_at (finished_by user.items read_only) number sessions.old.entries }
 {
     if let Some(session) = sessions.get_mut(&number) {
-        session.finish(user);
+        session.finish(user, read_only);
     }
 }
 
@@ -236,25 +236,31 @@ impl Table {
     }
 
     /// Finishes a session by a user, and ends the previous one where it is to end, which is told.
-    pub(crate) fn accept(&mut self, number: u64, user: Vec<u8>, previous: u64) -> Option<u64>
+    pub(crate) fn accept(
+        &mut self,
+        number: u64,
+        user: Vec<u8>,
+        read_only: bool,
+        previous: u64,
+    ) -> Option<u64>
         requires { length user.items ≤ LONGEST_USER_NAME }
         ensures ended { result ≡ previous_ended self.old user.items previous }
-        ensures state { self.new ≡ accepted self.old number user.items previous }
+        ensures state { self.new ≡ accepted self.old number user.items read_only previous }
     {
         let ended = self.previous_ended(&user, previous);
         if let Some(previous) = ended {
             self.end(previous);
         }
-        self.finish(number, user);
+        self.finish(number, user, read_only);
         ended
     }
 
     /// Finishes a session.
-    fn finish(&mut self, number: u64, user: Vec<u8>)
+    fn finish(&mut self, number: u64, user: Vec<u8>, read_only: bool)
         requires { length user.items ≤ LONGEST_USER_NAME }
-        ensures { self.new ≡ session_changed (finished_by user.items) self.old number }
+        ensures { self.new ≡ session_changed (finished_by user.items read_only) self.old number }
     {
-        finish(&mut self.sessions, number, user);
+        finish(&mut self.sessions, number, user, read_only);
     }
 
     /// Whether this is a finished session of the connection, and where a tree is named has it.
@@ -271,6 +277,18 @@ impl Table {
         match tree {
             Some(tree) => session.has_tree(tree),
             None => true,
+        }
+    }
+
+    /// Whether a finished session of the connection may only read; None where the number is that of none.
+    pub(crate) fn read_only(&self, connection: u64, number: u64) -> Option<bool>
+        ensures { result ≡ read_only_of self.now connection number }
+    {
+        match self.sessions.get(&number) {
+            Some(session) if session.connection() == connection && session.is_finished() => {
+                Some(session.read_only())
+            }
+            _ => None,
         }
     }
 

@@ -47,7 +47,7 @@ fn is_apart_from(run: (u64, u16), others: &[(u64, u16)]) -> bool
     others.iter().all(|other| are_apart(run, *other))
 }
 
-/// Whether no number stands twice in runs. At most as many comparisons as pairs: a chain has 16 runs at most.
+/// Whether no MessageId is in two runs. Each pair of runs is compared at most once; a chain has at most 16 runs.
 fn all_distinct(runs: &[(u64, u16)]) -> bool
     ensures { result ≡ are_distinct (numbers_of runs.now) }
 {

@@ -1,5 +1,6 @@
 use Rattle.smb_engine.proofs.Ends.{an_end_is_the_last}
 use Rattle.smb_engine.proofs.Order.{good_in_order, run_in_order, others_left}
+use Rattle.smb_engine.proofs.Readers.{reader_changes_no_file}
 use Rattle.smb_engine.proofs.Sessions.{good_numbers, run_numbers, sessions_left, over_stays}
 use Rattle.smb_engine.proofs.Cuts.{cuts_do_not_matter, however_cut, run_goes_on, run_stays, unread_is_enough}
 use Rattle.smb_engine.proofs.laws.laws_of_shares.Goals as goal
@@ -33,3 +34,6 @@ returns-clause-over g c = over_stays g.A.Authenticator.meaning
 
 pub returns-clause-last : goal.returns-clause-last
 returns-clause-last g c = λ s o events connection. an_end_is_the_last g.A.Authenticator.meaning connection s events o
+
+pub returns-clause-readers : goal.returns-clause-readers
+returns-clause-readers g c = reader_changes_no_file g.A.Authenticator.meaning

@@ -9,6 +9,7 @@ use Rattle.smb_opens.proofs.Conflicts.{conflict_mutual}
 use Rattle.smb_access.proofs.Mores.{more_conflicts}
 use Rattle.smb_opens.proofs.Elsewhere.{closed_elsewhere, closed_here}
 use Rattle.smb_opens.proofs.Returned.{returned_shown}
+use Rattle.smb_opens.proofs.Readers.{steps_leave_files, refuses_changes, reader_opens}
 use Rattle.smb_opens.proofs.RenameLaws.{rename_keeps}
 use Rattle.smb_opens.proofs.ScanLaws.{scan_leaves}
 use Rattle.smb_opens.proofs.SetLaws.{leaves_others, times_set, mark_set, front, not_opened}
@@ -41,4 +42,7 @@ returns c = record {
   not_opened = not_opened;
   renamed = rename_keeps;
   scans = scan_leaves;
+  readers = steps_leave_files;
+  readers_refused = refuses_changes;
+  readers_create = reader_opens;
 }

@@ -51,7 +51,7 @@ invariant_of-self-2 g c =
     let entry = ap (λ (r : OpenRow). r.entry) c.opened_by.ensures in
     let room = ap has_all_opens c.self.view_is ∙ c.requires.room in
     let none = ap (λ (s : StoreState). target_conflicts s.opens (asked c.args.ask.now) (Some c.args.target)) c.self.view_is ∙ c.requires.alone in
-    let alone = alone_opened state.opens (asked c.args.ask.now) _ c.args.target c.granted-access.result c.opened_by.result (c.granted-access.ensures ∙ ap (granted c.args.ask.now.access.0) c.is_read_only_target.ensures) c.opened_by.ensures none in
+    let alone = alone_opened state.opens (asked c.args.ask.now) _ c.args.target c.granted-access.result c.opened_by.result (c.granted-access.ensures ∙ ap (granted c.args.ask.now.access.0 c.args.ask.now.read_only) c.is_read_only_target.ensures) c.opened_by.ensures none in
     let masked = masked_open (asked c.args.ask.now) c.self.inside.next c.args.target.number c.granted-access.result c.is_read_only_target.result c.opened_by.result c.opened_by.ensures c.granted-access.ensures in
     rw (c.in_default.ensures.ok, c.in_ok-add.ensures.ok) (kept_standing state (asked c.args.ask.now) c.args.moment _ _ c.opened_by.result c.args.target.number (path_asked (asked c.args.ask.now)) t.0 c.self.invariant masked t.3 room alone number entry)
 
@@ -60,7 +60,7 @@ returns-clause-store g c =
     let state : StoreState = record { tree = g.T.Tree.content c.self.inside.tree; opens = g.O.Opens.content c.self.inside.opens; locks = c.self.inside.locks; next = c.self.inside.next } in
     let t = target_entry (g.T.Tree.content c.self.inside.tree).rows (path_asked (asked c.args.ask.now)) c.args.target c.self.invariant.good.tree.apart
     (ap (λ (s : StoreState). option_map target_of (entry_asked s (asked c.args.ask.now))) c.self.view_is ∙ c.requires.target) in
-    rw (← c.self.view_is) (made_standing state (asked c.args.ask.now) c.args.moment _ c.granted-access.result (entry_asked state (asked c.args.ask.now)) t.0 c.args.target.number _ _ c.opened_by.result t.1 (ap (λ (x : Target). x.number) t.2) (c.granted-access.ensures ∙ ap (granted c.args.ask.now.access.0) c.is_read_only_target.ensures) c.in_default.ensures.ok c.in_ok-add.ensures.ok c.opened_by.ensures)
+    rw (← c.self.view_is) (made_standing state (asked c.args.ask.now) c.args.moment _ c.granted-access.result (entry_asked state (asked c.args.ask.now)) t.0 c.args.target.number _ _ c.opened_by.result t.1 (ap (λ (x : Target). x.number) t.2) (c.granted-access.ensures ∙ ap (granted c.args.ask.now.access.0 c.args.ask.now.read_only) c.is_read_only_target.ensures) c.in_default.ensures.ok c.in_ok-add.ensures.ok c.opened_by.ensures)
 
 pub returns-clause-told : goal.returns-clause-told
 returns-clause-told g c =
@@ -68,5 +68,5 @@ returns-clause-told g c =
     let t = target_entry (g.T.Tree.content c.self.inside.tree).rows (path_asked (asked c.args.ask.now)) c.args.target c.self.invariant.good.tree.apart
     (ap (λ (s : StoreState). option_map target_of (entry_asked s (asked c.args.ask.now))) c.self.view_is ∙ c.requires.target) in
     let action = c.action_on.ensures ∙ ap action_on c.requires.disposition in
-    rw (← c.self.view_is) (told_standing state (asked c.args.ask.now) c.args.moment _ c.granted-access.result (entry_asked state (asked c.args.ask.now)) t.0 c.action_on.result c.in-Some.view _ t.1 action (c.granted-access.ensures ∙ ap (granted c.args.ask.now.access.0) c.is_read_only_target.ensures) c.in-Some.ensures
+    rw (← c.self.view_is) (told_standing state (asked c.args.ask.now) c.args.moment _ c.granted-access.result (entry_asked state (asked c.args.ask.now)) t.0 c.action_on.result c.in-Some.view _ t.1 action (c.granted-access.ensures ∙ ap (granted c.args.ask.now.access.0 c.args.ask.now.read_only) c.is_read_only_target.ensures) c.in-Some.ensures
     (shown_standing (g.T.Tree.content c.self.inside.tree) (g.T.Tree.content c.overwrite_if_asked.new.tree) (asked c.args.ask.now) c.args.moment c.args.target.number c.granted-access.result (path_asked (asked c.args.ask.now)) t.0 c.in_default.ensures.ok t.3))

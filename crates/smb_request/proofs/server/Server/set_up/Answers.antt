@@ -4,6 +4,7 @@ use Rattle.smb_request.specs.Owners.{AreOwned}
 use Rattle.smb_request.specs.Held.{opens_left}
 use Rattle.smb_opens.specs.State.{StoreState}
 use Rattle.smb_request.proofs.Configured.{ended_kept}
+use Rattle.smb_session.proofs.Steps.{below}
 use Rattle.smb_request.proofs.Owners.{owned_setup}
 use Rattle.smb_request.proofs.Sessions.{setup-connections}
 use Rattle.smb_request.proofs.server.Server.set_up.Goals as goal
@@ -15,7 +16,7 @@ pub invariant_of-self-2 : goal.invariant_of-self-2
 invariant_of-self-2 g c =
     let step = c.in_ok-done.ensures.step in
     let owned = owned_setup g.A.Authenticator.meaning c.self.inside.sessions c.args.call.connection c.args.call.ids.session_id c.args.asked.now.previous_session_id c.args.asked.now.flags.0
-    c.args.asked.now.security_buffer.now c.self.inside.store.opens c.good.ensures c.in_ok-done.ensures.unrefused c.self.invariant.owned in
+    c.args.asked.now.security_buffer.now c.self.inside.store.opens (below c.self.inside.sessions.table.next c.self.inside.sessions.table.sessions c.good.ensures.given) c.in_ok-done.ensures.unrefused c.self.invariant.owned in
     rw c.close_ended.ensures.left
     (record {
       lawful = c.self.invariant.lawful;
