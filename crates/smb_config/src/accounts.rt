@@ -3,7 +3,7 @@
 ghost use Rattle.std.specs.Prelude.{map, IfOk};
 ghost use Rattle.smb_ntlm.specs.Accounts.{known, AreLawful};
 
-use crate::configuration::{ConfigFault, only_keys, read_sixteen, read_table, text};
+use crate::configuration::{ConfigFault, flag, only_keys, read_sixteen, read_table, text};
 use crate::rule::ConfigRule;
 use smb_ntlm::{Account, account_fault};
 use std::alloc::{AllocError, Global};
@@ -12,8 +12,8 @@ use toml::{Table, Value};
 /// The keys that a file of accounts has, none required.
 pub(crate) const ACCOUNTS_KEYS: [&str; 1] = ["account"];
 
-/// The keys that an account has, both required.
-pub(crate) const ACCOUNT_KEYS: [&str; 2] = ["name", "nt_hash"];
+/// The keys that an account has, all but `readonly` required.
+pub(crate) const ACCOUNT_KEYS: [&str; 3] = ["name", "nt_hash", "readonly"];
 
 /// What a file of accounts says: who may log in by a password.
 #[derive(Debug, Drop)]
@@ -31,8 +31,13 @@ fn read_account(alloc: Global, number: usize, value: &Value) -> Result<Account, 
     only_keys(table, &ACCOUNT_KEYS, ConfigRule::AccountKeys(number))?;
     let name = text(table, "name", ConfigRule::AccountName(number))?;
     let nt_hash = read_sixteen(table, "nt_hash", ConfigRule::AccountHash(number))?;
+    let read_only = flag(table, "readonly", ConfigRule::AccountReadonly(number))?;
     let name = Vec::from_slice(alloc, name.as_bytes())?;
-    Ok(Account { name, nt_hash })
+    Ok(Account {
+        name,
+        nt_hash,
+        read_only,
+    })
 }
 
 /// The accounts of a table, with any names.
@@ -61,9 +66,9 @@ impl Accounts {
         }
     }
 
-    /// Reads a file of accounts whole: a table `[[account]]` for each, with its `name` and its `nt_hash`. Which rule is
-    /// named where it is refused, and that no other text is, is tested. It takes time in proportion to the square of
-    /// their number.
+    /// Reads a file of accounts whole: a table `[[account]]` for each, with its `name`, its `nt_hash` and, where it may
+    /// only read, `readonly`. Which rule is named where it is refused, and that no other text is, is tested. It takes
+    /// time in proportion to the square of their number.
     pub fn read(alloc: Global, document: &str) -> Result<Self, ConfigFault>
         ensures lawful { IfOk result (λ read. AreLawful (map known read.list.items)) }
     {

@@ -30,13 +30,21 @@ name = \"ann\"
 token = \"61\"
 ";
 
-/// The keys that a configuration has, all but `user` required.
-pub(crate) const KEYS: [&str; 8] = [
-    "share", "label", "guid", "capacity", "created", "hello", "guest", "user",
+/// The keys that a configuration has, all but `guest_readonly` and `user` required.
+pub(crate) const KEYS: [&str; 9] = [
+    "share",
+    "label",
+    "guid",
+    "capacity",
+    "created",
+    "hello",
+    "guest",
+    "guest_readonly",
+    "user",
 ];
 
-/// The keys that a user has, both required.
-pub(crate) const USER_KEYS: [&str; 2] = ["name", "token"];
+/// The keys that a user has, all but `readonly` required.
+pub(crate) const USER_KEYS: [&str; 3] = ["name", "token", "readonly"];
 
 /// How many bytes a hello or a token has at most.
 const TOKEN_LIMIT: usize = 4_096;
@@ -72,6 +80,8 @@ pub struct Configuration {
     pub config: Config,
     /// Whether guests may come.
     pub guest: bool,
+    /// Whether guests may only read.
+    pub guest_read_only: bool,
     /// How many users there are, each with a token.
     pub users: usize,
     /// Knows the users by their tokens, and lets guests in where they may come.
@@ -102,6 +112,14 @@ pub(crate) fn text<'a>(
         .get(key)
         .and_then(Value::as_str)
         .ok_or(ConfigFault::Refused(rule))
+}
+
+/// What is true or false under a key; false where there is no such key.
+pub(crate) fn flag(table: &Table, key: &str, rule: ConfigRule) -> Result<bool, ConfigFault> {
+    match table.get(key) {
+        Some(value) => value.as_bool().ok_or(ConfigFault::Refused(rule)),
+        None => Ok(false),
+    }
 }
 
 /// The number under a key, 0 or more.
@@ -166,8 +184,13 @@ fn read_user(alloc: Global, number: usize, value: &Value) -> Result<User, Config
         return Err(ConfigFault::Refused(ConfigRule::UserName(number)));
     }
     let token = read_token(alloc, table, "token", ConfigRule::UserToken(number))?;
+    let read_only = flag(table, "readonly", ConfigRule::UserReadonly(number))?;
     let name = Vec::from_slice(alloc, name)?;
-    Ok(User { name, token })
+    Ok(User {
+        name,
+        token,
+        read_only,
+    })
 }
 
 /// Whether one of the users has this token.
@@ -275,12 +298,14 @@ impl Configuration {
             .get("guest")
             .and_then(Value::as_bool)
             .ok_or(ConfigFault::Refused(ConfigRule::Guest))?;
+        let guest_read_only = flag(&table, "guest_readonly", ConfigRule::GuestReadonly)?;
         let list = read_users(alloc, &table)?;
         let users = list.len();
-        let authenticator = Tokens::new(alloc, &hello, guest, list)?;
+        let authenticator = Tokens::new(alloc, &hello, guest, guest_read_only, list)?;
         Ok(Configuration {
             config,
             guest,
+            guest_read_only,
             users,
             authenticator,
         })

@@ -279,6 +279,7 @@ fn account_subject_of(rule: ConfigRule) -> Option<(Section, Option<&'static str>
         ConfigRule::AccountKeys(number) => Some((account(number), None)),
         ConfigRule::AccountName(number) => Some((account(number), Some("name"))),
         ConfigRule::AccountHash(number) => Some((account(number), Some("nt_hash"))),
+        ConfigRule::AccountReadonly(number) => Some((account(number), Some("readonly"))),
         ConfigRule::OfAccount(fault) => Some((account(number_of(fault)), Some("name"))),
         _ => None,
     }
@@ -297,12 +298,14 @@ fn subject_of(rule: ConfigRule) -> Option<(Section, Option<&'static str>)> {
         ConfigRule::Created => Some((Section::Share, Some("created"))),
         ConfigRule::Hello => Some((Section::Share, Some("hello"))),
         ConfigRule::Guest => Some((Section::Share, Some("guest"))),
+        ConfigRule::GuestReadonly => Some((Section::Share, Some("guest_readonly"))),
         ConfigRule::Users => Some((Section::Share, Some("user"))),
         ConfigRule::UserKeys(number) => Some((user(number), None)),
         ConfigRule::UserName(number) => Some((user(number), Some("name"))),
         ConfigRule::UserToken(number) | ConfigRule::OwnTokens(number) => {
             Some((user(number), Some("token")))
         }
+        ConfigRule::UserReadonly(number) => Some((user(number), Some("readonly"))),
         _ => account_subject_of(rule),
     }
 }

@@ -21,11 +21,13 @@ pub enum ConfigRule {
     Created,
     Hello,
     Guest,
+    GuestReadonly,
     Users,
     /// Which keys the user of this number has; users are counted from 1.
     UserKeys(usize),
     UserName(usize),
     UserToken(usize),
+    UserReadonly(usize),
     /// No two users have one token; the later one has this number.
     OwnTokens(usize),
     /// Nobody but its owner may read or write a file of accounts.
@@ -38,6 +40,7 @@ pub enum ConfigRule {
     /// The name is a text.
     AccountName(usize),
     AccountHash(usize),
+    AccountReadonly(usize),
     /// What a login asks of accounts' names; they are counted from 0.
     OfAccount(AccountFault),
 }
@@ -56,7 +59,7 @@ impl ConfigRule {
             ConfigRule::Text => "file: a text in UTF-8",
             ConfigRule::Toml(_) => "file: a text in TOML, no key given twice",
             ConfigRule::Keys => {
-                "keys: none but share, label, guid, capacity, created, hello, guest and user"
+                "keys: none but share, label, guid, capacity, created, hello, guest, guest_readonly and user"
             }
             ConfigRule::Share => {
                 "share: a text of 1 to 80 characters from ! to ~, none of them one of \" * / : < > ? \\ |"
@@ -67,17 +70,20 @@ impl ConfigRule {
             ConfigRule::Created => "created: a number of 0 or more, in units of 100 ns since 1601",
             ConfigRule::Hello => "hello: at most 4096 bytes in hex, as a text",
             ConfigRule::Guest => "guest: true or false",
+            ConfigRule::GuestReadonly => "guest_readonly: true or false, where it is given",
             ConfigRule::Users => "user: a table [[user]] for each user",
-            ConfigRule::UserKeys(_) => "user: no keys but name and token",
+            ConfigRule::UserKeys(_) => "user: no keys but name, token and readonly",
             ConfigRule::UserName(_) => "user.name: a text of 1 to 256 bytes",
             ConfigRule::UserToken(_) => "user.token: at most 4096 bytes in hex, as a text",
+            ConfigRule::UserReadonly(_) => "user.readonly: true or false, where it is given",
             ConfigRule::OwnTokens(_) => "user.token: no two users have the same token",
             ConfigRule::Mode => "file: no rights for anyone but its owner, such as mode 600",
             ConfigRule::AccountsKeys => "keys: none but account",
             ConfigRule::Accounts => "account: a table [[account]] for each account",
-            ConfigRule::AccountKeys(_) => "account: no keys but name and nt_hash",
+            ConfigRule::AccountKeys(_) => "account: no keys but name, nt_hash and readonly",
             ConfigRule::AccountName(_) => "account.name: a text",
             ConfigRule::AccountHash(_) => "account.nt_hash: a text of 32 hex digits",
+            ConfigRule::AccountReadonly(_) => "account.readonly: true or false, where it is given",
             ConfigRule::OfAccount(fault) => name_text(fault),
         }
     }

@@ -16,20 +16,20 @@ use Rattle.smb_ntlm.specs.Messages.{LoginAsked, has_signature, is_message, messa
 use Rattle.smb_ntlm.specs.Proof.{challenge, account_of, is_named, has_proof}
 use Rattle.smb_ntlm.specs.Tokens.{Wrapped, wrapped_in, prefers_another}
 use Rattle.smb_ntlm.specs.Login.{NtlmState, first_answer, login_rows, message_rows, login_answer, guest_user, no_login, no_token}
-use Rattle.smb_ntlm.specs.Laws.{login_of, IsProved, UsersAreProved, NoGuestComesUnasked, WithoutAccountsAllAreGuests, AccountsDoNotShow, WhatIsCutIsDenied, ChallengeIsRead, GuestsAreStrangers, GuestsAreNoAccounts}
+use Rattle.smb_ntlm.specs.Laws.{login_of, IsProved, UsersAreProved, NoGuestComesUnasked, WithoutAccountsAllAreGuests, GuestsHaveTheRightOfGuests, AccountsDoNotShow, WhatIsCutIsDenied, ChallengeIsRead, GuestsAreStrangers, GuestsAreNoAccounts}
 use Rattle.smb_ntlm.proofs.Elements.{cases_Option, whole_ends, whole_not_cut}
 use Rattle.smb_ntlm.proofs.Lawful.{IsName, lawful_names, length-challenge}
 
 -- ---- who is let in
 
 -- a row that lets nobody in is not the one
-no_row : (b : Bool) (rest : Answered) (user last : List ℕ) (flags : ℕ) → cond b denies rest ≡ accepts user flags last → (b ≡ false) × (rest ≡ accepts user flags last)
-no_row true rest user last flags h = absurd (cc h)
-no_row false rest user last flags h = (refl, h)
+no_row : (b : Bool) (rest : Answered) (user last : List ℕ) (flags : ℕ) (read_only : Bool) → cond b denies rest ≡ accepts user flags read_only last → (b ≡ false) × (rest ≡ accepts user flags read_only last)
+no_row true rest user last flags read_only h = absurd (cc h)
+no_row false rest user last flags read_only h = (refl, h)
 
-no_token_row : (b : Bool) (token : List ℕ) (rest : Answered) (user last : List ℕ) (flags : ℕ) → cond b (continues token) rest ≡ accepts user flags last → (b ≡ false) × (rest ≡ accepts user flags last)
-no_token_row true token rest user last flags h = absurd (cc h)
-no_token_row false token rest user last flags h = (refl, h)
+no_token_row : (b : Bool) (token : List ℕ) (rest : Answered) (user last : List ℕ) (flags : ℕ) (read_only : Bool) → cond b (continues token) rest ≡ accepts user flags read_only last → (b ≡ false) × (rest ≡ accepts user flags read_only last)
+no_token_row true token rest user last flags read_only h = absurd (cc h)
+no_token_row false token rest user last flags read_only h = (refl, h)
 
 some_of : {A : Type 0} (o : Option A) (x : A) → is_none o ≡ false → o ≡ Some (unwrap_or o x)
 some_of None x h = absurd (cc h)
@@ -58,31 +58,35 @@ found_among test (a ∷ accounts) account h = elim (cases_Bool (test a)) [
 ]
 
 -- who is let in is the session's guest, whom the name of no account brought, or has proved to be an account's user
-pub let_in_as : (state : NtlmState) (session : ℕ) (token user last : List ℕ) (flags : ℕ) → login_answer state session token ≡ accepts user flags last →
-    ((user ≡ guest_user session) × (state.guest ≡ true)) ⊎ IsProved state session token user
+pub let_in_as : (state : NtlmState) (session : ℕ) (token user last : List ℕ) (flags : ℕ) (read_only : Bool) → login_answer state session token ≡ accepts user flags read_only last →
+    ((user ≡ guest_user session) × (state.guest ≡ true) × (read_only ≡ state.guest_read_only)) ⊎ IsProved state session token user read_only
 unfolding login_answer message_rows login_rows has_proof
-let_in_as state session token user last flags h =
+let_in_as state session token user last flags read_only h =
     let read : Wrapped = unwrap_or (wrapped_in token) no_token in
     let message : List ℕ = read.message in
     let login : LoginAsked = unwrap_or (login_in message) no_login in
-    let one = no_row _ _ user last flags h in
-    let two = no_token_row _ _ _ user last flags one.1 in
-    let three = no_row _ _ user last flags two.1 in
-    let four = no_row _ _ user last flags three.1 in
-    let five = no_token_row _ _ _ user last flags four.1 in
-    let six = no_row _ _ user last flags five.1 in
+    let one = no_row _ _ user last flags read_only h in
+    let two = no_token_row _ _ _ user last flags read_only one.1 in
+    let three = no_row _ _ user last flags read_only two.1 in
+    let four = no_row _ _ user last flags read_only three.1 in
+    let five = no_token_row _ _ _ user last flags read_only four.1 in
+    let six = no_row _ _ user last flags read_only five.1 in
     let wrapped : wrapped_in token ≡ Some read = some_of (wrapped_in token) no_token (or_parts _ _ one.0).1 in
     let is : is_message message ≡ true = not-false _ three.0 in
     let found : login_of token ≡ Some login = is_login read token wrapped is five.0 ∙ some_of (login_in message) no_login six.0 in
-    login_as state session token user last flags read.wrapping login found six.1
+    login_as state session token user last flags read_only read.wrapping login found six.1
   where
-    login_as : (state : NtlmState) (session : ℕ) (token user last : List ℕ) (flags : ℕ) (wrapping : Wrapping) (login : LoginAsked) → login_of token ≡ Some login →
-        first_answer (login_rows state session wrapping login) ≡ accepts user flags last → ((user ≡ guest_user session) × (state.guest ≡ true)) ⊎ IsProved state session token user
-    login_as state session token user last flags wrapping login found h = elim (cases_Option (account_of state.accounts login.user)) [
+    login_as : (state : NtlmState) (session : ℕ) (token user last : List ℕ) (flags : ℕ) (read_only : Bool) (wrapping : Wrapping) (login : LoginAsked) → login_of token ≡ Some login →
+        first_answer (login_rows state session wrapping login) ≡ accepts user flags read_only last → ((user ≡ guest_user session) × (state.guest ≡ true) × (read_only ≡ state.guest_read_only)) ⊎ IsProved state session token user read_only
+    login_as state session token user last flags read_only wrapping login found h = elim (cases_Option (account_of state.accounts login.user)) [
       | inl none ↦
           let rest = rw none at h in
           elim (cases_Bool state.guest) [
-            | inl g ↦ let is = rw g at rest in let same : guest_user session ≡ user = cc is in inl (sym same, g)
+            | inl g ↦
+                let is = rw g at rest in
+                let same : guest_user session ≡ user = cc is in
+                let right : state.guest_read_only ≡ read_only = cc is in
+                inl (sym same, g, sym right)
             | inr f ↦ let no = rw f at rest in absurd (cc no)
           ]
       | inr some ↦
@@ -91,6 +95,7 @@ let_in_as state session token user last flags h =
             | inl t ↦
                 let is = rw t at rest in
                 let name : some.0.name ≡ user = cc is in
+                let right : some.0.read_only ≡ read_only = cc is in
                 let there = found_among (is_named login.user) state.accounts some.0 some.1 in
                 let parts = and_parts _ _ t in
                 inr (record {
@@ -98,6 +103,7 @@ let_in_as state session token user last flags h =
                   login = login;
                   among = there.0;
                   name = name;
+                  right = right;
                   read = found;
                   asked = there.1;
                   long = leb-true _ _ parts.0;
@@ -108,7 +114,7 @@ let_in_as state session token user last flags h =
     ]
 
 pub users_proved : UsersAreProved
-users_proved state session token user last flags h other = elim (let_in_as state session token user last flags h) [
+users_proved state session token user last flags read_only h other = elim (let_in_as state session token user last flags read_only h) [
   | inl guest ↦ absurd (other guest.0)
   | inr proved ↦ proved
 ]
@@ -126,17 +132,23 @@ guests_no_accounts accounts account session h among e =
     cc no
 
 pub none_unasked : NoGuestComesUnasked
-none_unasked state session token user last flags lawful g h = elim (let_in_as state session token user last flags h) [
+none_unasked state session token user last flags read_only lawful g h = elim (let_in_as state session token user last flags read_only h) [
   | inl guest ↦ let no : true ≡ false = sym guest.1 ∙ g in absurd (cc no)
   | inr proved ↦ (proved, λ other e. guests_no_accounts state.accounts proved.account other lawful proved.among (proved.name ∙ e))
 ]
 
 pub all_guests : WithoutAccountsAllAreGuests
-all_guests state session token user last flags none h = elim (let_in_as state session token user last flags h) [
+all_guests state session token user last flags read_only none h = elim (let_in_as state session token user last flags read_only h) [
   | inl guest ↦ guest.0
   | inr proved ↦
       let few : length state.accounts ≡ 0 = ap length none in
       absurd (omega (arith, proved.among.1))
+]
+
+pub guests_rights : GuestsHaveTheRightOfGuests
+guests_rights state session token last flags read_only lawful h = elim (let_in_as state session token (guest_user session) last flags read_only h) [
+  | inl guest ↦ guest.2
+  | inr proved ↦ absurd (guests_no_accounts state.accounts proved.account session lawful proved.among proved.name)
 ]
 
 pub guests_strangers : GuestsAreStrangers
@@ -147,7 +159,7 @@ guests_strangers session other h k e = decimal_injective session other h k (ap (
 
 pub none_shows : AccountsDoNotShow
 unfolding login_answer message_rows
-none_shows seed accounts others guest other session token none =
+none_shows seed accounts others guest other guest_read_only other_read_only session token none =
     let read : Wrapped = unwrap_or (wrapped_in token) no_token in
     elim (cases_Bool (nat_lt 4096 (length token) || is_none (wrapped_in token))) [
       | inl t ↦ rw t refl

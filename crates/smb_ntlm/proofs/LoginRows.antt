@@ -26,7 +26,7 @@ pub account_found : (user : List ℕ) (entries : List Entry) (found : Option Ent
 account_found user entries found e = found_in user entries ∙ ap (option_map known_entry) (sym e)
 
 pub row_proved : (state : NtlmState) (session : ℕ) (wrapping : Wrapping) (login : LoginAsked) (account : KnownAccount) → account_of state.accounts login.user ≡ Some account →
-    has_proof account (challenge state.seed session) login ≡ true → first_answer (login_rows state session wrapping login) ≡ lets_in wrapping account.name
+    has_proof account (challenge state.seed session) login ≡ true → first_answer (login_rows state session wrapping login) ≡ lets_in wrapping account.name account.read_only
 unfolding login_rows
 row_proved state session wrapping login account e p = rw (e, p) refl
 
@@ -36,7 +36,7 @@ unfolding login_rows
 row_denied state session wrapping login account e p = rw (e, p) refl
 
 pub row_guest : (state : NtlmState) (session : ℕ) (wrapping : Wrapping) (login : LoginAsked) → account_of state.accounts login.user ≡ None →
-    state.guest ≡ true → first_answer (login_rows state session wrapping login) ≡ lets_in wrapping (guest_user session)
+    state.guest ≡ true → first_answer (login_rows state session wrapping login) ≡ lets_in wrapping (guest_user session) state.guest_read_only
 unfolding login_rows
 row_guest state session wrapping login e g = rw (e, g) refl
 

@@ -15,6 +15,8 @@ pub struct Account {
     pub name: Vec<u8>,
     /// MD4 of the password in UTF-16LE ([MS-NLMP] 3.3.1, NTOWFv1). Who has it can log in.
     pub nt_hash: [u8; 16],
+    /// Whether the account may only read.
+    pub read_only: bool,
 }
 
 /// Shows the name, and no hash.

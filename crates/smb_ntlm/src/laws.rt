@@ -1,12 +1,13 @@
 //! The laws of logins.
 
-ghost use Rattle.smb_ntlm.specs.Laws.{UsersAreProved, NoGuestComesUnasked, WithoutAccountsAllAreGuests, AccountsDoNotShow, WhatIsCutIsDenied, AnswersAreLawful, NothingChanges, ChallengeIsRead, GuestsAreStrangers, GuestsAreNoAccounts, HmacIsTheStandards, ProofIsTheStandards, Md4IsTheStandards, NtHashIsTheStandards};
+ghost use Rattle.smb_ntlm.specs.Laws.{UsersAreProved, NoGuestComesUnasked, WithoutAccountsAllAreGuests, GuestsHaveTheRightOfGuests, AccountsDoNotShow, WhatIsCutIsDenied, AnswersAreLawful, NothingChanges, ChallengeIsRead, GuestsAreStrangers, GuestsAreNoAccounts, HmacIsTheStandards, ProofIsTheStandards, Md4IsTheStandards, NtHashIsTheStandards};
 
 /// What holds of every login: the contract is the statement, and the body does nothing.
 pub fn laws_of_ntlm()
     ensures proved { UsersAreProved }
     ensures unasked { NoGuestComesUnasked }
     ensures guests { WithoutAccountsAllAreGuests }
+    ensures rights { GuestsHaveTheRightOfGuests }
     ensures hidden { AccountsDoNotShow }
     ensures cut { WhatIsCutIsDenied }
     ensures lawful { AnswersAreLawful }

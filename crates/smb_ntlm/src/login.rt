@@ -30,6 +30,7 @@ pub struct Gate<'a> {
     pub seed: &'a [u8; 16],
     pub entries: &'a [Entry],
     pub guest: bool,
+    pub guest_read_only: bool,
 }
 
 /// The challenge of a session.
@@ -77,13 +78,19 @@ fn challenge_token(
     Ok(token)
 }
 
-/// Lets a user in.
-fn let_in(alloc: Global, wrapping: Wrapping, user: Vec<u8>) -> Result<Answer, AllocError>
-    ensures { IfOk result (λ answer. answered_by answer ≡ lets_in wrapping user.items) }
+/// Lets a user in, to read only or to write too.
+fn let_in(
+    alloc: Global,
+    wrapping: Wrapping,
+    user: Vec<u8>,
+    read_only: bool,
+) -> Result<Answer, AllocError>
+    ensures { IfOk result (λ answer. answered_by answer ≡ lets_in wrapping user.items read_only) }
 {
     Ok(Answer::Accept {
         user,
         flags: IS_GUEST,
+        read_only,
         token: Vec::from_slice(alloc, wrapping.last_token())?,
     })
 }
@@ -101,10 +108,13 @@ fn answer_login(
     match find_entry(gate.entries, login.user) {
         Some(entry) if entry.has_proof(&challenge(gate.seed, session), login) => {
             let user = Vec::from_slice(gate.alloc, &entry.account.name)?;
-            let_in(gate.alloc, wrapping, user)
+            let_in(gate.alloc, wrapping, user, entry.account.read_only)
         }
         Some(_) => Ok(Answer::Deny),
-        None if gate.guest => let_in(gate.alloc, wrapping, guest_user(gate.alloc, session)?),
+        None if gate.guest => {
+            let user = guest_user(gate.alloc, session)?;
+            let_in(gate.alloc, wrapping, user, gate.guest_read_only)
+        }
         None => Ok(Answer::Deny),
     }
 }

@@ -22,6 +22,7 @@ pub struct Ntlm {
     seed: [u8; 16],
     entries: Vec<Entry>,
     guest: bool,
+    guest_read_only: bool,
 }
 
 impl Model for Ntlm {
@@ -35,6 +36,7 @@ impl Model for Ntlm {
       seed = n.seed;
       accounts = map (λ entry. known entry.account) n.entries.items;
       guest = n.guest;
+      guest_read_only = n.guest_read_only;
     } };
 
     ghost invariant = { λ n. AreLawful (map (λ entry. known entry.account) n.entries.items) };
@@ -53,7 +55,7 @@ fn entries_of(alloc: Global, accounts: Vec<Account>) -> Result<Vec<Entry>, Alloc
 
 impl Ntlm {
     /// An authenticator with these accounts, in which [`account_fault`](crate::account_fault) finds no fault, and
-    /// guests where these may come.
+    /// guests where these may come; guests may only read where `guest_read_only` holds.
     ///
     /// The seed is to be fresh in each run, from a source of random bytes: under a seed of an earlier run a login that
     /// was seen then is good again, in the session with the same number. Fails where an account's name in capitals
@@ -63,10 +65,15 @@ impl Ntlm {
         seed: [u8; 16],
         accounts: Vec<Account>,
         guest: bool,
+        guest_read_only: bool,
     ) -> Result<Ntlm, AllocError>
         requires { AreLawful (map known accounts.items) }
-        ensures { IfOk result (λ ntlm. ntlm ≡
-            record { seed = seed; accounts = map known accounts.items; guest = guest }) }
+        ensures { IfOk result (λ ntlm. ntlm ≡ record {
+          seed = seed;
+          accounts = map known accounts.items;
+          guest = guest;
+          guest_read_only = guest_read_only;
+        }) }
     {
         let entries = entries_of(alloc, accounts)?;
         Ok(Ntlm {
@@ -74,6 +81,7 @@ impl Ntlm {
             seed,
             entries,
             guest,
+            guest_read_only,
         })
     }
 }
@@ -93,6 +101,7 @@ impl Authenticator for Ntlm {
             seed: &self.seed,
             entries: &self.entries,
             guest: self.guest,
+            guest_read_only: self.guest_read_only,
         };
         answer_to(gate, session, token)
     }

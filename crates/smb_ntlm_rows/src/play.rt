@@ -7,7 +7,7 @@ use smb_session::{Answer, Authenticator};
 use std::alloc::{AllocError, Global};
 
 /// An answer in words: `deny`; `continue` with the token in hex; `accept` with the user in hex, the flags and the
-/// token.
+/// token, and `readonly` where the user may only read.
 fn words_of(alloc: Global, answer: &Answer) -> Result<String, AllocError> {
     match answer {
         Answer::Deny => String::from_str(alloc, "deny"),
@@ -15,10 +15,16 @@ fn words_of(alloc: Global, answer: &Answer) -> Result<String, AllocError> {
             let token = encode(alloc, token.as_slice())?;
             format!(in alloc; "continue {token}")
         }
-        Answer::Accept { user, flags, token } => {
+        Answer::Accept {
+            user,
+            flags,
+            read_only,
+            token,
+        } => {
             let user = encode(alloc, user.as_slice())?;
             let token = encode(alloc, token.as_slice())?;
-            format!(in alloc; "accept {user} {flags} {token}")
+            let right = if *read_only { " readonly" } else { "" };
+            format!(in alloc; "accept {user} {flags} {token}{right}")
         }
     }
 }
@@ -31,6 +37,7 @@ fn copies(alloc: Global, accounts: &[Account]) -> Result<Vec<Account>, AllocErro
         copies.push(Account {
             name,
             nt_hash: account.nt_hash,
+            read_only: account.read_only,
         })?;
     }
     Ok(copies)
@@ -85,7 +92,7 @@ fn play_login(alloc: Global, row: &Row) -> Result<Option<String>, AllocError> {
             }
         }
         None if row.fault.is_empty() => {
-            let mut ntlm = Ntlm::new(alloc, row.seed, accounts, row.guest)?;
+            let mut ntlm = Ntlm::new(alloc, row.seed, accounts, row.guest, row.guest_read_only)?;
             play_steps(alloc, &mut ntlm, row.steps.as_slice())
         }
         None => Ok(Some(String::from_str(alloc, "no fault")?)),

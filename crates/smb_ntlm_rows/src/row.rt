@@ -51,6 +51,7 @@ pub struct Row {
     pub name: String,
     pub seed: [u8; 16],
     pub guest: bool,
+    pub guest_read_only: bool,
     pub accounts: Vec<Account>,
     /// What is wrong with the accounts, in words; else empty.
     pub fault: String,
@@ -68,6 +69,15 @@ fn sixteen_of(word: &str) -> Result<[u8; 16], RowFault> {
     <[u8; 16] as FromHex>::from_hex(word).map_err(|_| RowFault::NoBytes)
 }
 
+/// Whether a word is `readonly`; no word is the other.
+fn is_read_only(word: &str) -> Result<bool, RowFault> {
+    match word {
+        "" => Ok(false),
+        "readonly" => Ok(true),
+        _ => Err(RowFault::UnknownLine),
+    }
+}
+
 impl Row {
     /// A row without accounts and tokens, whose seed is zeros.
     pub fn named(alloc: Global, name: &str) -> Result<Row, AllocError> {
@@ -75,6 +85,7 @@ impl Row {
             name: String::from_str(alloc, name)?,
             seed: [0; 16],
             guest: false,
+            guest_read_only: false,
             accounts: Vec::new(alloc),
             fault: String::new(alloc),
             steps: Vec::new(alloc),
@@ -82,12 +93,21 @@ impl Row {
         })
     }
 
-    /// Takes an account: its name and its NT hash, in hex.
+    /// Takes guests, who may write too where no word says that they may not.
+    fn take_guests(&mut self, words: &str) -> Result<(), RowFault> {
+        self.guest = true;
+        self.guest_read_only = is_read_only(words)?;
+        Ok(())
+    }
+
+    /// Takes an account: its name and its NT hash, in hex, and whether it may only read.
     fn take_account(&mut self, alloc: Global, words: &str) -> Result<(), RowFault> {
-        let (name, nt_hash) = words.split_once(' ').ok_or(RowFault::UnknownLine)?;
+        let (name, words) = words.split_once(' ').ok_or(RowFault::UnknownLine)?;
+        let (nt_hash, right) = words.split_once(' ').unwrap_or((words, ""));
         let account = Account {
             name: bytes_of(alloc, name)?,
             nt_hash: sixteen_of(nt_hash)?,
+            read_only: is_read_only(right)?,
         };
         self.accounts.push(account).map_err(|_| RowFault::NoMemory)
     }
@@ -126,7 +146,7 @@ impl Row {
         let (word, words) = line.split_once(' ').unwrap_or((line, ""));
         match word {
             "seed" => self.seed = sixteen_of(words)?,
-            "guest" => self.guest = true,
+            "guest" => self.take_guests(words)?,
             "account" => self.take_account(alloc, words)?,
             "fault" => self.fault = String::from_str(alloc, words)?,
             "hash" => self.take_hash(alloc, words)?,

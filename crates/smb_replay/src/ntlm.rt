@@ -11,14 +11,21 @@ use std::alloc::Global;
 use std::io::{Read, Write};
 
 /// A new share of a configuration to which clients log in by NTLM: as an account, or as a guest where the configuration
-/// lets guests in. The challenges come from the seed.
+/// lets guests in. The challenges come from the seed. An account may only read where it says so, and a guest where the
+/// configuration does.
 pub fn new_ntlm_share(
     alloc: Global,
     configuration: Configuration,
     accounts: Accounts,
     seed: [u8; 16],
 ) -> Result<Share<Ntlm, NodeTree, HandleTable>, CommandFault> {
-    let ntlm = Ntlm::new(alloc, seed, accounts.list, configuration.guest)?;
+    let ntlm = Ntlm::new(
+        alloc,
+        seed,
+        accounts.list,
+        configuration.guest,
+        configuration.guest_read_only,
+    )?;
     match Share::in_memory(alloc, configuration.config, ntlm) {
         Ok(share) => Ok(share),
         Err(ServeFault::NoMemory { done: _ }) => Err(CommandFault::NoMemory),

@@ -97,6 +97,7 @@ fn share_over<T: Tree + Drop, O: Opens + Drop>(
     let Configuration {
         config,
         guest: _,
+        guest_read_only: _,
         users: _,
         authenticator,
     } = configuration;

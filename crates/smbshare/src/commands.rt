@@ -11,6 +11,8 @@ whose token is 61 in hex, the letter `a`; guests are not let in. A token is the 
 SESSION_SETUP and no password: no client of Samba's sends `a`, so serve with --config guest.toml.
 
 Who has an account logs in by NTLM, with a password that nt-hash makes a hash of for the file of accounts.
+Who comes in may write too, but for a user or an account with `readonly = true`, and for guests where the configuration
+has `guest_readonly = true`: these may only read.
 
 Examples:
   smbshare replay --explain < examples/two_clients
@@ -38,7 +40,8 @@ const SERVE_HELP: &str =
 A file of accounts has a table for each, and nobody but its owner has a right to it (chmod 600):
   [[account]]
   name = \"ann\"
-  nt_hash = \"a4f49c406510bdcab6824ee7c30fd852\"";
+  nt_hash = \"a4f49c406510bdcab6824ee7c30fd852\"
+  readonly = true    # where it may only read";
 
 /// The end of the help of `nt-hash`.
 const NT_HASH_HELP: &str =

@@ -13,7 +13,7 @@ const NO_USER: &str =
 
 /// What is said of a configuration where clients log in by NTLM.
 const NO_TOKENS: &str =
-    "login by NTLM: `hello` and the users' tokens of the configuration are not used; its `guest` says whether guests come in";
+    "login by NTLM: `hello` and the users' tokens of the configuration are not used; its `guest` says whether guests come in, and `guest_readonly` whether these may only read";
 
 /// What is said where clients log in by NTLM, and no login is right.
 const NO_ACCOUNT: &str =

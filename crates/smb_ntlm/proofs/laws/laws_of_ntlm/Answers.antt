@@ -1,6 +1,6 @@
 use Rattle.std.proofs.Common.{refl}
 use Rattle.smb_ntlm.proofs.Lawful.{answer_lawful}
-use Rattle.smb_ntlm.proofs.LoginLaws.{users_proved, none_unasked, all_guests, none_shows, cut_denied, challenge_read, guests_strangers, guests_no_accounts}
+use Rattle.smb_ntlm.proofs.LoginLaws.{users_proved, none_unasked, all_guests, guests_rights, none_shows, cut_denied, challenge_read, guests_strangers, guests_no_accounts}
 use Rattle.smb_ntlm.proofs.laws.laws_of_ntlm.Goals as goal
 
 pub returns-clause-proved : goal.returns-clause-proved
@@ -11,6 +11,9 @@ returns-clause-unasked c = none_unasked
 
 pub returns-clause-guests : goal.returns-clause-guests
 returns-clause-guests c = all_guests
+
+pub returns-clause-rights : goal.returns-clause-rights
+returns-clause-rights c = guests_rights
 
 pub returns-clause-hidden : goal.returns-clause-hidden
 returns-clause-hidden c = none_shows

@@ -18,7 +18,7 @@ returns-in_ok-user-in-Some c =
     row_proved (gate_state c.args.gate) c.args.session c.args.wrapping login (known_entry c.in-Some.entry.now)
     (account_found c.args.login.now.user.now c.args.gate.entries.now (Some c.in-Some.entry.now) c.in-Some.ensures) proved in
     let name = c.in_ok-user-in-Some.ensures.items ∙ c.deref.ensures.value in
-    subst (λ (said : Answered). IfOk c.let_in.result (λ answer. answered_by answer ≡ said)) (ap (lets_in c.args.wrapping) name ∙ sym row) c.let_in.ensures
+    subst (λ (said : Answered). IfOk c.let_in.result (λ answer. answered_by answer ≡ said)) (ap (λ (user : List ℕ). lets_in c.args.wrapping user c.in-Some.entry.now.account.read_only) name ∙ sym row) c.let_in.ensures
 
 pub returns-in-Some-2 : goal.returns-in-Some-2
 returns-in-Some-2 c =
@@ -30,12 +30,12 @@ returns-in-Some-2 c =
     (account_found c.args.login.now.user.now c.args.gate.entries.now (Some c.in-Some.entry.now) c.in-Some.ensures) unproved
     )
 
-pub returns-in_ok-guest_user-in-None : goal.returns-in_ok-guest_user-in-None
-returns-in_ok-guest_user-in-None c =
+pub returns-in_ok-user-in-None : goal.returns-in_ok-user-in-None
+returns-in_ok-user-in-None c =
     let row =
     row_guest (gate_state c.args.gate) c.args.session c.args.wrapping (login_asked c.args.login.now)
     (account_found c.args.login.now.user.now c.args.gate.entries.now None c.in-None.ensures) c.if-gate.true in
-    subst (λ (said : Answered). IfOk c.let_in-in-None.result (λ answer. answered_by answer ≡ said)) (ap (lets_in c.args.wrapping) c.in_ok-guest_user-in-None.ensures ∙ sym row) c.let_in-in-None.ensures
+    subst (λ (said : Answered). IfOk c.let_in-in-None.result (λ answer. answered_by answer ≡ said)) (ap (λ (user : List ℕ). lets_in c.args.wrapping user c.args.gate.guest_read_only) c.in_ok-user-in-None.ensures ∙ sym row) c.let_in-in-None.ensures
 
 pub returns-in-None-2 : goal.returns-in-None-2
 returns-in-None-2 c =
