@@ -3,7 +3,10 @@ and of streams that the share ends."""
 import struct
 
 SHARE_RULE = 'share: a text of 1 to 80 characters from ! to ~, none of them one of " * / : < > ? \\ |'
+KEYS_RULE = 'keys: none but share, label, guid, capacity, created, hello, guest, guest_readonly and user'
+FLAG_RULE = 'true or false, where it is given'
 TOKEN_RULE = 'user.token: at most 4096 bytes in hex, as a text'
+USER_KEYS_RULE = 'user: no keys but name, token and readonly'
 
 # A text of the example, another in its place, and what is said of it.
 BROKEN = (
@@ -20,7 +23,7 @@ BROKEN = (
      'guid: a text of 32 hex digits; line 4: "00102030405060708090a0b0c0d0e0f"'),
     ('guid = "000102030405060708090a0b0c0d0e0f"', '',
      'guid: a text of 32 hex digits; missing, usually: guid = "000102030405060708090a0b0c0d0e0f"'),
-    ('guid = "0', 'grid = "0', 'keys: none but share, label, guid, capacity, created, hello, guest and user; line 4: grid'),
+    ('guid = "0', 'grid = "0', f'{KEYS_RULE}; line 4: grid'),
     ('capacity = 67108864', 'capacity = 4097',
      'capacity: a multiple of 4096 from 4096 to 67108864; line 5: 4097'),
     ('capacity = 67108864', 'capacity = -1',
@@ -37,23 +40,29 @@ BROKEN = (
      f'hello: at most 4096 bytes in hex, as a text; line 7: "{"0" * 60}.."'),
     ('guest = false', 'guest = 0', 'guest: true or false; line 8: 0'),
     ('guest = false', '', 'guest: true or false; missing, usually: guest = false'),
-    ('guest = false', 'guest = false\nother = 1',
-     'keys: none but share, label, guid, capacity, created, hello, guest and user; line 9: other'),
+    ('guest = false', 'guest = false\nguest_readonly = 1', f'guest_readonly: {FLAG_RULE}; line 9: 1'),
+    ('guest = false', 'guest_readonly = "true"\nguest = false', f'guest_readonly: {FLAG_RULE}; line 8: "true"'),
+    ('guest = false', 'guest = 0\nguest_readonly = 0', 'guest: true or false; line 8: 0'),
+    ('guest = false', 'guest = false\nguest_read_only = true', f'{KEYS_RULE}; line 9: guest_read_only'),
+    ('guest = false', 'guest = false\nreadonly = true', f'{KEYS_RULE}; line 9: readonly'),
+    ('guest = false', 'guest = false\nother = 1', f'{KEYS_RULE}; line 9: other'),
     ('guest = false', 'guest', 'file: a text in TOML, no key given twice; line 8'),
     ('guest = false', 'guest = false\nguest = false', 'file: a text in TOML, no key given twice; line 9'),
     ('label = "DATA"', 'label = """\nlabel = 1"""\nlabel = 3', 'file: a text in TOML, no key given twice; line 5'),
-    ('label = "DATA"', 'other = """\ncapacity = 1"""', 'keys: none but share, label, guid, capacity, created, '
-     'hello, guest and user; line 3: other'),
-    ('capacity = 67108864', 'label2 = """\nhello = 1"""', 'keys: none but share, label, guid, capacity, created, '
-     'hello, guest and user; line 5: label2'),
+    ('label = "DATA"', 'other = """\ncapacity = 1"""', f'{KEYS_RULE}; line 3: other'),
+    ('capacity = 67108864', 'label2 = """\nhello = 1"""', f'{KEYS_RULE}; line 5: label2'),
     ('[[user]]', '[user]', 'user: a table [[user]] for each user'),
     ('name = "ann"', 'name = ""', 'user.name: a text of 1 to 256 bytes; user 1; line 11: ""'),
     ('name = "ann"', '', 'user.name: a text of 1 to 256 bytes; user 1; missing'),
     ('token = "61"', 'token = "6"', f'{TOKEN_RULE}; user 1; line 12'),
     ('token = "61"', '', f'{TOKEN_RULE}; user 1; missing'),
-    ('token = "61"', 'token = "61"\nother = 1', 'user: no keys but name and token; user 1; line 13: other'),
+    ('token = "61"', 'token = "61"\nother = 1', f'{USER_KEYS_RULE}; user 1; line 13: other'),
+    ('token = "61"', 'token = "61"\nguest_readonly = true', f'{USER_KEYS_RULE}; user 1; line 13: guest_readonly'),
+    ('token = "61"', 'token = "61"\nreadonly = "62"', f'user.readonly: {FLAG_RULE}; user 1; line 13'),
     ('token = "61"', 'token = "61"\n[[user]]\nname = "bob"\ntoken = "61"',
      'user.token: no two users have the same token; user 2; line 15'),
+    ('token = "61"', 'token = "61"\n[[user]]\nname = "bob"\ntoken = "61"\nreadonly = 1',
+     f'user.readonly: {FLAG_RULE}; user 2; line 16'),
 )
 # The NT hash of `Password` ([MS-NLMP] 4.2.2.1.2), and a file of two accounts with it.
 HASH = 'a4f49c406510bdcab6824ee7c30fd852'
@@ -66,6 +75,7 @@ nt_hash = "{HASH}"
 name = "bob"    # with the same password
 nt_hash = "{HASH.upper()}"
 """
+ACCOUNT_KEYS_RULE = 'account: no keys but name, nt_hash and readonly'
 HASH_RULE = 'account.nt_hash: a text of 32 hex digits'
 LENGTH_RULE, CHARACTER_RULE = 'account.name: 1 to 256 bytes', 'account.name: no character but those from blank to ~'
 GUEST_RULE = 'account.name: not guest, in any case, which is the name of guests'
@@ -80,8 +90,10 @@ BROKEN_ACCOUNTS = (
     (ACCOUNTS, f'account = "{HASH}"', 'account: a table [[account]] for each account; line 1'),
     (ACCOUNTS, f'account = [{{name = "a", nt_hash = "{HASH}"}}, 1]',
      'account: a table [[account]] for each account; line 1'),
-    ('name = "ann"', 'readonly = true\nname = "ann"', 'account: no keys but name and nt_hash; account 1; line 3'),
-    ('name = "bob"', f'{HASH} = 1 #', 'account: no keys but name and nt_hash; account 2; line 7'),
+    ('name = "ann"', 'writes = true\nname = "ann"', f'{ACCOUNT_KEYS_RULE}; account 1; line 3'),
+    ('name = "bob"', f'{HASH} = 1 #', f'{ACCOUNT_KEYS_RULE}; account 2; line 7'),
+    ('name = "ann"', 'name = "ann"\nreadonly = 1', f'account.readonly: {FLAG_RULE}; account 1; line 4'),
+    ('name = "bob"', f'name = ""\nreadonly = "{HASH}" #', f'account.readonly: {FLAG_RULE}; account 2; line 8'),
     ('name = "ann"', '', 'account.name: a text; account 1; missing'),
     ('name = "ann"', 'name = 1', 'account.name: a text; account 1; line 3'),
     ('name = "ann"', f'name = {{nt_hash = "{HASH}"}}', 'account.name: a text; account 1; line 3'),
@@ -99,7 +111,7 @@ BROKEN_ACCOUNTS = (
     ('name = "bob"', 'name = "ANN"', f'{TAKEN_RULE}; account 2; line 7: "ANN"'),
 )
 BY_NTLM = ('login by NTLM: `hello` and the users\' tokens of the configuration are not used; its `guest` says whether '
-           'guests come in')
+           'guests come in, and `guest_readonly` whether these may only read')
 NO_USER = 'no client can log in: the configuration has no user, and its `guest` is false'
 NO_ACCOUNT = "no client can log in: there is no account (--accounts FILE), and the configuration's `guest` is false"
 EVERYONE = "the configuration holds users' tokens, and everyone may write to its file (chmod o-w)"

@@ -20,7 +20,8 @@ import time
 sys.path.insert(0, os.path.dirname(os.path.abspath(__file__)))
 from served import (ALL_ACCESS, CHAIN, LONGEST_PIECE, OPEN_IF, PATIENCE, PROGRAM, STATUS_AT, TOP, Served, memory_of,
                     opens_a_file, opens_the_root, search, tests_passed)
-from frames import close, create, echoes, negotiate, read, session_setup, tree_connect, write
+from frames import (close, create, echoes, negotiate, query_directory, read, rename, session_setup, set_info,
+                    tree_connect, write)
 
 # Where a NEGOTIATE's reply has the moment, in units of 100 ns since 1601, and which one is that of 1970.
 MOMENT_AT, OF_1970 = 104, 116_444_736_000_000_000
@@ -381,6 +382,67 @@ def an_account_logs_in_by_its_password():
     return denied == [DENIED] * 4 and comes == [COMES_IN] * 3 and stays == DENIED
 
 
+# The rights that MaximalAccess names of who may write and of who may only read, and the status of what is denied.
+WRITERS, READERS, ACCESS_DENIED = ALL_ACCESS, 0x1200A9, 0xC0000022
+WITH_READERS = ('--config', os.path.join(TOP, 'examples', 'readers.toml'))
+
+
+def maximal_access(client, message_id, session):
+    """What the response to a TREE_CONNECT has as MaximalAccess."""
+    return struct.unpack_from('<I', client.send(tree_connect(message_id, session)).reply(), 64 + 12)[0]
+
+
+def joins(client, token, session):
+    """The MaximalAccess of a client that comes in by one token, as this session."""
+    comes = client.negotiates() and client.asks(session_setup(1, token)) == 0
+    return maximal_access(client, 2, session) if comes else None
+
+
+def only_reads(client, session, number):
+    """Whether a client that may only read opens the file `a` as open `number`, reads and lists, and changes nothing."""
+    denied = [create(3, 'a', ALL_ACCESS, 1, 0, session, 1), create(4, 'b', 1, OPEN_IF, 0, session, 1),
+              create(5, 'b', 1, 2, 0, session, 1), create(6, 'a', 1, 5, 0, session, 1),
+              create(7, 'a', 0x10001, 1, 0x1000, session, 1)]
+    if any(client.asks(request) != ACCESS_DENIED for request in denied):
+        return False
+    opens = client.asks(create(8, 'a', 0x02000000, OPEN_IF, 0, session, 1)) == 0
+    reads = client.send(read(9, number, 0, 4, session, 1)).reply()[-4:] == b'text'
+    changes = [write(10, number, 0, b'x', session, 1), rename(11, number, 'b', session, 1),
+               set_info(12, number, 20, bytes(8), session, 1), set_info(13, number, 4, bytes(40), session, 1)]
+    kept = all(client.asks(request) == ACCESS_DENIED for request in changes)
+    lists = (client.asks(create(14, '', 1, 1, 1, session, 1)) == 0
+             and client.asks(query_directory(15, number + 1, 12, 0, '*', 1024, session, 1)) == 0)
+    return opens and reads and kept and lists
+
+
+def readers_read_and_writers_write():
+    """By examples/readers.toml ann may write; bob, and a guest, may only read."""
+    with Served(*WITH_READERS) as share:
+        ann, bob, guest = share.client(), share.client(), share.client()
+        told = joins(ann, b'a', 1), joins(bob, b'b', 2), joins(guest, b'?', 3)
+        writes = (ann.asks(create(3, 'a', ALL_ACCESS, OPEN_IF, 0, 1, 1)) == 0
+                  and ann.asks(write(4, 1, 0, b'text', 1, 1)) == 0)
+        return told == (WRITERS, READERS, READERS) and writes and only_reads(bob, 2, 2) and only_reads(guest, 3, 4)
+
+
+def accounts_may_only_read_too():
+    """An account with `readonly`, and guests where the configuration has `guest_readonly`; by NTLM."""
+    right = hash_of('Password')
+    with tempfile.TemporaryDirectory() as folder:
+        name = os.path.join(folder, 'accounts')
+        with open(os.open(name, os.O_CREAT | os.O_WRONLY, 0o600), 'w', encoding='ascii') as file:
+            file.write(f'[[account]]\nname = "ann"\nnt_hash = "{right.hex()}"\n'
+                       f'[[account]]\nname = "bob"\nnt_hash = "{right.hex()}"\nreadonly = true\n')
+        told = []
+        for words in (WITH_READERS, ('--config', os.path.join(TOP, 'guest.toml'))):
+            with Served('--login', 'ntlm', '--accounts', name, *words) as share:
+                for session, (user, nt_hash) in enumerate((('ann', right), ('BOB', right), ('somebody', None)), 1):
+                    client = share.client()
+                    comes = logs_in_by_ntlm(client, user, nt_hash) == COMES_IN
+                    told.append(comes and maximal_access(client, 3, session))
+    return told == [WRITERS, READERS, READERS, WRITERS, READERS, WRITERS]
+
+
 def challenge_of(*words):
     """The bytes that a new share answers to the first message of the first login."""
     with Served('--login', 'ntlm', *words) as share:
@@ -445,6 +507,7 @@ TESTS = (a_client_is_served, a_file_is_written_and_read, bytes_come_one_by_one, 
          others_go_on_beside_a_search, searches_come_in_parts, what_is_taken_is_life, who_is_never_answered_is_ended, one_never_answered_makes_room, room_is_given_back,
          so_many_turns_are_taken, addresses_are_refused, configurations_are_looked_at_first, two_clients_are_replayed,
          words_are_refused, guests_log_in_by_ntlm, an_account_logs_in_by_its_password, challenges_come_from_the_seed,
+         readers_read_and_writers_write, accounts_may_only_read_too,
          unfinished_logins_take_no_memory, a_clock_before_1970_is_1970, a_port_that_is_not_allowed_is_refused)
 
 

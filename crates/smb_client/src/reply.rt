@@ -22,7 +22,8 @@ impl<'a> Reply<'a> {
         Status(self.header.status)
     }
 
-    /// The dialect that stands in the response to a NEGOTIATE ([MS-SMB2] 2.2.4); None of another revision, as 0x02FF.
+    /// The dialect that a response to a NEGOTIATE names ([MS-SMB2] 2.2.4); None where its DialectRevision is neither 0x0202
+    /// nor 0x0210 (0x02FF in the response to an SMB_COM_NEGOTIATE, say).
     pub fn dialect(&self) -> Option<Dialect> {
         let revision = u16_at(self.bytes, 68)?;
         if revision == Dialect::Smb210.revision() {

@@ -17,8 +17,9 @@ pub(crate) fn new_share(alloc: Global) -> anyhow::Result<Share<Tokens, NodeTree,
     let ann = User {
         name: Vec::from_slice(alloc, b"ann")?,
         token: Vec::from_slice(alloc, b"secret")?,
+        read_only: false,
     };
-    let users = Tokens::new(alloc, b"", false, vec![in alloc; ann]?)?;
+    let users = Tokens::new(alloc, b"", false, false, vec![in alloc; ann]?)?;
     Ok(Share::in_memory(alloc, config, users)?)
 }
 

@@ -49,6 +49,7 @@ fn ask<T: Tree + Drop, O: Opens + Drop>(
         options: CreateOptions(options),
         session: 1,
         tree: 1,
+        read_only: false,
     };
     Some(store.create(&asked, MOMENT))
 }
@@ -178,6 +179,7 @@ fn opens_to_delete<T: Tree + Drop, O: Opens + Drop>(
         options: CreateOptions(options | 0x1000),
         session: 1,
         tree,
+        read_only: false,
     };
     store.create(&asked, MOMENT).is_ok()
 }

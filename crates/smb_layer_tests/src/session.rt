@@ -27,7 +27,7 @@ fn sessions_over(alloc: Global, tokens: Tokens) -> Option<Sessions<Tokens>> {
     Some(sessions)
 }
 
-/// Ann and Bob.
+/// Ann, and Bob who may only read.
 fn users(alloc: Global) -> Option<Vec<User>>
     ensures names { IfSome result (λ users. AllByRecursion (λ user. length user.name.items ≤ 256) users.items) }
     ensures tokens { IfSome result (λ users. HaveOwnTokens (map known_user users.items)) }
@@ -35,10 +35,12 @@ fn users(alloc: Global) -> Option<Vec<User>>
     let ann = User {
         name: Vec::from_slice(alloc, b"ann").ok()?,
         token: Vec::from_slice(alloc, b"a").ok()?,
+        read_only: false,
     };
     let bob = User {
         name: Vec::from_slice(alloc, b"bob").ok()?,
         token: Vec::from_slice(alloc, b"b").ok()?,
+        read_only: true,
     };
     let mut users = Vec::new(alloc);
     users.push(ann).ok()?;
@@ -48,7 +50,7 @@ fn users(alloc: Global) -> Option<Vec<User>>
 
 /// Sessions by the tokens of the two.
 fn by_tokens(alloc: Global, guest: bool) -> Option<Sessions<Tokens>> {
-    let tokens = Tokens::new(alloc, b"hi", guest, users(alloc)?).ok()?;
+    let tokens = Tokens::new(alloc, b"hi", guest, false, users(alloc)?).ok()?;
     sessions_over(alloc, tokens)
 }
 
@@ -116,6 +118,24 @@ fn ends_two(sessions: &mut Sessions<Tokens>) -> bool {
 fn knows_users_and_guests(rt: HostRuntime) {
     let is_so = match by_tokens(rt.alloc(), true) {
         Some(mut sessions) => lets_in(&mut sessions) && ends_two(&mut sessions),
+        None => false,
+    };
+    assert!(rt; is_so);
+}
+
+/// Whether Ann's session may write, and Bob's may not, and neither is another connection's.
+fn keeps_rights(sessions: &mut Sessions<Tokens>) -> bool {
+    let _ = setup(sessions, 1, 0, 0, b'a');
+    let _ = setup(sessions, 1, 0, 0, b'b');
+    sessions.read_only(1, 1) == Some(false)
+        && sessions.read_only(1, 2) == Some(true)
+        && sessions.read_only(2, 2).is_none()
+}
+
+#[test]
+fn knows_who_may_only_read(rt: HostRuntime) {
+    let is_so = match by_tokens(rt.alloc(), false) {
+        Some(mut sessions) => keeps_rights(&mut sessions),
         None => false,
     };
     assert!(rt; is_so);

@@ -141,15 +141,20 @@ impl Row {
         Ok(())
     }
 
-    /// Adds an account: `NAME HASH`.
+    /// Adds an account: `NAME HASH`, and behind it `readonly` where it may only read.
     fn add_account(&mut self, rest: &str) -> Result<(), RowFault> {
-        let (name, nt_hash) = rest.split_once(' ').ok_or(RowFault::UnknownLine)?;
+        let (name, rest) = rest.split_once(' ').ok_or(RowFault::UnknownLine)?;
+        let (nt_hash, right) = rest.split_once(' ').unwrap_or((rest, ""));
         self.accounts.push_str("[[account]]\nname = \"")?;
         self.accounts.push_str(name)?;
         self.accounts.push_str("\"\nnt_hash = \"")?;
         self.accounts.push_str(nt_hash)?;
         self.accounts.push_str("\"\n")?;
-        Ok(())
+        match right {
+            "" => Ok(()),
+            "readonly" => Ok(self.accounts.push_str("readonly = true\n")?),
+            _ => Err(RowFault::UnknownLine),
+        }
     }
 
     /// Begins the line of a piece on a connection.

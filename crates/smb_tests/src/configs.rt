@@ -14,21 +14,45 @@ fn is_built_in(configuration: &Configuration) -> bool {
         && config.created == 116_444_736_000_000_000
 }
 
-/// Whether a token brings ann, with no flags and with an empty token.
-fn brings_ann(authenticator: &mut Tokens, token: &[u8]) -> bool {
-    match authenticator.step(1, token) {
-        Ok(Answer::Accept { user, flags, token }) => {
-            user.as_slice() == b"ann".as_slice() && flags == 0 && token.is_empty()
+/// Whether a token brings a user, with these flags and an empty token, to read only or to write too.
+fn brings(
+    authenticator: &mut Tokens,
+    sent: &[u8],
+    name: &[u8],
+    session_flags: u16,
+    only_reads: bool,
+) -> bool {
+    match authenticator.step(1, sent) {
+        Ok(
+            Answer::Accept {
+                user,
+                flags,
+                read_only,
+                token,
+            },
+        ) => {
+            user.as_slice() == name
+                && flags == session_flags
+                && read_only == only_reads
+                && token.is_empty()
         }
         _ => false,
     }
 }
 
-/// Whether ann is the only user, and no hello is offered.
+/// Whether a token brings no one.
+fn brings_no_one(authenticator: &mut Tokens, sent: &[u8]) -> bool {
+    match authenticator.step(1, sent) {
+        Ok(Answer::Deny) => true,
+        _ => false,
+    }
+}
+
+/// Whether ann is the only user, who may write, and no hello is offered.
 fn knows_ann(authenticator: &mut Tokens) -> bool {
     authenticator.hello().is_empty()
-        && brings_ann(authenticator, b"a")
-        && !brings_ann(authenticator, b"b")
+        && brings(authenticator, b"a", b"ann", 0, false)
+        && brings_no_one(authenticator, b"b")
 }
 
 #[test]
@@ -36,6 +60,96 @@ fn reads_the_built_in(rt: HostRuntime) {
     let is_so = match Configuration::read(rt.alloc(), BUILT_IN) {
         Ok(mut configuration) => {
             is_built_in(&configuration) && knows_ann(&mut configuration.authenticator)
+        }
+        Err(_) => false,
+    };
+    assert!(rt; is_so);
+}
+
+/// The file share.toml as it was before users could be told to read only.
+const SHARE_OF_BEFORE: &str =
+    "# A share, as the program `smbshare` takes it: smbshare replay --config share.toml
+share = \"data\"                              # the share's name, 1 to 80 printable characters
+label = \"DATA\"                              # the volume's label, at most 32 printable characters
+guid = \"000102030405060708090a0b0c0d0e0f\"   # the server's GUID, 16 bytes in hex
+capacity = 67108864                         # in bytes, a multiple of 4096, at most 64 MiB
+created = 116444736000000000                # when the share was made, in 100 ns since 1601
+hello = \"\"                                  # what the authenticator offers first, in hex
+guest = false                               # whether a client may come in without a name
+
+[[user]]
+name = \"ann\"
+token = \"61\"                                # all bytes of the security buffer of her SESSION_SETUP, in hex
+
+# A token is no password: it is what the client itself puts on the wire. No client of Samba's sends the byte 61, so
+# with this configuration only clients of your own log in; guest.toml lets everyone in.
+";
+
+/// The file guest.toml as it was then.
+const GUESTS_OF_BEFORE: &str =
+    "# A share that lets anyone in: smbshare serve --listen 127.0.0.1:4450 --config guest.toml
+share = \"data\"                              # the share's name, 1 to 80 printable characters
+label = \"DATA\"                              # the volume's label, at most 32 printable characters
+guid = \"000102030405060708090a0b0c0d0e0f\"   # the server's GUID, 16 bytes in hex
+capacity = 67108864                         # in bytes, a multiple of 4096, at most 64 MiB
+created = 116444736000000000                # when the share was made, in 100 ns since 1601
+hello = \"\"                                  # what the authenticator offers first, in hex
+guest = true                                # whether a client may come in without a name
+";
+
+#[test]
+fn reads_a_share_of_before(rt: HostRuntime) {
+    let is_so = match Configuration::read(rt.alloc(), SHARE_OF_BEFORE) {
+        Ok(mut configuration) => {
+            is_built_in(&configuration)
+                && !configuration.guest
+                && !configuration.guest_read_only
+                && knows_ann(&mut configuration.authenticator)
+        }
+        Err(_) => false,
+    };
+    assert!(rt; is_so);
+}
+
+#[test]
+fn reads_guests_of_before(rt: HostRuntime) {
+    let is_so = match Configuration::read(rt.alloc(), GUESTS_OF_BEFORE) {
+        Ok(mut configuration) => {
+            is_built_in(&configuration)
+                && configuration.guest
+                && !configuration.guest_read_only
+                && configuration.users == 0
+                && brings(&mut configuration.authenticator, b"a", b"guest", 1, false)
+        }
+        Err(_) => false,
+    };
+    assert!(rt; is_so);
+}
+
+/// Guests that may only read; ann, of whom it is said that she may write; and bob, who may only read.
+const READERS: &str = "share = \"data\"
+label = \"DATA\"
+guid = \"000102030405060708090a0b0c0d0e0f\"
+capacity = 67108864
+created = 116444736000000000
+hello = \"\"
+guest = true
+guest_readonly = true
+user = [
+  { name = \"ann\", token = \"61\", readonly = false },
+  { name = \"bob\", token = \"62\", readonly = true },
+]
+";
+
+#[test]
+fn reads_who_may_only_read(rt: HostRuntime) {
+    let is_so = match Configuration::read(rt.alloc(), READERS) {
+        Ok(mut configuration) => {
+            let authenticator = &mut configuration.authenticator;
+            configuration.guest_read_only
+                && brings(authenticator, b"a", b"ann", 0, false)
+                && brings(authenticator, b"b", b"bob", 0, true)
+                && brings(authenticator, b"?", b"guest", 1, true)
         }
         Err(_) => false,
     };

@@ -1,5 +1,5 @@
-//! Requests of several credits: a client in names, which takes as many as are due, and one over memory that asks in one piece
-//! for all that its window allows, or for more than it may be owed.
+//! Requests of several credits. One client calls by names, and its requests take as many MessageIds as are due; the other
+//! sends bytes over memory: READs for its whole window in one piece, or for more bytes than it may be owed.
 
 ghost use Rattle.std.specs.Prelude.{IfSome, IsTrue};
 ghost use Rattle.smb_engine.specs.MemoryPeers.{are_distinct, opened_by};
