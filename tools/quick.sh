@@ -1,7 +1,7 @@
 #!/usr/bin/env bash
 # What can be seen of a change without any proof, in some minutes: what must hold of the files, all rows, the Rust
-# tests, the stored run, and the program's words, its serving and its demo, over builds by `rt try`. What is independent
-# runs side by side. The last line is 'quick: N passed, M failed'.
+# tests, the stored run, what becomes of captures, and the program's words, its serving and its demo, over builds by
+# `rt try`. What is independent runs side by side. The last line is 'quick: N passed, M failed'.
 set -um
 cd "$(dirname "$0")/.." || exit 1
 logs=$(mktemp -d)
@@ -81,6 +81,7 @@ begin() {
 
 echo "quick.sh: rt try builds the program, the rows and two crates of tests, $lanes at a time: some minutes."
 begin files files
+begin pcap python3 tools/pcap_tests.py
 begin smbshare the_program
 begin smb_rows rows
 begin smb_tests tests_of smb_tests
@@ -97,6 +98,6 @@ Left out: all proofs, the must-fail edits, allocations and what is done where me
 and the second compiler. bash tools/test.sh has them all.
 END
 cd "$logs" || exit 1
-awk '/^(files|rows|smb_layer_tests|smb_tests|stored|demo|program|serving|load|hostile): [0-9]+ passed, [0-9]+ failed$/ {
+awk '/^(files|rows|smb_layer_tests|smb_tests|stored|demo|program|serving|load|hostile|pcap): [0-9]+ passed, [0-9]+ failed$/ {
          passed += $2; failed += $4; tried++ }
-     END { failed += 10 - tried; print "quick: " passed " passed, " failed " failed"; exit failed > 0 }' "${names[@]}"
+     END { failed += 11 - tried; print "quick: " passed " passed, " failed " failed"; exit failed > 0 }' "${names[@]}"
