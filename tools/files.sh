@@ -15,6 +15,9 @@ for folder in crates/*/; do
     name=$(basename "$folder")
     grep -qE "^$name( |:)" crates.txt || fail "crates.txt does not list $name."
 done
+for word in $(grep -o 'long("[a-z-]*")' crates/smbshare/src/commands.rt | cut -d '"' -f 2); do
+    grep -qF -- "\\-\\-${word//-/\\-}" docs/smbshare.1 || fail "docs/smbshare.1 does not name --$word."
+done
 python3 tools/edits.py --check || fail 'docs/EDITS.md is not what tools/edits.py writes.'
 python3 tools/believed.py --check || fail 'docs/DEFINITIONS.md does not name what a reader must believe.'
 python3 tools/bodies.py --check || fail 'docs/BODIES.md is not what tools/bodies.py writes.'
