@@ -66,7 +66,7 @@ fn reads_the_built_in(rt: HostRuntime) {
     assert!(rt; is_so);
 }
 
-/// The file share.toml as it was before users could be told to read only.
+/// The bytes of share.toml from before `readonly` and `guest_readonly` were keys of a configuration.
 const SHARE_OF_BEFORE: &str =
     "# A share, as the program `smbshare` takes it: smbshare replay --config share.toml
 share = \"data\"                              # the share's name, 1 to 80 printable characters
@@ -85,7 +85,7 @@ token = \"61\"                                # all bytes of the security buffer
 # with this configuration only clients of your own log in; guest.toml lets everyone in.
 ";
 
-/// The file guest.toml as it was then.
+/// The bytes of guest.toml from before these two keys.
 const GUESTS_OF_BEFORE: &str =
     "# A share that lets anyone in: smbshare serve --listen 127.0.0.1:4450 --config guest.toml
 share = \"data\"                              # the share's name, 1 to 80 printable characters

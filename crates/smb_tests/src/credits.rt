@@ -159,7 +159,7 @@ fn ends_one_that_is_owed_too_much(rt: HostRuntime) {
     assert!(rt; is_so);
 }
 
-/// A READ, and what has to answer it.
+/// A READ, and the CreditCharge, the status and the data of the response that it must get.
 #[derive(Clone, Copy)]
 struct Wanted<'a> {
     offset: u64,
@@ -169,7 +169,8 @@ struct Wanted<'a> {
     data: &'a [u8],
 }
 
-/// Whether a READ of a client is answered so; by any bytes where none are named.
+/// Whether the response to a READ has the CreditCharge, the status and the data that are wanted. Where `data` is empty, any
+/// data will do.
 fn reads_so(pair: &mut Talk, client: &mut Client, file_id: FileId, wanted: Wanted<'_>) -> bool {
     if client.read(file_id, wanted.offset, wanted.length).is_err() {
         return false;
