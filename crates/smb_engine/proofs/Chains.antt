@@ -141,6 +141,11 @@ pub length-chain : {S : Type 0} (m : Meaning S) (arrival : Arrival) (chain : Cha
 length-chain m arrival chain [] = refl
 length-chain m arrival chain (request ∷ requests) = ap suc (length-chain m arrival (one_performed m arrival chain request) requests)
 
+-- the server behind the first so many requests
+pub chain_so_far : {S : Type 0} (m : Meaning S) (arrival : Arrival) (front : List ℕ) (start : ChainState S) (now : ChainStatePlaced S) (requests : List (List ℕ)) (i : ℕ) →
+    ChainSoFar m arrival front start now requests i → now.server ≡ server_after start.server (requests_of_chain m arrival start requests) i
+chain_so_far m arrival front start now requests i h = ap (λ t. t.server) h.so_far ∙ sym (chain-after m arrival start requests i)
+
 -- where memory ran out, before the request was performed or after
 pub chain_stopped : {S : Type 0} (m : Meaning S) (arrival : Arrival) (front : List ℕ) (start : ChainState S) (now : ChainStatePlaced S) (requests : List (List ℕ)) (request : List ℕ) (i : ℕ) (left : ServerState S) (no_reply : NoReply) →
     ChainSoFar m arrival front start now requests i → slice_get requests i ≡ Some request →
@@ -152,7 +157,7 @@ chain_stopped m arrival front start now requests request i left WasPerformed h a
     ∙ ap (λ t. t.server) (sym (performed-more m arrival start i requests request at))
     ∙ sym (chain-after m arrival start requests (i + 1))
 chain_stopped m arrival front start now requests request i left NotPerformed h at e =
-    e ∙ ap (λ t. t.server) h.so_far ∙ sym (chain-after m arrival start requests i)
+    e ∙ chain_so_far m arrival front start now requests i h
 
 -- requests take a byte each and more
 requests_short : (requests : List (List ℕ)) → AllByRecursion IsRequest requests → length requests ≤ length (concat requests)

@@ -12,6 +12,7 @@ pub mod Readers
 pub mod Ends
 pub mod Runs
 pub mod Cuts
+pub mod Rest
 pub mod Turning
 pub mod Numbers
 pub mod Accounts

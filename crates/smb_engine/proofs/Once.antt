@@ -5,11 +5,12 @@ use Rattle.std.proofs.lemmas.List.{append-nil, length-append}
 use Rattle.std.proofs.lemmas.List.Folds.{list_any-append}
 use Rattle.std.proofs.lemmas.Bool.{eq-eqb, true≢false}
 use Rattle.smb_session.specs.Authenticator.{Meaning}
-use Rattle.smb_engine.specs.Record.{PeerCall, next_opened, next_bytes, next_ended, next_idle, send, close}
+use Rattle.smb_engine.specs.Record.{Keeping, PeerCall, next_opened, next_bytes, next_ended, next_idle, send, close}
 use Rattle.smb_engine.specs.ServedPeers.{PeerState}
-use Rattle.smb_engine.specs.Serving.{ServingState, told, OpeningFollows, is_done, is_refused, has_no_memory, is_passed_over, PieceFollows, is_for, is_for_none, Follows, Line, IsSent, takes, fails, owes_nothing, stays, closing_calls, AreServed}
+use Rattle.smb_engine.specs.Serving.{ServingState, Turns, told, OpeningFollows, is_done, is_refused, has_no_memory, is_passed_over, PieceFollows, is_for, is_for_none, Follows, Line, IsSent, takes, fails, owes_nothing, stays, closing_calls, AreServed}
 use Rattle.smb_engine.specs.ServingLaws.{opens_in, is_opened, OpensEachOnce}
 use Rattle.smb_engine.specs.Openings.{OpensIn, TurnOf, OpenedSince}
+use Rattle.smb_engine.proofs.Turning.{turns_more}
 use Rattle.smb_engine.proofs.Histories.{StandsBehind, last_part, neither}
 
 -- some calls more, none of which opens a number
@@ -182,3 +183,16 @@ since_none calls opened = record { more = []; behind = sym (append-nil calls); o
 pub since_more : {S : Type 0} (m : Meaning S) (before : List PeerCall) (opened opened' : List ℕ) (call : PeerCall) (s t : ServingState S) → OpenedSince before s.calls opened → OpensIn call opened opened' → TurnOf m call s t →
     OpenedSince before t.calls opened'
 since_more m before opened opened' call s t o h turn = turn_since before s.calls opened o call t.calls opened' h (turn_grows m call s t turn)
+
+-- a turn more, behind those so far
+pub one_more : {S : Type 0} (m : Meaning S) (kept keeps keeps' : Bool) (i : ℕ) (start middle after : ServingState S) (before : List PeerCall) (opened opened' : List ℕ) →
+    Keeping kept keeps (Turns m i start middle × OpenedSince before middle.calls opened) →
+    Keeping keeps keeps' ((call : PeerCall) × OpensIn call opened opened' × TurnOf m call middle after) →
+    Keeping kept keeps' (Turns m (i + 1) start after × OpenedSince before after.calls opened')
+one_more m kept keeps keeps' i start middle after before opened opened' so_far turn = λ k.
+    let t = turn k in
+    let b = so_far t.0 in
+    let one = t.1.2 in (
+      b.0,
+      (turns_more m i start middle after b.1.0 (one.0, (t.1.0, one.1), one.2), since_more m before opened opened' t.1.0 middle after b.1.1 t.1.1 one),
+    )

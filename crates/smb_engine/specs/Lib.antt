@@ -7,6 +7,7 @@ pub mod Refusals
 pub mod Happenings
 pub mod Good
 pub mod Laws
+pub mod Rest
 pub mod Sink
 pub mod Held
 pub mod InPlace

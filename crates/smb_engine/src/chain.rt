@@ -21,7 +21,7 @@ ghost use Rattle.smb_engine.specs.InPlace.{chain_state_behind, step_behind};
 
 use super::arrival::Arrival;
 use super::connection::Connection;
-use super::fault::OutOfMemoryAfter;
+use super::fault::CutShort;
 use arrayvec::ArrayVec;
 use bitflags::Flags;
 use smb_body::{Smb1Dialects, read_smb1_negotiate};
@@ -245,16 +245,17 @@ fn end_frame(start: usize, out: &mut Vec<u8>)
 }
 
 /// Performs a payload that is a chain, adds the frame of its replies to `out`, where there are any, and tells the
-/// number of its requests; None where it ends the connection. An error tells how many requests were performed. Where
-/// it is not performed whole `out` is as it was.
+/// number of its requests; None where it ends the connection. At most so many requests are performed; an error tells how
+/// many. Where the payload is not performed whole `out` is as it was.
 #[tactic(auto, unfolding(crate::specs::Run::chain_step))]
 fn chain_payload<A: Authenticator + Drop, T: Tree + Drop, O: Opens + Drop>(
     server: &mut Server<A, T, O>,
     arrival: Arrival,
     connection: &mut Connection,
     payload: &[u8],
+    most: usize,
     out: &mut Vec<u8>,
-) -> Result<Option<usize>, OutOfMemoryAfter>
+) -> Result<Option<usize>, CutShort>
     ensures ok { IfOk result (λ count.
         record { server = server.new; connection = connection.new; stays_open = is_some count; out = out.new.items }
         ≡ step_behind output_bytes out.old.items (chain_step A.meaning arrival server.old connection.old payload.now)) }
@@ -270,13 +271,17 @@ fn chain_payload<A: Authenticator + Drop, T: Tree + Drop, O: Opens + Drop>(
         return Ok(None);
     };
     let Ok(start) = open_frame(out) else {
-        return Err(OutOfMemoryAfter { done: 0 });
+        return Err(CutShort { done: 0 });
     };
     let mut progress = ChainProgress {
         context: Context::first(),
         writer: ReplyWriter::begin(out),
     };
     for i in 0..chain.len() {
+        if i >= most {
+            out.truncate(start);
+            return Err(CutShort { done: i });
+        }
         let (header, request) = request_at(&chain, i);
         match perform_one(
             server,
@@ -291,7 +296,7 @@ fn chain_payload<A: Authenticator + Drop, T: Tree + Drop, O: Opens + Drop>(
             Err(no_reply) => {
                 out.truncate(start);
                 let done = done_behind(i, no_reply);
-                return Err(OutOfMemoryAfter { done });
+                return Err(CutShort { done });
             }
         }
     }
@@ -340,7 +345,7 @@ fn first_payload<A: Authenticator + Drop, T: Tree + Drop, O: Opens + Drop>(
     connection: &mut Connection,
     dialects: Smb1Dialects,
     out: &mut Vec<u8>,
-) -> Result<Option<usize>, OutOfMemoryAfter>
+) -> Result<Option<usize>, CutShort>
     ensures ok { IfOk result (λ count.
         record { server = server.now; connection = connection.new; stays_open = is_some count; out = out.new.items }
         ≡ step_behind output_bytes out.old.items (first_step A.meaning arrival server.now connection.old dialects)) }
@@ -354,7 +359,7 @@ fn first_payload<A: Authenticator + Drop, T: Tree + Drop, O: Opens + Drop>(
         return Ok(None);
     };
     if !frame_smb1(server, arrival, answer, out) {
-        return Err(OutOfMemoryAfter { done: 0 });
+        return Err(CutShort { done: 0 });
     }
     connection.payload_came = true;
     connection.dialect = answer.dialect;
@@ -363,16 +368,17 @@ fn first_payload<A: Authenticator + Drop, T: Tree + Drop, O: Opens + Drop>(
 }
 
 /// Performs a payload, adds the frame of its replies to `out`, where there are any, and tells the number of its
-/// requests; None where it ends the connection. An error tells how many requests were performed. Where it is not
-/// performed whole `out` is as it was.
+/// requests; None where it ends the connection. Of a chain at most so many requests are performed; an error tells how
+/// many. Where the payload is not performed whole `out` is as it was.
 #[tactic(auto, unfolding(crate::specs::Run::payload_step))]
 pub(crate) fn perform_payload<A: Authenticator + Drop, T: Tree + Drop, O: Opens + Drop>(
     server: &mut Server<A, T, O>,
     arrival: Arrival,
     connection: &mut Connection,
     payload: &[u8],
+    most: usize,
     out: &mut Vec<u8>,
-) -> Result<Option<usize>, OutOfMemoryAfter>
+) -> Result<Option<usize>, CutShort>
     ensures ok { IfOk result (λ count.
         record { server = server.new; connection = connection.new; stays_open = is_some count; out = out.new.items }
         ≡ step_behind output_bytes out.old.items
@@ -386,7 +392,7 @@ pub(crate) fn perform_payload<A: Authenticator + Drop, T: Tree + Drop, O: Opens 
     ensures known { server.new.sessions.table.connections ≡ server.old.sessions.table.connections }
 {
     match first_negotiate(connection, payload) {
-        None => chain_payload(server, arrival, connection, payload, out),
+        None => chain_payload(server, arrival, connection, payload, most, out),
         Some(dialects) => first_payload(server, arrival, connection, dialects, out),
     }
 }

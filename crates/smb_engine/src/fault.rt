@@ -20,9 +20,9 @@ pub enum ServeFault {
     BadConfig,
 }
 
-/// Memory ran out, and so many requests had been performed.
+/// A piece was cut short after so many requests: memory ran out, or no more of them were to be performed.
 #[derive(Clone, Copy, Debug, PartialEq, Eq)]
-pub(crate) struct OutOfMemoryAfter {
+pub(crate) struct CutShort {
     pub(crate) done: usize,
 }
 

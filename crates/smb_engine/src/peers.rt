@@ -1,8 +1,10 @@
 //! The peers that a share is served to.
 
 ghost use Rattle.std.specs.Prelude.{◌≡◌, ◌<◌, ◌≤◌, length, IfOk, OnErr};
-ghost use Rattle.smb_engine.specs.Record.{Told, close};
+ghost use Rattle.smb_engine.specs.Record.{Told, Keeping, close};
 ghost use Rattle.smb_engine.specs.Peers.{call_of, send_call, OpensOnce};
+
+use smb_request::Usage;
 
 /// What `next` brought. Peers number their connections as they like.
 #[derive(Clone, Copy, Debug, PartialEq, Eq)]
@@ -66,7 +68,32 @@ pub trait Peers {
         ensures told { Told (keeps self.old) (calls self.old) (keeps self.new) (calls self.new) (close number) }
         ensures opened { opened self.new ≡ opened self.old };
 
+    /// Takes note that memory ran out in the piece that came last, of a connection's stream, after so many of its requests. The
+    /// connection is closed in the same turn. It does nothing to what is sent, and is not in the record.
+    fn ran_out(&mut self, _number: u64, _done: usize)
+        ensures kept { Keeping (keeps self.old) (keeps self.new) (calls self.new ≡ calls self.old) }
+        ensures opened { opened self.new ≡ opened self.old }
+    {}
+
+    /// Takes note of how much the share holds, before each turn. It does nothing to what is sent, and is not in the record.
+    fn note_usage(&mut self, _usage: Usage)
+        ensures kept { Keeping (keeps self.old) (keeps self.new) (calls self.new ≡ calls self.old) }
+        ensures opened { opened self.new ≡ opened self.old }
+    {}
+
     /// How many calls failed.
     fn failures(&self) -> u64
         ensures { result ≡ failed self.now };
+}
+
+/// Peers that may end the serving of a share, as those do that can no longer keep what came.
+pub trait Stopping {
+    ghost use Rattle.std.specs.Prelude.{Bool};
+
+    /// Whether they ask for that.
+    ghost stopped: { Self → Bool };
+
+    /// Whether the share is to be served no more.
+    fn is_stopped(&self) -> bool
+        ensures { result ≡ stopped self.now };
 }

@@ -7,7 +7,7 @@ ghost use Rattle.smb_engine.specs.Stream.{unread};
 ghost use Rattle.smb_engine.specs.Output.{AreShort};
 ghost use Rattle.smb_engine.specs.Serving.{piece_taken, with_replies, PieceEnds};
 
-use super::fault::{OutOfMemoryAfter, ServeFault};
+use super::fault::{CutShort, ServeFault};
 use super::share::Share;
 use smb_opens::Opens;
 use smb_session::Authenticator;
@@ -110,7 +110,7 @@ impl ServedPeer {
         share: &mut Share<A, T, O>,
         moment: u64,
         piece: &[u8],
-    ) -> Result<(), OutOfMemoryAfter>
+    ) -> Result<(), CutShort>
         ensures share { OnOk result (share.new ≡ unread
             (bytes_step A.meaning share.old self.old.connection moment piece.now).state) }
         ensures peer { OnOk result (self.new ≡ with_replies A.meaning share.old self.old moment piece.now) }
@@ -121,7 +121,7 @@ impl ServedPeer {
             Ok(_) => Ok(()),
             Err(ServeFault::NoMemory { done }) => {
                 self.drop_owed();
-                Err(OutOfMemoryAfter { done })
+                Err(CutShort { done })
             }
             Err(_) => unreachable!(),
         }
@@ -134,7 +134,7 @@ impl ServedPeer {
         share: &mut Share<A, T, O>,
         moment: u64,
         piece: &[u8],
-    ) -> Result<(), OutOfMemoryAfter>
+    ) -> Result<(), CutShort>
         ensures ok { OnOk result (record { share = share.new; peer = self.new }
             ≡ piece_taken A.meaning share.old self.old moment piece.now) }
         ensures short { OnOk result (AreShort (bytes_step A.meaning share.old self.old.connection moment piece.now).outputs) }

@@ -1,15 +1,16 @@
 //! A share that is served to its peers.
 
-ghost use Rattle.std.specs.Prelude.{◌≡◌, ◌&&◌, ◌+◌, ◌++◌, ◌∷◌, [], ◌<◌, ◌≤◌, ℕ, List, length, nat_lt, IfSome, if◌then◌else◌};
+ghost use Rattle.std.specs.Prelude.{◌≡◌, ◌&&◌, ◌+◌, ◌++◌, ◌∷◌, [], ◌<◌, ◌≤◌, ℕ, List, length, nat_lt, true, is_some, IfSome, if◌then◌else◌};
 ghost use Rattle.std.specs.List.{position};
-ghost use Rattle.smb_engine.specs.Record.{Keeping, PeerCall, close};
+ghost use Rattle.smb_engine.specs.Record.{Keeping, PeerCall, Told, close};
+ghost use Rattle.smb_engine.specs.Peers.{call_of, OpensOnce};
 ghost use Rattle.smb_engine.specs.ServedPeers.{place_of, place_for};
 ghost use Rattle.smb_engine.specs.Serving.{serving, told, OpeningFollows, PieceTaken, PieceFollows, share_behind_end, peers_behind_end, Follows, IsSent, stays, AreServed, Served};
 ghost use Rattle.smb_engine.specs.Openings.{Begins, OpensIn, TurnOf};
 ghost use Rattle.smb_engine.specs.ServingLaws.{OpensEachOnce};
 
 use super::clock::Clock;
-use super::peers::{PeerEvent, Peers};
+use super::peers::{PeerEvent, Peers, Stopping};
 use super::served_peer::ServedPeer;
 use super::share::Share;
 use smb_opens::Opens;
@@ -104,41 +105,41 @@ fn open_peer<A: Authenticator + Drop, T: Tree + Drop, O: Opens + Drop, P: Peers>
     }
 }
 
-/// Takes a piece of a peer's stream, and tells whether memory ran out.
+/// Takes a piece of a peer's stream, and tells after how many requests memory ran out, where it did.
 fn feed_peer<A: Authenticator + Drop, T: Tree + Drop, O: Opens + Drop, C: Clock>(
     share: &mut Share<A, T, O>,
     clock: &mut C,
     peer: &mut ServedPeer,
     piece: &[u8],
-) -> bool
+) -> Option<usize>
     ensures { Keeping (C.keeps clock.old) (C.keeps clock.new)
-        (PieceTaken A.meaning piece.now share.old peer.old (C.moments clock.old) (record { share = share.new; peer = peer.new; moments = C.moments clock.new; ran_out = result })) }
+        (PieceTaken A.meaning piece.now share.old peer.old (C.moments clock.old) (record { share = share.new; peer = peer.new; moments = C.moments clock.new; ran_out = is_some result })) }
 {
     if !share.is_open(peer.connection) {
-        return false;
+        return None;
     }
     let moment = clock.moment();
     match peer.take_piece(share, moment, piece) {
-        Ok(()) => false,
-        Err(_) => true,
+        Ok(()) => None,
+        Err(cut) => Some(cut.done),
     }
 }
 
-/// Takes a piece of a number's stream, and tells whether memory ran out.
+/// Takes a piece of a number's stream, and tells after how many requests memory ran out, where it did.
 fn take_bytes<A: Authenticator + Drop, T: Tree + Drop, O: Opens + Drop, C: Clock>(
     share: &mut Share<A, T, O>,
     clock: &mut C,
     served_peers: &mut Vec<ServedPeer>,
     number: u64,
     piece: &[u8],
-) -> bool
+) -> Option<usize>
     ensures { Keeping (C.keeps clock.old) (C.keeps clock.new) ((calls : List PeerCall) (n : ℕ) →
         PieceFollows A.meaning number piece.now (serving share.old served_peers.old.items calls (C.moments clock.old) n)
-        (serving share.new served_peers.new.items calls (C.moments clock.new) (if result then n + 1 else n))) }
+        (serving share.new served_peers.new.items calls (C.moments clock.new) (if is_some result then n + 1 else n))) }
 {
     match find_peer(served_peers, number) {
         Some(place) => feed_peer(share, clock, &mut served_peers[place], piece),
-        None => false,
+        None => None,
     }
 }
 
@@ -158,6 +159,18 @@ fn end_peer<A: Authenticator + Drop, T: Tree + Drop, O: Opens + Drop>(
     }
 }
 
+/// The next event of the peers, which hear before it how much the share holds.
+fn next_event<A: Authenticator + Drop, T: Tree + Drop, O: Opens + Drop, P: Peers>(
+    share: &Share<A, T, O>,
+    peers: &mut P,
+) -> PeerEvent
+    ensures told { Told (P.keeps peers.old) (P.calls peers.old) (P.keeps peers.new) (P.calls peers.new) (call_of result (P.piece_of peers.new)) }
+    ensures once { OpensOnce result (P.opened peers.old) (P.opened peers.new) }
+{
+    peers.note_usage(share.usage());
+    peers.next()
+}
+
 /// Takes the next event, and tells whether memory ran out.
 fn take_event<A: Authenticator + Drop, T: Tree + Drop, O: Opens + Drop, P: Peers, C: Clock>(
     share: &mut Share<A, T, O>,
@@ -170,9 +183,17 @@ fn take_event<A: Authenticator + Drop, T: Tree + Drop, O: Opens + Drop, P: Peers
         Follows A.meaning call (told (serving share.old served_peers.old.items (P.calls peers.old) (C.moments clock.old) n) call)
         (serving share.new served_peers.new.items (P.calls peers.new) (C.moments clock.new) (if result then n + 1 else n)))) }
 {
-    match peers.next() {
+    match next_event(share, peers) {
         PeerEvent::Opened(number) => open_peer(share, peers, served_peers, number),
-        PeerEvent::Bytes(number) => take_bytes(share, clock, served_peers, number, peers.piece()),
+        PeerEvent::Bytes(number) => {
+            match take_bytes(share, clock, served_peers, number, peers.piece()) {
+                Some(done) => {
+                    peers.ran_out(number, done);
+                    true
+                }
+                None => false,
+            }
+        }
         PeerEvent::Ended(number) => {
             end_peer(share, served_peers, number);
             false
@@ -279,6 +300,33 @@ pub fn serve<A: Authenticator + Drop, T: Tree + Drop, O: Opens + Drop, P: Peers,
     for _turn in 0..turns {
         if turn(share, peers, clock, &mut served_peers) {
             count += 1;
+        }
+    }
+    count
+}
+
+/// The same, for so many turns at most: where the peers ask for it, it ends behind the turn in which they did.
+pub fn serve_until<
+    A: Authenticator + Drop,
+    T: Tree + Drop,
+    O: Opens + Drop,
+    P: Peers + Stopping,
+    C: Clock,
+>(share: &mut Share<A, T, O>, peers: &mut P, clock: &mut C, turns: u64) -> u64
+    ensures served { Keeping (P.keeps peers.old && C.keeps clock.old) (P.keeps peers.new && C.keeps clock.new)
+        ((performed : ℕ) × (performed ≤ turns) × (performed < turns → P.stopped peers.new ≡ true)
+        × Served A.meaning performed share.old (P.calls peers.old) (C.moments clock.old) share.new (P.calls peers.new) (C.moments clock.new) result) }
+    ensures once { Keeping (P.keeps peers.old && C.keeps clock.old) (P.keeps peers.new && C.keeps clock.new)
+        ((more : List PeerCall) → P.calls peers.new ≡ P.calls peers.old ++ more → OpensEachOnce more) }
+{
+    let mut served_peers = Vec::new(share.allocator());
+    let mut count = 0;
+    for _turn in 0..turns {
+        if turn(share, peers, clock, &mut served_peers) {
+            count += 1;
+        }
+        if peers.is_stopped() {
+            return count;
         }
     }
     count

@@ -1,18 +1,21 @@
 //! The share over its connections.
 
-ghost use Rattle.std.specs.Prelude.{◌≡◌, ◌<◌, ◌+◌, ◌-◌, ◌^◌, ◌++◌, [], true, false, Some, None, OnOk, OnErr, IfOk, IfErr, length, if◌then◌else◌};
+ghost use Rattle.std.specs.Prelude.{◌≡◌, ◌<◌, ◌+◌, ◌-◌, ◌^◌, ◌++◌, [], true, false, Some, None, OnOk, OnErr, IfOk, IfErr, IfSome, IfNone, length, slice_get, if◌then◌else◌};
+ghost use Rattle.std.specs.Bool.{OnTrue};
 ghost use Rattle.std.specs.List.{AllByRecursion, flat_map};
 ghost use Rattle.std.specs.Map.{remove_entry};
 ghost use Rattle.std.specs.BTreeMap.{is_at, insert_entry};
 ghost use Rattle.std.specs.Ordering.{nat_cmp};
 ghost use Rattle.smb_wire.specs.Limits.{most_connections};
-ghost use Rattle.smb_tree.specs.Content.{new_content};
+ghost use Rattle.smb_tree.specs.Content.{new_content, used_space};
+ghost use Rattle.smb_opens.specs.Readers.{LeavesFiles};
 ghost use Rattle.smb_request.specs.Settings.{settings_of, is_lawful};
 ghost use Rattle.smb_request.specs.State.{connection_added};
 ghost use Rattle.smb_engine.specs.Event.{brings, text_of, events_of, connection_at};
 ghost use Rattle.smb_engine.specs.Output.{AreShort, output_bytes, outputs_of};
 ghost use Rattle.smb_engine.specs.Refusals.{MakingRefused, EventOutOfMemory, OpeningRefused, PieceStopped, run_behind, EventStopped, RunStopped};
-ghost use Rattle.smb_engine.specs.State.{new_share, new_stream, stream_of, is_open, opened, ended};
+ghost use Rattle.smb_engine.specs.Rest.{ends_of, IsAtRest};
+ghost use Rattle.smb_engine.specs.State.{StreamState, new_share, new_stream, stream_of, is_open, opened, ended};
 ghost use Rattle.smb_engine.specs.Run.{opening_refusal, bytes_step, unknown_refusal, event_refusal, event_step, run};
 ghost use Rattle.smb_engine.specs.Stream.{unread};
 ghost use Rattle.smb_engine.specs.Good.{GoodState};
@@ -20,14 +23,14 @@ ghost use Rattle.smb_engine.specs.Good.{GoodState};
 use super::arrival::Arrival;
 use super::connection::{Connection, ConnectionStream};
 use super::event::{Event, Fate};
-use super::fault::{OutOfMemoryAfter, RunFault, ServeFault};
+use super::fault::{CutShort, RunFault, ServeFault};
 use super::output::{Answer, Sink};
 use super::stream::take_piece;
 use smb_frame::FrameBuffer;
 use smb_handles::HandleTable;
 use smb_nodes::NodeTree;
 use smb_opens::Opens;
-use smb_request::{Config, Server};
+use smb_request::{Config, Server, Usage};
 use smb_session::{Authenticator, Window};
 use smb_tree::Tree;
 use smb_wire::limits::{LONGEST_PAYLOAD, MOST_CONNECTIONS};
@@ -35,6 +38,9 @@ use std::alloc::{AllocError, Global};
 use std::collections::BTreeMap;
 use std::fmt;
 use std::marker::Model;
+
+/// A piece has fewer requests than this.
+const ALL_REQUESTS: usize = usize::MAX;
 
 /// A share and its open connections. Who may come in, its authenticator decides; its files and their opens are
 /// kept in a tree and a list of opens of any kind.
@@ -236,16 +242,17 @@ impl<A: Authenticator + Drop, T: Tree + Drop, O: Opens + Drop> Share<A, T, O> {
     }
 
     /// Takes a piece of a connection's stream, and puts out the replies. On a connection that is not open it is
-    /// passed over, and there is no error. An error tells how many requests were performed; the connection has ended
-    /// after them.
+    /// passed over, and there is no error. An error tells how many requests were performed, those of a piece that has
+    /// `most` or more at most so many; the connection has ended after them.
     #[tactic(auto, unfolding(crate::specs::Run::bytes_step))]
     fn take<K: Sink>(
         &mut self,
         connection: u64,
         moment: u64,
         piece: &[u8],
+        most: usize,
         out: &mut K,
-    ) -> Result<Fate, OutOfMemoryAfter>
+    ) -> Result<Fate, CutShort>
         ensures state { OnOk result (self.new ≡ unread
             (bytes_step A.meaning self.old connection moment piece.now).state) }
         ensures outputs { OnOk result (K.content out.new ≡ K.content out.old ++ flat_map K.hears
@@ -264,7 +271,7 @@ impl<A: Authenticator + Drop, T: Tree + Drop, O: Opens + Drop> Share<A, T, O> {
             connection_id: connection,
             moment,
         };
-        match take_piece(&mut self.server, arrival, stream, piece, out) {
+        match take_piece(&mut self.server, arrival, stream, piece, most, out) {
             Ok(true) => Ok(Fate::Open),
             Ok(false) => {
                 self.server.good();
@@ -320,11 +327,66 @@ impl<A: Authenticator + Drop, T: Tree + Drop, O: Opens + Drop> Share<A, T, O> {
         ensures good { GoodState self.new }
     {
         let _ = &self.streams;
-        let taken = self.take(connection, moment, piece, out);
+        let taken = self.take(connection, moment, piece, ALL_REQUESTS, out);
         self.good();
         match taken {
             Ok(fate) => Ok(fate),
-            Err(OutOfMemoryAfter { done }) => Err(ServeFault::NoMemory { done }),
+            Err(CutShort { done }) => Err(ServeFault::NoMemory { done }),
+        }
+    }
+
+    /// How much the share holds. It takes no time that grows with it.
+    pub fn usage(&self) -> Usage
+        ensures entries { result.entries ≡ length self.now.server.store.tree.rows - 1 }
+        ensures used { result.used ≡ used_space self.now.server.store.tree.rows }
+    {
+        self.server.usage()
+    }
+
+    /// The open connection of the least number.
+    fn first_open(&self) -> Option<u64>
+        ensures some { IfSome result (λ connection. (stream : StreamState) × (slice_get self.now.streams 0 ≡ Some (connection, stream))) }
+        ensures none { IfNone result (self.now.streams ≡ []) }
+    {
+        match self.streams.first_key_value() {
+            Some((connection, _)) => Some(*connection),
+            None => None,
+        }
+    }
+
+    /// Ends all connections that are open, one after the other: no session, open or lock is left. Each file and folder is as it
+    /// was, but for those that go with their last open. It takes no memory.
+    pub fn end_all(&mut self)
+        ensures run { run A.meaning self.old (ends_of self.old.streams) ≡ record { state = self.new; outputs = []; stop = None } }
+        ensures rest { IsAtRest self.new }
+        ensures files { LeavesFiles self.old.server.store self.new.server.store }
+        ensures good { GoodState self.new }
+    {
+        self.good();
+        while let Some(connection) = self.first_open() {
+            self.ended(connection);
+        }
+    }
+
+    /// Performs the first `done` requests of a piece of an open connection's stream, and then ends the connection: what a
+    /// share does whose memory runs out behind them. Nothing is put out.
+    ///
+    /// False where the connection is not open; or where the piece has fewer requests, or memory runs out before so many:
+    /// then as many were performed as could be, and the connection has ended too.
+    pub fn cut_short(&mut self, connection: u64, moment: u64, piece: &[u8], done: usize) -> bool
+        ensures done { OnTrue result (EventOutOfMemory A.meaning self.old (brings connection moment piece.now) done self.new) }
+        ensures good { GoodState self.new }
+    {
+        let mut replies: Vec<u8> = Vec::new(self.allocator());
+        match self.take(connection, moment, piece, done, &mut replies) {
+            Ok(_) => {
+                self.ended(connection);
+                false
+            }
+            Err(cut) => {
+                self.good();
+                cut.done == done
+            }
         }
     }
 
@@ -364,9 +426,9 @@ impl<A: Authenticator + Drop, T: Tree + Drop, O: Opens + Drop> Share<A, T, O> {
                 if !self.was_opened(*connection) {
                     return Err(ServeFault::BadEvent);
                 }
-                match self.take(*connection, *moment, piece, answers) {
+                match self.take(*connection, *moment, piece, ALL_REQUESTS, answers) {
                     Ok(_) => Ok(()),
-                    Err(OutOfMemoryAfter { done }) => Err(ServeFault::NoMemory { done }),
+                    Err(CutShort { done }) => Err(ServeFault::NoMemory { done }),
                 }
             }
             Event::Ended(connection) => {

@@ -12,7 +12,7 @@ ghost use Rattle.smb_engine.specs.Output.{AreShort};
 use super::arrival::Arrival;
 use super::chain::perform_payload;
 use super::connection::{Connection, ConnectionStream};
-use super::fault::OutOfMemoryAfter;
+use super::fault::CutShort;
 use super::output::Sink;
 use smb_frame::FrameBuffer;
 use smb_opens::Opens;
@@ -21,14 +21,16 @@ use smb_session::Authenticator;
 use smb_tree::Tree;
 
 /// Performs a payload, puts out the frame of its replies, where there are any, and tells the number of its requests;
-/// None where it ends the connection. An error tells how many requests were performed, and puts nothing out.
+/// None where it ends the connection. Of a chain at most so many requests are performed; an error tells how many, and
+/// puts nothing out.
 fn put_payload<A: Authenticator + Drop, T: Tree + Drop, O: Opens + Drop, K: Sink>(
     server: &mut Server<A, T, O>,
     arrival: Arrival,
     connection: &mut Connection,
     payload: &[u8],
+    most: usize,
     out: &mut K,
-) -> Result<Option<usize>, OutOfMemoryAfter>
+) -> Result<Option<usize>, CutShort>
     ensures ok { IfOk result (λ count.
         record { server = server.new; connection = connection.new; stays_open = is_some count; out = K.content out.new }
         ≡ step_behind K.hears (K.content out.old)
@@ -42,10 +44,10 @@ fn put_payload<A: Authenticator + Drop, T: Tree + Drop, O: Opens + Drop, K: Sink
     ensures known { server.new.sessions.table.connections ≡ server.old.sessions.table.connections }
 {
     let mut bytes = out.take_bytes(server.allocator());
-    match perform_payload(server, arrival, connection, payload, &mut bytes) {
+    match perform_payload(server, arrival, connection, payload, most, &mut bytes) {
         Ok(Some(count)) => match out.give_frame(arrival.connection_id, bytes) {
             Ok(()) => Ok(Some(count)),
-            Err(_) => Err(OutOfMemoryAfter { done: count }),
+            Err(_) => Err(CutShort { done: count }),
         },
         Ok(None) => {
             out.give_back(bytes);
@@ -58,15 +60,17 @@ fn put_payload<A: Authenticator + Drop, T: Tree + Drop, O: Opens + Drop, K: Sink
     }
 }
 
-/// Performs the payloads of the whole frames that are held, in order, and puts out their replies. Ok tells
-/// whether the connection stays open and how many requests were performed; an error, the latter.
+/// Performs the payloads of the whole frames that are held, in order, and puts out their replies, where these are fewer
+/// requests than `most`; else the first `most` of them. Ok tells whether the connection stays open and how many requests
+/// were performed; an error, the latter.
 fn take_payloads<A: Authenticator + Drop, T: Tree + Drop, O: Opens + Drop, K: Sink>(
     server: &mut Server<A, T, O>,
     arrival: Arrival,
     buffer: &mut FrameBuffer,
     connection: &mut Connection,
+    most: usize,
     out: &mut K,
-) -> Result<(bool, usize), OutOfMemoryAfter>
+) -> Result<(bool, usize), CutShort>
     requires { buffer.old.limit ≡ longest_payload }
     ensures ok { IfOk result (λ r.
         record { server = server.new; connection = connection.new; stays_open = r.0; out = K.content out.new }
@@ -89,10 +93,13 @@ fn take_payloads<A: Authenticator + Drop, T: Tree + Drop, O: Opens + Drop, K: Si
     let _length = buffer.len();
     let mut done = 0;
     while let Some(payload) = buffer.next() {
-        match put_payload(server, arrival, connection, payload, out) {
+        if done >= most {
+            return Err(CutShort { done });
+        }
+        match put_payload(server, arrival, connection, payload, most - done, out) {
             Err(ran_out) => {
                 let done = done + ran_out.done;
-                return Err(OutOfMemoryAfter { done });
+                return Err(CutShort { done });
             }
             Ok(None) => return Ok((false, done)),
             Ok(Some(count)) => {
@@ -100,6 +107,9 @@ fn take_payloads<A: Authenticator + Drop, T: Tree + Drop, O: Opens + Drop, K: Si
                 buffer.done();
             }
         }
+    }
+    if done >= most {
+        return Err(CutShort { done });
     }
     Ok((true, done))
 }
@@ -112,8 +122,8 @@ fn stays_open(open_still: bool, buffer: &FrameBuffer) -> bool
     open_still && buffer.fault().is_none()
 }
 
-/// Takes a piece of a connection's stream, and puts out what answers it. Ok tells whether the connection
-/// stays open; an error, how many requests were performed.
+/// Takes a piece of a connection's stream, and puts out what answers it, where it has fewer requests than `most`; else the
+/// first `most` of them are performed. Ok tells whether the connection stays open; an error, how many requests were performed.
 ///
 /// After an error nothing was put out. The connection is to be given up then, and where it doesn't stay open.
 pub(crate) fn take_piece<A: Authenticator + Drop, T: Tree + Drop, O: Opens + Drop, K: Sink>(
@@ -121,8 +131,9 @@ pub(crate) fn take_piece<A: Authenticator + Drop, T: Tree + Drop, O: Opens + Dro
     arrival: Arrival,
     stream: &mut ConnectionStream,
     piece: &[u8],
+    most: usize,
     out: &mut K,
-) -> Result<bool, OutOfMemoryAfter>
+) -> Result<bool, CutShort>
     requires { Waits stream.old }
     ensures ok { IfOk result (λ stays_open. IsPieceHeld stream.old.received piece.now
         (piece_step A.meaning arrival server.old stream.old piece.now) server.new stream.new stays_open) }
@@ -137,13 +148,14 @@ pub(crate) fn take_piece<A: Authenticator + Drop, T: Tree + Drop, O: Opens + Dro
     let before = out.mark();
     match stream.buffer.push(piece) {
         Ok(()) => {}
-        Err(_) => return Err(OutOfMemoryAfter { done: 0 }),
+        Err(_) => return Err(CutShort { done: 0 }),
     }
     let (open_still, done) = match take_payloads(
         server,
         arrival,
         &mut stream.buffer,
         &mut stream.connection,
+        most,
         out,
     ) {
         Ok(taken) => taken,
@@ -160,7 +172,7 @@ pub(crate) fn take_piece<A: Authenticator + Drop, T: Tree + Drop, O: Opens + Dro
         Ok(()) => {}
         Err(_) => {
             out.cut_back(before);
-            return Err(OutOfMemoryAfter { done });
+            return Err(CutShort { done });
         }
     }
     Ok(false)

@@ -1,6 +1,6 @@
 //! The store: a tree and its opens, joined.
 
-ghost use Rattle.std.specs.Prelude.{◌≡◌, ◌≢◌, ◌∷◌, [], None, Some, true, false, IsSome, IfOk, IfErr, OnOk, OnErr, is_some, filter, not};
+ghost use Rattle.std.specs.Prelude.{◌≡◌, ◌≢◌, ◌∷◌, [], None, Some, true, false, IsSome, IfOk, IfErr, OnOk, OnErr, is_some, filter, length, not};
 ghost use Rattle.std.specs.Option.{option_map};
 ghost use Rattle.smb_wire.specs.Paths.{path_spelled, folded_path};
 ghost use Rattle.smb_wire.specs.PathViews.{parts_of};
@@ -98,6 +98,13 @@ impl<T: Tree + Drop, O: Opens + Drop> Store<T, O> {
         ensures { O.content result.now ≡ self.now.opens }
     {
         &self.opens
+    }
+
+    /// How many entries the tree has, its root among them. It is kept, and not counted.
+    pub fn entry_count(&self) -> usize
+        ensures { result ≡ length self.now.tree.rows }
+    {
+        self.entries_count
     }
 
     /// The number that the next open will have, where one can still be made.

@@ -1,6 +1,6 @@
 //! What all connections share ([MS-SMB2] 3.3.1.5).
 
-ghost use Rattle.std.specs.Prelude.{◌≡◌, ◌<◌, ◌≤◌, ◌+◌, [], ◌++◌, true, OnOk, OnErr, IfOk, length, take};
+ghost use Rattle.std.specs.Prelude.{◌≡◌, ◌<◌, ◌≤◌, ◌+◌, ◌-◌, [], ◌++◌, true, OnOk, OnErr, IfOk, length, take};
 ghost use Rattle.std.specs.Bool.{OnTrue, OnFalse};
 ghost use Rattle.smb_wire.specs.Limits.{longest_body, longest_token};
 ghost use Rattle.smb_wire.specs.Number.{spelling};
@@ -9,7 +9,7 @@ ghost use Rattle.smb_session.specs.Table.{numbers_on};
 ghost use Rattle.smb_body.specs.Replies.{reply_value, reply_spelling};
 ghost use Rattle.smb_session.specs.Good.{GoodTable};
 ghost use Rattle.smb_session.specs.Sessions.{new_sessions};
-ghost use Rattle.smb_tree.specs.Content.{new_content};
+ghost use Rattle.smb_tree.specs.Content.{new_content, used_space};
 ghost use Rattle.smb_info.specs.FileSystemInformation.{is_volume_label};
 ghost use Rattle.smb_info.specs.Volumes.{volume_facts};
 ghost use Rattle.smb_opens.specs.Good.{GoodStore};
@@ -30,6 +30,15 @@ use smb_tree::Tree;
 use smb_wire::{Dialect, Units, put_u16};
 use std::alloc::{AllocError, Global};
 use std::marker::Model;
+
+/// How much a share holds.
+#[derive(Clone, Copy, Debug, PartialEq, Eq)]
+pub struct Usage {
+    /// Its files and folders, without the root.
+    pub entries: usize,
+    /// The room that all files take, in bytes: of each its size, rounded up to 4,096.
+    pub used: u64,
+}
 
 /// The configuration, the sessions with their authenticator, and the files with their opens.
 #[derive(Drop)]
@@ -119,6 +128,17 @@ impl<A: Authenticator + Drop, T: Tree + Drop, O: Opens + Drop> Server<A, T, O> {
     /// The allocator of what the share makes.
     pub fn allocator(&self) -> Global {
         self.alloc
+    }
+
+    /// How much the share holds. It takes no time that grows with it.
+    pub fn usage(&self) -> Usage
+        ensures entries { result.entries ≡ length self.now.store.tree.rows - 1 }
+        ensures used { result.used ≡ used_space self.now.store.tree.rows }
+    {
+        Usage {
+            entries: self.store.entry_count().saturating_sub(1),
+            used: self.store.tree().used(),
+        }
     }
 
     /// A NEGOTIATE response that says a dialect's revision, where this dialect is established.

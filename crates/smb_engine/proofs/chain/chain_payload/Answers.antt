@@ -1,6 +1,6 @@
 use Rattle.std.proofs.Common.{refl, sym, ap, take, ◌∙◌, arith}
 use Rattle.std.proofs.lemmas.List.{take_all}
-use Rattle.smb_engine.proofs.Chains.{chain_begins, writer_at, out_at, chain_more, chain_stopped, chain_left, chain_count, done_least, kept_on}
+use Rattle.smb_engine.proofs.Chains.{chain_begins, writer_at, out_at, chain_more, chain_stopped, chain_so_far, chain_left, chain_count, done_least, kept_on}
 use Rattle.smb_engine.proofs.Steps.{front_kept, kept_more}
 use Rattle.smb_engine.proofs.chain.chain_payload.Goals as goal
 
@@ -17,7 +17,7 @@ loop-i-init g c = record {
 
 pub returns-in-Err-clause-kept : goal.returns-in-Err-clause-kept
 returns-in-Err-clause-kept g c =
-    c.truncate.ensures.items ∙ ap (λ n. take n c.perform_one.new.out.items) c.in-Ok.ensures.start
+    c.truncate-in-Err.ensures.items ∙ ap (λ n. take n c.perform_one.new.out.items) c.in-Ok.ensures.start
     ∙ kept_more _ _ _ (front_kept _ _ _ c.in-Ok.ensures.ok) (kept_on _ _ _ _ _ c.loop-i.invariant.base c.perform_one.ensures.kept c.loop-i.invariant.kept)
 
 pub returns-in-Err-clause-err : goal.returns-in-Err-clause-err
@@ -29,6 +29,20 @@ returns-in-Err-clause-err g c = record {
       chain_left g.A.Authenticator.meaning c.args.arrival c.args.server.now c.args.connection.now c.args.payload.now _ c.admit.new.connection _ _ (sym c.in-Some.ensures.chain) c.in-Some.ensures.taken
       (rw c.done_behind-done.ensures
       (chain_stopped g.A.Authenticator.meaning _ _ _ _ _ _ _ _ c.in-Err.no_reply c.loop-i.invariant.so_far c.request_at.ensures.request c.in-Err.ensures.err));
+}
+
+pub returns-then-i-most-clause-kept : goal.returns-then-i-most-clause-kept
+returns-then-i-most-clause-kept g c =
+    c.truncate.ensures.items ∙ ap (λ n. take n c.loop-i.out.items) c.in-Ok.ensures.start ∙ kept_more _ _ _ (front_kept _ _ _ c.in-Ok.ensures.ok) c.loop-i.invariant.kept
+
+pub returns-then-i-most-clause-err : goal.returns-then-i-most-clause-err
+returns-then-i-most-clause-err g c = record {
+  within =
+      let count = chain_count g.A.Authenticator.meaning c.args.arrival c.args.server.now c.args.connection.now c.args.payload.now _ (sym c.in-Some.ensures.chain) in
+      omega (arith, count, c.len-i-end.ensures.len, c.loop-i-test.true);
+  state =
+      chain_left g.A.Authenticator.meaning c.args.arrival c.args.server.now c.args.connection.now c.args.payload.now _ c.admit.new.connection _ _ (sym c.in-Some.ensures.chain) c.in-Some.ensures.taken
+      (chain_so_far g.A.Authenticator.meaning _ _ _ _ _ _ c.loop-i.invariant.so_far);
 }
 
 pub loop-i-preserved : goal.loop-i-preserved

@@ -10,4 +10,4 @@ returns-in-Ok g c = λ k.
 pub returns-in-Err : goal.returns-in-Err
 returns-in-Err g c = λ k.
     let t = c.moment-moment.ensures k in
-    (t.0, stops_in_piece c.moment-moment.result c.in-Err.field-0.done (search rules) c.in-Err.ensures.err t.1 refl)
+    (t.0, stops_in_piece c.moment-moment.result c.in-Err.cut.done (search rules) c.in-Err.ensures.err t.1 refl)

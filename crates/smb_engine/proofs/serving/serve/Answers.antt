@@ -1,11 +1,10 @@
-use Rattle.std.proofs.Common.{◌≡◌, ℕ, List, ◌+◌, [], if◌then◌else◌, sym, ap, subst, ◌∙◌, arith}
+use Rattle.std.proofs.Common.{◌≡◌, ◌&&◌, ℕ, List, ◌+◌, [], if◌then◌else◌, sym, ap, subst, ◌∙◌, arith}
 use Rattle.std.proofs.lemmas.List.{append_cancel_left}
 use Rattle.smb_engine.specs.Record.{PeerCall}
 use Rattle.smb_engine.specs.Serving.{serving, Turns}
 use Rattle.smb_engine.specs.ServingLaws.{OpensEachOnce}
 use Rattle.smb_engine.specs.Openings.{TurnOf}
-use Rattle.smb_engine.proofs.Turning.{turns_more}
-use Rattle.smb_engine.proofs.Once.{since_none, since_more}
+use Rattle.smb_engine.proofs.Once.{since_none, one_more}
 use Rattle.smb_engine.proofs.serving.serve.Goals as goal
 use Rattle.smb_engine.proofs.serving.serve.Goals.{then-turn, else-turn}
 
@@ -39,19 +38,10 @@ loop-turn-preserved g c =
     let before = serving c.args.share.now [] (g.P.Peers.calls c.args.peers.now) (g.C.Clock.moments c.args.clock.now) 0 in
     let middle = serving c.loop-turn.share c.loop-turn.served_peers.items (g.P.Peers.calls c.loop-turn.peers) (g.C.Clock.moments c.loop-turn.clock) c.loop-turn.count in
     let after = serving c.turn.new.share c.turn.new.served_peers.items (g.P.Peers.calls c.turn.new.peers) (g.C.Clock.moments c.turn.new.clock) c.if-turn.count in
-    record {
-      few = elim c.if-turn.branch [ then-turn w ↦ omega arith | else-turn w ↦ omega arith ];
-      so_far = λ k.
-          let t = c.turn.ensures k in
-          let b = c.loop-turn.invariant.so_far t.0 in
-          let P : ℕ → Type 0 = λ n. TurnOf g.A.Authenticator.meaning t.1.0
-          (serving c.loop-turn.share c.loop-turn.served_peers.items (g.P.Peers.calls c.loop-turn.peers) (g.C.Clock.moments c.loop-turn.clock) c.loop-turn.count)
-          (serving c.turn.new.share c.turn.new.served_peers.items (g.P.Peers.calls c.turn.new.peers) (g.C.Clock.moments c.turn.new.clock) n) in
-          let one = subst P e (t.1.2 c.loop-turn.count) in (
-            b.0,
-            (
-              turns_more g.A.Authenticator.meaning c.loop-turn._turn before middle after b.1.0 (one.0, (t.1.0, one.1), one.2),
-              since_more g.A.Authenticator.meaning (g.P.Peers.calls c.args.peers.now) (g.P.Peers.opened c.loop-turn.peers) (g.P.Peers.opened c.turn.new.peers) t.1.0 middle after b.1.1 t.1.1 one,
-            ),
-          );
-    }
+    let P : PeerCall → ℕ → Type 0 = λ call n. TurnOf g.A.Authenticator.meaning call
+    (serving c.loop-turn.share c.loop-turn.served_peers.items (g.P.Peers.calls c.loop-turn.peers) (g.C.Clock.moments c.loop-turn.clock) c.loop-turn.count)
+    (serving c.turn.new.share c.turn.new.served_peers.items (g.P.Peers.calls c.turn.new.peers) (g.C.Clock.moments c.turn.new.clock) n) in
+    let next = one_more g.A.Authenticator.meaning (g.P.Peers.keeps c.args.peers.now && g.C.Clock.keeps c.args.clock.now) (g.P.Peers.keeps c.loop-turn.peers && g.C.Clock.keeps c.loop-turn.clock) (g.P.Peers.keeps c.turn.new.peers && g.C.Clock.keeps c.turn.new.clock)
+    c.loop-turn._turn before middle after (g.P.Peers.calls c.args.peers.now) (g.P.Peers.opened c.loop-turn.peers) (g.P.Peers.opened c.turn.new.peers) c.loop-turn.invariant.so_far
+    (λ k. let t = c.turn.ensures k in (t.0, (t.1.0, t.1.1, subst (P t.1.0) e (t.1.2 c.loop-turn.count)))) in
+    record { few = elim c.if-turn.branch [ then-turn w ↦ omega arith | else-turn w ↦ omega arith ]; so_far = next }

@@ -1,4 +1,4 @@
-use Rattle.std.proofs.Common.{List, ◌<◌, length, ap, subst, ◌∙◌}
+use Rattle.std.proofs.Common.{List, ◌<◌, length, is_some, ap, subst, ◌∙◌}
 use Rattle.smb_engine.specs.ServedPeers.{PeerState, place_of}
 use Rattle.smb_engine.proofs.Turning.{fed_at}
 use Rattle.smb_engine.proofs.serving.take_bytes.Goals as goal
@@ -10,5 +10,5 @@ returns-in-Some g c = λ k.
       t.0,
       fed_at c.args.number c.in-Some.place c.args.served_peers.now.items c.index_mut.result.now (c.in-Some.ensures.place ∙ ap (place_of c.args.number) c.deref.ensures.value)
           (subst P c.deref.ensures.value c.in-Some.ensures.within) c.index_mut.ensures.value
-          g.A.Authenticator.meaning c.args.piece.now c.args.share.now c.feed_peer.new.share c.feed_peer.new.peer (g.C.Clock.moments c.args.clock.now) (g.C.Clock.moments c.feed_peer.new.clock) c.feed_peer.result t.1,
+          g.A.Authenticator.meaning c.args.piece.now c.args.share.now c.feed_peer.new.share c.feed_peer.new.peer (g.C.Clock.moments c.args.clock.now) (g.C.Clock.moments c.feed_peer.new.clock) (is_some c.feed_peer.result) t.1,
     )

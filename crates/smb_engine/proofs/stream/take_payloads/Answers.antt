@@ -3,6 +3,18 @@ use Rattle.smb_engine.proofs.Chains.{count_few, within_few}
 use Rattle.smb_engine.proofs.Steps.{steps_more, steps_over, steps_over_short, steps_refused, steps_all, steps_all_short, held_all, steps_stopped, steps_stopped_in, steps_within, steps_done, front_kept, kept_more, at_limit}
 use Rattle.smb_engine.proofs.stream.take_payloads.Goals as goal
 
+pub returns-then-done-most-clause-err : goal.returns-then-done-most-clause-err
+returns-then-done-most-clause-err g c = record {
+  within = steps_done g.A.Authenticator.meaning g.K.Sink.hears _ _ _ _ _ _ _ _ _ _ c.loop-payload.invariant.so_far;
+  state = steps_stopped g.A.Authenticator.meaning g.K.Sink.hears _ _ _ _ _ _ _ _ _ _ c.loop-payload.invariant.so_far;
+}
+
+pub returns-then-done-most-2-clause-err : goal.returns-then-done-most-2-clause-err
+returns-then-done-most-2-clause-err g c = record {
+  within = steps_done g.A.Authenticator.meaning g.K.Sink.hears _ _ _ _ _ _ _ _ _ _ c.loop-payload.invariant.so_far;
+  state = steps_stopped g.A.Authenticator.meaning g.K.Sink.hears _ _ _ _ _ _ _ _ _ _ c.loop-payload.invariant.so_far;
+}
+
 pub returns-in-Err-clause-err : goal.returns-in-Err-clause-err
 returns-in-Err-clause-err g c =
     let f = at_limit c.loop-payload.buffer.limit c.loop-payload.buffer.bytes _ c.loop-payload.invariant.limit c.in-Some.ensures.first in
