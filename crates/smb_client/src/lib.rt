@@ -2,7 +2,8 @@
 //!
 //! A [`Client`] is one connection. Each of its calls makes one request ([`Client::negotiate`], [`Client::create`] and so on; any
 //! other by [`Client::ask`]) and keeps its frame until it is sent. A [`Pair`] sends what it has to say to a share in memory, and gives
-//! the [`Replies`]. Over peers in memory [`Client::take_frames`] gives the bytes of a step, and [`taken_from`] what the peers took.
+//! the [`Replies`]; whatever else carries frames to a share is a [`Line`] too. Over peers in memory [`Client::take_frames`] gives
+//! the bytes of a step, and [`taken_from`] what the peers took.
 //!
 //! The whole of this example is the crate smb_example, which the gate runs:
 //!
@@ -35,6 +36,7 @@
 
 mod client;
 mod fault;
+mod line;
 mod pair;
 mod reply;
 mod status;
@@ -43,6 +45,7 @@ mod words;
 
 pub use client::Client;
 pub use fault::ClientFault;
+pub use line::Line;
 pub use pair::Pair;
 pub use reply::{Replies, Reply};
 pub use smb_body::{
@@ -60,3 +63,4 @@ pub use smb_wire::{
 };
 pub use status::Status;
 pub use taken::taken_from;
+pub use words::units_of;

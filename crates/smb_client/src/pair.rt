@@ -2,6 +2,7 @@
 
 use super::client::Client;
 use super::fault::ClientFault;
+use super::line::Line;
 use super::reply::Replies;
 use smb_engine::Share;
 use smb_opens::Opens;
@@ -49,5 +50,26 @@ impl<A: Authenticator + Drop, T: Tree + Drop, O: Opens + Drop> Pair<A, T, O> {
         client.sent();
         client.hear(&self.heard);
         Ok(Replies::of(&self.heard))
+    }
+
+    /// The share, as its clients left it: their connections are open as before.
+    pub fn into_share(self) -> Share<A, T, O> {
+        self.share
+    }
+}
+
+impl<A: Authenticator + Drop, T: Tree + Drop, O: Opens + Drop> Line for Pair<A, T, O> {
+    fn carry(&mut self, client: &mut Client, heard: &mut Vec<u8>) -> Result<(), ClientFault> {
+        let number = client.number();
+        if !self.share.is_open(number) {
+            return Err(ClientFault::Ended);
+        }
+        heard.clear();
+        let _ = self
+            .share
+            .feed(number, self.moment, client.frames(), heard)?;
+        client.sent();
+        client.hear(heard);
+        Ok(())
     }
 }

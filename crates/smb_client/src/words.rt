@@ -2,8 +2,8 @@
 
 use std::alloc::{AllocError, Global};
 
-/// A text in UTF-16, its bytes in the order of the wire.
-pub(crate) fn units_of(alloc: Global, text: &str) -> Result<Vec<u8>, AllocError> {
+/// A text in UTF-16, its bytes in the order of the wire: what [`Units::of`](smb_wire::Units::of) takes.
+pub fn units_of(alloc: Global, text: &str) -> Result<Vec<u8>, AllocError> {
     let mut bytes = Vec::new(alloc);
     for character in text.chars() {
         let mut units = [0u16; 2];

@@ -27,7 +27,7 @@ mod show;
 pub use fault::{CommandFault, Detail, Given, ListenFault};
 pub use input::{INPUT_LIMIT, read_input};
 pub use listing::show_fields;
-pub use ntlm::{new_ntlm_share, replay_ntlm_text};
+pub use ntlm::{new_ntlm, new_ntlm_share, replay_ntlm_text};
 pub use password::hash_password;
 pub use replay::{
     new_plain_share, new_share, read_events, replay_in_detail, replay_on_share, replay_plain_text,

@@ -10,15 +10,15 @@ use smb_ntlm::Ntlm;
 use std::alloc::Global;
 use std::io::{Read, Write};
 
-/// A new share of a configuration to which clients log in by NTLM: as an account, or as a guest where the configuration
-/// lets guests in. The challenges come from the seed. An account may only read where it says so, and a guest where the
-/// configuration does.
-pub fn new_ntlm_share(
+/// Who lets in the clients of a configuration by NTLM: as an account, or as a guest where the configuration lets guests in.
+/// The challenges come from the seed. An account with `readonly = true` may only read, and so may guests where the
+/// configuration has `guest_readonly = true`.
+pub fn new_ntlm(
     alloc: Global,
-    configuration: Configuration,
+    configuration: &Configuration,
     accounts: Accounts,
     seed: [u8; 16],
-) -> Result<Share<Ntlm, NodeTree, HandleTable>, CommandFault> {
+) -> Result<Ntlm, CommandFault> {
     let ntlm = Ntlm::new(
         alloc,
         seed,
@@ -26,6 +26,17 @@ pub fn new_ntlm_share(
         configuration.guest,
         configuration.guest_read_only,
     )?;
+    Ok(ntlm)
+}
+
+/// A new share of a configuration to which clients log in by NTLM, as [`new_ntlm`] lets them in.
+pub fn new_ntlm_share(
+    alloc: Global,
+    configuration: Configuration,
+    accounts: Accounts,
+    seed: [u8; 16],
+) -> Result<Share<Ntlm, NodeTree, HandleTable>, CommandFault> {
+    let ntlm = new_ntlm(alloc, &configuration, accounts, seed)?;
     match Share::in_memory(alloc, configuration.config, ntlm) {
         Ok(share) => Ok(share),
         Err(ServeFault::NoMemory { done: _ }) => Err(CommandFault::NoMemory),

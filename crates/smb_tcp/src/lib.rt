@@ -1,6 +1,6 @@
 //! The peers of a TCP listener, in one thread, and the system's clock: what smb_engine's `serve` is given by the program.
 //!
-//! [`TcpPeers`] are the streams of a listener, [`SystemClock`] tells the time. Neither keeps a record of its calls.
+//! [`TcpPeers`] are the streams of a listener, [`PeerFacts`] what is known of them beside their bytes, [`SystemClock`] tells the time. Neither keeps a record of its calls.
 //! Proved of the peers is what the trait asks: each connection is opened once, under the next number, and a send is
 //! refused only where a failure is counted. Of the clock it is, inside the crate, that no moment is before the last
 //! one.
@@ -8,10 +8,12 @@
 
 mod clock;
 mod connection;
+mod facts;
 mod lending;
 mod piece;
 mod tcp;
 
 pub use clock::SystemClock;
+pub use facts::PeerFacts;
 pub use piece::PIECE_SIZE;
 pub use tcp::{MOST_STREAMS, TcpPeers};

@@ -5,6 +5,7 @@ ghost use Rattle.smb_engine.specs.Peers.{OpensOnce};
 ghost use Rattle.smb_tcp.specs.Numbers.{numbers_to};
 
 use super::connection::{Connection, SilenceLimits};
+use super::facts::PeerFacts;
 use super::piece::{PIECE_SIZE, Piece};
 use mio::net::{TcpListener, TcpStream};
 use mio::{Events, Interest, Poll, Token};
@@ -55,6 +56,8 @@ pub struct TcpPeers<'a, R: Net + Clock> {
     // Since a start that is the system's own.
     time: Duration,
     limits: SilenceLimits,
+    // What is known of the peers, for others.
+    facts: Option<&'a PeerFacts>,
     ghost few: { vec_len connections ≤ 65 },
 }
 
@@ -96,6 +99,7 @@ impl<'a, R: Net + Clock> TcpPeers<'a, R> {
             wait,
             time: system.monotonic()?,
             limits: SilenceLimits::none(),
+            facts: None,
         })
     }
 
@@ -110,6 +114,12 @@ impl<'a, R: Net + Clock> TcpPeers<'a, R> {
     /// at between two waits.
     pub fn with_unanswered_limit(mut self, limit: Duration) -> Self {
         self.limits = self.limits.with_unanswered(limit);
+        self
+    }
+
+    /// With a place where it is noted what is known of each peer.
+    pub fn with_facts(mut self, facts: &'a PeerFacts) -> Self {
+        self.facts = Some(facts);
         self
     }
 
@@ -155,7 +165,11 @@ impl<'a, R: Net + Clock> TcpPeers<'a, R> {
     {
         let connection = &mut self.connections[place];
         connection.ended = true;
-        PeerEvent::Ended(connection.number)
+        let number = connection.number;
+        if let Some(facts) = self.facts {
+            facts.note_silent(number);
+        }
+        PeerEvent::Ended(number)
     }
 
     /// Ends a connection for which a limit of silence has passed.
@@ -279,6 +293,10 @@ impl<'a, R: Net + Clock> TcpPeers<'a, R> {
         if stream.set_nodelay(true).is_err() {
             self.failures = self.failures.saturating_add(1);
         }
+        let address = match self.facts {
+            Some(_) => stream.peer_addr().ok(),
+            None => None,
+        };
         let both = Interest::READABLE | Interest::WRITABLE;
         let registry = self.poll.registry();
         if registry
@@ -295,6 +313,9 @@ impl<'a, R: Net + Clock> TcpPeers<'a, R> {
         {
             self.failures = self.failures.saturating_add(1);
             return None;
+        }
+        if let Some(facts) = self.facts {
+            facts.add(number, address);
         }
         self.opened = number;
         Some(number)
@@ -475,6 +496,9 @@ impl<R: Net + Clock> Peers for TcpPeers<'_, R> {
     fn close(&mut self, number: u64) {
         if let Some(place) = self.place_of(number) {
             drop(self.connections.remove(place));
+        }
+        if let Some(facts) = self.facts {
+            facts.remove(number);
         }
         if self.refused {
             self.refused = false;

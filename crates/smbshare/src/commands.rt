@@ -50,6 +50,19 @@ const NT_HASH_HELP: &str =
 Example:
   printf %s Password | smbshare nt-hash";
 
+/// The end of the help of `extract`.
+const EXTRACT_HELP: &str = "Example:
+  smbshare serve --listen 127.0.0.1:4450 --journal data.journal
+  smbshare extract folder < data.journal";
+
+/// The end of the help of `compact`.
+const COMPACT_HELP: &str =
+    "NEW makes the same files, with their names, bytes, times and attributes, by as few requests as that takes.
+`serve --journal` does this by itself, where a journal is over four times as long as what its files ask for.
+
+Example:
+  smbshare compact < data.journal > shorter.journal";
+
 /// The end of the help of `show`.
 const SHOW_HELP: &str = "No share is made, so nothing is built in.
 
@@ -105,15 +118,62 @@ fn seed_option<'a>(alloc: Global) -> Arg<'a> {
     )
 }
 
-/// The command that serves.
-fn serve_command<'a>(alloc: Global) -> Result<Command<'a>, AllocError> {
-    let listen = Arg::new(alloc, "listen")
-        .long("listen")
-        .value_name("ADDR")
-        .required(true)
+/// The option for a journal.
+fn journal_option<'a>(alloc: Global) -> Result<Arg<'a>, AllocError> {
+    Arg::new(alloc, "journal")
+        .long("journal")
+        .value_name("FILE")
         .help(
-            "The IP address and port to listen on, such as 127.0.0.1:4450; port 0 for a free one",
-        );
+            "Keeps all that happens in FILE, before it is answered, and begins with what FILE holds where it exists",
+        )
+        .conflicts_with("record")
+}
+
+/// The option for a record.
+fn record_option<'a>(alloc: Global) -> Arg<'a> {
+    Arg::new(alloc, "record")
+        .long("record")
+        .value_name("FILE")
+        .help("Writes all that happens into a new FILE, as text for a replay")
+}
+
+/// The option for what is kept to be on the disk.
+fn sync_option<'a>(alloc: Global) -> Arg<'a> {
+    Arg::new(alloc, "sync")
+        .long("sync")
+        .action(ArgAction::SetTrue)
+        .help("Has the system write FILE to the disk before anything is answered")
+}
+
+/// The option for a folder.
+fn from_option<'a>(alloc: Global) -> Arg<'a> {
+    Arg::new(alloc, "from")
+        .long("from")
+        .value_name("FOLDER")
+        .help("Begins a new share with the files and folders of FOLDER")
+}
+
+/// The option for a clock.
+fn clock_option<'a>(alloc: Global) -> Arg<'a> {
+    Arg::new(alloc, "clock")
+        .long("clock")
+        .value_name("MOMENT")
+        .value_parser(ValueParser::Unsigned(0, u64::MAX))
+        .help(
+            "The moment of the first piece, in units of 100 ns since 1601; each further one comes a unit later, for tests [default: the system's clock]",
+        )
+}
+
+/// Adds the options for who comes in.
+fn add_login<'a>(alloc: Global, command: Command<'a>) -> Result<Command<'a>, AllocError> {
+    command
+        .arg(login_option(alloc))?
+        .arg(accounts_option(alloc))?
+        .arg(seed_option(alloc))
+}
+
+/// Adds the options for how long is served.
+fn add_limits<'a>(alloc: Global, command: Command<'a>) -> Result<Command<'a>, AllocError> {
     let turns = Arg::new(alloc, "turns")
         .long("turns")
         .value_name("N")
@@ -133,31 +193,141 @@ fn serve_command<'a>(alloc: Global) -> Result<Command<'a>, AllocError> {
         .help(
             "After how long a client is gone that was never answered anything, 0 for never [default: 30]",
         );
-    Command::new(alloc, "serve")
-        .about("Serves a new share over TCP")
+    command.arg(turns)?.arg(idle)?.arg(unanswered)
+}
+
+/// Adds the options for what is kept.
+fn add_kept<'a>(alloc: Global, command: Command<'a>) -> Result<Command<'a>, AllocError> {
+    let journal = journal_option(alloc)?;
+    command
+        .arg(journal)?
+        .arg(record_option(alloc))?
+        .arg(sync_option(alloc))
+}
+
+/// The option for a log.
+fn log_option<'a>(alloc: Global) -> Arg<'a> {
+    Arg::new(alloc, "log").long("log").value_name("FILE").help(
+        "Adds a line for each event to FILE, or to standard error where FILE is -",
+    )
+}
+
+/// The option for how much is logged.
+fn log_level_option<'a>(alloc: Global) -> Arg<'a> {
+    Arg::new(alloc, "log-level")
+        .long("log-level")
+        .value_name("LEVEL")
+        .value_parser(ValueParser::Names(&["sessions", "refusals", "requests"]))
+        .help(
+            "Which requests are logged: those of sessions, those that were refused, or all [default: refusals]",
+        )
+}
+
+/// The option for a log that has to be written.
+fn log_must_option<'a>(alloc: Global) -> Arg<'a> {
+    Arg::new(alloc, "log-must")
+        .long("log-must")
+        .action(ArgAction::SetTrue)
+        .help("Ends the server where a line of the log can't be written")
+}
+
+/// Adds the options for a log.
+fn add_log<'a>(alloc: Global, command: Command<'a>) -> Result<Command<'a>, AllocError> {
+    command
+        .arg(log_option(alloc))?
+        .arg(log_level_option(alloc))?
+        .arg(log_must_option(alloc))
+}
+
+/// Adds the options for what a share begins with.
+fn add_begin<'a>(alloc: Global, command: Command<'a>) -> Result<Command<'a>, AllocError> {
+    command.arg(from_option(alloc))?.arg(clock_option(alloc))
+}
+
+/// The option for an address.
+fn listen_option<'a>(alloc: Global) -> Arg<'a> {
+    Arg::new(alloc, "listen")
+        .long("listen")
+        .value_name("ADDR")
+        .required(true)
+        .help("The IP address and port to listen on, such as 127.0.0.1:4450; port 0 for a free one")
+}
+
+/// The command that serves.
+fn serve_command<'a>(alloc: Global) -> Result<Command<'a>, AllocError> {
+    let command = Command::new(alloc, "serve")
+        .about("Serves a share over TCP")
         .after_help(SERVE_HELP)
         .arg(config_option(alloc))?
         .arg(explain_option(alloc))?
-        .arg(listen)?
-        .arg(login_option(alloc))?
-        .arg(accounts_option(alloc))?
-        .arg(seed_option(alloc))?
-        .arg(turns)?
-        .arg(idle)?
-        .arg(unanswered)
+        .arg(listen_option(alloc))?;
+    let command = add_login(alloc, command)?;
+    let command = add_limits(alloc, command)?;
+    let command = add_kept(alloc, command)?;
+    let command = add_log(alloc, command)?;
+    add_begin(alloc, command)
+}
+
+/// The option for a recording.
+fn recording_option<'a>(alloc: Global) -> Result<Arg<'a>, AllocError> {
+    Arg::new(alloc, "recording")
+        .long("recording")
+        .value_name("FILE")
+        .help(
+            "Replays what `serve` kept in FILE by --record or --journal, which says itself of what share it is",
+        )
+        .conflicts_with("config")?
+        .conflicts_with("login")?
+        .conflicts_with("accounts")?
+        .conflicts_with("seed")
 }
 
 /// The command that replays.
 fn replay_command<'a>(alloc: Global) -> Result<Command<'a>, AllocError> {
     let seed = seed_option(alloc).required_if_eq("login", "ntlm")?;
-    Command::new(alloc, "replay")
+    let recording = recording_option(alloc)?;
+    let command = Command::new(alloc, "replay")
         .about("Replays the events of standard input on a new share, and prints what it answers")
         .after_help(REPLAY_HELP)
         .arg(config_option(alloc))?
-        .arg(explain_option(alloc))?
+        .arg(explain_option(alloc))?;
+    add_replayed(alloc, command, seed, recording)
+}
+
+/// Adds the other options of a replay.
+fn add_replayed<'a>(
+    alloc: Global,
+    command: Command<'a>,
+    seed: Arg<'a>,
+    recording: Arg<'a>,
+) -> Result<Command<'a>, AllocError> {
+    command
         .arg(login_option(alloc))?
         .arg(accounts_option(alloc))?
-        .arg(seed)
+        .arg(seed)?
+        .arg(recording)
+}
+
+/// The command that takes files out of a recording.
+fn extract_command<'a>(alloc: Global) -> Result<Command<'a>, AllocError> {
+    let folder = Arg::new(alloc, "folder")
+        .index(1)
+        .value_name("FOLDER")
+        .required(true)
+        .help("The folder, which is made and must not exist");
+    Command::new(alloc, "extract")
+        .about("Makes a new folder of the files that a journal or record on standard input leaves")
+        .after_help(EXTRACT_HELP)
+        .arg(folder)
+}
+
+/// The command that writes a journal anew.
+fn compact_command<'a>(alloc: Global) -> Command<'a> {
+    Command::new(alloc, "compact")
+        .about(
+            "Writes a journal that makes the files which a journal or record on standard input leaves",
+        )
+        .after_help(COMPACT_HELP)
 }
 
 /// The command that lists requests.
@@ -186,5 +356,7 @@ pub fn command<'a>(alloc: Global) -> Result<Command<'a>, AllocError> {
         .subcommand(replay_command(alloc)?)?
         .subcommand(serve_command(alloc)?)?
         .subcommand(show_command(alloc)?)?
+        .subcommand(extract_command(alloc)?)?
+        .subcommand(compact_command(alloc))?
         .subcommand(nt_hash)
 }

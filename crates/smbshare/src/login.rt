@@ -6,7 +6,7 @@ use hex::FromHex;
 use smb_config::{Accounts, Configuration};
 use smb_engine::{HandleTable, NodeTree, Share};
 use smb_ntlm::Ntlm;
-use smb_replay::{CommandFault, new_ntlm_share};
+use smb_replay::{CommandFault, new_ntlm, new_ntlm_share};
 use std::alloc::Global;
 use std::io::Read;
 
@@ -56,7 +56,7 @@ pub fn read_accounts(alloc: Global, text: Option<&str>) -> Result<Accounts, Comm
 }
 
 /// A seed of random bytes of the system.
-fn random_seed() -> Result<[u8; 16], CommandFault> {
+pub fn random_seed() -> Result<[u8; 16], CommandFault> {
     let mut seed = [0u8; 16];
     let Ok(mut file) = NamedFile::open(RANDOM) else {
         return Err(CommandFault::SeedFailed);
@@ -64,6 +64,14 @@ fn random_seed() -> Result<[u8; 16], CommandFault> {
     match file.read_exact(&mut seed) {
         Ok(()) => Ok(seed),
         Err(_) => Err(CommandFault::SeedFailed),
+    }
+}
+
+/// A seed that is given, or one of the system's.
+fn given_or_random(seed: Option<[u8; 16]>) -> Result<[u8; 16], CommandFault> {
+    match seed {
+        Some(seed) => Ok(seed),
+        None => random_seed(),
     }
 }
 
@@ -75,9 +83,17 @@ pub fn share_by_ntlm(
     accounts: Accounts,
     seed: Option<[u8; 16]>,
 ) -> Result<Share<Ntlm, NodeTree, HandleTable>, CommandFault> {
-    let seed = match seed {
-        Some(seed) => seed,
-        None => random_seed()?,
-    };
+    let seed = given_or_random(seed)?;
     new_ntlm_share(alloc, configuration, accounts, seed)
+}
+
+/// Who lets clients in by NTLM, as [`share_by_ntlm`] has it.
+pub fn ntlm_of(
+    alloc: Global,
+    configuration: &Configuration,
+    accounts: Accounts,
+    seed: Option<[u8; 16]>,
+) -> Result<Ntlm, CommandFault> {
+    let seed = given_or_random(seed)?;
+    new_ntlm(alloc, configuration, accounts, seed)
 }

@@ -1,23 +1,38 @@
 //! The command `smbshare`: a proved SMB2 file share.
 #![tactic(auto)]
 
+mod clock;
 mod command_line;
 mod commands;
+mod compaction;
+mod fault;
+mod logging;
 mod login;
 mod mode;
 mod named_file;
 mod notices;
+mod own_client;
+mod recording;
+mod replaying;
 mod serve;
+mod served_record;
 mod texts;
 
 use clap::ArgMatches;
 use clap::error::ErrorKind as WordFault;
 use command_line::CommandLine;
 use commands::command;
+use compaction::compact;
+use fault::Fault;
+use logging::{Heard, LogWords};
 use login::{Login, read_accounts, share_by_ntlm};
+use recording::RecordWords;
+use replaying::{extract, print_recording};
 use serve::{ServeWords, serve_share};
 use smb_config::{BUILT_IN, Configuration};
 use smb_engine::{HandleTable, NodeTree, Share};
+use smb_journal::Form;
+use smb_log::Level;
 use smb_ntlm::Ntlm;
 use smb_replay::{
     CommandFault, Detail, Given, hash_password, replay_in_detail, replay_on_share, show_fields,
@@ -32,6 +47,17 @@ use texts::Texts;
 fn report(rt: &HostRuntime, fault: CommandFault, detail: Detail<'_>) -> ExitCode {
     let mut errors = rt.stderr();
     ExitCode::from(fault.report(rt.alloc(), detail, &mut errors))
+}
+
+/// The exit status of a command that ended so, whose fault is printed on standard error.
+fn status_of(rt: &HostRuntime, ended: Result<(), Fault>, detail: Detail<'_>) -> ExitCode {
+    match ended {
+        Ok(()) => ExitCode::SUCCESS,
+        Err(fault) => {
+            let mut errors = rt.stderr();
+            ExitCode::from(fault.report(rt.alloc(), detail, &mut errors))
+        }
+    }
 }
 
 /// The value of an option, or nothing.
@@ -141,6 +167,37 @@ fn hash_input(rt: &HostRuntime) -> ExitCode {
     ExitCode::from(status)
 }
 
+/// Where a share is recorded, and how, where the words say that it is.
+fn record_of<'a>(words: &'a ArgMatches<'_>) -> Option<RecordWords<'a>> {
+    let settles = words.get_flag("sync");
+    if let Some(path) = words.get_str("journal") {
+        return Some(RecordWords {
+            form: Form::Journal,
+            path,
+            settles,
+        });
+    }
+    Some(RecordWords {
+        form: Form::Recording,
+        path: words.get_str("record")?,
+        settles,
+    })
+}
+
+/// Where a share is logged, and how, where the words say that it is.
+fn log_words_of<'a>(words: &'a ArgMatches<'_>) -> Option<LogWords<'a>> {
+    let level = match words.get_str("log-level") {
+        Some("sessions") => Level::Sessions,
+        Some("requests") => Level::Requests,
+        _ => Level::Refusals,
+    };
+    Some(LogWords {
+        path: words.get_str("log")?,
+        level,
+        must: words.get_flag("log-must"),
+    })
+}
+
 /// Serves a share by the words of the command, and gives the exit status.
 fn serve_clients(
     rt: &HostRuntime,
@@ -148,6 +205,13 @@ fn serve_clients(
     login: Login,
     words: &ArgMatches<'_>,
 ) -> ExitCode {
+    let Ok(heard) = Heard::new(rt.alloc()) else {
+        return report(rt, CommandFault::NoMemory, Detail::Brief);
+    };
+    let log = log_words_of(words);
+    if log.is_none() {
+        heard.visitors.close();
+    }
     let serve_words = ServeWords {
         texts,
         login,
@@ -155,11 +219,15 @@ fn serve_clients(
         turns: words.get_one("turns").unwrap_or(u64::MAX),
         idle_seconds: words.get_one("idle").unwrap_or(3600),
         unanswered_seconds: words.get_one("idle-new").unwrap_or(30),
+        record: record_of(words),
+        from: words.get_str("from"),
+        clock: words.get_one("clock"),
+        log,
+        heard: &heard,
+        writes_anew: true,
     };
-    match serve_share(rt, &serve_words) {
-        Ok(()) => ExitCode::SUCCESS,
-        Err(fault) => report(rt, fault, detail_of(rt, words, Some(texts))),
-    }
+    let ended = serve_share(rt, &serve_words);
+    status_of(rt, ended, detail_of(rt, words, Some(texts)))
 }
 
 /// Runs a command that has a share.
@@ -170,6 +238,11 @@ fn run_with_share(
     words: &ArgMatches<'_>,
     login: Login,
 ) -> ExitCode {
+    if name == "replay"
+        && let Some(path) = words.get_str("recording")
+    {
+        return status_of(rt, print_recording(rt, path), detail_of(rt, words, None));
+    }
     let texts = match Texts::read(rt, line, words) {
         Ok(texts) => texts,
         Err(fault) => return report(rt, fault, detail_of(rt, words, None)),
@@ -187,6 +260,17 @@ fn run_with_share(
 /// How clients log in to the share of a command; where words do not go together, what is wrong with them.
 fn login_of(command: Option<(&str, &ArgMatches<'_>)>) -> Result<Login, &'static str> {
     match command {
+        Some(("serve", words))
+            if words.get_flag("sync")
+                && words.get_str("journal").is_none()
+                && words.get_str("record").is_none() => {
+            Err("--sync is only taken with --journal or --record")
+        }
+        Some(("serve", words))
+            if words.get_str("log").is_none()
+                && (words.get_str("log-level").is_some() || words.get_flag("log-must")) => {
+            Err("--log-level and --log-must are only taken with --log")
+        }
         Some(("serve" | "replay", words)) => Login::of(words),
         _ => Ok(Login::Token),
     }
@@ -202,6 +286,11 @@ fn run_command(
     match command {
         Some(("show", words)) => show_input(rt, words.get_flag("fields")),
         Some(("nt-hash", _)) => hash_input(rt),
+        Some(("extract", words)) => {
+            let ended = extract(rt, word_of(words, "folder"));
+            status_of(rt, ended, Detail::Brief)
+        }
+        Some(("compact", _)) => status_of(rt, compact(rt), Detail::Brief),
         Some((name, words)) => run_with_share(rt, name, line, words, login),
         None => replay_input(rt, BUILT_IN, detail_without_words(rt)),
     }

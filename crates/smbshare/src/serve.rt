@@ -1,13 +1,20 @@
 //! The command `serve`: a share to clients over TCP.
 
-use crate::login::{Login, read_accounts, share_by_ntlm};
+use crate::clock::ServeClock;
+use crate::compaction::{say_kept, write_anew};
+use crate::fault::Fault;
+use crate::logging::{Heard, LogWords, ServedPeers, log_of};
+use crate::login::{Login, ntlm_of, read_accounts};
 use crate::notices::{Entrance, say_notices};
+use crate::recording::{RecordWords, share_of};
+use crate::served_record::{Served, serve_folder, serve_recorded};
 use crate::texts::Texts;
 use mio::net::TcpListener;
 use smb_config::Configuration;
-use smb_engine::{Authenticator, HandleTable, NodeTree, Share, serve};
-use smb_replay::{CommandFault, ListenFault, new_share};
-use smb_tcp::{SystemClock, TcpPeers};
+use smb_engine::{Authenticator, Config, serve_until};
+use smb_log::{LoggedLogin, LoggedPeers};
+use smb_replay::{CommandFault, ListenFault};
+use smb_tcp::TcpPeers;
 use std::io::ErrorKind;
 use std::net::SocketAddr;
 use std::time::Duration;
@@ -17,7 +24,7 @@ use std::{io, net};
 const LONGEST_WAIT: u64 = 1;
 
 /// What the words of the command say.
-#[derive(Drop)]
+#[derive(Clone, Copy)]
 pub struct ServeWords<'a> {
     /// The texts of the files that they name.
     pub texts: &'a Texts,
@@ -29,6 +36,17 @@ pub struct ServeWords<'a> {
     pub idle_seconds: u64,
     /// After how many seconds a connection ends that was never answered; 0: after none.
     pub unanswered_seconds: u64,
+    /// Where the share is recorded, if it is.
+    pub record: Option<RecordWords<'a>>,
+    /// The folder whose files the share begins with.
+    pub from: Option<&'a str>,
+    /// The moment of the first piece, for tests.
+    pub clock: Option<u64>,
+    /// Where the share is logged, if it is, and what the log hears of.
+    pub log: Option<LogWords<'a>>,
+    pub heard: &'a Heard,
+    /// Whether a journal is written anew first that is much longer than its files ask for.
+    pub writes_anew: bool,
 }
 
 /// Why a call of the system failed that makes a listener or its peers.
@@ -57,10 +75,22 @@ fn announce(rt: &HostRuntime, listener: &net::TcpListener) {
     }
 }
 
-/// The peers of a listener, with the limits of silence that the words say.
-fn peers<'a>(
-    rt: &'a HostRuntime,
+/// A listener where the words say, once the share is ready. Standard error says so, and who can't log in.
+fn begin_to_listen(
+    rt: &HostRuntime,
     words: &ServeWords<'_>,
+    entrance: Entrance,
+) -> Result<net::TcpListener, CommandFault> {
+    let listener = listen(rt, words.listen)?;
+    announce(rt, &listener);
+    say_notices(rt, words.texts, words.login, entrance);
+    Ok(listener)
+}
+
+/// The peers of a listener, with the limits of silence that the words say.
+fn peers_of<'a>(
+    rt: &'a HostRuntime,
+    words: &ServeWords<'a>,
     listener: net::TcpListener,
 ) -> Result<TcpPeers<'a, HostRuntime>, CommandFault> {
     let wait = Duration::from_secs(LONGEST_WAIT);
@@ -74,46 +104,142 @@ fn peers<'a>(
     if words.unanswered_seconds > 0 {
         peers = peers.with_unanswered_limit(Duration::from_secs(words.unanswered_seconds));
     }
+    if words.log.is_some() {
+        peers = peers.with_facts(&words.heard.facts.peers);
+    }
     Ok(peers)
 }
 
-/// Serves a share, for so many turns.
-fn serve_share_of<A: Authenticator + Drop>(
+/// The peers of a share whose next connection has the number `next`, once it listens: all of them are logged, where the words ask for it.
+pub fn listening_peers<'a>(
+    rt: &'a HostRuntime,
+    words: &ServeWords<'a>,
+    entrance: Entrance,
+    next: u64,
+) -> Result<ServedPeers<'a>, Fault> {
+    let log = log_of(rt, words.log)?;
+    let stops = words.log.is_some_and(|log| log.must);
+    let listener = begin_to_listen(rt, words, entrance)?;
+    let peers = peers_of(rt, words, listener)?;
+    let clock = ServeClock::new(rt, words.clock);
+    let heard = words.heard;
+    Ok(LoggedPeers::new(
+        rt.alloc(),
+        peers,
+        &heard.facts,
+        clock,
+        &heard.visitors,
+        log,
+        stops,
+        next,
+    ))
+}
+
+/// What is served, once all is said of it that is logged.
+pub fn end_of(peers: ServedPeers<'_>) -> Result<Served, Fault> {
+    if peers.finish() {
+        Ok(Served::Done)
+    } else {
+        Err(Fault::LogFailed)
+    }
+}
+
+/// Serves a new share of which nothing is kept, for so many turns.
+fn serve_new<A: Authenticator + Drop>(
     rt: &HostRuntime,
     words: &ServeWords<'_>,
     entrance: Entrance,
-    listener: net::TcpListener,
-    mut share: Share<A, NodeTree, HandleTable>,
-) -> Result<(), CommandFault> {
-    announce(rt, &listener);
-    say_notices(rt, words.texts, words.login, entrance);
-    let mut peers = peers(rt, words, listener)?;
-    let mut clock = SystemClock::new(rt);
-    let _ = serve(&mut share, &mut peers, &mut clock, words.turns);
-    Ok(())
+    config: Config,
+    authenticator: A,
+) -> Result<Served, Fault> {
+    let mut share = share_of(rt.alloc(), config, authenticator)?;
+    match listening_peers(rt, words, entrance, 1) {
+        Ok(mut peers) => {
+            let mut clock = ServeClock::new(rt, words.clock);
+            let _ = serve_until(&mut share, &mut peers, &mut clock, words.turns);
+            end_of(peers)
+        }
+        Err(fault) => Err(fault),
+    }
 }
 
-/// Serves a new share of a configuration, for so many turns.
-pub fn serve_share(rt: &HostRuntime, words: &ServeWords<'_>) -> Result<(), CommandFault> {
+/// Serves a share. Whether it can listen is tried before anything is made.
+fn serve_by<A: Authenticator + Drop>(
+    rt: &HostRuntime,
+    words: &ServeWords<'_>,
+    entrance: Entrance,
+    config: Config,
+    authenticator: A,
+) -> Result<Served, Fault> {
+    drop(listen(rt, words.listen)?);
+    match (words.record, words.from) {
+        (Some(record), _) => serve_recorded(rt, words, entrance, record, config, authenticator),
+        (None, Some(folder)) => serve_folder(rt, words, entrance, folder, config, authenticator),
+        (None, None) => serve_new(rt, words, entrance, config, authenticator),
+    }
+}
+
+/// Serves a share to which clients log in by tokens.
+fn serve_by_token(
+    rt: &HostRuntime,
+    words: &ServeWords<'_>,
+    entrance: Entrance,
+    configuration: Configuration,
+) -> Result<Served, Fault> {
+    let Configuration {
+        config,
+        authenticator,
+        ..
+    } = configuration;
+    let login = LoggedLogin::new(authenticator, &words.heard.visitors);
+    serve_by(rt, words, entrance, config, login)
+}
+
+/// Serves a share to which clients log in by NTLM.
+fn serve_by_ntlm(
+    rt: &HostRuntime,
+    words: &ServeWords<'_>,
+    mut entrance: Entrance,
+    configuration: Configuration,
+    seed: Option<[u8; 16]>,
+) -> Result<Served, Fault> {
     let alloc = rt.alloc();
-    let configuration = Configuration::read(alloc, words.texts.config.as_str())?;
-    let mut entrance = Entrance {
+    let accounts = read_accounts(alloc, words.texts.accounts())?;
+    entrance.accounts = accounts.list.len();
+    let ntlm = ntlm_of(alloc, &configuration, accounts, seed)?;
+    let login = LoggedLogin::new(ntlm, &words.heard.visitors);
+    serve_by(rt, words, entrance, configuration.config, login)
+}
+
+/// Serves a share of a configuration, for so many turns, where its journal is not to be written anew first.
+fn serve_configured(rt: &HostRuntime, words: &ServeWords<'_>) -> Result<Served, Fault> {
+    let configuration = Configuration::read(rt.alloc(), words.texts.config.as_str())?;
+    let entrance = Entrance {
         guest: configuration.guest,
         users: configuration.users,
         accounts: 0,
     };
     match words.login {
-        Login::Token => {
-            let listener = listen(rt, words.listen)?;
-            let share = new_share(alloc, configuration)?;
-            serve_share_of(rt, words, entrance, listener, share)
-        }
-        Login::Ntlm(seed) => {
-            let accounts = read_accounts(alloc, words.texts.accounts())?;
-            entrance.accounts = accounts.list.len();
-            let listener = listen(rt, words.listen)?;
-            let share = share_by_ntlm(alloc, configuration, accounts, seed)?;
-            serve_share_of(rt, words, entrance, listener, share)
-        }
+        Login::Token => serve_by_token(rt, words, entrance, configuration),
+        Login::Ntlm(seed) => serve_by_ntlm(rt, words, entrance, configuration, seed),
     }
+}
+
+/// Serves a share of a configuration, for so many turns. A journal that is much longer than its files ask for is written anew first;
+/// where that can't be done, standard error says why, and it is gone on with as it is.
+pub fn serve_share(rt: &HostRuntime, words: &ServeWords<'_>) -> Result<(), Fault> {
+    if serve_configured(rt, words)? == Served::Done {
+        return Ok(());
+    }
+    if let Some(record) = words.record
+        && let Err(fault) = write_anew(rt, record.path)
+    {
+        say_kept(rt, &fault);
+    }
+    let words = ServeWords {
+        writes_anew: false,
+        ..*words
+    };
+    let _ = serve_configured(rt, &words)?;
+    Ok(())
 }

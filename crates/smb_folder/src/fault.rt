@@ -1,0 +1,140 @@
+//! Why files cannot be moved.
+
+use super::names::shown;
+use smb_client::{ClientFault, Status};
+use std::alloc::{AllocError, AllocFailed, Global};
+use std::io;
+use std::io::ErrorKind;
+use thiserror::Error;
+
+/// A rule that a file or a folder breaks which is to be moved.
+#[derive(Clone, Copy, Debug, PartialEq, Eq, Error)]
+pub enum FolderRule {
+    /// A name of the system is not UTF-8, or one of the share has a surrogate alone.
+    #[error("not a name in Unicode")]
+    NotUnicode,
+    /// The profile's rules of names refuse it (docs/PROFILE.md, "Names and paths").
+    #[error("not a name that the share takes")]
+    NotForTheShare,
+    /// A name of the share that is no name of a file.
+    #[error("not a name that a folder takes")]
+    NotForTheFolder,
+    #[error("another name differs from it in case alone")]
+    SameName,
+    #[error("more than 32 names in its path")]
+    TooDeep,
+    #[error("longer than 16,777,216 bytes")]
+    TooLong,
+    #[error("no room in the share")]
+    NoRoom,
+    #[error("more than 4,096 files and folders")]
+    TooMany,
+    #[error("a symbolic link, which is not followed")]
+    SymbolicLink,
+    /// A socket, a pipe or a device.
+    #[error("neither a file nor a folder")]
+    Special,
+    /// It was made longer or shorter, was written, or gave way to another one.
+    #[error("it changed while it was read")]
+    Changed,
+    /// A time of an entry of a share: 0, or past 2^63 - 1.
+    #[error("a time that no request can set")]
+    NoTime,
+    #[error("it exists already")]
+    Exists,
+    /// The system does not let it be read, for a reason of this kind.
+    #[error("cannot be read: {0}")]
+    Unread(ErrorKind),
+    /// The system does not let it be made or written, for a reason of this kind.
+    #[error("cannot be written: {0}")]
+    Unwritten(ErrorKind),
+    /// The share refuses a request of it, for another reason.
+    #[error("the share answers {0}")]
+    Refused(Status),
+    #[error("the share's answer cannot be read")]
+    Unanswered,
+    /// The client cannot ask, or not be heard.
+    #[error("{0}")]
+    NotAsked(ClientFault),
+}
+
+/// Why the files of a folder or a share cannot be moved.
+#[derive(Debug, Drop, Error)]
+pub enum FolderFault {
+    /// Memory could not be had, by the caller or by the share.
+    #[error("no memory")]
+    NoMemory,
+    /// What is at a path breaks a rule. The path begins with the folder's own, and its control characters are escaped.
+    #[error("{path}: {rule}")]
+    Refused { path: String, rule: FolderRule },
+}
+
+/// What stops a step; whose path it is the caller knows.
+#[derive(Clone, Copy, Debug, PartialEq, Eq)]
+pub(crate) enum Trouble {
+    NoMemory,
+    Rule(FolderRule),
+}
+
+impl From<AllocError> for FolderFault {
+    fn from(_error: AllocError) -> FolderFault {
+        FolderFault::NoMemory
+    }
+}
+
+impl From<AllocError> for Trouble {
+    fn from(_error: AllocError) -> Trouble {
+        Trouble::NoMemory
+    }
+}
+
+impl<T: Drop> From<AllocFailed<T>> for Trouble {
+    fn from(_error: AllocFailed<T>) -> Trouble {
+        Trouble::NoMemory
+    }
+}
+
+impl From<FolderRule> for Trouble {
+    fn from(rule: FolderRule) -> Trouble {
+        Trouble::Rule(rule)
+    }
+}
+
+impl From<ClientFault> for Trouble {
+    fn from(fault: ClientFault) -> Trouble {
+        match fault {
+            ClientFault::NoMemory => Trouble::NoMemory,
+            other => Trouble::Rule(FolderRule::NotAsked(other)),
+        }
+    }
+}
+
+impl Trouble {
+    /// What a refusal of the system to read is.
+    pub(crate) fn unread(error: io::Error) -> Trouble {
+        match error.kind() {
+            ErrorKind::OutOfMemory => Trouble::NoMemory,
+            kind => Trouble::Rule(FolderRule::Unread(kind)),
+        }
+    }
+
+    /// What a refusal of the system to make or to write is.
+    pub(crate) fn unwritten(error: io::Error) -> Trouble {
+        match error.kind() {
+            ErrorKind::OutOfMemory => Trouble::NoMemory,
+            ErrorKind::AlreadyExists => Trouble::Rule(FolderRule::Exists),
+            kind => Trouble::Rule(FolderRule::Unwritten(kind)),
+        }
+    }
+
+    /// The fault of what is at a path below a folder.
+    pub(crate) fn at(self, alloc: Global, base: &str, relative: &[u8]) -> FolderFault {
+        match self {
+            Trouble::NoMemory => FolderFault::NoMemory,
+            Trouble::Rule(rule) => match shown(alloc, base, relative) {
+                Ok(path) => FolderFault::Refused { path, rule },
+                Err(_) => FolderFault::NoMemory,
+            },
+        }
+    }
+}

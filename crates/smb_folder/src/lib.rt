@@ -1,0 +1,31 @@
+//! Files between a folder of the system and a share.
+//!
+//! [`put_folder`] puts the files and folders of a folder into a share, and [`take_folder`] makes a new folder of those
+//! of a share. Both go by the requests of a [`Client`](smb_client::Client) over a [`Line`](smb_client::Line), so that
+//! every limit and rule of the share holds; the client has its session and its tree. Beside names and bytes the times
+//! of the last write and of the last access are kept, in units of 100 ns, and READONLY, which is a mode without a right
+//! to write.
+//!
+//! [`copy_share`] copies one share into another, with all that a request can set: all four times and all attributes.
+//!
+//! What cannot be moved is a [`FolderFault`], which names the path and the rule, and is the end: what was moved before
+//! stays. Neither needs more memory than the names in the folders that are being walked, and one part of a file.
+//!
+//! That the calls are safe and return is proved; what they make of files and requests is tested.
+#![tactic(auto)]
+
+mod copy;
+mod counts;
+mod fault;
+mod kept;
+mod listing;
+mod names;
+mod put;
+mod take;
+mod talk;
+
+pub use copy::copy_share;
+pub use counts::Counts;
+pub use fault::{FolderFault, FolderRule};
+pub use put::put_folder;
+pub use take::take_folder;

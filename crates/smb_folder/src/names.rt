@@ -1,0 +1,106 @@
+//! Names and paths.
+
+use super::fault::{FolderRule, Trouble};
+use smb_wire::limits::MOST_ENTRIES;
+use std::alloc::{AllocError, Global};
+use std::fs::Files;
+use std::io::Read;
+
+/// How many bytes of names are read at once.
+const NAMES_AT_ONCE: usize = 4_096;
+
+/// A folder's path, with a separator at its end so that the paths below it can follow. The empty one stays as it is.
+pub(crate) fn base_of(alloc: Global, folder: &str) -> Result<String, AllocError> {
+    let mut base = String::from_str(alloc, folder)?;
+    if !base.is_empty() && !base.ends_with('/') {
+        base.push('/')?;
+    }
+    Ok(base)
+}
+
+/// The path of the system at which what is at a path below a folder is.
+pub(crate) fn system_path(alloc: Global, base: &str, relative: &str) -> Result<String, AllocError> {
+    let mut path = String::from_str(alloc, base)?;
+    path.push_str(relative)?;
+    Ok(path)
+}
+
+/// A path below a folder as the share has it: separators are backslashes.
+pub(crate) fn share_path(alloc: Global, relative: &str) -> Result<String, AllocError> {
+    relative
+        .chars()
+        .map(|character| if character == '/' { '\\' } else { character })
+        .collect(alloc)
+}
+
+/// The path of a name in a folder that is at a path; the first folder of all is at the empty one.
+pub(crate) fn joined(alloc: Global, relative: &[u8], name: &[u8]) -> Result<Vec<u8>, AllocError> {
+    let mut path = Vec::from_slice(alloc, relative)?;
+    if !path.is_empty() {
+        path.push(b'/')?;
+    }
+    path.extend_from_slice(name)?;
+    Ok(path)
+}
+
+/// Adds a text, its control characters escaped.
+fn push_shown(text: &mut String, part: &str) -> Result<(), AllocError> {
+    for character in part.chars() {
+        if character.is_control() {
+            for escaped in character.escape_default() {
+                text.push(escaped)?;
+            }
+        } else {
+            text.push(character)?;
+        }
+    }
+    Ok(())
+}
+
+/// A path below a folder as it can be shown in one line: control characters are escaped, and bytes that are no UTF-8
+/// are in hex, as `\xFF`.
+pub(crate) fn shown(alloc: Global, base: &str, relative: &[u8]) -> Result<String, AllocError> {
+    let mut text = String::new(alloc);
+    push_shown(&mut text, base)?;
+    for chunk in relative.utf8_chunks() {
+        push_shown(&mut text, chunk.valid())?;
+        for byte in chunk.invalid() {
+            write!(text, "\\x{byte:02X}")?;
+        }
+    }
+    Ok(text)
+}
+
+/// Adds the names that were read, but for `.` and `..`.
+fn add_names(alloc: Global, read: &[u8], names: &mut Vec<Vec<u8>>) -> Result<(), Trouble> {
+    for name in read.split(|byte| *byte == 0) {
+        if name.is_empty() || name == b".".as_slice() || name == b"..".as_slice() {
+            continue;
+        }
+        if names.len() >= MOST_ENTRIES {
+            return Err(Trouble::Rule(FolderRule::TooMany));
+        }
+        names.push(Vec::from_slice(alloc, name)?)?;
+    }
+    Ok(())
+}
+
+/// The names in a folder of the system, in order. More of them than a share can hold are [`FolderRule::TooMany`].
+pub(crate) fn names_in<R: Files>(
+    rt: &R,
+    alloc: Global,
+    path: &str,
+) -> Result<Vec<Vec<u8>>, Trouble> {
+    let mut folder = rt.open_dir(path).map_err(Trouble::unread)?;
+    let mut names = Vec::new(alloc);
+    let mut read = [0u8; NAMES_AT_ONCE];
+    for _ in 0..u64::MAX {
+        let count = folder.read(&mut read).map_err(Trouble::unread)?;
+        if count == 0 {
+            break;
+        }
+        add_names(alloc, &read[..count], &mut names)?;
+    }
+    names.sort()?;
+    Ok(names)
+}

@@ -1,0 +1,76 @@
+//! Why a recording is not read, performed or written.
+
+use std::alloc::{AllocError, AllocFailed};
+use std::io;
+use std::io::ErrorKind;
+use thiserror::Error;
+
+/// A refusal of a recording. Lines are counted from 1; the bytes behind the head of a piece are no lines of their own.
+#[derive(Clone, Copy, Debug, PartialEq, Eq, Error)]
+pub enum JournalFault {
+    /// A read of it failed, for a reason of this kind.
+    #[error("cannot be read: {0}")]
+    Unread(ErrorKind),
+    /// It cannot be opened, made or written, for a reason of this kind.
+    #[error("cannot be written: {0}")]
+    Unwritten(ErrorKind),
+    /// Another program writes to it.
+    #[error("in use by another program")]
+    InUse,
+    /// It is there already, and was to be made.
+    #[error("it exists already, so no folder can be put into it")]
+    Exists,
+    /// It has to be read twice, and what is read as standard input is no file.
+    #[error("standard input is no file: give the recording by <")]
+    NoFile,
+    /// It does not begin with the line that a recording begins with.
+    #[error("no recording: its first line is not that of one")]
+    NoRecording,
+    /// It is text, and was to be gone on with.
+    #[error("a record, and no journal")]
+    NoJournal,
+    /// Its first line names another share, or another way of login.
+    #[error("of another share: its first line names another name, label, guid, capacity, moment or hello")]
+    OtherShare,
+    /// The line of this number can't be read, and others stand behind it.
+    #[error("line {0}: unreadable")]
+    Unreadable(u64),
+    /// The line of this number does not have the bytes that were written.
+    #[error("line {0}: changed since it was written")]
+    Changed(u64),
+    /// The event of this line is not one that the share can take.
+    #[error("line {0}: no event that can happen here")]
+    BadEvent(u64),
+    #[error("no memory")]
+    NoMemory,
+}
+
+impl JournalFault {
+    /// What a failed opening or read is.
+    pub fn of_read(error: io::Error) -> JournalFault {
+        match error.kind() {
+            ErrorKind::OutOfMemory => JournalFault::NoMemory,
+            kind => JournalFault::Unread(kind),
+        }
+    }
+
+    /// What a failed making or write is.
+    pub fn of_write(error: io::Error) -> JournalFault {
+        match error.kind() {
+            ErrorKind::OutOfMemory => JournalFault::NoMemory,
+            kind => JournalFault::Unwritten(kind),
+        }
+    }
+}
+
+impl<T: Drop> From<AllocFailed<T>> for JournalFault {
+    fn from(_error: AllocFailed<T>) -> JournalFault {
+        JournalFault::NoMemory
+    }
+}
+
+impl From<AllocError> for JournalFault {
+    fn from(_error: AllocError) -> JournalFault {
+        JournalFault::NoMemory
+    }
+}

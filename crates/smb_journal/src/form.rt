@@ -1,0 +1,185 @@
+//! The two forms of a recording, and its first line.
+
+use crate::fault::JournalFault;
+use crate::text::{hex_of, number_of};
+use smb_engine::Config;
+use std::alloc::Global;
+use std::io;
+use std::io::Write;
+
+/// How a recording is written.
+#[derive(Clone, Copy, Debug, PartialEq, Eq)]
+pub enum Form {
+    /// As text, which a replay reads: the bytes of a piece are hex.
+    Recording,
+    /// With the bytes of a piece as they are, and a check on each line: half as long.
+    Journal,
+}
+
+impl Form {
+    /// How many bytes the line of a piece of 65,536 bytes takes at most.
+    pub(crate) fn line_room(self) -> usize {
+        match self {
+            Form::Recording => 131_200,
+            Form::Journal => 65_664,
+        }
+    }
+}
+
+/// What the first line of each form begins with.
+const RECORDING: &[u8] = b"# smbshare recording 1 ";
+
+const JOURNAL: &[u8] = b"# smbshare journal 1 ";
+
+/// What stands before each of the others, behind the share's name.
+const LABEL: &[u8] = b" label=\"";
+
+const GUID: &[u8] = b"\" guid=";
+
+const CAPACITY: &[u8] = b" capacity=";
+
+const CREATED: &[u8] = b" created=";
+
+/// What stands before the authenticator's first token.
+const HELLO: &[u8] = b" hello=";
+
+/// The first line of a recording: its form, what share it is of, and the first token of who let its clients in.
+#[derive(Debug, Drop)]
+pub struct Header {
+    pub form: Form,
+    /// The share's name, label, GUID, capacity and moment, as they stand in the line.
+    share: Vec<u8>,
+    /// At most 4,096 bytes.
+    pub hello: Vec<u8>,
+}
+
+/// Writes what share a configuration is of.
+fn write_share(config: &Config, out: &mut Vec<u8>) -> io::Result<()> {
+    let Config {
+        share,
+        label,
+        guid,
+        capacity,
+        created,
+    } = config;
+    write!(out, "share={share} label=\"{label}\" guid=")?;
+    for byte in guid {
+        write!(out, "{byte:02x}")?;
+    }
+    write!(out, " capacity={capacity} created={created}")
+}
+
+/// What stands before these bytes where they stand last, and what behind them.
+fn at_last<'a>(bytes: &[u8], text: &'a [u8]) -> Option<(&'a [u8], &'a [u8])> {
+    for place in (0..text.len()).rev() {
+        if let Some(back) = text.get(place..)?.strip_prefix(bytes) {
+            return Some((text.get(..place)?, back));
+        }
+    }
+    None
+}
+
+/// What a share is, as it stands in a first line.
+#[derive(Clone, Copy)]
+struct ShareText<'a> {
+    name: &'a str,
+    label: &'a str,
+    guid: [u8; 16],
+    capacity: u64,
+    created: u64,
+}
+
+/// Reads what a share is.
+fn read_share(text: &[u8]) -> Option<ShareText<'_>> {
+    let (text, created) = at_last(CREATED, text)?;
+    let (text, capacity) = at_last(CAPACITY, text)?;
+    let (text, digits) = at_last(GUID, text)?;
+    let (text, label) = at_last(LABEL, text)?;
+    let mut guid = [0u8; 16];
+    hex::decode_to_slice(digits, &mut guid).ok()?;
+    Some(ShareText {
+        name: str::from_utf8(text.strip_prefix(b"share=")?).ok()?,
+        label: str::from_utf8(label).ok()?,
+        guid,
+        capacity: number_of(capacity)?,
+        created: number_of(created)?,
+    })
+}
+
+impl Header {
+    /// The configuration of its share.
+    ///
+    /// [`JournalFault::NoRecording`] where it can't be read, or [`JournalFault::NoMemory`].
+    pub fn config(&self, alloc: Global) -> Result<Config, JournalFault> {
+        let Some(read) = read_share(&self.share) else {
+            return Err(JournalFault::NoRecording);
+        };
+        Ok(Config {
+            share: String::from_str(alloc, read.name)?,
+            label: String::from_str(alloc, read.label)?,
+            guid: read.guid,
+            capacity: read.capacity,
+            created: read.created,
+        })
+    }
+
+    /// The first line of a recording of a share of this configuration.
+    pub fn of(
+        alloc: Global,
+        form: Form,
+        config: &Config,
+        hello: &[u8],
+    ) -> Result<Header, JournalFault> {
+        let mut share = Vec::new(alloc);
+        write_share(config, &mut share).map_err(JournalFault::of_write)?;
+        Ok(Header {
+            form,
+            share,
+            hello: Vec::from_slice(alloc, hello)?,
+        })
+    }
+
+    /// Reads a line.
+    ///
+    /// [`JournalFault::NoRecording`] where it is none, or [`JournalFault::NoMemory`].
+    pub fn read(alloc: Global, line: &[u8]) -> Result<Header, JournalFault> {
+        let (form, text) = if let Some(text) = line.strip_prefix(RECORDING) {
+            (Form::Recording, text)
+        } else if let Some(text) = line.strip_prefix(JOURNAL) {
+            (Form::Journal, text)
+        } else {
+            return Err(JournalFault::NoRecording);
+        };
+        let Some((share, digits)) = at_last(HELLO, text) else {
+            return Err(JournalFault::NoRecording);
+        };
+        let Some(hello) = hex_of(alloc, digits)? else {
+            return Err(JournalFault::NoRecording);
+        };
+        Ok(Header {
+            form,
+            share: Vec::from_slice(alloc, share)?,
+            hello,
+        })
+    }
+
+    /// Whether both are of one share, with one first token.
+    pub fn is_like(&self, other: &Header) -> bool {
+        self.share.as_slice() == other.share.as_slice()
+            && self.hello.as_slice() == other.hello.as_slice()
+    }
+
+    /// The line, with its line feed.
+    pub fn line(&self, alloc: Global) -> Result<Vec<u8>, JournalFault> {
+        let mut line = Vec::new(alloc);
+        line.extend_from_slice(match self.form {
+            Form::Recording => RECORDING,
+            Form::Journal => JOURNAL,
+        })?;
+        line.extend_from_slice(&self.share)?;
+        line.extend_from_slice(HELLO)?;
+        line.append(&mut hex::encode(alloc, &self.hello)?.into_bytes())?;
+        line.push(b'\n')?;
+        Ok(line)
+    }
+}

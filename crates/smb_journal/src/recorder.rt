@@ -1,0 +1,210 @@
+//! Writes what happens to a share, line by line.
+
+ghost use Rattle.std.specs.Prelude.{◌≡◌};
+
+use crate::check::check_of;
+use crate::fault::JournalFault;
+use crate::form::{Form, Header};
+use crate::mailbox::Mailbox;
+use crate::store::Store;
+use std::alloc::Global;
+use std::io::Write;
+use std::{io, mem};
+
+/// How many bytes of a piece are made hex at a time.
+const HEX_PART: usize = 4_096;
+
+/// A line for each event, written before the call returns. After a failed write nothing more is written.
+#[derive(Drop)]
+pub struct Recorder<S: Store + Drop> {
+    store: S,
+    form: Form,
+    alloc: Global,
+    /// The line that is made, and the answers that were taken last.
+    line: Vec<u8>,
+    answers: Vec<u8>,
+    /// The check of the line that was written last.
+    check: u64,
+    /// Whether what was written is not settled yet, and whether it is to be.
+    is_dirty: bool,
+    settles: bool,
+    has_failed: bool,
+}
+
+/// Adds bytes as hex to a line.
+fn push_hex(bytes: &[u8], line: &mut Vec<u8>) -> io::Result<()> {
+    let mut digits = [0u8; 8_192];
+    for part in bytes.chunks(HEX_PART) {
+        let length = 2 * part.len().min(HEX_PART);
+        if hex::encode_to_slice(part, &mut digits[..length]).is_ok() {
+            line.write_all(&digits[..length])?;
+        }
+    }
+    Ok(())
+}
+
+impl<S: Store + Drop> Recorder<S> {
+    /// Goes on behind what a store keeps already, whose last line has this check; 0 where it has none. With `settles` what is
+    /// written is settled before it is answered. Room for a line is made first, so that none fails for want of memory while a share
+    /// is served whose pieces have at most 65,536 bytes.
+    pub fn new(
+        alloc: Global,
+        store: S,
+        form: Form,
+        settles: bool,
+        check: u64,
+    ) -> Result<Self, JournalFault> {
+        Ok(Recorder {
+            store,
+            form,
+            alloc,
+            line: Vec::with_capacity(alloc, form.line_room())?,
+            answers: Vec::new(alloc),
+            check,
+            is_dirty: false,
+            settles,
+            has_failed: false,
+        })
+    }
+
+    /// Writes the first line, and a comment that names the version.
+    pub fn begin(
+        &mut self,
+        alloc: Global,
+        header: &Header,
+        version: &str,
+    ) -> Result<(), JournalFault> {
+        let mut line = header.line(alloc)?;
+        writeln!(line, "# version {version}").map_err(JournalFault::of_write)?;
+        self.store.add(&line).map_err(JournalFault::of_write)?;
+        self.is_dirty = true;
+        Ok(())
+    }
+
+    /// Whether a write failed.
+    pub fn has_failed(&self) -> bool
+        ensures { result ≡ self.now.has_failed }
+    {
+        self.has_failed
+    }
+
+    /// Notes that something can't be recorded.
+    pub(crate) fn fail(&mut self) {
+        self.has_failed = true;
+    }
+
+    /// Writes the line that was made, or notes that it couldn't be.
+    fn write(&mut self, made: io::Result<()>) {
+        if self.has_failed {
+            return;
+        }
+        self.is_dirty = true;
+        if made.is_err() || self.store.add(&self.line).is_err() {
+            self.has_failed = true;
+        }
+    }
+
+    /// Ends the text of a line, with its check where it has one.
+    fn end_line(&mut self) -> io::Result<()> {
+        if self.form == Form::Journal {
+            let check = check_of(self.check, &self.line);
+            write!(self.line, " {check:016x}")?;
+            self.check = check;
+        }
+        self.line.write_all(b"\n")
+    }
+
+    /// Writes a line of a mark and numbers.
+    fn numbers(&mut self, mark: char, first: u64, second: Option<u64>) {
+        self.line.clear();
+        let mut made = write!(self.line, "{mark} {first}");
+        if let (Ok(()), Some(second)) = (&made, second) {
+            made = write!(self.line, " {second}");
+        }
+        if made.is_ok() {
+            made = self.end_line();
+        }
+        self.write(made);
+    }
+
+    /// A connection was opened.
+    pub fn opened(&mut self, connection: u64) {
+        self.numbers('+', connection, None);
+    }
+
+    /// A connection has ended.
+    pub fn ended(&mut self, connection: u64) {
+        self.numbers('-', connection, None);
+    }
+
+    /// Memory ran out in the last piece, behind so many of its requests.
+    pub(crate) fn stopped(&mut self, connection: u64, done: usize) {
+        self.numbers('~', connection, Some(done as u64));
+    }
+
+    /// The line of a piece as hex.
+    fn make_hex(&mut self, connection: u64, moment: u64, piece: &[u8]) -> io::Result<()> {
+        write!(self.line, "> {connection} {moment} ")?;
+        push_hex(piece, &mut self.line)?;
+        self.line.write_all(b"\n")
+    }
+
+    /// The line of a piece, with its bytes.
+    fn make_bytes(&mut self, connection: u64, moment: u64, piece: &[u8]) -> io::Result<()> {
+        let length = piece.len();
+        let sum = check_of(0, piece);
+        write!(self.line, "b {connection} {moment} {length} {sum:016x}")?;
+        self.end_line()?;
+        self.line.write_all(piece)?;
+        self.line.write_all(b"\n")
+    }
+
+    /// A piece of a connection's stream came, at a moment in units of 100 ns since 1601.
+    pub fn piece(&mut self, connection: u64, moment: u64, piece: &[u8]) {
+        if piece.is_empty() {
+            return;
+        }
+        self.line.clear();
+        let made = match self.form {
+            Form::Recording => self.make_hex(connection, moment, piece),
+            Form::Journal => self.make_bytes(connection, moment, piece),
+        };
+        self.write(made);
+    }
+
+    /// Takes what an authenticator answered out of its mailbox.
+    pub fn take_answers(&mut self, mailbox: &Mailbox) {
+        let mut lines = mem::replace(&mut self.answers, Vec::new(self.alloc));
+        lines.clear();
+        if !mailbox.take(&mut lines) || mailbox.has_lost() {
+            self.has_failed = true;
+        }
+        self.write_answers(&lines);
+        self.answers = lines;
+    }
+
+    /// Writes lines of answers, each of which has its line feed.
+    fn write_answers(&mut self, lines: &[u8]) {
+        for line in lines.split(|byte| *byte == b'\n') {
+            if !line.is_empty() {
+                self.line.clear();
+                let mut made = self.line.write_all(line);
+                if made.is_ok() {
+                    made = self.end_line();
+                }
+                self.write(made);
+            }
+        }
+    }
+
+    /// Has what was written settled, where it is to be, and tells whether all of it is kept.
+    pub fn settle(&mut self) -> bool {
+        if self.settles && self.is_dirty && !self.has_failed {
+            if self.store.settle().is_err() {
+                self.has_failed = true;
+            }
+            self.is_dirty = false;
+        }
+        !self.has_failed
+    }
+}

@@ -1,0 +1,53 @@
+//! How much is logged.
+
+use smb_wire::{Command, CommandCode, NtStatus};
+
+/// Which events of a share are written. What becomes of connections, and the line of each minute, is written at every level.
+#[derive(Clone, Copy, Debug, PartialEq, Eq)]
+pub enum Level {
+    /// Also the requests that begin and end sessions and tree connects.
+    Sessions,
+    /// Also each request whose status is neither STATUS_SUCCESS nor STATUS_MORE_PROCESSING_REQUIRED.
+    Refusals,
+    /// Also each request.
+    Requests,
+}
+
+/// Whether a request begins or ends a session or a tree connect.
+fn is_of_sessions(command: CommandCode) -> bool {
+    matches!(
+        command.known(),
+        Some(
+            Command::SessionSetup | Command::Logoff | Command::TreeConnect | Command::TreeDisconnect
+        )
+    )
+}
+
+/// Whether a status is that of a request that was refused.
+fn is_refusal(status: u32) -> bool {
+    status != NtStatus::Success.code() && status != NtStatus::MoreProcessingRequired.code()
+}
+
+impl Level {
+    /// Whether a request that is answered by this status is written.
+    pub(crate) fn shows(self, command: CommandCode, status: u32) -> bool {
+        match self {
+            Level::Sessions => is_of_sessions(command),
+            Level::Refusals => is_refusal(status),
+            Level::Requests => true,
+        }
+    }
+
+    /// Whether a request may be written once its status is known.
+    pub(crate) fn may_show(self, command: CommandCode) -> bool {
+        match self {
+            Level::Sessions => is_of_sessions(command),
+            Level::Refusals | Level::Requests => true,
+        }
+    }
+
+    /// Whether a request that is never answered is written.
+    pub(crate) fn shows_unanswered(self) -> bool {
+        self == Level::Requests
+    }
+}

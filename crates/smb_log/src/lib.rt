@@ -1,0 +1,85 @@
+//! A log of a served share that an operator can read: one line for each event.
+//!
+//! ```text
+//!    calls                                              lines
+//!
+//!    opened, refused, ended: connections       +-----+
+//!    came: bytes of a client's stream      ->  | Log |  ->  a header line, and a line for each event
+//!    answered: bytes of the share's stream     +-----+
+//!    let_in: who a session's user is
+//! ```
+//!
+//! A [`Log`] has no peers: a replay and a server both use it. [`LoggedPeers`] wrap the peers of a served share and make its calls as
+//! events come; a [`LoggedLogin`] wraps an authenticator and notes in a [`Visitors`] who was let in.
+//!
+//! # A line
+//!
+//! The fields of a line are apart by TAB, and `-` is a field that has nothing to say:
+//!
+//! | field | what it says |
+//! |---|---|
+//! | moment | of the event, of a request that of its response: UTC with the day, cut to milliseconds |
+//! | connection | its number |
+//! | peer | its address, as the caller gives it |
+//! | user | of the request's session, at an end of the session that was set up last; each guest is `guest` |
+//! | event | `opened`, `refused: ..`, `ended: ..`, `minute ..`, or what was asked: a command by its name with its fields |
+//! | status | of the response, by its name in [MS-ERREF]; a number that the share never answers in hex |
+//! | microseconds | from the piece that completed the request to the bytes that completed its response, or of a READ its header |
+//!
+//! A request that names a FileId is shown with the name that its CREATE gave, also after a rename, with `?` where no CREATE on the
+//! connection gave that FileId, and the share's root is `.`. No byte of a file's data and no token is ever written. What a [`Level`]
+//! leaves out is not written. Where memory runs out for a line, the line is left out, and the next line that is written follows a line
+//! `lines were lost for want of memory`; where a write fails, nothing more is written. Neither is an error: a log changes nothing of
+//! what the share does.
+//!
+//! # Names
+//!
+//! A name, path, pattern, user or address never makes a line, a field, or a character that a terminal obeys. These are written
+//! as `\u{9}`, with the hex digits of the character or the unit, at least one and without leading zeros:
+//!
+//! - characters below U+0020 (TAB, line feed, escape), U+007F, and U+0080 to U+009F (U+0085 among them);
+//! - U+2028 and U+2029, the ends of a line and of a paragraph;
+//! - what turns or hides text: U+061C, U+200B to U+200F, U+202A to U+202E, U+2060 to U+2069 and U+FEFF;
+//! - a surrogate without its other half, as `\u{D800}`;
+//! - a backslash, as `\u{5C}`, where `u{` follows it in a path, and everywhere in a user and an address.
+//!
+//! Each other character is written as it is, a backslash between two names of a path too, and so `\u{` always begins an escape. A text
+//! is cut behind 1,024 bytes, which `\u{..}` then says. Bytes of a user that are no UTF-8 are written as U+FFFD.
+//! A name is not quoted: one with blanks may look like the words behind it, but it stays in its field.
+//!
+//! # What is proved
+//!
+//! That the calls are safe and return; that [`LoggedPeers`] are lawful [`Peers`](smb_engine::Peers), and that a [`LoggedLogin`] is the
+//! authenticator that it wraps. That the lines say what happened is tested.
+#![tactic(auto)]
+
+mod access;
+mod agreed;
+mod asked;
+mod book;
+mod connection;
+mod counts;
+mod ending;
+mod escape;
+mod facts;
+mod level;
+mod line;
+mod log;
+mod login;
+mod moment;
+mod names;
+mod peers;
+mod responses;
+mod rule;
+mod sessions;
+#[cfg(test)]
+mod tests;
+mod visitors;
+
+pub use ending::{Ending, Refusal};
+pub use facts::{ConnectionFacts, NoFacts};
+pub use level::Level;
+pub use log::Log;
+pub use login::LoggedLogin;
+pub use peers::LoggedPeers;
+pub use visitors::Visitors;

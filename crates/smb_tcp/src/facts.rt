@@ -1,0 +1,80 @@
+//! What is known of peers beside their bytes.
+
+use super::tcp::MOST_STREAMS;
+use std::alloc::{AllocError, Global};
+use std::cell::RefCell;
+use std::net::SocketAddr;
+
+/// What is known of a peer's connection, under its number.
+#[derive(Clone, Copy)]
+struct Fact {
+    number: u64,
+    address: Option<SocketAddr>,
+    was_silent: bool,
+}
+
+/// The addresses of peers, and whom a limit of silence ended, for whoever logs them. Each is known from the opening of its
+/// connection until that is closed. All room is made first.
+#[derive(Drop)]
+pub struct PeerFacts {
+    facts: RefCell<Vec<Fact>>,
+}
+
+impl PeerFacts {
+    /// Of no peers.
+    pub fn new(alloc: Global) -> Result<Self, AllocError> {
+        Ok(PeerFacts {
+            facts: RefCell::new(Vec::with_capacity(alloc, MOST_STREAMS)?),
+        })
+    }
+
+    /// What is known of a connection.
+    fn fact(&self, number: u64) -> Option<Fact> {
+        let Ok(facts) = self.facts.try_borrow() else {
+            return None;
+        };
+        facts.iter().find(|fact| fact.number == number).copied()
+    }
+
+    /// The address of the peer of a connection; None where it is not known.
+    pub fn address(&self, number: u64) -> Option<SocketAddr> {
+        self.fact(number)?.address
+    }
+
+    /// Whether a connection was ended as one that is silent: for a limit of silence, or to make room for another one.
+    pub fn was_silent(&self, number: u64) -> bool {
+        match self.fact(number) {
+            Some(fact) => fact.was_silent,
+            None => false,
+        }
+    }
+
+    /// Notes a connection that was opened.
+    pub(crate) fn add(&self, number: u64, address: Option<SocketAddr>) {
+        if let Ok(mut facts) = self.facts.try_borrow_mut() {
+            let _ = facts.push(Fact {
+                number,
+                address,
+                was_silent: false,
+            });
+        }
+    }
+
+    /// Notes that a connection was silent.
+    pub(crate) fn note_silent(&self, number: u64) {
+        if let Ok(mut facts) = self.facts.try_borrow_mut() {
+            for fact in facts.iter_mut() {
+                if fact.number == number {
+                    fact.was_silent = true;
+                }
+            }
+        }
+    }
+
+    /// Notes that a connection was closed.
+    pub(crate) fn remove(&self, number: u64) {
+        if let Ok(mut facts) = self.facts.try_borrow_mut() {
+            facts.retain(|fact| fact.number != number);
+        }
+    }
+}
