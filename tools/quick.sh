@@ -62,6 +62,8 @@ the_program() {
     python3 tools/program.py --unproved "$program"
     python3 tools/serving.py "$program"
     python3 tools/load.py --unproved "$program"
+    python3 tools/journal.py --unproved "$program"
+    python3 tools/logs.py "$program"
     python3 tools/hostile.py --count 200 "$program"
 }
 
@@ -98,6 +100,6 @@ Left out: all proofs, the must-fail edits, allocations and what is done where me
 and the second compiler. bash tools/test.sh has them all.
 END
 cd "$logs" || exit 1
-awk '/^(files|rows|smb_layer_tests|smb_tests|stored|demo|program|serving|load|hostile|pcap): [0-9]+ passed, [0-9]+ failed$/ {
+awk '/^(files|rows|smb_layer_tests|smb_tests|stored|demo|program|serving|load|hostile|journal|logs|pcap): [0-9]+ passed, [0-9]+ failed$/ {
          passed += $2; failed += $4; tried++ }
-     END { failed += 11 - tried; print "quick: " passed " passed, " failed " failed"; exit failed > 0 }' "${names[@]}"
+     END { failed += 13 - tried; print "quick: " passed " passed, " failed " failed"; exit failed > 0 }' "${names[@]}"

@@ -1,6 +1,7 @@
 """The program, serving on a free port, and clients of it: what tools/serving.py, tools/demo.py and bench/pages.py speak to."""
 import os
 import resource
+import signal
 import socket
 import struct
 import subprocess
@@ -15,21 +16,35 @@ PATIENCE = 60
 STATUS_AT = 12
 
 
+def limits(descriptors=None, memory=None, longest=None):
+    """What a new process calls to be limited so. It may write `longest` bytes of a file: a write past them fails."""
+    def limit():
+        signal.signal(signal.SIGXFSZ, signal.SIG_IGN)
+        for kind, most in ((resource.RLIMIT_NOFILE, descriptors), (resource.RLIMIT_AS, memory),
+                           (resource.RLIMIT_FSIZE, longest)):
+            if most:
+                resource.setrlimit(kind, (most, most))
+
+    return limit
+
+
 class Served:
     """The program, serving on a free port."""
 
-    def __init__(self, *words, descriptors=None, memory=None, system=None):
-        def limited():
-            for kind, most in ((resource.RLIMIT_NOFILE, descriptors), (resource.RLIMIT_AS, memory)):
-                if most:
-                    resource.setrlimit(kind, (most, most))
-
+    def __init__(self, *words, descriptors=None, memory=None, longest=None, system=None):
         self.process = subprocess.Popen([PROGRAM, 'serve', '--listen', '127.0.0.1:0', *words], stdin=subprocess.DEVNULL,
-                                        stdout=subprocess.PIPE, stderr=subprocess.PIPE, preexec_fn=limited, env=system)
-        line = self.process.stderr.readline().decode()
-        if not line.startswith('listening on 127.0.0.1:'):
-            raise AssertionError(f'the first line is {line!r}')
-        self.port = int(line.rsplit(':', 1)[1])
+                                        stdout=subprocess.PIPE, stderr=subprocess.PIPE, env=system,
+                                        preexec_fn=limits(descriptors, memory, longest))
+        self.port = int(self.first_line().rsplit(':', 1)[1])
+
+    def first_line(self):
+        """The line that says where it listens. What a share that is kept says before is passed over."""
+        said = []
+        for line in iter(self.process.stderr.readline, b''):
+            said.append(line.decode())
+            if said[-1].startswith('listening on 127.0.0.1:'):
+                return said[-1]
+        raise AssertionError(f'it does not listen, and says {said!r}')
 
     def __enter__(self):
         return self

@@ -1,0 +1,102 @@
+#!/usr/bin/env python3
+"""Times the proved program over TCP with what it keeps, on one machine; prints the rows of bench/FIGURES.md.
+
+    (cd crates/smbshare && rt run < stdin > /dev/null)     builds crates/smbshare/out/smbshare
+    python3 bench/recording.py [PROGRAM]
+
+Each kind of keeping and of a log serves one client that sends a request, waits for its answer, and so on, ROUNDS times
+in turn; each figure is the median. Then a share with so many MiB of files is begun again from its journal: from the start of the program until it
+listens. The files lie in the folder that the system gives for temporary ones, on its disk.
+"""
+import os
+import pathlib
+import statistics
+import sys
+import tempfile
+import time
+
+sys.path.insert(0, str(pathlib.Path(__file__).resolve().parent.parent / 'tools'))
+import served
+from exchanging import seconds_for
+from frames import create, echoes, read, write
+from served import ALL_ACCESS, LONGEST_PIECE, OPEN_IF, Served, opens_a_file
+
+ROUNDS = 5
+PIECE = os.urandom(LONGEST_PIECE)
+KINDS = (('nothing', ()), ('--record', ('--record',)), ('--journal', ('--journal',)),
+         ('--journal --sync', ('--sync', '--journal')), ('--log', ('--log',)),
+         ('--log, all requests', ('--log-level', 'requests', '--log')))
+EXCHANGES = (
+    ('ECHO', 5_000, lambda i: echoes(i, 1)),
+    ('WRITE of 65,536 bytes', 400, lambda i: write(i, 1, i % 256 * LONGEST_PIECE, PIECE, 1, 1)),
+    ('READ of 65,536 bytes', 400, lambda i: read(i, 1, i % 256 * LONGEST_PIECE, LONGEST_PIECE, 1, 1)),
+)
+
+
+def words_of(kind, folder, number):
+    """The words of a kind of keeping, with a new file in a folder."""
+    return kind + (os.path.join(folder, f'kept-{number}'),) if kind else ()
+
+
+def times_of(words):
+    """The microseconds of each exchange, one after the other, of one client of a new share."""
+    with Served(*words) as share:
+        client = share.client()
+        if not opens_a_file(client):
+            raise AssertionError('no file was opened')
+        message_id, found = 4, []
+        for _, count, frame in EXCHANGES:
+            took = seconds_for(client, (frame(i) for i in range(message_id, message_id + count)), 1)
+            message_id += count
+            found.append(took / count * 1e6)
+        return found
+
+
+def exchanges(folder):
+    found = {kind: [] for kind, _ in KINDS}
+    for number in range(ROUNDS):
+        for kind, words in KINDS:
+            found[kind].append(times_of(words_of(words, folder, f'{number}-{kind.replace(" ", "").replace(",", "")}')))
+            for name in os.listdir(folder):
+                os.remove(os.path.join(folder, name))
+    print('| served with | ' + ' | '.join(f'{name}, microseconds' for name, _, _ in EXCHANGES) + ' |')
+    print('|---|' + '---|' * len(EXCHANGES))
+    for kind, _ in KINDS:
+        medians = (statistics.median(times[place] for times in found[kind]) for place in range(len(EXCHANGES)))
+        print(f'| {kind} | ' + ' | '.join(f'{median:,.1f}' for median in medians) + ' |', flush=True)
+
+
+def fill(client, megabytes):
+    """Writes so many MiB, 16 to a file."""
+    message_id, parts = 3, min(megabytes, 16) * (1 << 20) // LONGEST_PIECE
+    for file in range(max(1, megabytes // 16)):
+        if client.asks(create(message_id, f'f{file}', ALL_ACCESS, OPEN_IF, 0, 1, 1)) != 0:
+            raise AssertionError('no file was opened')
+        first = message_id + 1
+        frames = (write(i, file + 1, (i - first) * LONGEST_PIECE, PIECE, 1, 1) for i in range(first, first + parts))
+        seconds_for(client, frames, 1)
+        message_id = first + parts
+
+
+def restarts(folder):
+    print('| MiB of files | MB of journal | seconds until it listens |')
+    print('|---|---|---|')
+    for megabytes in (1, 16, 64):
+        path = os.path.join(folder, f'journal-{megabytes}')
+        with Served('--journal', path) as share:
+            client = share.client()
+            if not client.negotiates() or client.asks(served.session_setup(1)) != 0 or client.asks(served.tree_connect(2, 1)) != 0:
+                raise AssertionError('a client is not served')
+            fill(client, megabytes)
+        start = time.perf_counter()
+        with Served('--journal', path):
+            took = time.perf_counter() - start
+        print(f'| {megabytes} | {os.path.getsize(path) / 1e6:,.1f} | {took:.2f} |', flush=True)
+
+
+if __name__ == '__main__':
+    served.PROGRAM = sys.argv[1] if len(sys.argv) > 1 else served.PROGRAM
+    with tempfile.TemporaryDirectory() as room:
+        exchanges(room)
+        print()
+        restarts(room)

@@ -1,0 +1,202 @@
+#!/usr/bin/env python3
+"""logs.py: tests what a served share writes of what happened, by --log: who came, what was refused, and why a client ended.
+
+    python3 tools/logs.py [PROGRAM]
+
+The program is crates/smbshare/out/smbshare where none is named. The last line is 'logs: N passed, M failed'.
+"""
+import os
+import sys
+import tempfile
+import time
+
+sys.path.insert(0, os.path.dirname(os.path.abspath(__file__)))
+import served
+from frames import close, create, read, rename, write
+from kept import GUEST, Looking, bytes_in, bytes_of, extracted, keeping, killed, ran, tree_of
+from served import ALL_ACCESS
+from working import CREATE, OPEN
+
+FIELDS = ['moment', 'connection', 'peer', 'user', 'event', 'status', 'microseconds']
+# A name that would make a line, fields, and a command to a terminal, and how it is written.
+HOSTILE = 'a\n2026\t1\x1b[2J\u202e\u2028'
+ESCAPED = r'a\u{A}2026\u{9}1\u{1B}[2J\u{202E}\u{2028}'
+# How long a line may take to be there.
+PATIENCE = 10
+
+
+def fields_of(file):
+    """The fields of each line of a log, behind the first line; each has as many as that."""
+    lines = [line.split('\t') for line in bytes_of(file).decode().splitlines()]
+    if lines[:1] != [FIELDS] or any(len(line) != len(FIELDS) for line in lines):
+        raise AssertionError(f'lines of other fields: {lines}')
+    return lines[1:]
+
+
+def events_of(file):
+    """User, event and status of each line."""
+    return [tuple(line[3:6]) for line in fields_of(file)]
+
+
+def waits_for(file, count):
+    """Waits until a log has so many lines behind its first."""
+    end = time.monotonic() + PATIENCE
+    while bytes_of(file).count(b'\n') <= count and time.monotonic() < end:
+        time.sleep(0.01)
+
+
+def works(share):
+    """Makes a file, renames and reads it, and asks for two that can't be had. Gives the client."""
+    client = Looking(share).comes_in()
+    number = client.opens('june.txt', ALL_ACCESS, CREATE)
+    client.asks(write(client.next_id(), number, 0, b'secret bytes', client.session, 1), 0, None)
+    client.asks(rename(client.next_id(), number, 'july.txt', client.session, 1), 0, None)
+    client.asks(read(client.next_id(), number, 0, 100, client.session, 1), 0, None)
+    client.asks(close(client.next_id(), number, client.session, 1), 0, None)
+    client.any_status(create(client.next_id(), 'none', ALL_ACCESS, OPEN, 0, client.session, 1))
+    client.any_status(create(client.next_id(), HOSTILE, ALL_ACCESS, OPEN, 0, client.session, 1))
+    return client
+
+
+def logged(*words):
+    """The events of a log of that work, by the first words of each, and all bytes of the log."""
+    with tempfile.TemporaryDirectory() as folder:
+        file = os.path.join(folder, 'log')
+        with keeping('--log', file, *words) as share:
+            client = works(share)
+            client.client.end()
+            waits_for(file, 5)
+            time.sleep(0.1)
+            killed(share)
+        if os.stat(file).st_mode & 0o777 != 0o600:
+            raise AssertionError('others may read the log')
+        return events_of(file), bytes_of(file)
+
+
+REFUSED = [('guest', r'CREATE none OPEN access=read,write', 'STATUS_OBJECT_NAME_NOT_FOUND'),
+           ('guest', f'CREATE {ESCAPED} OPEN access=read,write', 'STATUS_OBJECT_NAME_INVALID')]
+
+
+def is_like(found, wanted):
+    """Whether the events are these, where an event may go on behind what is wanted of it."""
+    if len(found) == len(wanted) and all(one[0] == other[0] and one[1].startswith(other[1]) and one[2] == other[2]
+                                         for one, other in zip(found, wanted)):
+        return True
+    print(f'  {found}', flush=True)
+    return False
+
+
+def refusals_are_logged():
+    """Where nothing else is asked for: who came and went, and what was refused, in one line each."""
+    found, data = logged()
+    return b'secret' not in data and is_like(
+        found, [('-', 'opened', '-'), *REFUSED, ('guest', 'ended: by the client', '-')])
+
+
+def sessions_are_logged():
+    found, _ = logged('--log-level', 'sessions')
+    return is_like(found, [('-', 'opened', '-'), ('guest', 'SESSION_SETUP', 'STATUS_SUCCESS'),
+                           ('guest', 'TREE_CONNECT \\\\s\\data', 'STATUS_SUCCESS'), ('guest', 'ended: by the client', '-')])
+
+
+def requests_are_logged():
+    found, data = logged('--log-level', 'requests')
+    done = 'STATUS_SUCCESS'
+    return b'secret' not in data and is_like(found, [
+        ('-', 'opened', '-'), ('-', 'NEGOTIATE ', done), ('guest', 'SESSION_SETUP', done), ('guest', 'TREE_CONNECT ', done),
+        ('guest', 'CREATE june.txt CREATE access=read,write', done), ('guest', 'WRITE june.txt offset=0 length=12', done),
+        ('guest', 'SET_INFO june.txt rename to july.txt', done), ('guest', 'READ june.txt offset=0 length=100', done),
+        ('guest', 'CLOSE june.txt', done), *REFUSED, ('guest', 'ended: by the client', '-')])
+
+
+def why_a_client_ended_is_logged():
+    """One that speaks HTTP, one that says nothing, and one that is the 65th."""
+    with tempfile.TemporaryDirectory() as folder:
+        file = os.path.join(folder, 'log')
+        with keeping('--log', file, '--idle-new', '1') as share:
+            share.client().send(b'GET / HTTP/1.0\r\n\r\n').is_ended()
+            share.client().is_ended()
+            clients = [share.client() for _ in range(64)]
+            if not all(client.negotiates() for client in clients):
+                return False
+            share.client().is_ended()
+            waits_for(file, 69)
+            killed(share)
+        found = [event for _, event, _ in events_of(file)]
+    return (found[:4] == ['opened', "ended: by the share, a frame's first byte is not 0", 'opened', 'ended: silence']
+            and found[4:68] == ['opened'] * 64 and found[68] == 'refused: 64 connections are open')
+
+
+def a_full_disk_stops_no_share():
+    """It is said once; with --log-must the server ends."""
+    with tempfile.TemporaryDirectory() as folder:
+        file = os.path.join(folder, 'log')
+        with keeping('--log', file, '--log-level', 'requests', longest=400) as share:
+            works(share)
+            is_served = Looking(share).comes_in() is not None
+            share.process.kill()
+            said = share.process.stderr.read().decode()
+        os.remove(file)
+        with keeping('--log', file, '--log-must', longest=200) as share:
+            client = share.client()
+            client.send(b'no request')
+            _, errors = share.process.communicate(timeout=PATIENCE)
+            status = share.process.returncode
+        return is_served and said.count('log: failed\n') == 1 and (status, errors.decode().count('log: failed\n')) == (1, 1)
+
+
+def one_that_cannot_be_made_is_refused():
+    with tempfile.TemporaryDirectory() as folder:
+        absent = os.path.join(folder, 'absent', 'log')
+        words = ['serve', '--listen', '127.0.0.1:0', '--turns', '1', '--config', GUEST]
+        found = ran(*words, '--log', absent), ran(*words, '--log-must'), ran(*words, '--log-level', 'refusals')
+    print(f'  {found[0][2]!r}', flush=True)
+    return (found[0][0] == 1 and found[0][2].startswith('log: cannot be written: ')
+            and all(status == 2 and '--log-level and --log-must are only taken with --log' in errors
+                    for status, _, errors in found[1:]))
+
+
+def standard_error_has_the_lines():
+    """With `-`, behind where it listens."""
+    with keeping('--log', '-') as share:
+        works(share).client.end()
+        time.sleep(0.3)
+        share.process.kill()
+        lines = share.process.stderr.read().decode().splitlines()
+    return lines[-1].split('\t')[4] == 'ended: by the client' and sum('\tCREATE ' in line for line in lines) == 2
+
+
+def a_share_is_logged_and_kept():
+    """What is kept is what is kept without a log, and a last line counts it."""
+    with tempfile.TemporaryDirectory() as folder:
+        file, journal = os.path.join(folder, 'log'), os.path.join(folder, 'journal')
+        with keeping('--log', file, '--journal', journal, '--turns', '40', '--idle', '1') as share:
+            works(share).client.end()
+            share.process.wait(timeout=60)
+        to = os.path.join(folder, 'to')
+        files = extracted(journal, to) == (0, '') and bytes_in(tree_of(to))
+        last = events_of(file)[-1][1]
+        if files != {'july.txt': b'secret bytes'} or ' files=1 used_bytes=4096' not in last:
+            print(f'  {files}, {last!r}', flush=True)
+            return False
+        return last.startswith('minute connections=')
+
+
+def a_pipe_that_is_closed_stops_no_share():
+    """A log whose reader is gone: the share is served on."""
+    with tempfile.TemporaryDirectory() as folder:
+        pipe = os.path.join(folder, 'log')
+        os.mkfifo(pipe)
+        holder = os.open(pipe, os.O_RDWR)
+        with keeping('--log', pipe) as share:
+            os.close(holder)
+            works(share)
+            return Looking(share).comes_in() is not None
+
+
+TESTS = (refusals_are_logged, sessions_are_logged, requests_are_logged, why_a_client_ended_is_logged,
+         a_full_disk_stops_no_share, one_that_cannot_be_made_is_refused, standard_error_has_the_lines,
+         a_share_is_logged_and_kept, a_pipe_that_is_closed_stops_no_share)
+
+if __name__ == '__main__':
+    sys.exit(served.tests_passed('logs', TESTS))
