@@ -103,6 +103,15 @@ def fields_end_without_memory():
     return ends_without_memory('show', '--fields', given=frame(NEGOTIATE).hex().encode())
 
 
+def words_have_their_status():
+    """Words that are taken by no command, and those that ask for help."""
+    wrong = (['replay', '--config'], ['replay', '--other'], ['replay', 'more'], ['show', 'more'], ['--explain'], ['other'],
+             ['--other'], ['compact', 'more'], ['extract'], ['serve', '--listen', '127.0.0.1:0', '--sync'])
+    taken = ran(['replay', '--config', 'no such file', '--explain'])
+    return (all(ran(words)[0] == 2 for words in wrong) and ran(['--help'])[0] == ran(['--version'])[0] == 0
+            and taken[0] == 1 and b'no such file' in taken[2])
+
+
 def word_that_is_no_text_is_wrong():
     for words in ((NOT_TEXT,), (b'--' + NOT_TEXT,), ('replay', NOT_TEXT), ('serve', '--listen', NOT_TEXT), ('replay', '--config', 'a', NOT_TEXT)):
         status, output, errors = ran(words)
@@ -500,7 +509,7 @@ TESTS_OF_MEMORY = (
     replay_takes_a_small_multiple_of_its_text,
 )
 TESTS = (
-    word_that_is_no_text_is_wrong, name_that_is_no_text_is_opened, help_that_is_not_written_failed,
+    words_have_their_status, word_that_is_no_text_is_wrong, name_that_is_no_text_is_opened, help_that_is_not_written_failed,
     help_has_examples_and_what_is_built_in, help_names_explain, configuration_has_a_limit,
     endless_configuration_is_refused, broken_rules_are_explained, tokens_are_never_shown,
     broken_accounts_are_explained, accounts_are_read_as_a_configuration_is, accounts_are_their_owners_alone,

@@ -57,7 +57,7 @@ class Trial:
             return [self.own]
         try:
             client = Keeping(share, 0, SEED, self.own)
-        except ConnectionRefusedError:
+        except ConnectionError:
             return [self.own]
         try:
             client.comes_in()

@@ -350,6 +350,3 @@ fn main(rt: HostRuntime) -> ExitCode {
         Err(fault) => report(&rt, fault, Detail::Brief),
     }
 }
-
-#[cfg(test)]
-mod tests;
