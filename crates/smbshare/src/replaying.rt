@@ -130,20 +130,24 @@ pub fn check_input(rt: &HostRuntime) -> Result<(), Fault> {
     }
 }
 
+/// Makes a new folder of the files and folders of a share that was left.
+fn take_left(rt: &HostRuntime, folder: &str, left: Left<'_>) -> Result<(), Fault> {
+    let Left {
+        share,
+        header: _header,
+        config,
+        path,
+        token,
+    } = left;
+    take_out(rt, folder, path.as_str(), share, config.created, &token)
+}
+
 /// Makes a new folder of the files and folders that the recording on standard input leaves.
 pub fn extract(rt: &HostRuntime, folder: &str) -> Result<(), Fault> {
     check_input(rt)?;
     let mailbox = Mailbox::new(rt.alloc());
     match leave(rt, STANDARD_INPUT, &mailbox) {
-        Ok(
-            Left {
-                share,
-                config,
-                path,
-                token,
-                ..
-            },
-        ) => take_out(rt, folder, path.as_str(), share, config.created, &token),
+        Ok(left) => take_left(rt, folder, left),
         Err(fault) => Err(fault),
     }
 }

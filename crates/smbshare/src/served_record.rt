@@ -268,9 +268,9 @@ fn unrecorded_line<'m, 'c, A: Authenticator + Drop>(
 }
 
 /// Serves a new share that begins with the files of a folder, and of which nothing is recorded.
-pub fn serve_folder<A: Authenticator + Drop>(
-    rt: &HostRuntime,
-    words: &ServeWords<'_>,
+pub fn serve_folder<'a, A: Authenticator + Drop>(
+    rt: &'a HostRuntime,
+    words: &ServeWords<'a>,
     entrance: Entrance,
     folder: &str,
     config: Config,
