@@ -53,7 +53,7 @@ fn can_be_set(moment: u64) -> bool {
 }
 
 impl Kept {
-    /// What is kept of a file or a folder of the system. The time of its last write stands for its creation and its change too.
+    /// What is kept of a file or a folder of the system. The time of its last write is taken for its creation and its change too.
     /// What its owner may not write is READONLY, and has these attributes besides.
     pub(crate) fn of(metadata: &Metadata, others: FileAttributes) -> Kept {
         let modified = moment_of(metadata.modified());

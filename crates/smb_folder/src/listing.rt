@@ -11,7 +11,7 @@ use std::alloc::{AllocError, Global};
 pub(crate) struct Listed {
     /// Its name, in UTF-16 units.
     pub(crate) units: Vec<u8>,
-    /// Its name; a surrogate that is alone stands there in hex, as `\u{D800}`.
+    /// Its name; a surrogate without its other half is there in hex, as `\u{D800}`.
     pub(crate) name: String,
     /// Whether the name is the entry's: whether no surrogate is alone.
     pub(crate) is_unicode: bool,

@@ -187,7 +187,7 @@ impl<R: Files, L: Line> Putting<'_, '_, '_, R, L> {
 /// They are put from the top down, in the order of the bytes of their names, so two runs make the same requests: of a
 /// folder CREATE and CLOSE; of a file CREATE, WRITEs of at most 61,440 bytes, SET_INFO and CLOSE; and once all of a
 /// folder is put CREATE, SET_INFO and CLOSE for its times. The times are those of the file, in units of 100 ns, and
-/// that of the last write stands for creation and change too; one before 1970 is put as 1970. What its owner may not
+/// that of the last write is taken for creation and change too; one before 1970 is put as 1970. What its owner may not
 /// write is READONLY. No link is followed, unless the folder itself is one.
 ///
 /// The first thing that cannot be put ends it with a [`FolderFault`]: what was put before is in the share then, and a

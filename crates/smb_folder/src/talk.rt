@@ -26,7 +26,7 @@ const BASIC_INFORMATION: InformationClass = InformationClass(4);
 /// How many bytes that has.
 const BASIC_LENGTH: u32 = 40;
 
-/// What stands between the names of a path.
+/// What is between the names of a path.
 const SEPARATOR: u16 = 0x5C;
 
 /// What an open is for.

@@ -31,7 +31,7 @@ const RECORDING: &[u8] = b"# smbshare recording 1 ";
 
 const JOURNAL: &[u8] = b"# smbshare journal 1 ";
 
-/// What stands before each of the others, behind the share's name.
+/// The words before each of the other fields, behind the share's name.
 const LABEL: &[u8] = b" label=\"";
 
 const GUID: &[u8] = b"\" guid=";
@@ -40,7 +40,7 @@ const CAPACITY: &[u8] = b" capacity=";
 
 const CREATED: &[u8] = b" created=";
 
-/// What stands before the authenticator's first token.
+/// The word before the authenticator's first token.
 const HELLO: &[u8] = b" hello=";
 
 /// The first line of a recording: its form, what share it is of, and the first token of who let its clients in.
@@ -69,7 +69,7 @@ fn write_share(config: &Config, out: &mut Vec<u8>) -> io::Result<()> {
     write!(out, " capacity={capacity} created={created}")
 }
 
-/// What stands before these bytes where they stand last, and what behind them.
+/// The text before the last place of these bytes, and the text behind it.
 fn at_last<'a>(bytes: &[u8], text: &'a [u8]) -> Option<(&'a [u8], &'a [u8])> {
     for place in (0..text.len()).rev() {
         if let Some(back) = text.get(place..)?.strip_prefix(bytes) {
@@ -79,7 +79,7 @@ fn at_last<'a>(bytes: &[u8], text: &'a [u8]) -> Option<(&'a [u8], &'a [u8])> {
     None
 }
 
-/// What a share is, as it stands in a first line.
+/// What a first line says of a share.
 #[derive(Clone, Copy)]
 struct ShareText<'a> {
     name: &'a str,

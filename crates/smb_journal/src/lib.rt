@@ -3,7 +3,8 @@
 //! A share answers as its definition says, and so a run is its list of events and nothing else. [`RecordedPeers`] stand between a
 //! share and its peers, and write each event before it is handed on: a line that says what came, at which moment. What an
 //! authenticator answers is a line too, by [`RecordedLogin`]; so whoever performs the recording asks no one again. [`perform`] performs
-//! it on a new share; then [`Share::end_all`](smb_engine::Share::end_all) ends the connections that were open, and the share goes on.
+//! it on a new share, and a [`Hears`] hears each event with its answers; then [`Share::end_all`](smb_engine::Share::end_all) ends the
+//! connections that were open, and the share goes on.
 //!
 //! | line | what it says |
 //! |---|---|

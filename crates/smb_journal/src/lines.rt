@@ -158,7 +158,7 @@ impl<R: Read + Drop> Lines<R> {
         Ok(header)
     }
 
-    /// Where the text of the line ends that ends at a line feed, and the check that stands behind it: that of the line before where it
+    /// Where the text of the line ends that ends at a line feed, and the check behind it: that of the line before where it
     /// has none.
     fn checked(&self, end: usize) -> Result<(usize, u64), JournalFault> {
         let line = self.part(self.start, end);

@@ -10,6 +10,7 @@ use smb_engine::{Answer, Authenticator, Event, Opens, RunFault, ServeFault, Shar
 use std::alloc::Global;
 use std::collections::VecDeque;
 use std::io::Read;
+use std::slice;
 
 /// The answers of the authenticator in a recording, in order. All of its lines are read, and nothing is performed.
 ///
@@ -30,10 +31,14 @@ pub fn given_answers<R: Read + Drop>(
     Ok(given)
 }
 
-/// Hears what a share answers to recorded events.
+/// Hears what happens to a share on which a recording is performed.
 pub trait Hears {
-    /// Takes the answers to an event.
-    fn hear(&mut self, answers: &[Answer]) -> Result<(), JournalFault>;
+    /// Takes an event that the share performed, and what it answered to it.
+    fn hear(&mut self, event: &Event, answers: &[Answer]) -> Result<(), JournalFault>;
+
+    /// Takes note that a connection ended where memory had run out for it: the first requests of its last piece were performed, and not
+    /// answered.
+    fn cut_short(&mut self, _connection: u64) {}
 }
 
 /// Hears nothing.
@@ -41,7 +46,7 @@ pub trait Hears {
 pub struct Deaf;
 
 impl Hears for Deaf {
-    fn hear(&mut self, _answers: &[Answer]) -> Result<(), JournalFault> {
+    fn hear(&mut self, _event: &Event, _answers: &[Answer]) -> Result<(), JournalFault> {
         Ok(())
     }
 }
@@ -104,12 +109,11 @@ impl Performed {
         heard: &mut H,
     ) -> Result<(), JournalFault> {
         self.note(&event)?;
-        let events = [event];
         self.answers.clear();
-        if let Err(fault) = share.run(&events, &mut self.answers) {
+        if let Err(fault) = share.run(slice::from_ref(&event), &mut self.answers) {
             return Err(fault_at(line, fault));
         }
-        heard.hear(&self.answers)
+        heard.hear(&event, &self.answers)
     }
 
     /// Performs the piece that was read, where there is one.
@@ -125,12 +129,13 @@ impl Performed {
     }
 
     /// Performs the first requests of the piece that was read, in which memory ran out.
-    fn cut_short<A: Authenticator + Drop, T: Tree + Drop, O: Opens + Drop>(
+    fn cut_short<A: Authenticator + Drop, T: Tree + Drop, O: Opens + Drop, H: Hears>(
         &mut self,
         share: &mut Share<A, T, O>,
         stopped: u64,
         done: usize,
         line: u64,
+        heard: &mut H,
     ) -> Result<(), JournalFault> {
         let Some(
             (
@@ -146,6 +151,7 @@ impl Performed {
             return Err(JournalFault::BadEvent(line));
         };
         if connection == stopped && share.cut_short(connection, moment, &piece, done) {
+            heard.cut_short(connection);
             Ok(())
         } else {
             Err(JournalFault::BadEvent(line))
@@ -162,7 +168,9 @@ impl Performed {
     ) -> Result<(), JournalFault> {
         match read {
             Line::Skipped | Line::Answered(_) => Ok(()),
-            Line::Stopped { connection, done } => self.cut_short(share, connection, done, line),
+            Line::Stopped { connection, done } => {
+                self.cut_short(share, connection, done, line, heard)
+            }
             Line::Happens(event) => {
                 self.happen_piece(share, heard)?;
                 self.piece = Some((event, line));

@@ -3,13 +3,13 @@
 use hex::FromHexError;
 use std::alloc::{AllocError, Global};
 
-/// What stands before the first blank, and what behind it.
+/// The text before the first blank, and the text behind it.
 pub(crate) fn at_blank(text: &[u8]) -> Option<(&[u8], &[u8])> {
     let blank = text.iter().position(|byte| *byte == b' ')?;
     Some((&text[..blank], &text[blank + 1..]))
 }
 
-/// What stands before the last blank, and what behind it.
+/// The text before the last blank, and the text behind it.
 pub(crate) fn at_last_blank(text: &[u8]) -> Option<(&[u8], &[u8])> {
     let blank = text.iter().rposition(|byte| *byte == b' ')?;
     Some((&text[..blank], &text[blank + 1..]))

@@ -50,6 +50,15 @@ fn event_of(
     Ok(event)
 }
 
+/// The user of a session, where it is one of the connection's.
+fn user_of<'a>(sessions: &'a Sessions, connection: &Connection, session: u64) -> &'a [u8] {
+    if connection.has_session(session) {
+        sessions.user(session).unwrap_or(&[])
+    } else {
+        &[]
+    }
+}
+
 impl Answered {
     /// The session and the tree connect that the request acted under.
     fn place(&self) -> Place {
@@ -75,12 +84,12 @@ impl Answered {
 }
 
 impl<W: Write + Drop> Book<W> {
-    /// The name of the file that a request acts on.
-    fn name_of<'a>(&'a self, place: Place, named: Named<'a>) -> &'a str {
-        match named {
-            Named::Nothing => UNKNOWN,
-            Named::Refused(name) => name,
-            Named::Open(file) => self.sessions.name(place, file).unwrap_or(UNKNOWN),
+    /// The name of the file of an open, where its session is one of the connection's.
+    fn name_of(&self, connection: &Connection, place: Place, file: FileId) -> &str {
+        if connection.has_session(place.session) {
+            self.sessions.name(place, file).unwrap_or(UNKNOWN)
+        } else {
+            UNKNOWN
         }
     }
 
@@ -99,8 +108,11 @@ impl<W: Write + Drop> Book<W> {
                 event_of(self.alloc, command, Some(name.as_str()), terms.as_str())
             }
             Asked::OnFile { file, terms } => {
-                let named = connection.named(&answered.response, *file);
-                let name = self.name_of(answered.place(), named);
+                let name = match connection.named(&answered.response, *file) {
+                    Named::Nothing => UNKNOWN,
+                    Named::Refused(name) => name,
+                    Named::Open(file) => self.name_of(connection, answered.place(), file),
+                };
                 event_of(self.alloc, command, Some(name), terms.as_str())
             }
         }
@@ -122,7 +134,7 @@ impl<W: Write + Drop> Book<W> {
             self.lines.lose();
             return;
         };
-        let user = self.sessions.user(header.session_id).unwrap_or(&[]);
+        let user = user_of(&self.sessions, connection, header.session_id);
         let subject = Subject {
             connection: Some(answered.number),
             address: connection.address.as_str(),
@@ -252,7 +264,7 @@ impl<W: Write + Drop> Book<W> {
             return;
         }
         for session in taken.cancels.as_slice() {
-            let user = self.sessions.user(*session).unwrap_or(&[]);
+            let user = user_of(&self.sessions, connection, *session);
             let subject = Subject {
                 connection: Some(number),
                 address: connection.address.as_str(),

@@ -1,15 +1,14 @@
 //! What the log knows of a connection.
 
-use crate::agreed::{Agreed, Payload};
 use crate::asked::Asked;
 use crate::level::Level;
 use crate::responses::{Response, Responses};
-use crate::rule::Rule;
 use arrayvec::ArrayVec;
 use bitflags::Flags;
 use smb_body::Smb1Dialects;
 use smb_frame::FrameBuffer;
 use smb_head::{Chain, Header, HeaderFlags};
+use smb_rules::{Agreed, Payload, Rule};
 use smb_wire::limits::{LONGEST_PAYLOAD, MOST_CREDITS, MOST_REQUESTS};
 use smb_wire::{Command, FileId};
 use std::alloc::{AllocError, Global};
@@ -240,6 +239,11 @@ impl Connection {
     /// Hands on the name of a file that was not opened.
     pub(crate) fn hand_on_refused(&mut self, name: String) {
         self.handed = Handed::Refused(name);
+    }
+
+    /// Whether a session was set up on it.
+    pub(crate) fn has_session(&self, session: u64) -> bool {
+        self.sessions.contains(&session)
     }
 
     /// The session that was set up last.

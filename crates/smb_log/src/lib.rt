@@ -1,4 +1,4 @@
-//! A log of a served share that an operator can read: one line for each event.
+//! A log of a share that an operator can read: one line for each event.
 //!
 //! ```text
 //!    calls                                              lines
@@ -10,7 +10,8 @@
 //! ```
 //!
 //! A [`Log`] has no peers: a replay and a server both use it. [`LoggedPeers`] wrap the peers of a served share and make its calls as
-//! events come; a [`LoggedLogin`] wraps an authenticator and notes in a [`Visitors`] who was let in.
+//! events come, and a [`ReplayLog`] makes them as it hears the events of a replay; a [`LoggedLogin`] wraps an authenticator and notes in
+//! a [`Visitors`] who was let in.
 //!
 //! # A line
 //!
@@ -21,7 +22,7 @@
 //! | moment | of the event, of a request that of its response: UTC with the day, cut to milliseconds |
 //! | connection | its number |
 //! | peer | its address, as the caller gives it |
-//! | user | of the request's session, at an end of the session that was set up last; each guest is `guest` |
+//! | user | of the request's session, where it is the connection's, at an end of the session that was set up last; each guest is `guest` |
 //! | event | `opened`, `refused: ..`, `ended: ..`, `minute ..`, or what was asked: a command by its name with its fields |
 //! | status | of the response, by its name in [MS-ERREF]; a number that the share never answers in hex |
 //! | microseconds | from the piece that completed the request to the bytes that completed its response, or of a READ its header |
@@ -54,7 +55,6 @@
 #![tactic(auto)]
 
 mod access;
-mod agreed;
 mod asked;
 mod book;
 mod connection;
@@ -69,8 +69,8 @@ mod login;
 mod moment;
 mod names;
 mod peers;
+mod replay_log;
 mod responses;
-mod rule;
 mod sessions;
 #[cfg(test)]
 mod tests;
@@ -82,4 +82,5 @@ pub use level::Level;
 pub use log::Log;
 pub use login::LoggedLogin;
 pub use peers::LoggedPeers;
+pub use replay_log::ReplayLog;
 pub use visitors::Visitors;

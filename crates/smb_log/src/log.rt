@@ -75,6 +75,11 @@ impl<W: Write + Drop> Log<W> {
         self.connections.len()
     }
 
+    /// Whether a connection is open.
+    pub(crate) fn is_open(&self, connection: u64) -> bool {
+        self.connections.contains_key(&connection)
+    }
+
     /// Whether nothing that came on a connection is a cause for the share to end it: its client's stream broke no rule, and memory
     /// did not run out.
     pub fn is_without_cause(&self, connection: u64) -> bool {
@@ -121,13 +126,13 @@ impl<W: Write + Drop> Log<W> {
         let _ = self.book.lines.put_made(moment, subject, event);
     }
 
-    /// Takes the next piece of a client's stream, cut anywhere.
+    /// Takes the next piece of a client's stream, cut anywhere. One on a connection that is not open is passed over.
     pub fn came(&mut self, connection: u64, moment: u64, piece: &[u8]) {
-        self.book.counts.add_in(piece.len());
         let number = connection;
         let Some(connection) = self.connections.get_mut(&number) else {
             return;
         };
+        self.book.counts.add_in(piece.len());
         if !connection.push(piece) {
             self.book.lines.lose();
         }

@@ -1,10 +1,228 @@
-//! Logs of connections whose bytes are built here, against lines that were written by hand.
+//! What no replay brings about: ends of all kinds, users of all names, moments, a write that fails, and peers.
 
-mod chains;
-mod ends;
-mod names;
-mod served;
-mod session;
-mod streams;
-mod talk;
-mod terms;
+use crate::escape::put_user;
+use crate::moment::put_moment;
+use crate::{Ending, Level, Log, LoggedLogin, LoggedPeers, NoFacts, Refusal, Visitors};
+use smb_engine::{
+    Config, HandleTable, ListClock, MemoryPeers, NodeTree, PeerStep, SendStep, Share, Tokens, User,
+    serve,
+};
+use std::alloc::{AllocError, Global};
+use std::io;
+use std::io::{Error, ErrorKind, Write};
+
+/// The moment of each event: 2025-12-08 06:11:07.123.
+const NOW: u64 = 134_096_478_671_230_000;
+
+/// The text of a log.
+fn text_of(log: Log<Vec<u8>>) -> Option<String> {
+    String::from_utf8(log.into_writer()).ok()
+}
+
+/// Whether a text is another.
+fn is_same(text: Option<String>, wanted: &str) -> bool {
+    text.is_some_and(|text| text.as_str() == wanted)
+}
+
+/// The log of connections that end in each way.
+fn endings(alloc: Global) -> Option<String> {
+    let mut log = Log::new(alloc, Vec::new(alloc), Level::Sessions);
+    log.begin();
+    log.opened(3, "", NOW);
+    log.ran_out(3);
+    log.ended(1, NOW, Ending::Owed);
+    log.ended(2, NOW, Ending::Silence);
+    log.ended(3, NOW, Ending::ByShare);
+    log.refused("192.0.2.8:1", NOW, Refusal::Full);
+    log.minute(NOW, None);
+    text_of(log)
+}
+
+/// The lines of ends, of a refusal and of a minute.
+#[test]
+fn shows_ends(rt: HostRuntime) {
+    let is_right = is_same(
+        endings(rt.alloc()),
+        "moment\tconnection\tpeer\tuser\tevent\tstatus\tmicroseconds\n\
+         2025-12-08 06:11:07.123\t3\t-\t-\topened\t-\t-\n\
+         2025-12-08 06:11:07.123\t1\t-\t-\tended: owed more than 33,554,432 bytes\t-\t-\n\
+         2025-12-08 06:11:07.123\t2\t-\t-\tended: silence\t-\t-\n\
+         2025-12-08 06:11:07.123\t3\t-\t-\tended: memory\t-\t-\n\
+         2025-12-08 06:11:07.123\t-\t192.0.2.8:1\t-\trefused: 64 connections are open\t-\t-\n\
+         2025-12-08 06:11:07.123\t-\t-\t-\tminute connections=0 sessions=0 opens=0 requests=0 bytes_in=0 bytes_out=0 out_of_memory=1\t-\t-\n",
+    );
+    assert!(rt; is_right);
+}
+
+/// How users are shown, apart by line feeds.
+fn users(alloc: Global) -> Option<String> {
+    let mut text = String::new(alloc);
+    let names: [&[u8]; 4] = [b"guest\x0017", b"a\tb\\c\xff", b"a\tb\\c", b""];
+    for name in names {
+        put_user(name, &mut text).ok()?;
+        text.push_str("\n").ok()?;
+    }
+    Some(text)
+}
+
+/// Users are shown as text, guests without their numbers.
+#[test]
+fn shows_users(rt: HostRuntime) {
+    let is_right = is_same(
+        users(rt.alloc()),
+        "guest\na\\u{9}b\\u{5C}c\u{FFFD}\na\\u{9}b\\u{5C}c\n-\n",
+    );
+    assert!(rt; is_right);
+}
+
+/// Moments as dates, one a line.
+fn dates(alloc: Global) -> Option<String> {
+    let mut text = String::new(alloc);
+    for moment in [
+        0,
+        94_405_824_000_000_000,
+        125_911_583_999_990_000,
+        125_962_560_000_000_000,
+        126_227_376_000_000_000,
+        133_800_768_000_000_000,
+        157_520_160_000_000_000,
+    ] {
+        put_moment(moment, &mut text).ok()?;
+        text.push_str("\n").ok()?;
+    }
+    Some(text)
+}
+
+/// Centuries without a leap day, with one, and ends of years.
+#[test]
+fn shows_dates(rt: HostRuntime) {
+    let is_right = is_same(
+        dates(rt.alloc()),
+        "1601-01-01 00:00:00.000\n\
+         1900-03-01 00:00:00.000\n\
+         1999-12-31 23:59:59.999\n\
+         2000-02-29 00:00:00.000\n\
+         2000-12-31 12:00:00.000\n\
+         2024-12-31 00:00:00.000\n\
+         2100-03-01 00:00:00.000\n",
+    );
+    assert!(rt; is_right);
+}
+
+/// A writer that fails.
+#[derive(Drop)]
+struct Full;
+
+impl Write for Full {
+    fn write(&mut self, _bytes: &[u8]) -> io::Result<usize> {
+        Err(Error::from(ErrorKind::StorageFull))
+    }
+
+    fn flush(&mut self) -> io::Result<()> {
+        Ok(())
+    }
+}
+
+/// A write that fails is noted.
+#[test]
+fn notes_a_failed_write(rt: HostRuntime) {
+    let mut log = Log::new(rt.alloc(), Full, Level::Requests);
+    let before = log.has_failed();
+    log.opened(1, "", NOW);
+    assert!(rt; !before && log.has_failed());
+}
+
+/// A NEGOTIATE of dialect 2.0.2 and a SESSION_SETUP with the token 61, in their frames.
+const ASKED: &[u8] = b"\0\0\0f\xFESMB@\0\0\0\0\0\0\0\0\0\x1F\0\0\0\0\0\0\0\0\0\0\0\0\0\0\0\0\0\0\0\
+    \0\0\0\0\0\0\0\0\0\0\0\0\0\0\0\0\0\0\0\0\0\0\0\0\0\0\0\0\0\0$\0\x01\0\x01\0\
+    \0\0\0\0\0\0\0\0\0\0\0\0\0\0\0\0\0\0\0\0\0\0\0\0\0\0\0\0\0\0\x02\x02\
+    \0\0\0Y\xFESMB@\0\0\0\0\0\0\0\x01\0\x01\0\0\0\0\0\0\0\0\0\x01\0\0\0\0\0\0\0\
+    \0\0\0\0\0\0\0\0\0\0\0\0\0\0\0\0\0\0\0\0\0\0\0\0\0\0\0\0\0\0\0\0\x19\0\0\x01\
+    \0\0\0\0\0\0\0\0X\0\x01\0\0\0\0\0\0\0\0\0a";
+
+/// A share `data` of 1 MiB.
+fn config(alloc: Global) -> Result<Config, AllocError> {
+    Ok(Config {
+        share: String::from_str(alloc, "data")?,
+        label: String::from_str(alloc, "DATA")?,
+        guid: [0; 16],
+        capacity: 1_048_576,
+        created: NOW,
+    })
+}
+
+/// The user ann, whose token is 61.
+fn ann(alloc: Global) -> Result<Tokens, AllocError> {
+    let ann = User {
+        name: Vec::from_slice(alloc, b"ann")?,
+        token: Vec::from_slice(alloc, b"a")?,
+        read_only: false,
+    };
+    Tokens::new(alloc, b"", false, false, vec![in alloc; ann]?)
+}
+
+/// A share which ann may use, and whose log hears whom it lets in.
+fn new_share(
+    alloc: Global,
+    visitors: &Visitors,
+) -> Option<Share<LoggedLogin<'_, Tokens>, NodeTree, HandleTable>> {
+    let config = config(alloc).ok()?;
+    let users = ann(alloc).ok()?;
+    Share::in_memory(alloc, config, LoggedLogin::new(users, visitors)).ok()
+}
+
+/// Peers that bring this client, and take the first bytes for it in two parts.
+fn client(alloc: Global) -> Result<MemoryPeers, AllocError> {
+    let asked = PeerStep::Bytes(1, Vec::from_slice(alloc, ASKED)?);
+    let script = vec![in alloc;
+        PeerStep::Opened(1),
+        asked,
+        PeerStep::Idle,
+        PeerStep::Ended(1),
+    ]?;
+    let sends = vec![in alloc; SendStep::Takes(70)]?;
+    MemoryPeers::new(alloc, script, sends, 16, 4_096)
+}
+
+/// A client whose events and answers are logged.
+fn logged_client<'a>(
+    alloc: Global,
+    visitors: &'a Visitors,
+) -> Option<LoggedPeers<'a, MemoryPeers, NoFacts, ListClock, Vec<u8>>> {
+    let client = client(alloc).ok()?;
+    let clock = ListClock::new(alloc, &[NOW]).ok()?;
+    let log = Log::new(alloc, Vec::new(alloc), Level::Requests);
+    Some(LoggedPeers::new(
+        alloc,
+        client,
+        &NoFacts,
+        clock,
+        visitors,
+        Some(log),
+        false,
+        1,
+    ))
+}
+
+/// The log of the share that this client is served.
+fn served(alloc: Global) -> Option<String> {
+    let visitors = Visitors::new(alloc);
+    let mut peers = logged_client(alloc, &visitors)?;
+    let mut clock = ListClock::new(alloc, &[NOW]).ok()?;
+    let mut share = new_share(alloc, &visitors)?;
+    serve(&mut share, &mut peers, &mut clock, 5);
+    text_of(peers.into_log()?)
+}
+
+/// What a share does is what its log says.
+#[test]
+fn logs_a_served_share(rt: HostRuntime) {
+    let is_right = is_same(
+        served(rt.alloc()),
+        "2025-12-08 06:11:07.123\t1\t-\t-\topened\t-\t-\n\
+         2025-12-08 06:11:07.123\t1\t-\t-\tNEGOTIATE 2.0.2\tSTATUS_SUCCESS\t0\n\
+         2025-12-08 06:11:07.123\t1\t-\tann\tSESSION_SETUP\tSTATUS_SUCCESS\t0\n\
+         2025-12-08 06:11:07.123\t1\t-\tann\tended: by the client\t-\t-\n",
+    );
+    assert!(rt; is_right);
+}

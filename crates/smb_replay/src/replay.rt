@@ -3,10 +3,11 @@
 ghost use Rattle.std.specs.Prelude.{◌≡◌, [], IfOk};
 ghost use Rattle.smb_tree.specs.Content.{new_content};
 
-use crate::ending::Streams;
 use crate::fault::{CommandFault, Detail};
+use crate::hears::{Deaf, Hears};
 use crate::input::read_input;
 use crate::script::{Part, Script, Unread};
+use crate::streams::Streams;
 use smb_config::Configuration;
 use smb_engine::{Answer, Authenticator, Event, RunFault, ServeFault, Share};
 use smb_handles::HandleTable;
@@ -15,8 +16,8 @@ use smb_opens::{Opens, PlainOpens};
 use smb_session::Tokens;
 use smb_tree::{PlainTree, Tree, TreeFault};
 use std::alloc::Global;
-use std::io;
 use std::io::{Read, Write};
+use std::{io, slice};
 
 /// How many bytes are written as hex at a time.
 const HEX_PART: usize = 512;
@@ -160,25 +161,52 @@ impl<'a, E: Write> Beside<'a, E> {
             return Ok(());
         };
         for (event, line) in events.iter().zip(script.places.iter()) {
-            if let Some(ending) = streams.take(event)? {
+            if let Some(rule) = streams.take(event)? {
                 let connection = event.connection();
-                let _ = writeln!(self.errors, "x {connection}, line {line}: {ending}");
+                let _ = writeln!(self.errors, "x {connection}, line {line}: {rule}");
             }
         }
         Ok(())
     }
 }
 
+/// Runs events on a share one by one, and adds what it answers; each event that it performed is heard with its answers.
+fn run_events<A: Authenticator + Drop, T: Tree + Drop, O: Opens + Drop, H: Hears>(
+    share: &mut Share<A, T, O>,
+    events: &[Event],
+    answers: &mut Vec<Answer>,
+    heard: &mut H,
+) -> Result<(), RunFault> {
+    let mut place = 0usize;
+    for event in events {
+        let before = answers.len();
+        if let Err(fault) = share.run(slice::from_ref(event), answers) {
+            return Err(RunFault { place, ..fault });
+        }
+        heard.hear(event, answers.get(before..).unwrap_or(&[]));
+        place = place.saturating_add(1);
+    }
+    Ok(())
+}
+
 /// Runs the events of a script on a share, and writes what it answers.
-fn run_script<A: Authenticator + Drop, T: Tree + Drop, O: Opens + Drop, W: Write, E: Write>(
+fn run_script<
+    A: Authenticator + Drop,
+    T: Tree + Drop,
+    O: Opens + Drop,
+    W: Write,
+    E: Write,
+    H: Hears,
+>(
     alloc: Global,
     share: &mut Share<A, T, O>,
     script: &Script,
     output: &mut W,
     beside: &mut Beside<'_, E>,
+    heard: &mut H,
 ) -> Result<(), CommandFault> {
     let mut answers = Vec::new(alloc);
-    let ran = share.run(&script.events, &mut answers);
+    let ran = run_events(share, &script.events, &mut answers, heard);
     write_answers(&answers, output)?;
     if let Err(fault) = ran {
         let refused = fault_at(script, beside.opened, fault);
@@ -193,17 +221,18 @@ fn run_script<A: Authenticator + Drop, T: Tree + Drop, O: Opens + Drop, W: Write
 }
 
 /// Runs the events of a text on a share, part by part, and writes what it answers.
-fn run_text<A: Authenticator + Drop, T: Tree + Drop, O: Opens + Drop, W: Write, E: Write>(
+fn run_text<A: Authenticator + Drop, T: Tree + Drop, O: Opens + Drop, W: Write, E: Write, H: Hears>(
     alloc: Global,
     share: &mut Share<A, T, O>,
     text: &[u8],
     output: &mut W,
     beside: &mut Beside<'_, E>,
+    heard: &mut H,
 ) -> Result<(), CommandFault> {
     let mut left = Some(Unread::of(text));
     while let Some(unread) = left {
         let part = Part::read(alloc, unread)?;
-        run_script(alloc, share, &part.script, output, beside)?;
+        run_script(alloc, share, &part.script, output, beside, heard)?;
         left = part.left;
     }
     Ok(())
@@ -248,19 +277,20 @@ fn replay<R: Read + Drop, W: Write, E: Write>(
 ) -> Result<(), CommandFault> {
     let (configuration, text) = read_replay(alloc, config, input)?;
     let mut share = new_share(alloc, configuration)?;
-    run_text(alloc, &mut share, &text, output, &mut beside)
+    run_text(alloc, &mut share, &text, output, &mut beside, &mut Deaf)
 }
 
 /// Replays a text on a share in which nothing has happened yet, and writes what the share answers.
-fn replay_on<A: Authenticator + Drop, R: Read + Drop, W: Write, E: Write>(
+fn replay_on<A: Authenticator + Drop, R: Read + Drop, W: Write, E: Write, H: Hears>(
     alloc: Global,
     mut share: Share<A, NodeTree, HandleTable>,
     input: R,
     output: &mut W,
     mut beside: Beside<'_, E>,
+    heard: &mut H,
 ) -> Result<(), CommandFault> {
     let text = read_input(alloc, input)?;
-    run_text(alloc, &mut share, &text, output, &mut beside)
+    run_text(alloc, &mut share, &text, output, &mut beside, heard)
 }
 
 /// Replays a text on a new plain share, and writes what the share answers.
@@ -273,7 +303,7 @@ fn replay_plain<R: Read + Drop, W: Write, E: Write>(
 ) -> Result<(), CommandFault> {
     let (configuration, text) = read_replay(alloc, config, input)?;
     let mut share = new_plain_share(alloc, configuration)?;
-    run_text(alloc, &mut share, &text, output, &mut beside)
+    run_text(alloc, &mut share, &text, output, &mut beside, &mut Deaf)
 }
 
 /// Writes the fault of a replay, if there is one, and gives the exit status.
@@ -331,8 +361,21 @@ pub fn replay_on_share<A: Authenticator + Drop, R: Read + Drop, W: Write, E: Wri
     output: &mut W,
     errors: &mut E,
 ) -> u8 {
+    replay_heard(alloc, share, detail, input, output, errors, &mut Deaf)
+}
+
+/// The same, where `heard` hears each event that the share performs, with what it answers, before the next is performed.
+pub fn replay_heard<A: Authenticator + Drop, R: Read + Drop, W: Write, E: Write, H: Hears>(
+    alloc: Global,
+    share: Share<A, NodeTree, HandleTable>,
+    detail: Detail<'_>,
+    input: R,
+    output: &mut W,
+    errors: &mut E,
+    heard: &mut H,
+) -> u8 {
     let beside = Beside::new(alloc, detail, errors);
-    let replayed = replay_on(alloc, share, input, output, beside);
+    let replayed = replay_on(alloc, share, input, output, beside, heard);
     status_of(alloc, replayed, detail, errors)
 }
 

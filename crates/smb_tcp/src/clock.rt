@@ -5,7 +5,7 @@ ghost use Rattle.std.specs.Prelude.{◌≡◌, ◌≤◌};
 use smb_engine::{Clock, FILETIME_OF_1970, filetime_of};
 use std::time;
 
-/// The clock of the system. It never goes back: where the system's does, or cannot be read, it stands. It begins with 1970.
+/// The clock of the system. It never goes back: where the system's does, or cannot be read, it gives the last moment again. It begins with 1970.
 #[derive(Debug, Drop)]
 pub struct SystemClock<'a, R: time::Clock> {
     system: &'a R,
@@ -21,7 +21,7 @@ impl<'a, R: time::Clock> SystemClock<'a, R> {
         }
     }
 
-    /// The moment now, or the last one that was told where that is later.
+    /// The moment now, or the last one that it gave where that is later.
     fn tell(&mut self) -> u64
         ensures later { self.old.last ≤ result }
         ensures last { self.new.last ≡ result }

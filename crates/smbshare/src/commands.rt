@@ -290,7 +290,9 @@ fn replay_command<'a>(alloc: Global) -> Result<Command<'a>, AllocError> {
         .about("Replays the events of standard input on a new share, and prints what it answers")
         .after_help(REPLAY_HELP)
         .arg(config_option(alloc))?
-        .arg(explain_option(alloc))?;
+        .arg(explain_option(alloc))?
+        .arg(log_option(alloc))?
+        .arg(log_level_option(alloc))?;
     add_replayed(alloc, command, seed, recording)
 }
 

@@ -3,6 +3,7 @@
 use smb_config::ConfigFault;
 use smb_folder::FolderFault;
 use smb_journal::JournalFault;
+use smb_kept::KeptFault;
 use smb_replay::{CommandFault, Detail};
 use std::alloc::{AllocError, Global};
 use std::io::{ErrorKind, Write};
@@ -11,18 +12,35 @@ use std::io::{ErrorKind, Write};
 #[derive(Debug, Drop)]
 pub enum Fault {
     Command(CommandFault),
-    /// A file that a share is recorded in, or made from.
-    Journal(JournalFault),
-    /// A line could not be written while the share was served.
-    RecordFailed,
-    /// A file or folder that can't be put into the share, or taken out of it.
-    Folder(FolderFault),
-    /// A file or folder of a journal that can't be made by requests.
-    Copied(FolderFault),
+    /// A share cannot be kept in a file, or not be made of one.
+    Kept(KeptFault),
     /// The file of a log can't be opened or made, for a reason of this kind.
     Log(ErrorKind),
     /// A line of the log could not be written, which had to be.
     LogFailed,
+}
+
+/// Writes what is printed of a share that cannot be kept, where there is memory and the configuration is none of its faults.
+fn report_kept<E: Write>(fault: &KeptFault, errors: &mut E) {
+    let _ = match fault {
+        KeptFault::NoMemory | KeptFault::BadConfig => Ok(()),
+        KeptFault::Journal(fault) => writeln!(errors, "journal: {fault}"),
+        KeptFault::RecordFailed => writeln!(errors, "record: failed"),
+        KeptFault::Folder(fault) => writeln!(errors, "folder: {fault}"),
+        KeptFault::Copied(fault) => writeln!(errors, "journal: {fault}"),
+    };
+}
+
+/// What a share that cannot be kept is among the faults of commands, where it is one: want of memory, or a configuration.
+fn command_fault_of(fault: &KeptFault) -> Option<CommandFault> {
+    match fault {
+        KeptFault::NoMemory
+        | KeptFault::Journal(JournalFault::NoMemory)
+        | KeptFault::Folder(FolderFault::NoMemory)
+        | KeptFault::Copied(FolderFault::NoMemory) => Some(CommandFault::NoMemory),
+        KeptFault::BadConfig => Some(CommandFault::ConfigRefused(None)),
+        _ => None,
+    }
 }
 
 impl Fault {
@@ -30,27 +48,13 @@ impl Fault {
     pub fn report<E: Write>(&self, alloc: Global, detail: Detail<'_>, errors: &mut E) -> u8 {
         match self {
             Fault::Command(fault) => fault.report(alloc, detail, errors),
-            Fault::Journal(JournalFault::NoMemory)
-            | Fault::Folder(FolderFault::NoMemory)
-            | Fault::Copied(FolderFault::NoMemory) => {
-                CommandFault::NoMemory.report(alloc, detail, errors)
-            }
-            Fault::Journal(fault) => {
-                let _ = writeln!(errors, "journal: {fault}");
-                1
-            }
-            Fault::RecordFailed => {
-                let _ = writeln!(errors, "record: failed");
-                1
-            }
-            Fault::Folder(fault) => {
-                let _ = writeln!(errors, "folder: {fault}");
-                1
-            }
-            Fault::Copied(fault) => {
-                let _ = writeln!(errors, "journal: {fault}");
-                1
-            }
+            Fault::Kept(fault) => match command_fault_of(fault) {
+                Some(fault) => fault.report(alloc, detail, errors),
+                None => {
+                    report_kept(fault, errors);
+                    1
+                }
+            },
             Fault::Log(kind) => {
                 let _ = writeln!(errors, "log: cannot be written: {kind}");
                 1
@@ -73,15 +77,9 @@ impl From<ConfigFault> for Fault {
     }
 }
 
-impl From<JournalFault> for Fault {
-    fn from(fault: JournalFault) -> Fault {
-        Fault::Journal(fault)
-    }
-}
-
-impl From<FolderFault> for Fault {
-    fn from(fault: FolderFault) -> Fault {
-        Fault::Folder(fault)
+impl From<KeptFault> for Fault {
+    fn from(fault: KeptFault) -> Fault {
+        Fault::Kept(fault)
     }
 }
 

@@ -4,9 +4,8 @@ use crate::named_file::NamedFile;
 use clap::ArgMatches;
 use hex::FromHex;
 use smb_config::{Accounts, Configuration};
-use smb_engine::{HandleTable, NodeTree, Share};
 use smb_ntlm::Ntlm;
-use smb_replay::{CommandFault, new_ntlm, new_ntlm_share};
+use smb_replay::{CommandFault, new_ntlm};
 use std::alloc::Global;
 use std::io::Read;
 
@@ -75,19 +74,8 @@ fn given_or_random(seed: Option<[u8; 16]>) -> Result<[u8; 16], CommandFault> {
     }
 }
 
-/// A new share of a configuration to which clients log in by NTLM: as an account, or as a guest where the configuration
-/// lets guests in. Where no seed is given it is one of the system's.
-pub fn share_by_ntlm(
-    alloc: Global,
-    configuration: Configuration,
-    accounts: Accounts,
-    seed: Option<[u8; 16]>,
-) -> Result<Share<Ntlm, NodeTree, HandleTable>, CommandFault> {
-    let seed = given_or_random(seed)?;
-    new_ntlm_share(alloc, configuration, accounts, seed)
-}
-
-/// Who lets clients in by NTLM, as [`share_by_ntlm`] has it.
+/// Who lets clients in by NTLM: as an account, or as a guest where the configuration lets guests in. Where no seed is given it
+/// is one of the system's.
 pub fn ntlm_of(
     alloc: Global,
     configuration: &Configuration,

@@ -6,13 +6,12 @@ mod command_line;
 mod commands;
 mod compaction;
 mod fault;
+mod hearing;
 mod logging;
 mod login;
 mod mode;
 mod named_file;
 mod notices;
-mod own_client;
-mod recording;
 mod replaying;
 mod serve;
 mod served_record;
@@ -25,20 +24,14 @@ use commands::command;
 use compaction::compact;
 use fault::Fault;
 use logging::{Heard, LogWords};
-use login::{Login, read_accounts, share_by_ntlm};
-use recording::RecordWords;
-use replaying::{extract, print_recording};
+use login::Login;
+use replaying::{extract, print_recording, replay_input};
 use serve::{ServeWords, serve_share};
-use smb_config::{BUILT_IN, Configuration};
-use smb_engine::{HandleTable, NodeTree, Share};
+use smb_config::BUILT_IN;
 use smb_journal::Form;
+use smb_kept::KeepWords;
 use smb_log::Level;
-use smb_ntlm::Ntlm;
-use smb_replay::{
-    CommandFault, Detail, Given, hash_password, replay_in_detail, replay_on_share, show_fields,
-    show_text,
-};
-use std::alloc::Global;
+use smb_replay::{CommandFault, Detail, Given, hash_password, show_fields, show_text};
 use std::io::{BufWriter, ErrorKind, IsTerminal};
 use std::process::ExitCode;
 use texts::Texts;
@@ -107,44 +100,27 @@ fn detail_without_words(rt: &HostRuntime) -> Detail<'static> {
     }
 }
 
-/// Replays standard input on a share to which clients log in by tokens, and gives the exit status.
-fn replay_input(rt: &HostRuntime, config: &str, detail: Detail<'_>) -> ExitCode {
-    let Ok(mut output) = BufWriter::new(rt.alloc(), rt.stdout()) else {
-        return report(rt, CommandFault::NoMemory, detail);
-    };
-    let (alloc, mut errors) = (rt.alloc(), rt.stderr());
-    let status = replay_in_detail(alloc, config, detail, rt.stdin(), &mut output, &mut errors);
-    ExitCode::from(status)
-}
-
-/// A new share of these texts to which clients log in by NTLM.
-fn ntlm_share_of(
-    alloc: Global,
-    texts: &Texts,
-    seed: Option<[u8; 16]>,
-) -> Result<Share<Ntlm, NodeTree, HandleTable>, CommandFault> {
-    let configuration = Configuration::read(alloc, texts.config.as_str())?;
-    let accounts = read_accounts(alloc, texts.accounts())?;
-    share_by_ntlm(alloc, configuration, accounts, seed)
-}
-
-/// Replays standard input on a share to which clients log in by NTLM, and gives the exit status.
-fn replay_by_ntlm(
+/// Replays standard input on a share of these texts, and gives the exit status.
+fn replay_texts(
     rt: &HostRuntime,
     texts: &Texts,
-    seed: Option<[u8; 16]>,
+    login: Login,
+    log: Option<LogWords<'_>>,
     detail: Detail<'_>,
 ) -> ExitCode {
-    let share = match ntlm_share_of(rt.alloc(), texts, seed) {
-        Ok(share) => share,
-        Err(fault) => return report(rt, fault, detail),
-    };
-    let Ok(mut output) = BufWriter::new(rt.alloc(), rt.stdout()) else {
-        return report(rt, CommandFault::NoMemory, detail);
-    };
-    let (alloc, mut errors) = (rt.alloc(), rt.stderr());
-    let status = replay_on_share(alloc, share, detail, rt.stdin(), &mut output, &mut errors);
-    ExitCode::from(status)
+    match replay_input(rt, texts, login, log, detail) {
+        Ok(status) => ExitCode::from(status),
+        Err(fault) => status_of(rt, Err(fault), detail),
+    }
+}
+
+/// Replays standard input on a share of the configuration that is built in, and gives the exit status.
+fn replay_without_words(rt: &HostRuntime) -> ExitCode {
+    let detail = detail_without_words(rt);
+    match Texts::built_in(rt.alloc()) {
+        Ok(texts) => replay_texts(rt, &texts, Login::Token, None, detail),
+        Err(_) => report(rt, CommandFault::NoMemory, detail),
+    }
 }
 
 /// Shows the stream of standard input, with fields or without, and gives the exit status.
@@ -168,24 +144,24 @@ fn hash_input(rt: &HostRuntime) -> ExitCode {
 }
 
 /// Where a share is recorded, and how, where the words say that it is.
-fn record_of<'a>(words: &'a ArgMatches<'_>) -> Option<RecordWords<'a>> {
+fn record_of<'a>(words: &'a ArgMatches<'_>) -> Option<KeepWords<'a>> {
     let settles = words.get_flag("sync");
     if let Some(path) = words.get_str("journal") {
-        return Some(RecordWords {
+        return Some(KeepWords {
             form: Form::Journal,
             path,
             settles,
         });
     }
-    Some(RecordWords {
+    Some(KeepWords {
         form: Form::Recording,
         path: words.get_str("record")?,
         settles,
     })
 }
 
-/// Where a share is logged, and how, where the words say that it is.
-fn log_words_of<'a>(words: &'a ArgMatches<'_>) -> Option<LogWords<'a>> {
+/// Where a share is logged, and how, where the words say that it is. With `must` it ends where a line can't be written.
+fn log_words_of<'a>(words: &'a ArgMatches<'_>, must: bool) -> Option<LogWords<'a>> {
     let level = match words.get_str("log-level") {
         Some("sessions") => Level::Sessions,
         Some("requests") => Level::Requests,
@@ -194,7 +170,7 @@ fn log_words_of<'a>(words: &'a ArgMatches<'_>) -> Option<LogWords<'a>> {
     Some(LogWords {
         path: words.get_str("log")?,
         level,
-        must: words.get_flag("log-must"),
+        must,
     })
 }
 
@@ -208,7 +184,7 @@ fn serve_clients(
     let Ok(heard) = Heard::new(rt.alloc()) else {
         return report(rt, CommandFault::NoMemory, Detail::Brief);
     };
-    let log = log_words_of(words);
+    let log = log_words_of(words, words.get_flag("log-must"));
     if log.is_none() {
         heard.visitors.close();
     }
@@ -241,7 +217,8 @@ fn run_with_share(
     if name == "replay"
         && let Some(path) = words.get_str("recording")
     {
-        return status_of(rt, print_recording(rt, path), detail_of(rt, words, None));
+        let printed = print_recording(rt, path, log_words_of(words, false));
+        return status_of(rt, printed, detail_of(rt, words, None));
     }
     let texts = match Texts::read(rt, line, words) {
         Ok(texts) => texts,
@@ -251,10 +228,7 @@ fn run_with_share(
         return serve_clients(rt, &texts, login, words);
     }
     let detail = detail_of(rt, words, Some(&texts));
-    match login {
-        Login::Token => replay_input(rt, texts.config.as_str(), detail),
-        Login::Ntlm(seed) => replay_by_ntlm(rt, &texts, seed, detail),
-    }
+    replay_texts(rt, &texts, login, log_words_of(words, false), detail)
 }
 
 /// How clients log in to the share of a command; where words do not go together, what is wrong with them.
@@ -266,9 +240,11 @@ fn login_of(command: Option<(&str, &ArgMatches<'_>)>) -> Result<Login, &'static 
                 && words.get_str("record").is_none() => {
             Err("--sync is only taken with --journal or --record")
         }
-        Some(("serve", words))
-            if words.get_str("log").is_none()
-                && (words.get_str("log-level").is_some() || words.get_flag("log-must")) => {
+        Some(("serve", words)) if words.get_flag("log-must") && words.get_str("log").is_none() => {
+            Err("--log-level and --log-must are only taken with --log")
+        }
+        Some(("serve" | "replay", words))
+            if words.get_str("log-level").is_some() && words.get_str("log").is_none() => {
             Err("--log-level and --log-must are only taken with --log")
         }
         Some(("serve" | "replay", words)) => Login::of(words),
@@ -292,7 +268,7 @@ fn run_command(
         }
         Some(("compact", _)) => status_of(rt, compact(rt), Detail::Brief),
         Some((name, words)) => run_with_share(rt, name, line, words, login),
-        None => replay_input(rt, BUILT_IN, detail_without_words(rt)),
+        None => replay_without_words(rt),
     }
 }
 

@@ -1,17 +1,17 @@
 //! The command `serve`: a share to clients over TCP.
 
 use crate::clock::ServeClock;
-use crate::compaction::{say_kept, write_anew};
+use crate::compaction::write_anew_or_say;
 use crate::fault::Fault;
 use crate::logging::{Heard, LogWords, ServedPeers, log_of};
 use crate::login::{Login, ntlm_of, read_accounts};
 use crate::notices::{Entrance, say_notices};
-use crate::recording::{RecordWords, share_of};
-use crate::served_record::{Served, serve_folder, serve_recorded};
+use crate::served_record::{Serving, serve_folder, serve_recorded, serve_recorded_folder};
 use crate::texts::Texts;
 use mio::net::TcpListener;
 use smb_config::Configuration;
-use smb_engine::{Authenticator, Config, serve_until};
+use smb_engine::{Authenticator, Config, HandleTable, NodeTree, Share, serve_until};
+use smb_kept::{KeepWords, share_of};
 use smb_log::{LoggedLogin, LoggedPeers};
 use smb_replay::{CommandFault, ListenFault};
 use smb_tcp::TcpPeers;
@@ -37,7 +37,7 @@ pub struct ServeWords<'a> {
     /// After how many seconds a connection ends that was never answered; 0: after none.
     pub unanswered_seconds: u64,
     /// Where the share is recorded, if it is.
-    pub record: Option<RecordWords<'a>>,
+    pub record: Option<KeepWords<'a>>,
     /// The folder whose files the share begins with.
     pub from: Option<&'a str>,
     /// The moment of the first piece, for tests.
@@ -144,22 +144,45 @@ pub fn end_of(peers: ServedPeers<'_>) -> Result<Served, Fault> {
     }
 }
 
-/// Serves a new share of which nothing is kept, for so many turns.
-fn serve_new<A: Authenticator + Drop>(
-    rt: &HostRuntime,
-    words: &ServeWords<'_>,
-    entrance: Entrance,
-    config: Config,
-    authenticator: A,
+/// What came of serving a share.
+#[derive(Clone, Copy, Debug, PartialEq, Eq)]
+pub enum Served {
+    Done,
+    /// Its journal is to be written anew first.
+    NotYet,
+}
+
+/// Serves a share whose next connection has the number `next`, for so many turns.
+pub fn serve_peers<A: Authenticator + Drop>(
+    serving: Serving<'_, '_>,
+    share: &mut Share<A, NodeTree, HandleTable>,
+    clock: &mut ServeClock<'_>,
+    next: u64,
 ) -> Result<Served, Fault> {
-    let mut share = share_of(rt.alloc(), config, authenticator)?;
-    match listening_peers(rt, words, entrance, 1) {
+    let Serving {
+        rt,
+        words,
+        entrance,
+    } = serving;
+    match listening_peers(rt, words, entrance, next) {
         Ok(mut peers) => {
-            let mut clock = ServeClock::new(rt, words.clock);
-            let _ = serve_until(&mut share, &mut peers, &mut clock, words.turns);
+            let _ = serve_until(share, &mut peers, clock, words.turns);
             end_of(peers)
         }
         Err(fault) => Err(fault),
+    }
+}
+
+/// Serves a new share of which nothing is kept, for so many turns.
+fn serve_new<A: Authenticator + Drop>(
+    serving: Serving<'_, '_>,
+    config: Config,
+    authenticator: A,
+) -> Result<Served, Fault> {
+    let mut clock = ServeClock::new(serving.rt, serving.words.clock);
+    match share_of(serving.rt.alloc(), config, authenticator) {
+        Ok(mut share) => serve_peers(serving, &mut share, &mut clock, 1),
+        Err(fault) => Err(Fault::Kept(fault)),
     }
 }
 
@@ -171,11 +194,19 @@ fn serve_by<A: Authenticator + Drop>(
     config: Config,
     authenticator: A,
 ) -> Result<Served, Fault> {
+    let serving = Serving {
+        rt,
+        words,
+        entrance,
+    };
     drop(listen(rt, words.listen)?);
     match (words.record, words.from) {
-        (Some(record), _) => serve_recorded(rt, words, entrance, record, config, authenticator),
-        (None, Some(folder)) => serve_folder(rt, words, entrance, folder, config, authenticator),
-        (None, None) => serve_new(rt, words, entrance, config, authenticator),
+        (Some(record), Some(folder)) => {
+            serve_recorded_folder(serving, record, folder, config, authenticator)
+        }
+        (Some(record), None) => serve_recorded(serving, record, config, authenticator),
+        (None, Some(folder)) => serve_folder(serving, folder, config, authenticator),
+        (None, None) => serve_new(serving, config, authenticator),
     }
 }
 
@@ -231,10 +262,8 @@ pub fn serve_share(rt: &HostRuntime, words: &ServeWords<'_>) -> Result<(), Fault
     if serve_configured(rt, words)? == Served::Done {
         return Ok(());
     }
-    if let Some(record) = words.record
-        && let Err(fault) = write_anew(rt, record.path)
-    {
-        say_kept(rt, &fault);
+    if let Some(record) = words.record {
+        write_anew_or_say(rt, record.path);
     }
     let words = ServeWords {
         writes_anew: false,

@@ -1,24 +1,20 @@
 //! A share that is served and recorded, or that begins with the files of a folder.
 
 use crate::clock::ServeClock;
-use crate::compaction::is_long;
 use crate::fault::Fault;
 use crate::logging::ServedPeers;
 use crate::notices::Entrance;
-use crate::own_client::{FolderFilling, OwnLine, own_answer, own_answers, path_of, put_in};
-use crate::recording::{Begun, RecordWords, begin, recorded_share, settle_name};
-use crate::serve::{ServeWords, end_of, listening_peers};
-use smb_engine::{Authenticator, Config, HandleTable, NodeTree, serve_until};
-use smb_journal::{
-    Form, GivenAnswer, JournalFault, Mailbox, RecordedClock, RecordedLogin, RecordedPeers,
-    Recorder, Store,
+use crate::serve::{ServeWords, Served, end_of, listening_peers, serve_peers};
+use smb_engine::{Authenticator, Config, serve_until};
+use smb_journal::{Form, GivenAnswer, Mailbox, RecordedClock, RecordedPeers, Recorder, Store};
+use smb_kept::{
+    Begun, KeepWords, Keeping, KeptFault, OwnLine, RecordedShare, is_long, own_answer, own_answers,
+    path_of, put_folder_in, recorded_share,
 };
-use smb_replay::CommandFault;
-use std::alloc::Global;
 use std::cell::Cell;
 use std::collections::VecDeque;
 use std::fs::File;
-use std::{fs, io};
+use std::io;
 
 /// What recorded peers share with the clock and the authenticator of their share.
 #[derive(Clone, Copy)]
@@ -41,255 +37,299 @@ impl Store for Nowhere {
     }
 }
 
+/// The peers of a share of which all is recorded.
+type Recorded<'a> = RecordedPeers<'a, ServedPeers<'a>, ServeClock<'a>, File>;
+
+/// What is served, and how.
+#[derive(Clone, Copy)]
+pub struct Serving<'a, 'w> {
+    pub rt: &'a HostRuntime,
+    pub words: &'w ServeWords<'a>,
+    pub entrance: Entrance,
+}
+
 /// The peers of a share of which all is recorded, once it listens.
 fn recorded_peers<'a>(
-    rt: &'a HostRuntime,
-    words: &ServeWords<'a>,
-    entrance: Entrance,
-    recorder: Recorder<File>,
-    next: u64,
+    serving: Serving<'a, '_>,
+    begun: Begun,
     shared: Shared<'a>,
     clock: ServeClock<'a>,
-) -> Result<RecordedPeers<'a, ServedPeers<'a>, ServeClock<'a>, File>, Fault> {
+) -> Result<Recorded<'a>, Fault> {
+    let Serving {
+        rt,
+        words,
+        entrance,
+    } = serving;
+    let Begun { recorder, next, .. } = begun;
     let peers = listening_peers(rt, words, entrance, next)?;
     let Shared { moment, mailbox } = shared;
     let recorded = RecordedPeers::new(rt.alloc(), peers, clock, moment, mailbox, recorder, next)?;
     Ok(recorded)
 }
 
+/// What is served, once all of it is recorded and logged.
+fn end_of_recorded(recorded: Recorded<'_>) -> Result<Served, Fault> {
+    let (recorder, peers) = recorded.finish();
+    let ended = end_of(peers);
+    if recorder.has_failed() {
+        return Err(Fault::Kept(KeptFault::RecordFailed));
+    }
+    ended
+}
+
 /// Serves a share of which all is recorded.
 fn serve_begun<A: Authenticator + Drop>(
-    rt: &HostRuntime,
-    words: &ServeWords<'_>,
-    entrance: Entrance,
-    begun: Begun<'_, A>,
+    serving: Serving<'_, '_>,
+    share: &mut RecordedShare<'_, A>,
+    begun: Begun,
     mailbox: &Mailbox,
     clock: ServeClock<'_>,
 ) -> Result<Served, Fault> {
-    let Begun {
-        mut share,
-        recorder,
-        next,
-        length: _,
-    } = begun;
     let moment = Cell::new(0);
     let shared = Shared {
         moment: &moment,
         mailbox,
     };
-    match recorded_peers(rt, words, entrance, recorder, next, shared, clock) {
+    match recorded_peers(serving, begun, shared, clock) {
         Ok(mut recorded) => {
             let mut told = RecordedClock::new(&moment);
-            let _ = serve_until(&mut share, &mut recorded, &mut told, words.turns);
-            let (recorder, peers) = recorded.finish();
-            let ended = end_of(peers);
-            if recorder.has_failed() {
-                Err(Fault::RecordFailed)
-            } else {
-                ended
-            }
+            let _ = serve_until(share, &mut recorded, &mut told, serving.words.turns);
+            end_of_recorded(recorded)
         }
         Err(fault) => Err(fault),
     }
 }
 
-/// A share with the files of a folder, and the clock behind them.
-#[derive(Drop)]
-struct Filled<'m, 'c, A: Authenticator + Drop> {
-    begun: Begun<'m, A>,
-    clock: ServeClock<'c>,
+/// Serves a share that begins with what its journal says, where that is not to be written anew first.
+fn serve_kept<A: Authenticator + Drop>(
+    serving: Serving<'_, '_>,
+    keeping: Keeping<'_>,
+    share: &mut RecordedShare<'_, A>,
+    mailbox: &Mailbox,
+) -> Result<Served, Fault> {
+    let begun = keeping.begin(serving.rt, share, mailbox)?;
+    if serving.words.writes_anew && is_long(begun.length, share.usage()) {
+        return Ok(Served::NotYet);
+    }
+    let clock = ServeClock::new(serving.rt, serving.words.clock);
+    serve_begun(serving, share, begun, mailbox, clock)
 }
 
 /// Puts the files of a folder into a share that is recorded.
-fn fill<'m, 'c, A: Authenticator + Drop>(
-    rt: &'c HostRuntime,
-    words: &ServeWords<'_>,
+fn fill<A: Authenticator + Drop>(
+    serving: Serving<'_, '_>,
     folder: &str,
     path: &str,
-    begun: Begun<'m, A>,
-    mailbox: &'m Mailbox,
-) -> Result<Filled<'m, 'c, A>, Fault> {
-    let answer = own_answer(rt.alloc())?;
-    let Begun {
-        share,
-        recorder,
-        ..
-    } = begun;
-    let line = OwnLine {
-        share,
-        recorder,
-        mailbox,
-        clock: ServeClock::new(rt, words.clock),
-        answer: Some(answer),
-        exchanges: 0,
-    };
-    let OwnLine {
-        share,
-        recorder,
-        clock,
-        ..
-    } = put_in(rt, &mut FolderFilling { folder }, path, line)?;
-    let begun = Begun {
-        share,
-        recorder,
-        next: 2,
-        length: 0,
-    };
-    Ok(Filled { begun, clock })
+    share: &mut RecordedShare<'_, A>,
+    recorder: &mut Recorder<File>,
+    mailbox: &Mailbox,
+    clock: &mut ServeClock<'_>,
+) -> Result<(), Fault> {
+    let answer = own_answer(serving.rt.alloc())?;
+    let mut line = OwnLine::new(share, recorder, mailbox, clock, Some(answer));
+    Ok(put_folder_in(serving.rt, folder, path, &mut line)?)
 }
 
-/// Serves a share that begins with the files of a folder, and is recorded: in a file of another name until all of them are put in, so
-/// none is there that has a part of them.
-fn serve_filled<'m, A: Authenticator + Drop>(
-    rt: &HostRuntime,
-    words: &ServeWords<'_>,
-    entrance: Entrance,
+/// Serves a share of a path that begins with the files of a folder, and is recorded: in a file that was made, and that gets its name once
+/// all of them are put in.
+fn serve_filled<A: Authenticator + Drop>(
+    serving: Serving<'_, '_>,
     folder: &str,
-    record: RecordWords<'_>,
-    config: Config,
-    authenticator: A,
-    mailbox: &'m Mailbox,
+    path: &str,
+    made: KeepWords<'_>,
+    name: &str,
+    keeping: Keeping<'_>,
+    share: &mut RecordedShare<'_, A>,
+    mailbox: &Mailbox,
 ) -> Result<Served, Fault> {
-    let path = path_of(rt.alloc(), config.share.as_str())?;
-    let record_path = record.path;
-    let made = format!(in rt.alloc(); "{record_path}.new")?;
-    let _ = fs::remove_file(rt, made.as_str());
-    let record = RecordWords {
-        path: made.as_str(),
-        ..record
-    };
-    let begun = begin(rt, record, config, authenticator, mailbox, true)?;
-    match fill(rt, words, folder, path.as_str(), begun, mailbox) {
-        Ok(Filled { begun, clock }) => match give_name(rt, record, record_path) {
-            Ok(()) => serve_begun(rt, words, entrance, begun, mailbox, clock),
-            Err(fault) => Err(fault),
-        },
-        Err(fault) => {
-            let _ = fs::remove_file(rt, made.as_str());
-            Err(fault)
-        }
-    }
-}
-
-/// Gives a file that was made its name.
-fn give_name(rt: &HostRuntime, made: RecordWords<'_>, path: &str) -> Result<(), Fault> {
-    if let Err(error) = fs::rename(rt, made.path, path) {
-        return Err(Fault::Journal(JournalFault::of_write(error)));
-    }
-    if made.settles
-        && let Err(error) = settle_name(rt, path)
-    {
-        return Err(Fault::Journal(JournalFault::of_write(error)));
-    }
-    Ok(())
-}
-
-/// Whether a file is there.
-fn is_there(rt: &HostRuntime, path: &str) -> Result<bool, Fault> {
-    match fs::exists(rt, path) {
-        Ok(is_there) => Ok(is_there),
-        Err(error) => Err(Fault::Journal(JournalFault::of_read(error))),
-    }
-}
-
-/// Serves a share that is recorded, and that begins with what its journal says, where that is not to be written anew first.
-fn serve_kept<'m, A: Authenticator + Drop>(
-    rt: &HostRuntime,
-    words: &ServeWords<'_>,
-    entrance: Entrance,
-    record: RecordWords<'_>,
-    config: Config,
-    authenticator: A,
-    mailbox: &'m Mailbox,
-) -> Result<Served, Fault> {
-    let begun = begin(rt, record, config, authenticator, mailbox, false)?;
-    if words.writes_anew && is_long(begun.length, begun.share.usage()) {
-        return Ok(Served::NotYet);
-    }
-    let clock = ServeClock::new(rt, words.clock);
-    serve_begun(rt, words, entrance, begun, mailbox, clock)
-}
-
-/// What came of serving a share.
-#[derive(Clone, Copy, Debug, PartialEq, Eq)]
-pub enum Served {
-    Done,
-    /// Its journal is to be written anew first.
-    NotYet,
-}
-
-/// Serves a share and records it: a new one, which may begin with the files of a folder, or one that goes on behind its journal.
-pub fn serve_recorded<A: Authenticator + Drop>(
-    rt: &HostRuntime,
-    words: &ServeWords<'_>,
-    entrance: Entrance,
-    record: RecordWords<'_>,
-    config: Config,
-    authenticator: A,
-) -> Result<Served, Fault> {
-    let mailbox = Mailbox::new(rt.alloc());
-    let Some(folder) = words.from else {
-        return serve_kept(rt, words, entrance, record, config, authenticator, &mailbox);
-    };
-    if is_there(rt, record.path)? {
-        return Err(Fault::Journal(JournalFault::Exists));
-    }
-    serve_filled(
-        rt,
-        words,
-        entrance,
+    let mut begun = keeping.begin(serving.rt, share, mailbox)?;
+    let mut clock = ServeClock::new(serving.rt, serving.words.clock);
+    fill(
+        serving,
         folder,
-        record,
-        config,
-        authenticator,
-        &mailbox,
-    )
+        path,
+        share,
+        &mut begun.recorder,
+        mailbox,
+        &mut clock,
+    )?;
+    made.give_name(serving.rt, name)?;
+    begun.next = 2;
+    serve_begun(serving, share, begun, mailbox, clock)
 }
 
-/// A line to a new share of which nothing is recorded.
-fn unrecorded_line<'m, 'c, A: Authenticator + Drop>(
-    rt: &'c HostRuntime,
-    words: &ServeWords<'_>,
+/// What a share is made of whose authenticator gives recorded answers first.
+#[derive(Drop)]
+struct Parts<A: Authenticator + Drop> {
+    config: Config,
+    hello: Vec<u8>,
+    given: VecDeque<GivenAnswer>,
+    authenticator: A,
+}
+
+/// A share of its parts.
+fn share_of_parts<'m, A: Authenticator + Drop>(
+    rt: &HostRuntime,
+    parts: Parts<A>,
+    mailbox: &'m Mailbox,
+) -> Result<RecordedShare<'m, A>, Fault> {
+    let Parts {
+        config,
+        hello,
+        given,
+        authenticator,
+    } = parts;
+    Ok(recorded_share(rt.alloc(), config, hello, given, authenticator, mailbox)?)
+}
+
+/// Serves a share of its parts, which is kept.
+fn serve_parts<A: Authenticator + Drop>(
+    serving: Serving<'_, '_>,
+    keeping: Keeping<'_>,
+    parts: Parts<A>,
+) -> Result<Served, Fault> {
+    let mailbox = Mailbox::new(serving.rt.alloc());
+    match share_of_parts(serving.rt, parts, &mailbox) {
+        Ok(mut share) => serve_kept(serving, keeping, &mut share, &mailbox),
+        Err(fault) => Err(fault),
+    }
+}
+
+/// Serves a share of its parts, which is kept, and begins with the files of a folder. None of its record is there after a fault.
+fn serve_filled_parts<A: Authenticator + Drop>(
+    serving: Serving<'_, '_>,
+    folder: &str,
+    path: &str,
+    made: KeepWords<'_>,
+    name: &str,
+    keeping: Keeping<'_>,
+    parts: Parts<A>,
+) -> Result<Served, Fault> {
+    let mailbox = Mailbox::new(serving.rt.alloc());
+    match share_of_parts(serving.rt, parts, &mailbox) {
+        Ok(mut share) => {
+            let served = serve_filled(
+                serving, folder, path, made, name, keeping, &mut share, &mailbox,
+            );
+            if served.is_err() {
+                made.remove(serving.rt);
+            }
+            served
+        }
+        Err(fault) => Err(fault),
+    }
+}
+
+/// The parts of a share that goes on as a file says.
+fn parts_of<A: Authenticator + Drop>(
+    rt: &HostRuntime,
+    keeping: &Keeping<'_>,
     config: Config,
     authenticator: A,
-    mailbox: &'m Mailbox,
-) -> Result<OwnLine<'m, 'c, RecordedLogin<'m, A>, NodeTree, HandleTable, Nowhere>, Fault> {
-    let alloc = rt.alloc();
-    let hello = Vec::from_slice(alloc, authenticator.hello())?;
-    let given = own_answers(alloc)?;
-    Ok(OwnLine {
-        share: recorded_share(alloc, config, hello, given, authenticator, mailbox)?,
-        recorder: Recorder::new(alloc, Nowhere, Form::Journal, false, 0)?,
-        mailbox,
-        clock: ServeClock::new(rt, words.clock),
-        answer: None,
-        exchanges: 0,
+) -> Result<Parts<A>, Fault> {
+    let hello = keeping.hello(rt.alloc())?;
+    let given = keeping.given(rt)?;
+    Ok(Parts {
+        config,
+        hello,
+        given,
+        authenticator,
     })
 }
 
-/// Serves a new share that begins with the files of a folder, and of which nothing is recorded.
-pub fn serve_folder<'a, A: Authenticator + Drop>(
-    rt: &'a HostRuntime,
-    words: &ServeWords<'a>,
-    entrance: Entrance,
+/// The parts of a share that lets the program's own client in first.
+fn parts_to_fill<A: Authenticator + Drop>(
+    rt: &HostRuntime,
+    config: Config,
+    authenticator: A,
+) -> Result<Parts<A>, Fault> {
+    let hello = Vec::from_slice(rt.alloc(), authenticator.hello())?;
+    let given = own_answers(rt.alloc())?;
+    Ok(Parts {
+        config,
+        hello,
+        given,
+        authenticator,
+    })
+}
+
+/// Serves a share that is recorded: a new one, or one that goes on behind its journal.
+pub fn serve_recorded<A: Authenticator + Drop>(
+    serving: Serving<'_, '_>,
+    record: KeepWords<'_>,
+    config: Config,
+    authenticator: A,
+) -> Result<Served, Fault> {
+    let keeping = Keeping::open(serving.rt, record, &config, authenticator.hello())?;
+    let parts = parts_of(serving.rt, &keeping, config, authenticator)?;
+    serve_parts(serving, keeping, parts)
+}
+
+/// Serves a new share that begins with the files of a folder, and is recorded from its first event on.
+pub fn serve_recorded_folder<A: Authenticator + Drop>(
+    serving: Serving<'_, '_>,
+    record: KeepWords<'_>,
     folder: &str,
     config: Config,
     authenticator: A,
 ) -> Result<Served, Fault> {
+    let alloc = serving.rt.alloc();
+    record.refuse_existing(serving.rt)?;
+    let name = record.path;
+    let path = path_of(alloc, config.share.as_str())?;
+    let made_path = format!(in alloc; "{name}.new")?;
+    let made = KeepWords {
+        path: made_path.as_str(),
+        ..record
+    };
+    let keeping = Keeping::make(serving.rt, made, &config, authenticator.hello())?;
+    let parts = parts_to_fill(serving.rt, config, authenticator)?;
+    serve_filled_parts(serving, folder, path.as_str(), made, name, keeping, parts)
+}
+
+/// Serves a share once the files of a folder are put in, of which nothing is recorded.
+fn serve_unrecorded<A: Authenticator + Drop>(
+    serving: Serving<'_, '_>,
+    folder: &str,
+    path: &str,
+    share: &mut RecordedShare<'_, A>,
+    mailbox: &Mailbox,
+) -> Result<Served, Fault> {
+    let rt = serving.rt;
+    let mut clock = ServeClock::new(rt, serving.words.clock);
+    put_unrecorded(rt, folder, path, share, mailbox, &mut clock)?;
+    serve_peers(serving, share, &mut clock, 2)
+}
+
+/// Puts the files of a folder into a share, and records nothing.
+fn put_unrecorded<A: Authenticator + Drop>(
+    rt: &HostRuntime,
+    folder: &str,
+    path: &str,
+    share: &mut RecordedShare<'_, A>,
+    mailbox: &Mailbox,
+    clock: &mut ServeClock<'_>,
+) -> Result<(), Fault> {
+    let recorder = Recorder::new(rt.alloc(), Nowhere, Form::Journal, false, 0);
+    let mut recorder = recorder.map_err(KeptFault::Journal)?;
+    let mut line = OwnLine::new(share, &mut recorder, mailbox, clock, None);
+    Ok(put_folder_in(rt, folder, path, &mut line)?)
+}
+
+/// Serves a new share that begins with the files of a folder, and of which nothing is recorded.
+pub fn serve_folder<A: Authenticator + Drop>(
+    serving: Serving<'_, '_>,
+    folder: &str,
+    config: Config,
+    authenticator: A,
+) -> Result<Served, Fault> {
+    let rt = serving.rt;
     let path = path_of(rt.alloc(), config.share.as_str())?;
+    let parts = parts_to_fill(rt, config, authenticator)?;
     let mailbox = Mailbox::new(rt.alloc());
     mailbox.close();
-    let line = unrecorded_line(rt, words, config, authenticator, &mailbox)?;
-    let OwnLine {
-        mut share,
-        mut clock,
-        ..
-    } = put_in(rt, &mut FolderFilling { folder }, path.as_str(), line)?;
-    match listening_peers(rt, words, entrance, 2) {
-        Ok(mut peers) => {
-            let _ = serve_until(&mut share, &mut peers, &mut clock, words.turns);
-            end_of(peers)
-        }
+    match share_of_parts(rt, parts, &mailbox) {
+        Ok(mut share) => serve_unrecorded(serving, folder, path.as_str(), &mut share, &mailbox),
         Err(fault) => Err(fault),
     }
 }

@@ -13,14 +13,16 @@ const SMB1_NEGOTIATE: &[u8] = b"\xffSMB\x72";
 
 /// A payload that a share performs.
 #[derive(Drop)]
-pub(crate) enum Payload<'a> {
+pub enum Payload<'a> {
+    /// An SMB_COM_NEGOTIATE.
     Smb1(Smb1Dialects),
+    /// One request or more.
     Chain(Chain<'a>),
 }
 
-/// What a connection has agreed on.
+/// What a connection has agreed on: whether a payload came, the dialect, and the MessageIds that its client may use.
 #[derive(Drop)]
-pub(crate) struct Agreed {
+pub struct Agreed {
     payload_came: bool,
     dialect: Option<Dialect>,
     window: Window,
@@ -64,7 +66,7 @@ fn count_negotiates(chain: &Chain<'_>) -> usize {
 
 impl Agreed {
     /// A new connection.
-    pub(crate) fn new() -> Self {
+    pub fn new() -> Self {
         Agreed {
             payload_came: false,
             dialect: None,
@@ -174,8 +176,11 @@ impl Agreed {
         }
     }
 
-    /// Takes a payload that the share performs, or gives the rule by which it ends the connection.
-    pub(crate) fn take<'a>(&mut self, payload: &'a [u8]) -> Result<Payload<'a>, Rule> {
+    /// Takes the next payload of the connection's stream, as its frame has it, where the share performs it.
+    ///
+    /// # Errors
+    /// The rule by which the share ends the connection: no later payload may be given then.
+    pub fn take<'a>(&mut self, payload: &'a [u8]) -> Result<Payload<'a>, Rule> {
         if !self.payload_came {
             if let Some(dialects) = read_smb1_negotiate(payload) {
                 self.take_smb1(dialects)?;

@@ -1,0 +1,59 @@
+//! Why a share cannot be kept, or not be gone on with.
+
+use smb_client::ClientFault;
+use smb_folder::FolderFault;
+use smb_journal::JournalFault;
+use std::alloc::AllocError;
+
+/// What ends a call.
+#[derive(Debug, Drop)]
+pub enum KeptFault {
+    NoMemory,
+    /// The share refuses the configuration.
+    BadConfig,
+    /// A file that a share is recorded in, or made from.
+    Journal(JournalFault),
+    /// What the program's own client asked could not be recorded.
+    RecordFailed,
+    /// A file or folder that can't be put into the share, or taken out of it.
+    Folder(FolderFault),
+    /// A file or folder of a recording that can't be made by requests.
+    Copied(FolderFault),
+}
+
+impl KeptFault {
+    /// The fault of a copy, where a fault is one of a file or folder.
+    pub(crate) fn of_copy(self) -> KeptFault {
+        match self {
+            KeptFault::Folder(fault) => KeptFault::Copied(fault),
+            fault => fault,
+        }
+    }
+}
+
+impl From<AllocError> for KeptFault {
+    fn from(_error: AllocError) -> KeptFault {
+        KeptFault::NoMemory
+    }
+}
+
+impl From<JournalFault> for KeptFault {
+    fn from(fault: JournalFault) -> KeptFault {
+        KeptFault::Journal(fault)
+    }
+}
+
+impl From<FolderFault> for KeptFault {
+    fn from(fault: FolderFault) -> KeptFault {
+        KeptFault::Folder(fault)
+    }
+}
+
+impl From<ClientFault> for KeptFault {
+    fn from(fault: ClientFault) -> KeptFault {
+        match fault {
+            ClientFault::NoMemory => KeptFault::NoMemory,
+            _ => KeptFault::RecordFailed,
+        }
+    }
+}

@@ -1,0 +1,43 @@
+//! A recording of a file, performed on a share.
+
+use crate::fault::KeptFault;
+use crate::files::open_lines;
+use smb_engine::{Authenticator, Opens, Share, Tree};
+use smb_journal::{GivenAnswer, Header, Hears, Performed, given_answers, perform};
+use std::collections::VecDeque;
+
+/// What was performed of a recording, how many bytes its whole lines take, and the check of the last of them.
+#[derive(Drop)]
+pub struct Done {
+    pub(crate) performed: Performed,
+    pub(crate) end: u64,
+    pub(crate) check: u64,
+}
+
+/// The first line of a recording, and the answers of the authenticator in it. All of it is read, and nothing is performed.
+pub fn read_recording(
+    rt: &HostRuntime,
+    path: &str,
+) -> Result<(Header, VecDeque<GivenAnswer>), KeptFault> {
+    let mut lines = open_lines(rt, path)?;
+    let header = lines.header()?;
+    let given = given_answers(rt.alloc(), &mut lines)?;
+    Ok((header, given))
+}
+
+/// Performs all of a recording on a new share.
+pub fn perform_file<A: Authenticator + Drop, T: Tree + Drop, O: Opens + Drop, H: Hears>(
+    rt: &HostRuntime,
+    path: &str,
+    share: &mut Share<A, T, O>,
+    heard: &mut H,
+) -> Result<Done, KeptFault> {
+    let mut lines = open_lines(rt, path)?;
+    let _ = lines.header()?;
+    let performed = perform(rt.alloc(), share, &mut lines, heard)?;
+    Ok(Done {
+        performed,
+        end: lines.offset(),
+        check: lines.check(),
+    })
+}

@@ -1,0 +1,58 @@
+//! A share whose authenticator gives recorded answers first.
+
+use crate::fault::KeptFault;
+use smb_engine::{Authenticator, Config, HandleTable, NodeTree, ServeFault, Share, Tokens};
+use smb_journal::{GivenAnswer, JournalFault, Mailbox, RecordedLogin};
+use std::alloc::{AllocError, Global};
+use std::collections::VecDeque;
+
+/// A share whose clients are let in by recorded answers first.
+pub type RecordedShare<'m, A> = Share<RecordedLogin<'m, A>, NodeTree, HandleTable>;
+
+/// A new share of a configuration.
+///
+/// [`KeptFault::BadConfig`] where the share refuses it, or [`KeptFault::NoMemory`].
+pub fn share_of<A: Authenticator + Drop>(
+    alloc: Global,
+    config: Config,
+    authenticator: A,
+) -> Result<Share<A, NodeTree, HandleTable>, KeptFault> {
+    match Share::in_memory(alloc, config, authenticator) {
+        Ok(share) => Ok(share),
+        Err(ServeFault::NoMemory { .. }) => Err(KeptFault::NoMemory),
+        Err(_) => Err(KeptFault::BadConfig),
+    }
+}
+
+/// An authenticator that offers `hello` first, of at most 4,096 bytes, gives these answers, and then asks the one behind.
+///
+/// [`JournalFault::NoRecording`] where `hello` is longer.
+pub fn recorded_login<'m, A: Authenticator + Drop>(
+    hello: Vec<u8>,
+    given: VecDeque<GivenAnswer>,
+    behind: A,
+    mailbox: &'m Mailbox,
+) -> Result<RecordedLogin<'m, A>, KeptFault> {
+    match RecordedLogin::new(hello, given, behind, mailbox) {
+        Some(login) => Ok(login),
+        None => Err(KeptFault::Journal(JournalFault::NoRecording)),
+    }
+}
+
+/// A new share of a configuration whose authenticator is a [`recorded_login`].
+pub fn recorded_share<'m, A: Authenticator + Drop>(
+    alloc: Global,
+    config: Config,
+    hello: Vec<u8>,
+    given: VecDeque<GivenAnswer>,
+    behind: A,
+    mailbox: &'m Mailbox,
+) -> Result<RecordedShare<'m, A>, KeptFault> {
+    let login = recorded_login(hello, given, behind, mailbox)?;
+    share_of(alloc, config, login)
+}
+
+/// An authenticator that lets nobody in: behind the recorded answers nobody is asked who would be.
+pub fn nobody(alloc: Global) -> Result<Tokens, AllocError> {
+    Tokens::new(alloc, b"", false, false, Vec::new(alloc))
+}

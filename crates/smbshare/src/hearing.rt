@@ -1,0 +1,54 @@
+//! The log of a replay.
+
+use crate::fault::Fault;
+use crate::logging::{LogOutput, LogWords, log_of};
+use smb_engine::{Answer, Event};
+use smb_log::{ReplayLog, Visitors};
+use smb_replay::Hears;
+
+/// What hears a replay: its log, where there is one.
+#[derive(Drop)]
+pub struct Hearing<'v> {
+    log: Option<ReplayLog<'v, LogOutput>>,
+}
+
+impl<'v> Hearing<'v> {
+    /// The log that the words ask for, of a share that was made at this moment, and of those whom the visitors note.
+    pub fn open(
+        rt: &HostRuntime,
+        words: Option<LogWords<'_>>,
+        visitors: &'v Visitors,
+        created: u64,
+    ) -> Result<Self, Fault> {
+        let log = match log_of(rt, words)? {
+            Some(log) => Some(ReplayLog::new(log, visitors, created)),
+            None => {
+                visitors.close();
+                None
+            }
+        };
+        Ok(Hearing { log })
+    }
+
+    /// Takes note that memory ran out in what came last on a connection, which has ended with it.
+    pub fn cut_short(&mut self, connection: u64) {
+        if let Some(log) = &mut self.log {
+            log.cut_short(connection);
+        }
+    }
+
+    /// Writes what is left. Where a line could not be written standard error says so already.
+    pub fn finish(self) {
+        if let Some(log) = self.log {
+            let _ = log.finish();
+        }
+    }
+}
+
+impl Hears for Hearing<'_> {
+    fn hear(&mut self, event: &Event, answers: &[Answer]) {
+        if let Some(log) = &mut self.log {
+            log.hear(event, answers);
+        }
+    }
+}
