@@ -1,12 +1,13 @@
 #!/usr/bin/env python3
-"""Times the proved program over TCP with what it keeps, on one machine; prints the rows of bench/FIGURES.md.
+"""Times the proved program over TCP with what it keeps and what it logs, on one machine; prints the rows of bench/FIGURES.md.
 
     (cd crates/smbshare && rt run < stdin > /dev/null)     builds crates/smbshare/out/smbshare
     python3 bench/recording.py [PROGRAM]
 
-Each kind of keeping and of a log serves one client that sends a request, waits for its answer, and so on, ROUNDS times
-in turn; each figure is the median. Then a share with so many MiB of files is begun again from its journal: from the start of the program until it
-listens. The files lie in the folder that the system gives for temporary ones, on its disk.
+Each kind of keeping, and then each level of a log, serves one client that sends a request, waits for its answer, and so
+on, ROUNDS times in turn; each figure is the median. Then a share with so many MiB of files is begun again from its
+journal: from the start of the program until it listens. The files lie in the folder that the system gives for temporary
+ones, on its disk.
 """
 import os
 import pathlib
@@ -23,9 +24,11 @@ from served import ALL_ACCESS, LONGEST_PIECE, OPEN_IF, Served, opens_a_file
 
 ROUNDS = 5
 PIECE = os.urandom(LONGEST_PIECE)
-KINDS = (('nothing', ()), ('--record', ('--record',)), ('--journal', ('--journal',)),
-         ('--journal --sync', ('--sync', '--journal')), ('--log', ('--log',)),
-         ('--log, all requests', ('--log-level', 'requests', '--log')))
+KEPT = (('nothing', ()), ('--record', ('--record',)), ('--journal', ('--journal',)),
+        ('--journal --sync', ('--sync', '--journal')))
+LOGGED = (('no log', ()), ('--log-level sessions', ('--log-level', 'sessions', '--log')),
+          ('--log-level refusals', ('--log-level', 'refusals', '--log')),
+          ('--log-level requests', ('--log-level', 'requests', '--log')))
 EXCHANGES = (
     ('ECHO', 5_000, lambda i: echoes(i, 1)),
     ('WRITE of 65,536 bytes', 400, lambda i: write(i, 1, i % 256 * LONGEST_PIECE, PIECE, 1, 1)),
@@ -52,16 +55,16 @@ def times_of(words):
         return found
 
 
-def exchanges(folder):
-    found = {kind: [] for kind, _ in KINDS}
+def exchanges(folder, kinds):
+    found = {kind: [] for kind, _ in kinds}
     for number in range(ROUNDS):
-        for kind, words in KINDS:
+        for kind, words in kinds:
             found[kind].append(times_of(words_of(words, folder, f'{number}-{kind.replace(" ", "").replace(",", "")}')))
             for name in os.listdir(folder):
                 os.remove(os.path.join(folder, name))
     print('| served with | ' + ' | '.join(f'{name}, microseconds' for name, _, _ in EXCHANGES) + ' |')
     print('|---|' + '---|' * len(EXCHANGES))
-    for kind, _ in KINDS:
+    for kind, _ in kinds:
         medians = (statistics.median(times[place] for times in found[kind]) for place in range(len(EXCHANGES)))
         print(f'| {kind} | ' + ' | '.join(f'{median:,.1f}' for median in medians) + ' |', flush=True)
 
@@ -97,6 +100,8 @@ def restarts(folder):
 if __name__ == '__main__':
     served.PROGRAM = sys.argv[1] if len(sys.argv) > 1 else served.PROGRAM
     with tempfile.TemporaryDirectory() as room:
-        exchanges(room)
+        exchanges(room, KEPT)
+        print()
+        exchanges(room, LOGGED)
         print()
         restarts(room)

@@ -1,5 +1,5 @@
 #!/usr/bin/env python3
-"""logs.py: tests what a served share writes of what happened, by --log: who came, what was refused, and why a client ended.
+"""logs.py: tests what --log writes of a share that is served or replayed: who came, what was refused, and why a client ended.
 
     python3 tools/logs.py [PROGRAM]
 
@@ -14,6 +14,8 @@ sys.path.insert(0, os.path.dirname(os.path.abspath(__file__)))
 import served
 from frames import close, create, read, rename, write
 from kept import GUEST, Looking, bytes_in, bytes_of, extracted, keeping, killed, ran, tree_of
+from replayed_logs import (a_recording_is_logged_as_it_was_served, each_allocation_beside_a_log,
+                           replays_are_logged_as_their_rows)
 from served import ALL_ACCESS
 from working import CREATE, OPEN
 
@@ -123,7 +125,7 @@ def why_a_client_ended_is_logged():
             waits_for(file, 69)
             killed(share)
         found = [event for _, event, _ in events_of(file)]
-    return (found[:4] == ['opened', "ended: by the share, a frame's first byte is not 0", 'opened', 'ended: silence']
+    return (found[:4] == ['opened', "ended: by the share, F1: a frame's first byte is not 0", 'opened', 'ended: silence']
             and found[4:68] == ['opened'] * 64 and found[68] == 'refused: 64 connections are open')
 
 
@@ -194,9 +196,14 @@ def a_pipe_that_is_closed_stops_no_share():
             return Looking(share).comes_in() is not None
 
 
+def a_replay_of_a_record_is_logged_too():
+    return a_recording_is_logged_as_it_was_served(works)
+
+
 TESTS = (refusals_are_logged, sessions_are_logged, requests_are_logged, why_a_client_ended_is_logged,
          a_full_disk_stops_no_share, one_that_cannot_be_made_is_refused, standard_error_has_the_lines,
-         a_share_is_logged_and_kept, a_pipe_that_is_closed_stops_no_share)
+         a_share_is_logged_and_kept, a_pipe_that_is_closed_stops_no_share, replays_are_logged_as_their_rows,
+         a_replay_of_a_record_is_logged_too, each_allocation_beside_a_log)
 
 if __name__ == '__main__':
     sys.exit(served.tests_passed('logs', TESTS))
