@@ -1,7 +1,8 @@
 #!/usr/bin/env python3
 """believed.py: counts, by crate, the definitions that a reader must believe: those that the contracts of public functions name, and those that these name.
 
---run counts those behind the main theorem alone: what the clauses of `Share::run` name. --list prints them by file. --check fails where docs/DEFINITIONS.md does not name one beside its file, or names a file or a definition that is not there,
+Of these it counts those behind the main theorem, which the clauses of `Share::run` name; those behind what else the program
+promises; and those for laws, authenticators and peers of tests alone. --list prints all by file, --run those of the first count. --check fails where docs/DEFINITIONS.md does not name one beside its file, or names a file or a definition that is not there,
 and where a file of which nothing need be believed does not begin by saying so, or another one does.
 Under a heading with a crate's name the page has an item for each file, or for several, whose names it begins with, as
 `Number.antt`. Of the text behind them names count where a colon, or sections in parentheses and a colon, are behind
@@ -169,11 +170,11 @@ class Crate:
         shown = model if "Model" in head else "" if "for" in head else r"pub (const )?fn\b"
         return [it for it in members_of(item) if re.match(shown, it) and all(self.types.get(word, True) for word in head[1:])]
 
-    def roots(self, specs):
-        """The definitions that the public clauses name."""
+    def roots(self, specs, wanted=lambda module, part: True):
+        """The definitions that the public clauses name, of the wanted functions and ghost members."""
         for module, text in self.files.items():
             imports = imports_of(text)
-            parts = [part for item in items_of(text) for part in self.public_parts(module, item)]
+            parts = [part for item in items_of(text) for part in self.public_parts(module, item) if wanted(module, part)]
             yield from (find(specs, *imports[name][1]) for part in parts for name in used_in(clauses_of(part)) & set(imports))
 
 
@@ -183,6 +184,19 @@ def behind_run(specs):
     imports = imports_of(text)
     found = [it for item in items_of(text) for it in members_of(item) if re.match(r"pub fn run\b", it)]
     return followed(specs, {find(specs, *imports[name][1]) for it in found for name in used_in(clauses_of(it)) & set(imports)} - {None})
+
+
+def is_of_program(module, part):
+    """Whether a function or ghost member is no law, and not of the peers and clocks in memory, which serve tests."""
+    return not re.match(r"pub (const )?fn laws_of_", part) and not module.startswith("memory_")
+
+
+def behind_program(specs):
+    """The definitions behind what else the program is promised to do: its shares, peers, listings and configurations. A login by NTLM
+    and a journal's are counted with the laws."""
+    names = {crate for crate, _ in specs} - {"smb_ntlm", "smb_journal"}
+    roots = {root for name in names for root in Crate(name).roots(specs, is_of_program)}
+    return followed(specs, roots - {None})
 
 
 def items_on(page):
@@ -231,12 +245,16 @@ def marks(specs, reached):
 
 
 def counts(specs, reached):
-    """A table: by crate how many definitions are believed, how many are not, and how many there are."""
-    yield f"{'':14}{'believed':>10}{'not':>10}{'all':>10}"
+    """A table: by crate how many definitions are believed; of these how many behind `Share::run`, how many more behind what else the
+    program promises, and how many for laws, authenticators and peers of tests alone; and how many are not, and how many there are."""
+    run = behind_run(specs) & reached
+    program = behind_program(specs) & reached - run
+    yield f"{'':14}" + "".join(f"{it:>10}" for it in ("believed", "run", "program", "laws", "not", "all"))
     for crate in [*dict.fromkeys(crate for crate, _ in specs), "all"]:
-        some = sum(crate in (it[0], "all") for it in reached)
+        some, of_run, of_program = (sum(crate in (it[0], "all") for it in them) for them in (reached, run, program))
         every = sum(len(at.texts) for key, at in specs.items() if crate in (key[0], "all"))
-        yield f"{crate:14}{some:10}{every - some:10}{every:10}"
+        row = (some, of_run, of_program, some - of_run - of_program, every - some, every)
+        yield f"{crate:14}" + "".join(f"{it:10}" for it in row)
 
 
 def main(words):
@@ -252,7 +270,7 @@ def main(words):
         sys.exit(__doc__)
     if words == ["--run"]:
         reached = behind_run(specs)
-    print("\n".join(by_file(specs, reached) if words == ["--list"] else counts(specs, reached)))
+    print("\n".join(by_file(specs, reached) if words else counts(specs, reached)))
 
 
 main(sys.argv[1:])
