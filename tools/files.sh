@@ -15,7 +15,9 @@ for folder in crates/*/; do
     name=$(basename "$folder")
     grep -qE "^$name( |:)" crates.txt || fail "crates.txt does not list $name."
 done
-for word in $(grep -o 'long("[a-z-]*")' crates/smbshare/src/commands.rt | cut -d '"' -f 2); do
+options=$(awk -F '"' '/^    name: / { name = $2 } /^    takes: / && !/First/ { print name }' crates/smb_command_line/src/commands.rt)
+[ -n "$options" ] || fail 'crates/smb_command_line/src/commands.rt has no options.'
+for word in $options; do
     grep -qF -- "\\-\\-${word//-/\\-}" docs/smbshare.1 || fail "docs/smbshare.1 does not name --$word."
 done
 python3 tools/edits.py --check || fail 'docs/EDITS.md is not what tools/edits.py writes.'

@@ -1,8 +1,6 @@
-//! How clients log in to a share.
+//! Who lets clients in by NTLM, and its random seed.
 
-use crate::named_file::NamedFile;
-use clap::ArgMatches;
-use hex::FromHex;
+use smb_command_line::NamedFile;
 use smb_config::{Accounts, Configuration};
 use smb_ntlm::Ntlm;
 use smb_replay::{CommandFault, new_ntlm};
@@ -11,40 +9,6 @@ use std::io::Read;
 
 /// Where the system gives random bytes.
 const RANDOM: &[u8] = b"/dev/urandom";
-
-/// How clients log in.
-#[derive(Clone, Copy)]
-pub enum Login {
-    /// By one token, as the configuration's users have them.
-    Token,
-    /// By NTLM, a login of two messages, whose challenges come from this seed, or from one of the system's.
-    Ntlm(Option<[u8; 16]>),
-}
-
-/// The seed that the words give.
-fn seed_of(words: &ArgMatches<'_>) -> Result<Option<[u8; 16]>, &'static str> {
-    let Some(digits) = words.get_str("seed") else {
-        return Ok(None);
-    };
-    match <[u8; 16] as FromHex>::from_hex(digits) {
-        Ok(seed) => Ok(Some(seed)),
-        Err(_) => Err("the value of --seed is not 32 hex digits"),
-    }
-}
-
-impl Login {
-    /// How the words of a command say that clients log in; where words do not go together, what is wrong with them.
-    pub fn of(words: &ArgMatches<'_>) -> Result<Login, &'static str> {
-        let seed = seed_of(words)?;
-        if words.get_str("login") == Some("ntlm") {
-            return Ok(Login::Ntlm(seed));
-        }
-        if seed.is_some() || words.get_str("accounts").is_some() {
-            return Err("--accounts and --seed are only taken with --login ntlm");
-        }
-        Ok(Login::Token)
-    }
-}
 
 /// The accounts of a text; none where there is no text.
 pub fn read_accounts(alloc: Global, text: Option<&str>) -> Result<Accounts, CommandFault> {

@@ -2,31 +2,24 @@
 #![tactic(auto)]
 
 mod clock;
-mod command_line;
-mod commands;
 mod compaction;
 mod fault;
 mod hearing;
 mod logging;
 mod login;
-mod mode;
-mod named_file;
 mod notices;
 mod replaying;
 mod serve;
 mod served_record;
-mod texts;
 
 use clap::ArgMatches;
 use clap::error::ErrorKind as WordFault;
-use command_line::CommandLine;
-use commands::command;
 use compaction::compact;
 use fault::Fault;
 use logging::{Heard, LogWords};
-use login::Login;
 use replaying::{extract, print_recording, replay_input};
 use serve::{ServeWords, serve_share};
+use smb_command_line::{CommandLine, Login, Texts, command, login_of};
 use smb_config::BUILT_IN;
 use smb_journal::Form;
 use smb_kept::KeepWords;
@@ -34,7 +27,6 @@ use smb_log::Level;
 use smb_replay::{CommandFault, Detail, Given, hash_password, show_fields, show_text};
 use std::io::{BufWriter, ErrorKind, IsTerminal};
 use std::process::ExitCode;
-use texts::Texts;
 
 /// Prints a fault on standard error, and gives its exit status.
 fn report(rt: &HostRuntime, fault: CommandFault, detail: Detail<'_>) -> ExitCode {
@@ -229,27 +221,6 @@ fn run_with_share(
     }
     let detail = detail_of(rt, words, Some(&texts));
     replay_texts(rt, &texts, login, log_words_of(words, false), detail)
-}
-
-/// How clients log in to the share of a command; where words do not go together, what is wrong with them.
-fn login_of(command: Option<(&str, &ArgMatches<'_>)>) -> Result<Login, &'static str> {
-    match command {
-        Some(("serve", words))
-            if words.get_flag("sync")
-                && words.get_str("journal").is_none()
-                && words.get_str("record").is_none() => {
-            Err("--sync is only taken with --journal or --record")
-        }
-        Some(("serve", words)) if words.get_flag("log-must") && words.get_str("log").is_none() => {
-            Err("--log-level and --log-must are only taken with --log")
-        }
-        Some(("serve" | "replay", words))
-            if words.get_str("log-level").is_some() && words.get_str("log").is_none() => {
-            Err("--log-level and --log-must are only taken with --log")
-        }
-        Some(("serve" | "replay", words)) => Login::of(words),
-        _ => Ok(Login::Token),
-    }
 }
 
 /// Runs the command that was asked for.

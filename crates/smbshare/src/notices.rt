@@ -1,7 +1,6 @@
 //! What `serve` says beside where it listens: who cannot log in, and what is not safe.
 
-use crate::login::Login;
-use crate::texts::Texts;
+use smb_command_line::{Login, Texts};
 
 /// What is said of the configuration that is built in.
 const BUILT_IN_USER: &str =

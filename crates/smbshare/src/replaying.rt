@@ -4,8 +4,8 @@
 use crate::fault::Fault;
 use crate::hearing::Hearing;
 use crate::logging::LogWords;
-use crate::login::{Login, ntlm_of, random_seed, read_accounts};
-use crate::texts::Texts;
+use crate::login::{ntlm_of, random_seed, read_accounts};
+use smb_command_line::{Login, Texts};
 use smb_config::Configuration;
 use smb_engine::{Answer, Authenticator, Config, Event, HandleTable, NodeTree, Share, Tokens};
 use smb_journal::{Hears, JournalFault, Mailbox, RecordedLogin};

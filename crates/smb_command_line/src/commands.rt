@@ -1,0 +1,328 @@
+//! The words that the command line may have.
+
+use super::options::{CommandRow, Needed, OptionRow, Takes, command_of};
+use clap::Command;
+use std::alloc::{AllocError, Global};
+
+/// The end of the program's help.
+const HELP: &str =
+    "Built in, where no configuration is given: the share `data` with room for 64 MiB, and one user, `ann`,
+whose token is 61 in hex, the letter `a`; guests are not let in. A token is the whole security buffer of a
+SESSION_SETUP and no password: no client of Samba's sends `a`, so serve with --config guest.toml.
+
+Who has an account logs in by NTLM, with a password that nt-hash makes a hash of for the file of accounts.
+Who comes in may write too, but for a user or an account with `readonly = true`, and for guests where the configuration
+has `guest_readonly = true`: these may only read.
+
+Examples:
+  smbshare replay --explain < examples/two_clients
+  smbshare serve --listen 127.0.0.1:4450 --config guest.toml --login ntlm
+  smbshare serve --listen 127.0.0.1:4450 --login ntlm --accounts accounts.toml
+  printf %s Password | smbshare nt-hash
+  echo 00000044fe534d42 | smbshare show
+
+With --explain, and always on a terminal, `replay` and `serve` say in a second line what is wrong: of a
+configuration the key, the line and the value, of accounts never a hash, of an address the system's reason, of a
+line what was expected. A replay then says by which rule the share ended a connection.";
+
+/// The end of the help of `replay`.
+const REPLAY_HELP: &str = "Example:
+  smbshare replay --config share.toml --explain < examples/two_clients
+
+By NTLM the challenges come from --seed, so that each run of one text answers the same.";
+
+/// The end of the help of `serve`.
+const SERVE_HELP: &str =
+    "Examples, of a share that lets guests in, and of one that lets in who has an account:
+  smbshare serve --listen 127.0.0.1:4450 --config guest.toml --login ntlm
+  smbshare serve --listen 127.0.0.1:4450 --login ntlm --accounts accounts.toml
+
+A file of accounts has a table for each, and nobody but its owner has a right to it (chmod 600):
+  [[account]]
+  name = \"ann\"
+  nt_hash = \"a4f49c406510bdcab6824ee7c30fd852\"
+  readonly = true    # where it may only read";
+
+/// The end of the help of `nt-hash`.
+const NT_HASH_HELP: &str =
+    "The password is all of standard input, in UTF-8, but for one line feed at its end. Who has its hash can log in.
+
+Example:
+  printf %s Password | smbshare nt-hash";
+
+/// The end of the help of `extract`.
+const EXTRACT_HELP: &str = "Example:
+  smbshare serve --listen 127.0.0.1:4450 --journal data.journal
+  smbshare extract folder < data.journal";
+
+/// The end of the help of `compact`.
+const COMPACT_HELP: &str =
+    "NEW makes the same files, with their names, bytes, times and attributes, by as few requests as that takes.
+`serve --journal` does this by itself, where a journal is over four times as long as what its files ask for.
+
+Example:
+  smbshare compact < data.journal > shorter.journal";
+
+/// The end of the help of `show`.
+const SHOW_HELP: &str = "No share is made, so nothing is built in.
+
+Examples, of a frame that ends too early, and of what a replay answers:
+  echo 00000044fe534d42 | smbshare show
+  smbshare replay < examples/two_clients | smbshare show --fields";
+
+/// The configuration.
+const CONFIG: OptionRow = OptionRow {
+    name: "config",
+    takes: Takes::Text("FILE"),
+    needed: Needed::Never,
+    bars: &[],
+    help: "The configuration, a TOML file of at most 1 MiB [default: a share `data` of 64 MiB, the user `ann` with the token 61, no guests]",
+};
+
+/// More words on a fault.
+const EXPLAIN: OptionRow = OptionRow {
+    name: "explain",
+    takes: Takes::Nothing,
+    needed: Needed::Never,
+    bars: &[],
+    help: "Says in a second line what is wrong, and in a replay by which rule a connection was ended; always so on a terminal",
+};
+
+/// An address.
+const LISTEN: OptionRow = OptionRow {
+    name: "listen",
+    takes: Takes::Text("ADDR"),
+    needed: Needed::Always,
+    bars: &[],
+    help: "The IP address and port to listen on, such as 127.0.0.1:4450; port 0 for a free one",
+};
+
+/// How clients log in.
+const LOGIN: OptionRow = OptionRow {
+    name: "login",
+    takes: Takes::Word("HOW", &["token", "ntlm"]),
+    needed: Needed::Never,
+    bars: &[],
+    help: "How clients log in: by a token of the configuration, or by NTLM as an account or a guest [default: token]",
+};
+
+/// Accounts.
+const ACCOUNTS: OptionRow = OptionRow {
+    name: "accounts",
+    takes: Takes::Text("FILE"),
+    needed: Needed::Never,
+    bars: &[],
+    help: "Who may log in by NTLM, a TOML file of at most 1 MiB, its owner's alone [default: guests alone]",
+};
+
+/// What a seed is.
+const SEED_HELP: &str =
+    "The seed of NTLM's challenges, 32 hex digits, for tests [default, of `serve` alone: the system's]";
+
+/// A seed.
+const SEED: OptionRow = OptionRow {
+    name: "seed",
+    takes: Takes::Text("HEX"),
+    needed: Needed::Never,
+    bars: &[],
+    help: SEED_HELP,
+};
+
+/// How long is served.
+const TURNS: OptionRow = OptionRow {
+    name: "turns",
+    takes: Takes::Number("N", 1),
+    needed: Needed::Never,
+    bars: &[],
+    help: "How many turns to serve [default: until it is ended]",
+};
+
+/// How long a client may be silent.
+const IDLE: OptionRow = OptionRow {
+    name: "idle",
+    takes: Takes::Number("SECONDS", 0),
+    needed: Needed::Never,
+    bars: &[],
+    help: "After how long a client is gone that says nothing and takes nothing, 0 for never [default: 3600]",
+};
+
+/// How long a client may be silent that was never answered.
+const IDLE_NEW: OptionRow = OptionRow {
+    name: "idle-new",
+    takes: Takes::Number("SECONDS", 0),
+    needed: Needed::Never,
+    bars: &[],
+    help: "After how long a client is gone that was never answered anything, 0 for never [default: 30]",
+};
+
+/// A journal.
+const JOURNAL: OptionRow = OptionRow {
+    name: "journal",
+    takes: Takes::Text("FILE"),
+    needed: Needed::Never,
+    bars: &["record"],
+    help: "Keeps all that happens in FILE, before it is answered, and begins with what FILE holds where it exists",
+};
+
+/// A record.
+const RECORD: OptionRow = OptionRow {
+    name: "record",
+    takes: Takes::Text("FILE"),
+    needed: Needed::Never,
+    bars: &[],
+    help: "Writes all that happens into a new FILE, as text for a replay",
+};
+
+/// What is kept is to be on the disk.
+const SYNC: OptionRow = OptionRow {
+    name: "sync",
+    takes: Takes::Nothing,
+    needed: Needed::Never,
+    bars: &[],
+    help: "Has the system write FILE to the disk before anything is answered",
+};
+
+/// A log.
+const LOG: OptionRow = OptionRow {
+    name: "log",
+    takes: Takes::Text("FILE"),
+    needed: Needed::Never,
+    bars: &[],
+    help: "Adds a line for each event to FILE, or to standard error where FILE is -",
+};
+
+/// How much is logged.
+const LOG_LEVEL: OptionRow = OptionRow {
+    name: "log-level",
+    takes: Takes::Word("LEVEL", &["sessions", "refusals", "requests"]),
+    needed: Needed::Never,
+    bars: &[],
+    help: "Which requests are logged: those of sessions, those that were refused, or all [default: refusals]",
+};
+
+/// A log that has to be written.
+const LOG_MUST: OptionRow = OptionRow {
+    name: "log-must",
+    takes: Takes::Nothing,
+    needed: Needed::Never,
+    bars: &[],
+    help: "Ends the server where a line of the log can't be written",
+};
+
+/// A folder to begin with.
+const FROM: OptionRow = OptionRow {
+    name: "from",
+    takes: Takes::Text("FOLDER"),
+    needed: Needed::Never,
+    bars: &[],
+    help: "Begins a new share with the files and folders of FOLDER",
+};
+
+/// A clock.
+const CLOCK: OptionRow = OptionRow {
+    name: "clock",
+    takes: Takes::Number("MOMENT", 0),
+    needed: Needed::Never,
+    bars: &[],
+    help: "The moment of the first piece, in units of 100 ns since 1601; each further one comes a unit later, for tests [default: the system's clock]",
+};
+
+/// A recording.
+const RECORDING: OptionRow = OptionRow {
+    name: "recording",
+    takes: Takes::Text("FILE"),
+    needed: Needed::Never,
+    bars: &["config", "login", "accounts", "seed"],
+    help: "Replays what `serve` kept in FILE by --record or --journal, which says itself of what share it is",
+};
+
+/// A folder to make.
+const FOLDER: OptionRow = OptionRow {
+    name: "folder",
+    takes: Takes::First("FOLDER"),
+    needed: Needed::Always,
+    bars: &[],
+    help: "The folder, which is made and must not exist",
+};
+
+/// Fields.
+const FIELDS: OptionRow = OptionRow {
+    name: "fields",
+    takes: Takes::Nothing,
+    needed: Needed::Never,
+    bars: &[],
+    help: "Shows the fields of each request; or, of a replay's output, the status of each reply",
+};
+
+/// The seed of a replay, which has no other.
+const SEED_OF_REPLAY: OptionRow = OptionRow {
+    name: "seed",
+    takes: Takes::Text("HEX"),
+    needed: Needed::With("login", "ntlm"),
+    bars: &[],
+    help: SEED_HELP,
+};
+
+/// The commands, in the order of the program's help.
+const COMMANDS: &[CommandRow] = &[
+    CommandRow {
+        name: "replay",
+        about: "Replays the events of standard input on a new share, and prints what it answers",
+        examples: REPLAY_HELP,
+        options: &[
+            CONFIG,
+            EXPLAIN,
+            LOG,
+            LOG_LEVEL,
+            LOGIN,
+            ACCOUNTS,
+            SEED_OF_REPLAY,
+            RECORDING,
+        ],
+    },
+    CommandRow {
+        name: "serve",
+        about: "Serves a share over TCP",
+        examples: SERVE_HELP,
+        options: &[
+            CONFIG, EXPLAIN, LISTEN, LOGIN, ACCOUNTS, SEED, TURNS, IDLE, IDLE_NEW, JOURNAL, RECORD,
+            SYNC, LOG, LOG_LEVEL, LOG_MUST, FROM, CLOCK,
+        ],
+    },
+    CommandRow {
+        name: "show",
+        about: "Lists the requests of a client's stream, hex on standard input",
+        examples: SHOW_HELP,
+        options: &[FIELDS],
+    },
+    CommandRow {
+        name: "extract",
+        about: "Makes a new folder of the files that a journal or record on standard input leaves",
+        examples: EXTRACT_HELP,
+        options: &[FOLDER],
+    },
+    CommandRow {
+        name: "compact",
+        about: "Writes a journal that makes the files which a journal or record on standard input leaves",
+        examples: COMPACT_HELP,
+        options: &[],
+    },
+    CommandRow {
+        name: "nt-hash",
+        about: "Prints the NT hash of the password on standard input, for a file of accounts",
+        examples: NT_HASH_HELP,
+        options: &[],
+    },
+];
+
+/// The command line.
+pub fn command<'a>(alloc: Global) -> Result<Command<'a>, AllocError> {
+    let mut command = Command::new(alloc, "smbshare")
+        .version("0.1.0")
+        .about("A proved SMB2 file share. Without a command it replays standard input.")
+        .after_help(HELP);
+    for row in COMMANDS {
+        command = command.subcommand(command_of(alloc, row)?)?;
+    }
+    Ok(command)
+}

@@ -1,0 +1,26 @@
+//! The words of the program's command line, and the texts of the files that they name.
+//!
+//! ```text
+//!    CommandLine   the words as the system has them: a file's name need not be text
+//!    command       which commands there are, each with its options and its help
+//!    login_of      how clients log in by them, where they go together
+//!    Texts         the configuration and the accounts, out of the files that the words name
+//! ```
+//!
+//! That the calls are safe and return is proved. Which words are taken, and what is said of others, is tested
+//! (tools/program.py).
+#![tactic(auto)]
+
+mod command_line;
+mod commands;
+mod login;
+mod mode;
+mod named_file;
+mod options;
+mod texts;
+
+pub use command_line::{CommandLine, FileOption};
+pub use commands::command;
+pub use login::{Login, login_of};
+pub use named_file::NamedFile;
+pub use texts::Texts;

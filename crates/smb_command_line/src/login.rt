@@ -1,0 +1,59 @@
+//! How clients log in, and which options go with that and with one another.
+
+use clap::ArgMatches;
+use hex::FromHex;
+
+/// How clients log in.
+#[derive(Clone, Copy)]
+pub enum Login {
+    /// By one token, as the configuration's users have them.
+    Token,
+    /// By NTLM, a login of two messages, whose challenges come from this seed, or from one of the system's.
+    Ntlm(Option<[u8; 16]>),
+}
+
+/// The seed that the words give.
+fn seed_of(words: &ArgMatches<'_>) -> Result<Option<[u8; 16]>, &'static str> {
+    let Some(digits) = words.get_str("seed") else {
+        return Ok(None);
+    };
+    match <[u8; 16] as FromHex>::from_hex(digits) {
+        Ok(seed) => Ok(Some(seed)),
+        Err(_) => Err("the value of --seed is not 32 hex digits"),
+    }
+}
+
+impl Login {
+    /// How the words of a command say that clients log in; where words do not go together, what is wrong with them.
+    fn of(words: &ArgMatches<'_>) -> Result<Login, &'static str> {
+        let seed = seed_of(words)?;
+        if words.get_str("login") == Some("ntlm") {
+            return Ok(Login::Ntlm(seed));
+        }
+        if seed.is_some() || words.get_str("accounts").is_some() {
+            return Err("--accounts and --seed are only taken with --login ntlm");
+        }
+        Ok(Login::Token)
+    }
+}
+
+/// How clients log in to the share of a command, if it has one; where its words do not go together, what is wrong with them.
+pub fn login_of(command: Option<(&str, &ArgMatches<'_>)>) -> Result<Login, &'static str> {
+    match command {
+        Some(("serve", words))
+            if words.get_flag("sync")
+                && words.get_str("journal").is_none()
+                && words.get_str("record").is_none() => {
+            Err("--sync is only taken with --journal or --record")
+        }
+        Some(("serve", words)) if words.get_flag("log-must") && words.get_str("log").is_none() => {
+            Err("--log-level and --log-must are only taken with --log")
+        }
+        Some(("serve" | "replay", words))
+            if words.get_str("log-level").is_some() && words.get_str("log").is_none() => {
+            Err("--log-level and --log-must are only taken with --log")
+        }
+        Some(("serve" | "replay", words)) => Login::of(words),
+        _ => Ok(Login::Token),
+    }
+}
