@@ -1,13 +1,11 @@
 //! What becomes of requests and responses: their lines, and the sessions and opens that they begin and end.
 
-use crate::asked::Asked;
 use crate::connection::{Connection, Named, Taken, Waiting};
 use crate::counts::Counts;
 use crate::level::Level;
-use crate::line::{Lines, Outcome, Subject};
-use crate::names::put_command;
 use crate::responses::Response;
 use crate::sessions::{Place, Sessions};
+use smb_log_text::{Asked, Lines, Outcome, Subject, put_command};
 use smb_wire::{Command, CommandCode, FileId, NtStatus};
 use std::alloc::{AllocError, Global};
 use std::io::Write;

@@ -1,6 +1,5 @@
 //! What the log knows of a connection.
 
-use crate::asked::Asked;
 use crate::level::Level;
 use crate::responses::{Response, Responses};
 use arrayvec::ArrayVec;
@@ -8,6 +7,7 @@ use bitflags::Flags;
 use smb_body::Smb1Dialects;
 use smb_frame::FrameBuffer;
 use smb_head::{Chain, Header, HeaderFlags};
+use smb_log_text::Asked;
 use smb_rules::{Agreed, Payload, Rule};
 use smb_wire::limits::{LONGEST_PAYLOAD, MOST_CREDITS, MOST_REQUESTS};
 use smb_wire::{Command, FileId};

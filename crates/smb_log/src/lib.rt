@@ -33,20 +33,7 @@
 //! `lines were lost for want of memory`; where a write fails, nothing more is written. Neither is an error: a log changes nothing of
 //! what the share does.
 //!
-//! # Names
-//!
-//! A name, path, pattern, user or address never makes a line, a field, or a character that a terminal obeys. These are written
-//! as `\u{9}`, with the hex digits of the character or the unit, at least one and without leading zeros:
-//!
-//! - characters below U+0020 (TAB, line feed, escape), U+007F, and U+0080 to U+009F (U+0085 among them);
-//! - U+2028 and U+2029, the ends of a line and of a paragraph;
-//! - what turns or hides text: U+061C, U+200B to U+200F, U+202A to U+202E, U+2060 to U+2069 and U+FEFF;
-//! - a surrogate without its other half, as `\u{D800}`;
-//! - a backslash, as `\u{5C}`, where `u{` follows it in a path, and everywhere in a user and an address.
-//!
-//! Each other character is written as it is, a backslash between two names of a path too, and so `\u{` always begins an escape. A text
-//! is cut behind 1,024 bytes, which `\u{..}` then says. Bytes of a user that are no UTF-8 are written as U+FFFD.
-//! A name is not quoted: one with blanks may look like the words behind it, but it stays in its field.
+//! No name makes a line, a field, or a character that a terminal obeys: smb_log_text says how each is written.
 //!
 //! # What is proved
 //!
@@ -54,26 +41,18 @@
 //! authenticator that it wraps. That the lines say what happened is tested.
 #![tactic(auto)]
 
-mod access;
-mod asked;
 mod book;
 mod connection;
 mod counts;
 mod ending;
-mod escape;
 mod facts;
 mod level;
-mod line;
 mod log;
 mod login;
-mod moment;
-mod names;
 mod peers;
 mod replay_log;
 mod responses;
 mod sessions;
-#[cfg(test)]
-mod tests;
 mod visitors;
 
 pub use ending::{Ending, Refusal};

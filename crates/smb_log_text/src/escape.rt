@@ -155,7 +155,7 @@ fn put_bytes(bytes: &[u8], text: &mut String) -> Result<(), AllocError> {
 }
 
 /// Adds a user as an authenticator names it, `-` for none. A guest's name may have a zero and a number behind it.
-pub(crate) fn put_user(user: &[u8], text: &mut String) -> Result<(), AllocError> {
+pub fn put_user(user: &[u8], text: &mut String) -> Result<(), AllocError> {
     if user.starts_with(NUMBERED_GUEST) {
         return text.push_str("guest");
     }

@@ -63,7 +63,7 @@ fn date_of(days: u64) -> Date {
 }
 
 /// Adds a moment, in units of 100 ns since 1601, as a day and a time of UTC, cut to milliseconds.
-pub(crate) fn put_moment(moment: u64, text: &mut String) -> Result<(), AllocError> {
+pub fn put_moment(moment: u64, text: &mut String) -> Result<(), AllocError> {
     let milliseconds = moment / MILLISECOND;
     let Date { year, month, day } = date_of(milliseconds / DAY);
     let of_day = milliseconds % DAY;

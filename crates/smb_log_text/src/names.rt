@@ -30,7 +30,7 @@ fn command_name(command: Command) -> &'static str {
 }
 
 /// Adds the name of a command, or the number of an unknown one.
-pub(crate) fn put_command(code: CommandCode, text: &mut String) -> Result<(), AllocError> {
+pub fn put_command(code: CommandCode, text: &mut String) -> Result<(), AllocError> {
     match code.known() {
         Some(command) => text.push_str(command_name(command)),
         None => {

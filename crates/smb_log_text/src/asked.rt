@@ -16,7 +16,7 @@ const MOST_SHOWN: usize = 8;
 
 /// What a request asks. A text is what is shown behind the command's name, or behind the name of its file, with a blank before it.
 #[derive(Drop)]
-pub(crate) enum Asked {
+pub enum Asked {
     /// What acts on no file.
     Plain(String),
     /// A SESSION_SETUP that ends another session, 0 for none.
@@ -157,7 +157,7 @@ fn unread(alloc: Global, command: CommandCode) -> Result<Asked, AllocError> {
 
 impl Asked {
     /// What a request asks, by its whole bytes. Texts are left out where `with_text` is false.
-    pub(crate) fn of(
+    pub fn of(
         alloc: Global,
         command: CommandCode,
         request: &[u8],
@@ -191,7 +191,7 @@ impl Asked {
     }
 
     /// What an SMB_COM_NEGOTIATE asks.
-    pub(crate) fn of_smb1(alloc: Global, dialects: Smb1Dialects) -> Result<Asked, AllocError> {
+    pub fn of_smb1(alloc: Global, dialects: Smb1Dialects) -> Result<Asked, AllocError> {
         let mut text = String::from_str(alloc, " by SMB1")?;
         if dialects.smb_2_002 {
             text.push_str(" 2.0.2")?;

@@ -1,12 +1,11 @@
-//! What no replay brings about: ends of all kinds, users of all names, moments, a write that fails, and peers.
+//! What a log says that no replay brings about: ends of all kinds, users of all names, moments, a write that fails, and peers.
 
-use crate::escape::put_user;
-use crate::moment::put_moment;
-use crate::{Ending, Level, Log, LoggedLogin, LoggedPeers, NoFacts, Refusal, Visitors};
 use smb_engine::{
     Config, HandleTable, ListClock, MemoryPeers, NodeTree, PeerStep, SendStep, Share, Tokens, User,
     serve,
 };
+use smb_log::{Ending, Level, Log, LoggedLogin, LoggedPeers, NoFacts, Refusal, Visitors};
+use smb_log_text::{put_moment, put_user};
 use std::alloc::{AllocError, Global};
 use std::io;
 use std::io::{Error, ErrorKind, Write};

@@ -14,23 +14,23 @@ const LOST: &str = "\t-\t-\t-\tlines were lost for want of memory\t-\t-\n";
 
 /// Who an event is of.
 #[derive(Clone, Copy)]
-pub(crate) struct Subject<'a> {
-    pub(crate) connection: Option<u64>,
-    pub(crate) address: &'a str,
+pub struct Subject<'a> {
+    pub connection: Option<u64>,
+    pub address: &'a str,
     /// As an authenticator names it; empty for none.
-    pub(crate) user: &'a [u8],
+    pub user: &'a [u8],
 }
 
 /// How a request ended.
 #[derive(Clone, Copy)]
-pub(crate) struct Outcome {
-    pub(crate) status: u32,
-    pub(crate) microseconds: u64,
+pub struct Outcome {
+    pub status: u32,
+    pub microseconds: u64,
 }
 
 /// Lines, each written as it is made. After a failed write nothing more is written.
 #[derive(Drop)]
-pub(crate) struct Lines<W: Write + Drop> {
+pub struct Lines<W: Write + Drop> {
     writer: W,
     line: String,
     is_lost: bool,
@@ -63,7 +63,7 @@ fn put_back(outcome: Option<Outcome>, text: &mut String) -> Result<(), AllocErro
 
 impl<W: Write + Drop> Lines<W> {
     /// Lines of a writer to which none was written.
-    pub(crate) fn new(alloc: Global, writer: W) -> Self {
+    pub fn new(alloc: Global, writer: W) -> Self {
         Lines {
             writer,
             line: String::new(alloc),
@@ -73,17 +73,17 @@ impl<W: Write + Drop> Lines<W> {
     }
 
     /// Whether a write failed.
-    pub(crate) fn has_failed(&self) -> bool {
+    pub fn has_failed(&self) -> bool {
         self.has_failed
     }
 
     /// Notes that a line, or what later lines need, was lost for want of memory.
-    pub(crate) fn lose(&mut self) {
+    pub fn lose(&mut self) {
         self.is_lost = true;
     }
 
     /// Writes the line that names the fields.
-    pub(crate) fn begin(&mut self) {
+    pub fn begin(&mut self) {
         if !self.has_failed && self.writer.write_all(HEADER.as_bytes()).is_err() {
             self.has_failed = true;
         }
@@ -116,7 +116,7 @@ impl<W: Write + Drop> Lines<W> {
     }
 
     /// Writes the line of a request, whose event has no TAB and no line feed.
-    pub(crate) fn put_request(
+    pub fn put_request(
         &mut self,
         moment: u64,
         subject: Subject<'_>,
@@ -134,7 +134,7 @@ impl<W: Write + Drop> Lines<W> {
 
     /// Writes the line of an event that has no status and takes no time, and no TAB and no line feed in it. Tells whether memory
     /// sufficed for it.
-    pub(crate) fn put(&mut self, moment: u64, subject: Subject<'_>, event: &str) -> bool {
+    pub fn put(&mut self, moment: u64, subject: Subject<'_>, event: &str) -> bool {
         if self.has_failed {
             return true;
         }
@@ -151,7 +151,7 @@ impl<W: Write + Drop> Lines<W> {
     }
 
     /// Writes the line of such an event, where there was memory for its text.
-    pub(crate) fn put_made(
+    pub fn put_made(
         &mut self,
         moment: u64,
         subject: Subject<'_>,
@@ -167,7 +167,7 @@ impl<W: Write + Drop> Lines<W> {
     }
 
     /// The writer.
-    pub(crate) fn into_writer(self) -> W {
+    pub fn into_writer(self) -> W {
         self.writer
     }
 }
