@@ -3,8 +3,12 @@
 use super::lending::Lending;
 use mio::event::Event;
 use mio::net::TcpStream;
+use mio::{Events, Token};
 use std::alloc::Global;
 use std::time::Duration;
+
+/// The listener's token. No connection gets this number.
+pub(crate) const LISTENER: Token = Token(usize::MAX);
 
 /// Whether so long has passed since then; never where there is no limit.
 fn has_passed(since: Duration, now: Duration, limit: Option<Duration>) -> bool {
@@ -124,4 +128,21 @@ impl Connection {
         self.readable = self.readable || event.is_readable() || event.is_error();
         self.closing = self.closing || event.is_read_closed() || event.is_error();
     }
+}
+
+/// Notes what the system says of each connection, and tells whether one waits to be accepted.
+pub(crate) fn mark_all(connections: &mut [Connection], events: &Events) -> bool {
+    let mut waits = false;
+    for event in events {
+        if event.token() == LISTENER {
+            waits = true;
+        } else {
+            for connection in connections.iter_mut() {
+                if connection.number == event.token().0 as u64 {
+                    connection.mark(event);
+                }
+            }
+        }
+    }
+    waits
 }

@@ -2,7 +2,7 @@
 
 ghost use Rattle.std.specs.Prelude.{◌≤◌, length, vec_len, IfSome};
 
-use super::piece::Piece;
+use super::piece::{PIECE_SIZE, Piece};
 use smb_wire::{Command, u16_at, u32_at};
 use std::alloc::Global;
 
@@ -147,7 +147,7 @@ pub(crate) struct Lending {
     lent: usize,
     is_dear: bool,
     is_timed: bool,
-    ghost few: { vec_len bytes ≤ 65536 },
+    ghost few: { vec_len bytes ≤ 262144 },
     ghost within: { lent ≤ vec_len bytes },
 }
 
@@ -186,35 +186,52 @@ impl Lending {
         self.bytes.shrink_to_fit();
     }
 
-    /// Makes the next frame of the bytes that are kept back the piece, or what is there of it. These bytes are lent one frame at a
-    /// time without another look at what the frames are: so each of them is gone over once.
+    /// Makes the next frame of the bytes that are kept back the piece, or what is there of it, at most as much as a piece may have.
+    /// These bytes are lent one frame at a time without another look at what the frames are: so each of them is gone over once.
     pub(crate) fn lend_next(&mut self, piece: &mut Piece) {
         let bytes = &self.bytes[self.lent..];
-        let (count, others) = self.cursor.lend(bytes, true);
-        self.is_timed = self.is_dear || others;
+        let bytes = &bytes[..bytes.len().min(PIECE_SIZE)];
+        let (count, _) = self.cursor.lend(bytes, true);
         piece.fill(&bytes[..count]);
         self.lent += count;
+        self.is_timed = self.is_dear || self.has_more();
         if self.lent == self.bytes.len() {
             self.give_up();
         }
     }
 
-    /// Cuts a piece that came to what is lent of it at once, and keeps the rest back. Where there is no memory for that, all
-    /// of it is lent.
+    /// Keeps back these bytes, and tells whether there was memory for that.
+    fn keep(&mut self, bytes: &[u8]) -> bool
+        requires { length bytes.now ≤ 262144 }
+    {
+        self.lent = 0;
+        self.bytes.clear();
+        self.bytes.extend_from_slice(bytes).is_ok()
+    }
+
+    /// Cuts a piece that came to what is lent of it at once, and keeps the rest back, with the bytes that wait behind it. Where there
+    /// is no memory for that, all of it is lent.
     pub(crate) fn keep_back(&mut self, piece: &mut Piece) {
         let bytes = piece.bytes();
         let (count, others) = self.cursor.lend(bytes, self.is_dear);
-        self.is_timed = self.is_dear || others;
+        self.is_timed = self.is_dear || others || piece.waits();
         if count == bytes.len() {
             return;
         }
-        self.lent = 0;
-        self.bytes.clear();
-        match self.bytes.extend_from_slice(&bytes[count..]) {
-            Ok(()) => piece.cut(count),
-            Err(_) => {
-                let _ = self.cursor.has_much(&bytes[count..]);
-            }
+        if self.keep(piece.rest(count)) {
+            piece.cut(count);
+        } else {
+            let _ = self.cursor.has_much(&bytes[count..]);
         }
+    }
+
+    /// Keeps back the bytes that wait behind a piece, which was lent, and tells whether there was memory for that.
+    pub(crate) fn keep_waiting(&mut self, piece: &mut Piece) -> bool {
+        let count = piece.bytes().len();
+        let is_kept = self.keep(piece.rest(count));
+        if is_kept {
+            piece.cut(count);
+        }
+        is_kept
     }
 }

@@ -8,6 +8,7 @@
 
 mod clock;
 mod connection;
+mod door;
 mod facts;
 mod lending;
 mod piece;

@@ -4,9 +4,10 @@ ghost use Rattle.std.specs.Prelude.{◌≡◌, ◌<◌, ◌≤◌, ◌+◌, true
 ghost use Rattle.smb_engine.specs.Peers.{OpensOnce};
 ghost use Rattle.smb_tcp.specs.Numbers.{numbers_to};
 
-use super::connection::{Connection, SilenceLimits};
+use super::connection::{Connection, LISTENER, SilenceLimits, mark_all};
+use super::door::Door;
 use super::facts::PeerFacts;
-use super::piece::{PIECE_SIZE, Piece};
+use super::piece::{Piece, READ_SIZE};
 use mio::net::{TcpListener, TcpStream};
 use mio::{Events, Interest, Poll, Token};
 use smb_engine::{PeerEvent, Peers, SendFault};
@@ -22,8 +23,8 @@ pub const MOST_STREAMS: usize = 65;
 /// A turn that takes so long is dear: until one of the same peer does not, it is lent one frame at a time.
 const DEAR_TURN_MILLISECONDS: u64 = 4;
 
-/// The listener's token. No connection gets this number.
-const LISTENER: Token = Token(usize::MAX);
+/// Fewer bytes than these that are owed to a peer wait for its answers to those that came with their requests.
+const SHORT_SEND: usize = 16_384;
 
 /// The streams of a listener: at most 65, numbered from 1 as they are accepted, and read in turn. All their room is made first.
 ///
@@ -36,13 +37,7 @@ pub struct TcpPeers<'a, R: Net + Clock> {
     alloc: Global,
     poll: Poll,
     events: Events,
-    listener: TcpListener,
-    // A connection may wait to be accepted.
-    acceptable: bool,
-    // It was accepted, and has no number yet.
-    newcomer: Option<TcpStream>,
-    // An accept failed, as it does where no descriptor is left: the next one waits.
-    refused: bool,
+    door: Door,
     // In the order of their numbers.
     connections: Vec<Connection>,
     opened: u64,
@@ -86,10 +81,7 @@ impl<'a, R: Net + Clock> TcpPeers<'a, R> {
             alloc,
             poll,
             events,
-            listener,
-            acceptable: true,
-            newcomer: None,
-            refused: false,
+            door: Door::new(listener),
             connections,
             opened: 0,
             turn: 0,
@@ -207,17 +199,22 @@ impl<'a, R: Net + Clock> TcpPeers<'a, R> {
         ensures opened { self.new.opened ≡ self.old.opened }
         ensures once { IfSome result (λ event. OpensOnce event (numbers_to self.old.opened) (numbers_to self.old.opened)) }
     {
-        if self.newcomer.is_none() || !self.is_full() {
+        if !self.door.has_newcomer() || !self.is_full() {
             return None;
         }
         let place = self.place_to_clear()?;
         Some(self.end(place))
     }
 
+    /// Whether so few bytes that are owed to a peer are not sent yet, since more of its requests wait.
+    fn holds_back(&self, number: u64, count: usize) -> bool {
+        number == self.turn && count < SHORT_SEND && self.piece.waits()
+    }
+
     /// Whether something is left to do without a wait.
     fn is_busy(&self) -> bool {
-        self.newcomer.is_some()
-            || self.acceptable && self.has_room()
+        self.door.has_newcomer()
+            || self.door.may_accept() && self.has_room()
             || self
                 .connections
                 .iter()
@@ -240,12 +237,9 @@ impl<'a, R: Net + Clock> TcpPeers<'a, R> {
         if let Ok(time) = self.system.monotonic() {
             self.time = time;
         }
-        if self.refused {
-            self.refused = false;
-            self.acceptable = true;
-        }
+        self.door.try_again();
         if mark_all(&mut self.connections, &self.events) {
-            self.acceptable = true;
+            self.door.mark();
         }
         if self.next_place().is_none() {
             self.turn = 0;
@@ -256,17 +250,8 @@ impl<'a, R: Net + Clock> TcpPeers<'a, R> {
     fn accept(&mut self)
         ensures opened { self.new.opened ≡ self.old.opened }
     {
-        if self.newcomer.is_some() || !self.acceptable || !self.has_room() {
-            return;
-        }
-        match self.listener.accept() {
-            Ok((stream, _)) => self.newcomer = Some(stream),
-            Err(error) if error.kind() == ErrorKind::WouldBlock => self.acceptable = false,
-            Err(_) => {
-                self.failures = self.failures.saturating_add(1);
-                self.acceptable = false;
-                self.refused = true;
-            }
+        if self.door.may_accept() && self.has_room() && !self.door.accept() {
+            self.failures = self.failures.saturating_add(1);
         }
     }
 
@@ -278,7 +263,7 @@ impl<'a, R: Net + Clock> TcpPeers<'a, R> {
         if !self.has_room() {
             return None;
         }
-        let stream = self.newcomer.take()?;
+        let stream = self.door.take()?;
         self.admit(stream)
     }
 
@@ -368,6 +353,37 @@ impl<'a, R: Net + Clock> TcpPeers<'a, R> {
         }
     }
 
+    /// Lends the next piece of the bytes that were read last, to the peer at a place, of which they came.
+    fn lend_part(&mut self, place: usize) -> PeerEvent
+        requires { place < vec_len self.old.connections }
+        ensures opened { self.new.opened ≡ self.old.opened }
+        ensures once { OpensOnce result (numbers_to self.old.opened) (numbers_to self.old.opened) }
+    {
+        self.piece.step();
+        let connection = &mut self.connections[place];
+        let number = connection.number;
+        connection.lending.keep_back(&mut self.piece);
+        self.note_lent(place);
+        PeerEvent::Bytes(number)
+    }
+
+    /// Lends the next piece of the bytes that wait of the last read, where some do: they come before another read. Where their peer did not
+    /// take all that was sent to it, they are kept back, so that it is owed no more.
+    fn lend_waiting(&mut self) -> Option<PeerEvent>
+        ensures opened { self.new.opened ≡ self.old.opened }
+        ensures once { IfSome result (λ event. OpensOnce event (numbers_to self.old.opened) (numbers_to self.old.opened)) }
+    {
+        if !self.piece.waits() {
+            return None;
+        }
+        let place = self.place_of(self.turn)?;
+        let connection = &mut self.connections[place];
+        if connection.blocked && connection.lending.keep_waiting(&mut self.piece) {
+            return None;
+        }
+        Some(self.lend_part(place))
+    }
+
     /// Reads from the connection at a place, or lends what came of it before.
     fn read(&mut self, place: usize) -> Option<PeerEvent>
         requires { place < vec_len self.old.connections }
@@ -389,12 +405,10 @@ impl<'a, R: Net + Clock> TcpPeers<'a, R> {
             }
             Ok(count) => {
                 connection.hear(self.time);
-                if count < PIECE_SIZE && !connection.closing {
+                if count < READ_SIZE && !connection.closing {
                     connection.readable = false;
                 }
-                connection.lending.keep_back(&mut self.piece);
-                self.note_lent(place);
-                Some(PeerEvent::Bytes(number))
+                Some(self.lend_part(place))
             }
             Err(error) if error.kind() == ErrorKind::WouldBlock => {
                 connection.readable = false;
@@ -410,25 +424,8 @@ impl<'a, R: Net + Clock> TcpPeers<'a, R> {
     }
 }
 
-/// Notes what the system says of each connection, and tells whether one waits to be accepted.
-fn mark_all(connections: &mut [Connection], events: &Events) -> bool {
-    let mut waits = false;
-    for event in events {
-        if event.token() == LISTENER {
-            waits = true;
-        } else {
-            for connection in connections.iter_mut() {
-                if connection.number == event.token().0 as u64 {
-                    connection.mark(event);
-                }
-            }
-        }
-    }
-    waits
-}
-
 impl<R: Net + Clock> Peers for TcpPeers<'_, R> {
-    ghost use Rattle.std.specs.Prelude.{take, [], false};
+    ghost use Rattle.std.specs.Prelude.{slice_range, [], false};
     ghost use Rattle.smb_tcp.specs.Numbers.{numbers_to};
 
     ghost calls = { λ peers. [] };
@@ -437,16 +434,20 @@ impl<R: Net + Clock> Peers for TcpPeers<'_, R> {
 
     ghost opened = { λ peers. numbers_to peers.opened };
 
-    ghost piece_of = { λ peers. take peers.piece.filled peers.piece.buffer.items };
+    ghost piece_of = { λ peers. slice_range peers.piece.buffer.items peers.piece.begin peers.piece.end };
 
     ghost failed = { λ peers. peers.failures };
 
     fn next(&mut self) -> PeerEvent {
-        self.piece.clear();
         self.note_turn();
         if self.failures == u64::MAX {
+            self.piece.clear();
             return PeerEvent::Idle;
         }
+        if let Some(event) = self.lend_waiting() {
+            return event;
+        }
+        self.piece.clear();
         if self.next_place().is_none() {
             self.look();
             self.accept();
@@ -471,7 +472,7 @@ impl<R: Net + Clock> Peers for TcpPeers<'_, R> {
         let Some(place) = self.place_of(number) else {
             return Ok(0);
         };
-        if self.failures == u64::MAX {
+        if self.failures == u64::MAX || self.holds_back(number, bytes.len()) {
             return Ok(0);
         }
         let connection = &mut self.connections[place];
@@ -500,10 +501,7 @@ impl<R: Net + Clock> Peers for TcpPeers<'_, R> {
         if let Some(facts) = self.facts {
             facts.remove(number);
         }
-        if self.refused {
-            self.refused = false;
-            self.acceptable = true;
-        }
+        self.door.try_again();
     }
 
     fn failures(&self) -> u64 {
