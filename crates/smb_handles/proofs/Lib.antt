@@ -2,6 +2,7 @@ pub mod Keys
 pub mod Sets
 pub mod Noted
 pub mod Live
+pub mod InUse
 pub mod Grouped
 pub mod Tables
 pub mod Slots

@@ -180,7 +180,7 @@ apart s one slot m n h k d q = d (holds_same (s slot) m n (subst (λ (z : ℕ). 
 above_is_other : (n k : ℕ) → n < k → k ≢ n
 above_is_other n k l e = omega (arith, l, e)
 
-kept_later : (s t : ℕ → Option OpenRow) (es : List (ℕ × ℕ)) (n slot : ℕ) → AreLive s es → AllByRecursion (λ later. n < later.0) es → Holds (s slot) n → ((other : ℕ) → other ≢ slot → t other ≡ s other) → AreKept s t es
+pub kept_later : (s t : ℕ → Option OpenRow) (es : List (ℕ × ℕ)) (n slot : ℕ) → AreLive s es → AllByRecursion (λ later. n < later.0) es → Holds (s slot) n → ((other : ℕ) → other ≢ slot → t other ≡ s other) → AreKept s t es
 kept_later s t [] n slot l a h o = tt
 kept_later s t (x ∷ es) n slot l a h o = (o x.1 (apart s x.1 slot x.0 n l.0 h (above_is_other n x.0 a.0)), kept_later s t es n slot l.2 a.1 h o)
 

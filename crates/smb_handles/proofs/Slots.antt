@@ -3,7 +3,7 @@ use Rattle.std.proofs.Common.{◌≡◌, ◌≢◌, ◌<◌, ℕ, zero, suc, len
 use Rattle.std.proofs.lemmas.List.{get_or-set_same, get_or-set_other}
 
 -- a slot with an open is one of the slab's
-within : {X : Type 0} (xs : List (Option X)) (i : ℕ) (x : X) → slice_index_or xs i None ≡ Some x → i < length xs
+pub within : {X : Type 0} (xs : List (Option X)) (i : ℕ) (x : X) → slice_index_or xs i None ≡ Some x → i < length xs
 within [] i x e = cc
 within (y ∷ xs) zero x e = omega arith
 within (y ∷ xs) (suc i) x e = let below = within xs i x e in omega (arith, below)

@@ -1,6 +1,6 @@
 -- For the proofs; nothing here need be believed.
 -- Opens in slots, and the index that leads from their numbers to the slots.
-use Rattle.std.specs.Prelude.{ℕ, ◌≡◌, ◌<◌, List, [], ◌∷◌, Option, IsSomeAnd, filter_map}
+use Rattle.std.specs.Prelude.{ℕ, ◌≡◌, ◌<◌, List, [], ◌∷◌, Option, Some, IsSomeAnd, Contains, filter_map}
 use Rattle.std.specs.List.{AllByRecursion}
 use Rattle.smb_access.specs.declared.open_row.OpenRow.{OpenRow}
 use Rattle.smb_access.specs.declared.scan.Scan.{Scan}
@@ -26,5 +26,7 @@ AreLive slots (entry ∷ index) =
 -- and each group has the numbers of its opens, and each count is that of an entry's opens that use it so
 pub record IsTable (slots : ℕ → Option OpenRow) (index : List (ℕ × ℕ)) (groups : GroupKey → List ℕ) (counts : ℕ → SharingUse → ℕ) : Type 0 where
   pub live : AreLive slots index
+  -- the index leads to each slot that is in use, by the number of the open in it
+  pub complete : (slot : ℕ) (row : OpenRow) → slots slot ≡ Some row → Contains index (row.number, slot)
   pub grouped : (key : GroupKey) → groups key ≡ numbers_in (rows_of slots index) key
   pub counted : (entry : ℕ) (kind : SharingUse) → counts entry kind ≡ uses_in (rows_of slots index) entry kind

@@ -14,8 +14,9 @@
 //! - uses (`uses.rt`): for each entry how many of its opens read it, write it, delete it, and do not share one of these. So whether
 //!   an entry has an open that stands in the way of another one is looked up. An entry that none uses so takes no memory.
 //!
-//! What `specs/` says of them (that the index leads to the opens of its numbers, that each group has the numbers of its opens, and that
-//! each count is right) holds of every table; only the proofs need it.
+//! What `specs/` says of them (that the index leads to the opens of its numbers, and to each slot that is in use, that
+//! each group has the numbers of its opens, and that each count is right) holds of every table; only the proofs need
+//! it.
 //!
 //! A call takes time logarithmic in the number of opens, and `on_entry` as much more as the place it is asked for. Memory is taken
 //! by `add` alone.

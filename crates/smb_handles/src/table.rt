@@ -31,7 +31,9 @@ use std::ops::Bound;
 /// - `get`, `after`, `of_owner`, `on_entry_after`, `has_use`, `set_scan` and `remove` take time logarithmic in the number of opens, and no memory;
 /// - `on_entry` looks up an entry's opens in logarithmic time, and then goes over the first `i` of them;
 /// - `add` takes logarithmic time too, and at times the slots have to move to a larger array. Only it takes memory, and all of it
-///   before the open is in a slot: after a refusal nothing of the open is left.
+///   before the open is in a slot: after a refusal nothing of the open is left;
+/// - as many slots are in use as there are opens: `remove` gives the slot of its open back, and a later `add` uses it
+///   again.
 ///
 /// No call goes through all opens.
 #[derive(Drop)]
@@ -44,7 +46,7 @@ pub struct HandleTable {
 
 impl fmt::Debug for HandleTable {
     fn fmt<W: fmt::Write>(&self, f: &mut fmt::Formatter<W>) -> fmt::Result {
-        write!(f, "HandleTable {{ opens: {}, .. }}", self.index.len())
+        write!(f, "HandleTable {{ opens: {}, .. }}", self.slots_in_use())
     }
 }
 
@@ -75,6 +77,13 @@ impl HandleTable {
             groups: Groups::new(alloc),
             uses: Uses::new(alloc),
         }
+    }
+
+    // How many slots are in use: as many as there are opens. A slot is given back when its open is removed.
+    fn slots_in_use(&self) -> usize
+        ensures { result ≡ length self.now }
+    {
+        self.rows.len()
     }
 }
 

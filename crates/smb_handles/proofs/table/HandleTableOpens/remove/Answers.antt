@@ -24,7 +24,7 @@ forget-requires c =
 
 pub invariant_of-self-2 : goal.invariant_of-self-2
 invariant_of-self-2 c =
-    table_less (get c.self.inside.rows) (get c.remove-row.new.self) c.self.inside.index.entries c.remove.new.self.entries c.args.number c.in-Some.slot c.remove-row.result (sym c.in-Some.ensures.value) c.remove-row.ensures.value c.remove-row.ensures.updates.others c.remove.ensures.entries (members c.self.inside.groups.sets) (members c.forget_row.new.self.sets) (counted c.self.inside.uses.counts) (counted c.forget.new.self.counts) c.self.invariant c.forget_row.ensures c.forget.ensures
+    table_less (get c.self.inside.rows) (get c.remove-row.new.self) c.self.inside.index.entries c.remove.new.self.entries c.args.number c.in-Some.slot c.remove-row.result (sym c.in-Some.ensures.value) c.remove-row.ensures.value c.remove-row.ensures.updates.others c.remove.ensures.entries (members c.self.inside.groups.sets) (members c.forget_row.new.self.sets) (counted c.self.inside.uses.counts) (counted c.forget.new.self.counts) c.remove-row.ensures.updates.changed c.self.invariant c.forget_row.ensures c.forget.ensures
 
 pub returns : goal.returns
 returns c =
