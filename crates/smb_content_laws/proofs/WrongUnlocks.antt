@@ -1,0 +1,85 @@
+-- Wrong definitions of an UNLOCK, each with a law of specs/Locking that refuses it.
+-- A law whose name ends in By says of any definition what that of specs/ says of the right one, as the line below it
+-- shows; then come the wrong definition, and the proof that the law is false of it.
+use Rattle.std.proofs.Common.{◌≡◌, ℕ, ◌==◌, ◌&&◌, Bool, true, false, not, if◌then◌else◌, ap, sym, subst, refl, arith}
+use Rattle.std.proofs.Common.{List, [], ◌∷◌, ◌++◌, length, None, is_some}
+use Rattle.std.specs.List.{AllByRecursion, list_any}
+use Rattle.smb_locks.specs.declared.ask.LockAsk.{LockAsk}
+use Rattle.smb_locks.specs.declared.lock.Lock.{Lock}
+use Rattle.smb_locks.specs.declared.range.ByteRange.{ByteRange}
+use Rattle.smb_locks.specs.Asks.{range_asked, are_unlocks}
+use Rattle.smb_locks.specs.Good.{GoodLockTable}
+use Rattle.smb_locks.specs.Table.{Table, locks_on, with_locks, locked, unlocked, without_holder}
+use Rattle.smb_locks.specs.Unlocking.{is_lock_over, without_oldest, unlock_fault, unlock_all_error}
+use Rattle.smb_content_laws.specs.Locking.{AnUnlockTakesWhatIsAsked, IsOver, LosesOldest, LosesEach}
+use Rattle.smb_content_laws.proofs.ExampleLocks.{first_ten, exclusive_by, shared_by, asks_unlock, one_lock, two_locks}
+use Rattle.smb_content_laws.proofs.ExampleLocks.{one_lock_is_good, two_locks_are_good}
+use Rattle.smb_content_laws.proofs.WrongLocks.{LocksOfOthersStayBy}
+
+-- after an UNLOCK that is not refused, for each range that was asked for the oldest lock of the open over it is gone
+abbrev AnUnlockTakesWhatIsAskedBy : (Table → ℕ → ℕ → List LockAsk → Table) → Type 0
+AnUnlockTakesWhatIsAskedBy unlock =
+    (table : Table) (file holder : ℕ) (asks : List LockAsk) → GoodLockTable table →
+    unlock_all_error (locks_on table file) holder asks ≡ None →
+    LosesEach holder asks (locks_on table file) (locks_on (unlock table file holder asks) file)
+
+an_unlock_takes_what_is_asked : AnUnlockTakesWhatIsAsked ≡ AnUnlockTakesWhatIsAskedBy unlocked
+an_unlock_takes_what_is_asked = refl
+
+-- locks without the newest one that passes
+abbrev without_newest : (Lock → Bool) → List Lock → List Lock
+without_newest test [] = []
+without_newest test (lock ∷ locks) =
+    if not (list_any test locks) && test lock then locks else lock ∷ without_newest test locks
+
+-- what is left where each element takes out the newest lock of the open over its range
+abbrev left_by_newest : ℕ → List Lock → List LockAsk → List Lock
+left_by_newest holder locks [] = locks
+left_by_newest holder locks (ask ∷ asks) =
+    if is_some (unlock_fault holder locks (range_asked ask)) then locks
+    else left_by_newest holder (without_newest (is_lock_over holder (range_asked ask)) locks) asks
+
+-- wrong: of two locks of an open over one range an UNLOCK takes the newest
+abbrev unlocked_newest : Table → ℕ → ℕ → List LockAsk → Table
+unlocked_newest table file holder asks =
+    if are_unlocks asks then with_locks table file (left_by_newest holder (locks_on table file) asks) else table
+
+-- of the two locks the exclusive one is the older, so it is not what is left
+the_older_is_not_left : LosesOldest 1 first_ten (exclusive_by 1 ∷ shared_by 1 ∷ []) (exclusive_by 1 ∷ []) → ⊥
+the_older_is_not_left loses = by loses.front loses.taken loses.back loses.was loses.is loses.oldest
+  where
+    by : (front : List Lock) (taken : Lock) (back : List Lock) →
+        exclusive_by 1 ∷ shared_by 1 ∷ [] ≡ front ++ taken ∷ back → exclusive_by 1 ∷ [] ≡ front ++ back →
+        AllByRecursion (λ lock. ¬ IsOver 1 first_ten lock) front → ⊥
+    by [] taken back was is oldest =
+        let same : shared_by 1 ≡ exclusive_by 1 = cc in
+        let apart : false ≡ true = ap (λ (lock : Lock). lock.exclusive) same in cc
+    by (lock ∷ front) taken back was is oldest =
+        let same : lock ≡ exclusive_by 1 = cc in
+        subst (λ l. ¬ IsOver 1 first_ten l) same oldest.0 (record { own = refl; over = refl })
+
+an_unlock_of_the_newest_breaks_it : AnUnlockTakesWhatIsAskedBy unlocked_newest → ⊥
+an_unlock_of_the_newest_breaks_it law =
+    let takes = law two_locks 2 1 asks_unlock two_locks_are_good refl in
+    the_older_is_not_left (subst (LosesOldest 1 first_ten (exclusive_by 1 ∷ shared_by 1 ∷ [])) (sym takes.2) takes.1)
+
+-- a lock is over this very range
+abbrev is_any_over : ByteRange → Lock → Bool
+is_any_over range lock = lock.range.offset == range.offset && lock.range.length == range.length
+
+-- what is left where each element takes out the oldest lock of any open over its range, up to the first that finds none
+abbrev left_of_any : List Lock → List LockAsk → List Lock
+left_of_any locks [] = locks
+left_of_any locks (ask ∷ asks) =
+    if list_any (is_any_over (range_asked ask)) locks
+    then left_of_any (without_oldest (is_any_over (range_asked ask)) locks) asks
+    else locks
+
+-- wrong: an UNLOCK takes a lock over its range, whichever open holds it
+abbrev unlocked_of_any : Table → ℕ → ℕ → List LockAsk → Table
+unlocked_of_any table file holder asks =
+    if are_unlocks asks then with_locks table file (left_of_any (locks_on table file) asks) else table
+
+an_unlock_of_any_touches_others : LocksOfOthersStayBy locked unlocked_of_any without_holder → ⊥
+an_unlock_of_any_touches_others law =
+    let same : 0 ≡ 1 = ap length ((law one_lock 2 2 asks_unlock one_lock_is_good).1 2) in omega (arith, same)

@@ -1,0 +1,151 @@
+-- What must succeed does: where no row of its table holds, the status of a request is STATUS_SUCCESS.
+use Rattle.std.specs.Prelude.{◌≡◌, ◌≢◌, ◌↔◌, ◌⊎◌, ℕ, ◌+◌, ◌-◌, ◌<◌, ◌≤◌, min, Bool, true, false, List, ◌∷◌, ◌++◌}
+use Rattle.std.specs.Prelude.{length, None, Some}
+use Rattle.std.specs.List.{AllByRecursion}
+use Rattle.smb_wire.specs.Access.{has_any, FILE_WRITE_DATA, FILE_APPEND_DATA}
+use Rattle.smb_wire.specs.Attributes.{FILE_ATTRIBUTE_DIRECTORY}
+use Rattle.smb_wire.specs.Limits.{most_file_bytes}
+use Rattle.smb_wire.specs.declared.nt_status.NtStatus.{NtStatus}
+use Rattle.smb_wire.specs.declared.nt_status.NtStatus.TheVariants.{Success}
+use Rattle.smb_tree.specs.Content.{used_space, with_bytes, with_size}
+use Rattle.smb_tree.specs.Entries.{is_folder_kind}
+use Rattle.smb_locks.specs.declared.ask.LockAsk.{LockAsk}
+use Rattle.smb_locks.specs.Locking.{lock_all_fault}
+use Rattle.smb_locks.specs.Table.{locks_on}
+use Rattle.smb_locks.specs.Unlocking.{unlock_all_error}
+use Rattle.smb_access.specs.declared.view.View.{View}
+use Rattle.smb_access.specs.Asked.{FileAsked}
+use Rattle.smb_access.specs.Access.{is_reading, is_deleting, is_writing_attributes}
+use Rattle.smb_access.specs.StatusRows.{StatusRow, first_status}
+use Rattle.smb_entry.specs.declared.ask.BasicAsk.{BasicAsk}
+use Rattle.smb_entry.specs.Bytes.{keeps_from_reading, keeps_from_writing}
+use Rattle.smb_entry.specs.SetInfo.{has_entries, shows_read_only_file, has_bad_time}
+use Rattle.smb_opens.specs.Bytes.{read_status, write_status}
+use Rattle.smb_opens.specs.Create.{create_rows, create_status}
+use Rattle.smb_opens.specs.Found.{entry_asked}
+use Rattle.smb_opens.specs.Locks.{lock_status, unlock_status}
+use Rattle.smb_opens.specs.SetInfo.{delete_status, size_status, basic_status}
+use Rattle.smb_opens.specs.State.{StoreState}
+use Rattle.smb_opens.specs.Views.{open_view, status_through}
+
+-- no row of a table holds
+abbrev pub NoneHolds : List StatusRow → Type 0
+NoneHolds = AllByRecursion (λ row. row.0 ≡ false)
+
+-- where no row holds the status is STATUS_SUCCESS
+abbrev pub NoRowIsSuccess : Type 0
+NoRowIsSuccess = (rows : List StatusRow) → NoneHolds rows → first_status rows ≡ Success
+
+-- and else it is that of the first row that holds
+abbrev pub TheFirstRowDecides : Type 0
+TheFirstRowDecides =
+    (before after : List StatusRow) (status : NtStatus) → NoneHolds before →
+    first_status (before ++ (true, status) ∷ after) ≡ status
+
+-- a table in which each row's status is a refusal gives STATUS_SUCCESS exactly where none holds
+abbrev pub SuccessIsWhereNoneHolds : Type 0
+SuccessIsWhereNoneHolds =
+    (rows : List StatusRow) → AllByRecursion (λ row. row.1 ≢ Success) rows →
+    (first_status rows ≡ Success) ↔ NoneHolds rows
+
+-- through an open that shows something, a status by a table is STATUS_SUCCESS where none of its rows holds
+abbrev pub ARequestSucceeds : Type 0
+ARequestSucceeds =
+    (state : StoreState) (number : ℕ) (view : View) (rows : View → List StatusRow) →
+    open_view state number ≡ Some view → NoneHolds (rows view) → status_through state number rows ≡ Success
+
+-- a CREATE succeeds exactly where none of its rows holds ([MS-SMB2] 3.3.5.9)
+abbrev pub ACreateSucceeds : Type 0
+ACreateSucceeds =
+    (state : StoreState) (ask : FileAsked) →
+    (create_status state ask ≡ Success) ↔ NoneHolds (create_rows state ask (entry_asked state ask))
+
+-- what a READ needs ([MS-SMB2] 3.3.5.12): it asks for no more than one request reads, of a file, through an open that
+-- may read its bytes, where no lock bars it; there are bytes where it asks for some, and at least so many as it wants
+pub record MayRead (state : StoreState) (most number offset count minimum : ℕ) (view : View) : Type 0 where
+  pub within : count ≤ most
+  pub file : is_folder_kind view.kind ≡ false
+  pub access : is_reading view.access ≡ true
+  pub free : keeps_from_reading state.locks number view offset count ≡ false
+  pub there : 0 < count → offset < view.size
+  pub enough : minimum ≤ min count (view.size - offset)
+
+-- a READ through an open that shows a file succeeds exactly where it may
+abbrev pub AReadSucceeds : Type 0
+AReadSucceeds =
+    (state : StoreState) (most number offset count minimum : ℕ) (view : View) → open_view state number ≡ Some view →
+    (read_status state most number offset count minimum ≡ Success) ↔ MayRead state most number offset count minimum view
+
+-- an open may write at an offset: it was granted FILE_WRITE_DATA, or FILE_APPEND_DATA and the offset is not before the
+-- end of the file
+abbrev pub WritesAt : View → ℕ → Type 0
+WritesAt view offset =
+    (has_any view.access.0 FILE_WRITE_DATA ≡ true)
+    ⊎ ((has_any view.access.0 FILE_APPEND_DATA ≡ true) × (view.size ≤ offset))
+
+-- what a WRITE needs ([MS-SMB2] 3.3.5.13): it gives no more than one request writes, to a file, through an open that
+-- may write there, where no lock bars it; and if it gives some bytes, there is room for them
+pub record MayWrite (state : StoreState) (most number offset : ℕ) (buffer : List ℕ) (view : View) : Type 0 where
+  pub within : length buffer ≤ most
+  pub file : is_folder_kind view.kind ≡ false
+  pub access : WritesAt view offset
+  pub free : keeps_from_writing state.locks number view offset (length buffer) ≡ false
+  pub small : 0 < length buffer → offset + length buffer ≤ most_file_bytes
+  pub fits : 0 < length buffer → used_space (with_bytes state.tree view.entry offset buffer).rows ≤ state.tree.capacity
+
+-- a WRITE succeeds exactly where it may
+abbrev pub AWriteSucceeds : Type 0
+AWriteSucceeds =
+    (state : StoreState) (most number offset : ℕ) (buffer : List ℕ) (view : View) → open_view state number ≡ Some view →
+    (write_status state most number offset buffer ≡ Success) ↔ MayWrite state most number offset buffer view
+
+-- a LOCK of a file succeeds exactly where the file's locks refuse none of its elements, and an UNLOCK likewise
+-- ([MS-SMB2] 3.3.5.14)
+abbrev pub ALockSucceeds : Type 0
+ALockSucceeds =
+    (state : StoreState) (number : ℕ) (asks : List LockAsk) (view : View) → open_view state number ≡ Some view →
+    is_folder_kind view.kind ≡ false →
+    let held = locks_on state.locks view.entry in
+    ((lock_status state number asks ≡ Success) ↔ (lock_all_fault held number asks ≡ None))
+    × ((unlock_status state number asks ≡ Success) ↔ (unlock_all_error held number asks ≡ None))
+
+-- what a SET_INFO of an entry's mark needs ([MS-FSA] 2.1.5.15.3): the open was granted DELETE; and where the entry is
+-- to be deleted, it is not the root, no read-only file, and nothing is in it
+pub record MayMark (state : StoreState) (is_deleted : Bool) (view : View) : Type 0 where
+  pub access : is_deleting view.access ≡ true
+  pub other : is_deleted ≡ true → view.entry ≢ 1
+  pub writable : is_deleted ≡ true → shows_read_only_file view ≡ false
+  pub empty : is_deleted ≡ true → has_entries state.tree.rows view.entry ≡ false
+
+-- a SET_INFO of a mark succeeds exactly where it may
+abbrev pub ASetOfAMarkSucceeds : Type 0
+ASetOfAMarkSucceeds =
+    (state : StoreState) (number : ℕ) (is_deleted : Bool) (view : View) → open_view state number ≡ Some view →
+    (delete_status state number is_deleted ≡ Success) ↔ MayMark state is_deleted view
+
+-- what one of a file's size needs ([MS-FSA] 2.1.5.15.4): it is a file, the open was granted FILE_WRITE_DATA, and there
+-- is room
+pub record MaySetSize (state : StoreState) (size : ℕ) (view : View) : Type 0 where
+  pub file : is_folder_kind view.kind ≡ false
+  pub access : has_any view.access.0 FILE_WRITE_DATA ≡ true
+  pub small : size ≤ most_file_bytes
+  pub fits : used_space (with_size state.tree view.entry size).rows ≤ state.tree.capacity
+
+-- a SET_INFO of a size succeeds exactly where it may
+abbrev pub ASetOfASizeSucceeds : Type 0
+ASetOfASizeSucceeds =
+    (state : StoreState) (number size : ℕ) (view : View) → open_view state number ≡ Some view →
+    (size_status state number size ≡ Success) ↔ MaySetSize state size view
+
+-- what one of times and attributes needs ([MS-FSA] 2.1.5.15.2): all four times are times, a file is not to be a
+-- directory, and the open was granted FILE_WRITE_ATTRIBUTES
+pub record MaySetTimes (ask : BasicAsk) (view : View) : Type 0 where
+  pub times : has_bad_time ask ≡ false
+  pub kind : (is_folder_kind view.kind ≡ true) ⊎ (has_any ask.attributes.0 FILE_ATTRIBUTE_DIRECTORY ≡ false)
+  pub access : is_writing_attributes view.access ≡ true
+
+-- a SET_INFO of times and attributes succeeds exactly where it may
+abbrev pub ASetOfTimesSucceeds : Type 0
+ASetOfTimesSucceeds =
+    (state : StoreState) (number : ℕ) (ask : BasicAsk) (view : View) → open_view state number ≡ Some view →
+    (basic_status state number ask ≡ Success) ↔ MaySetTimes ask view

@@ -1,0 +1,24 @@
+//! The laws of space.
+
+ghost use Rattle.smb_content_laws.specs.Space.{AllocationIsInClusters, UsedSpaceIsTheSum, ARemovalFreesItsSpace};
+ghost use Rattle.smb_content_laws.specs.Space.{ACreateTakesNoSpace, AnOverwriteFreesItsSpace, AWriteTakesItsSpace};
+ghost use Rattle.smb_content_laws.specs.Space.{ASizeTakesItsSpace, ACloseFreesWhatItRemoves};
+ghost use Rattle.smb_content_laws.specs.Space.{ARenameFreesWhatItReplaces, SpaceStaysWithinCapacity};
+
+/// A file takes whole clusters, the least that its bytes fit into, and the space used is the sum of what all files
+/// take. A removal frees exactly what the removed file took; so do a CLOSE that removes its file, a rename that
+/// replaces one, and a CREATE that overwrites one. A WRITE or another size takes the space of the size that the file
+/// gets. The space used never passes the capacity, whatever requests succeed. The contract is the statement, and the
+/// body does nothing.
+pub fn laws_of_space()
+    ensures clusters { AllocationIsInClusters }
+    ensures total { UsedSpaceIsTheSum }
+    ensures removals { ARemovalFreesItsSpace }
+    ensures creates { ACreateTakesNoSpace }
+    ensures overwrites { AnOverwriteFreesItsSpace }
+    ensures writes { AWriteTakesItsSpace }
+    ensures sizes { ASizeTakesItsSpace }
+    ensures closes { ACloseFreesWhatItRemoves }
+    ensures renames { ARenameFreesWhatItReplaces }
+    ensures within { SpaceStaysWithinCapacity }
+{}

@@ -1,0 +1,13 @@
+mod Gone
+mod KeptOut
+mod MadeFound
+mod MovedFound
+mod GivenOnce
+mod StillThere
+mod OwnerGone
+mod ExampleStore
+mod WrongDeletes
+mod WrongSharing
+mod WrongCreates
+mod WrongNames
+mod WrongNumbers

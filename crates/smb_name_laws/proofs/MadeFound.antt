@@ -1,0 +1,85 @@
+-- What the name of a CREATE finds once it is performed.
+use Rattle.std.proofs.Common.{◌≡◌, ℕ, List, [], ◌∷◌, ◌++◌, Bool, true, false, ◌&&◌, ◌||◌, if◌then◌else◌, Option, None, Some, refl, sym, ap, arith, ◌∙◌}
+use Rattle.std.proofs.lemmas.Bool.Decides.{nat_tests}
+use Rattle.smb_wire.specs.Dispositions.{overwrites_by}
+use Rattle.smb_wire.specs.declared.nt_status.NtStatus.TheVariants.{Success}
+use Rattle.smb_tree.specs.Content.{Content, entry_at, numbered}
+use Rattle.smb_tree.specs.Entries.{Entry, is_folder, is_folder_kind}
+use Rattle.smb_tree.specs.Good.{GoodContent}
+use Rattle.smb_tree.proofs.Apart.{numbered-from_at, at-push, at-changed, numbered-fresh}
+use Rattle.smb_tree.proofs.Keys.{same_path-itself}
+use Rattle.smb_access.specs.declared.open_row.OpenRow.{OpenRow}
+use Rattle.smb_access.specs.Asked.{FileAsked, asks_file, kind_asked}
+use Rattle.smb_access.specs.Effect.{overwritten, overwritten_tree, entry_after, tree_after, opened_by}
+use Rattle.smb_access.specs.Found.{path_asked}
+use Rattle.smb_access.specs.Opens.{open_of, AreAllBelow}
+use Rattle.smb_opens.specs.Create.{access_granted, create_status}
+use Rattle.smb_opens.specs.Effect.{created}
+use Rattle.smb_opens.specs.Found.{entry_asked}
+use Rattle.smb_opens.specs.Good.{GoodStore}
+use Rattle.smb_opens.specs.State.{StoreState}
+use Rattle.smb_opens.proofs.Returned.{returned_shown}
+use Rattle.smb_name_laws.specs.Creates.{FindsWhatIsOpen}
+use Rattle.smb_name_laws.proofs.KeptOut.{no_row}
+
+-- an open that comes last is found by its number, which is above all others
+last_open : (rows : List OpenRow) (row : OpenRow) (n : ℕ) → AreAllBelow n rows → row.number ≡ n → open_of (rows ++ row ∷ []) n ≡ Some row
+last_open [] row n h e = grind (arith, nat_tests, e)
+last_open (x ∷ rows) row n h e = grind (arith, nat_tests, h.0, last_open rows row n h.1 e)
+
+found_standing : (tree : Content) (ask : FileAsked) (moment : ℕ) (entry : Entry) (b : Bool) → GoodContent tree → entry_at tree.rows (path_asked ask) ≡ Some entry →
+    entry_at (let x : Content = if b then overwritten_tree tree ask moment entry.number else tree in x).rows (path_asked ask) ≡ Some (if b then overwritten ask moment entry else entry)
+found_standing tree ask moment entry true good h =
+    let here = same_path-itself (path_asked ask) in
+    at-changed (overwritten ask moment) tree.rows (path_asked ask) (path_asked ask) entry entry.number good.apart (numbered-from_at tree.rows (path_asked ask) entry good.apart h) ∙ rw here refl
+found_standing tree ask moment entry false good h = h
+
+found_after : (tree : Content) (ask : FileAsked) (moment : ℕ) (stood : Option Entry) → GoodContent tree → entry_at tree.rows (path_asked ask) ≡ stood →
+    entry_at (tree_after tree ask moment stood).rows (path_asked ask) ≡ Some (entry_after tree ask moment stood)
+found_after tree ask moment None good h =
+    let here = same_path-itself (path_asked ask) in
+    at-push tree.rows (path_asked ask) (path_asked ask) (entry_after tree ask moment None) ∙ rw (h, here) refl
+found_after tree ask moment (Some entry) good h = found_standing tree ask moment entry (overwrites_by ask.disposition) good h
+
+pub finds : (state : StoreState) (ask : FileAsked) (moment : ℕ) → GoodStore state → FindsWhatIsOpen (created state ask moment) (path_asked ask) state.next
+finds state ask moment good =
+    let entry : Entry = entry_after state.tree ask moment (entry_asked state ask) in
+    let row : OpenRow = opened_by ask state.next entry.number (access_granted state ask) in
+    record {
+      entry = entry;
+      row = row;
+      found = found_after state.tree ask moment (entry_asked state ask) good.tree refl;
+      opened = last_open state.opens row state.next good.below refl;
+      own = refl;
+      shown = returned_shown state ask moment good;
+    }
+
+no_folder : (f a o : Bool) → (f && (a || o)) ≡ false → o ≡ true → f ≡ false
+no_folder f a o h e = grind (arith, h, e)
+
+pub no_bytes : (state : StoreState) (ask : FileAsked) (moment : ℕ) (before : Entry) → GoodStore state → create_status state ask ≡ Success → entry_asked state ask ≡ Some before → overwrites_by ask.disposition ≡ true →
+    (after : Entry) × (entry_at (created state ask moment).tree.rows (path_asked ask) ≡ Some after) × (after.number ≡ before.number) × (is_folder_kind after.kind ≡ false) × (after.bytes ≡ [])
+no_bytes state ask moment before good e h o =
+    let rows = no_row state ask e in
+    let row : (is_folder (entry_asked state ask) && (asks_file ask || overwrites_by ask.disposition)) ≡ false = rows.1.1.1.1.1.1.1.1.1.1.1.1.0 in
+    let folder : is_folder (entry_asked state ask) ≡ false = no_folder (is_folder (entry_asked state ask)) (asks_file ask) (overwrites_by ask.disposition) row o in
+    let file : is_folder_kind before.kind ≡ false = sym (ap is_folder h) ∙ folder in
+    let after : entry_after state.tree ask moment (entry_asked state ask) ≡ overwritten ask moment before =
+    ap (entry_after state.tree ask moment) h ∙ ap (λ (b : Bool). if b then overwritten ask moment before else before) o in (
+      overwritten ask moment before,
+      found_after state.tree ask moment (entry_asked state ask) good.tree refl ∙ ap (λ (x : Entry). Some x) after,
+      refl,
+      file,
+      refl,
+    )
+
+pub made : (state : StoreState) (ask : FileAsked) (moment : ℕ) → GoodStore state → entry_asked state ask ≡ None →
+    (made : Entry) × (entry_at (created state ask moment).tree.rows (path_asked ask) ≡ Some made) × (numbered state.tree.rows made.number ≡ None) × (made.kind ≡ kind_asked ask) × (made.bytes ≡ []) × (made.mark ≡ false)
+made state ask moment good h = (
+  entry_after state.tree ask moment None,
+  found_after state.tree ask moment (entry_asked state ask) good.tree refl ∙ ap (λ (o : Option Entry). Some (entry_after state.tree ask moment o)) h,
+  numbered-fresh state.tree.rows state.tree.next good.tree.below,
+  refl,
+  refl,
+  refl,
+)

@@ -1,0 +1,5 @@
+use Rattle.smb_name_laws.proofs.MadeFound.{finds, no_bytes, made}
+use Rattle.smb_name_laws.proofs.creates.laws_of_creates.Goals as goal
+
+pub returns : goal.returns
+returns c = record { finds = finds; no_bytes = no_bytes; made = made }

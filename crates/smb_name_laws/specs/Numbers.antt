@@ -1,0 +1,56 @@
+-- The numbers of opens ([MS-SMB2] 3.3.1.10) and of entries are given once, in a user's words.
+use Rattle.std.specs.Prelude.{◌≡◌, ℕ, ◌<◌, ◌≤◌, true, List, ◌∷◌, None, Some, is_some}
+use Rattle.smb_tree.specs.Content.{Row, numbered}
+use Rattle.smb_tree.specs.Laws.{AreBelow}
+use Rattle.smb_access.specs.declared.open_row.OpenRow.{OpenRow}
+use Rattle.smb_access.specs.Opens.{open_of, AreAllBelow}
+use Rattle.smb_opens.specs.Close.{closed}
+use Rattle.smb_opens.specs.Good.{GoodStore}
+use Rattle.smb_opens.specs.State.{StoreState}
+use Rattle.smb_opens.specs.Steps.{StoreStep, stepped, stepped_all}
+
+-- from one store to a later one the next number of an open never falls, and each open's is below it; a number that was
+-- given, and names no open, names none later; and one that names an open names no other later: it is as it was, but for
+-- how far its scan of a directory has come
+pub record GivesEachOpenOnce (before after : StoreState) : Type 0 where
+  pub rise : before.next ≤ after.next
+  pub below : AreAllBelow after.next after.opens
+  pub ended : (number : ℕ) → number < before.next → open_of before.opens number ≡ None →
+      open_of after.opens number ≡ None
+  pub same : (number : ℕ) (one other : OpenRow) → open_of before.opens number ≡ Some one →
+      open_of after.opens number ≡ Some other → other ≡ record one { scan = other.scan }
+
+-- from one store to a later one the next number of an entry never falls, and each entry's is below it; a number that
+-- was given, and names no entry, names none later; and one that names a file names no folder later, nor a folder's a file
+pub record GivesEachEntryOnce (before after : StoreState) : Type 0 where
+  pub rise : before.tree.next ≤ after.tree.next
+  pub below : AreBelow after.tree.rows after.tree.next
+  pub ended : (number : ℕ) → number < before.tree.next → numbered before.tree.rows number ≡ None →
+      numbered after.tree.rows number ≡ None
+  pub same : (number : ℕ) (one other : Row) → numbered before.tree.rows number ≡ Some one →
+      numbered after.tree.rows number ≡ Some other → other.1.kind ≡ one.1.kind
+
+-- whatever requests are performed, no open's number is given twice
+abbrev pub NoOpensNumberIsGivenTwice : Type 0
+NoOpensNumberIsGivenTwice =
+    (state : StoreState) (steps : List StoreStep) → GoodStore state →
+    GivesEachOpenOnce state (stepped_all state steps)
+
+-- and no entry's
+abbrev pub NoEntrysNumberIsGivenTwice : Type 0
+NoEntrysNumberIsGivenTwice =
+    (state : StoreState) (steps : List StoreStep) → GoodStore state →
+    GivesEachEntryOnce state (stepped_all state steps)
+
+-- once an open is closed, its number names no open again
+abbrev pub AClosedOpenStaysClosed : Type 0
+AClosedOpenStaysClosed =
+    (state : StoreState) (number : ℕ) (steps : List StoreStep) → GoodStore state →
+    is_some (open_of state.opens number) ≡ true → open_of (stepped_all (closed state number) steps).opens number ≡ None
+
+-- once an entry is gone, after whatever request, its number names no entry again
+abbrev pub AnEntryThatIsGoneStaysGone : Type 0
+AnEntryThatIsGoneStaysGone =
+    (state : StoreState) (entry : ℕ) (step : StoreStep) (steps : List StoreStep) → GoodStore state →
+    is_some (numbered state.tree.rows entry) ≡ true → numbered (stepped state step).tree.rows entry ≡ None →
+    numbered (stepped_all state (step ∷ steps)).tree.rows entry ≡ None
