@@ -1,0 +1,14 @@
+mod Closes
+mod Due
+mod StoreKept
+mod StoreChanged
+mod Requests
+mod Shares
+mod Runs
+mod Numbered
+mod Files
+mod Found
+mod Ended
+mod Restarted
+mod WrongEnds
+mod WrongRestarts

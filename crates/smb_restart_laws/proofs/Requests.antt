@@ -1,0 +1,439 @@
+-- What is held of a server, a request keeps.
+use Rattle.std.proofs.Common.{◌≡◌, ◌==◌, ◌<◌, ◌-◌, ◌^◌, ℕ, filter, Bool, true, false, not, if◌then◌else◌, List, [], ◌∷◌, ◌++◌, Option, None, Some, is_some, refl, sym, ap, arith, ◌∙◌}
+use Rattle.std.proofs.lemmas.Bool.Decides.{nat_tests}
+use Rattle.std.specs.Prelude.{unwrap_or, bit_and}
+use Rattle.std.specs.List.{AllByRecursion}
+use Rattle.std.specs.BTreeMap.{is_at}
+use Rattle.std.specs.Ordering.{nat_cmp}
+use Rattle.std.specs.Option.{option_map_or, option_and_then}
+use Rattle.smb_wire.specs.Limits.{most_at_once}
+use Rattle.smb_wire.specs.NtStatus.{is_success}
+use Rattle.smb_wire.specs.Dialects.{revision_of}
+use Rattle.smb_wire.specs.Paths.{path_spelled}
+use Rattle.smb_wire.specs.declared.dialect.Dialect.{Dialect}
+use Rattle.smb_wire.specs.declared.nt_status.NtStatus.{NtStatus}
+use Rattle.smb_wire.specs.declared.nt_status.NtStatus.TheVariants.{Success, InvalidParameter, NotSupported, FileClosed}
+use Rattle.smb_tree.specs.Content.{Content}
+use Rattle.smb_body.specs.Requests.{RequestValue, asks_negotiate, asks_session_setup, asks_logoff, asks_tree_connect, asks_tree_disconnect, asks_create, asks_close, asks_flush, asks_read, asks_write, asks_lock, asks_cancel, asks_echo, asks_query_directory, asks_query_info, asks_set_info}
+use Rattle.smb_body.specs.SessionSetup.{SessionSetupAsked}
+use Rattle.smb_body.specs.Create.{CreateAsked}
+use Rattle.smb_body.specs.Write.{WriteAsked}
+use Rattle.smb_body.specs.Replies.{answers_close, answers_lock}
+use Rattle.smb_body.specs.declared.read.ReadRequest.{ReadRequest}
+use Rattle.smb_body.specs.declared.close.CloseFlags.{CloseFlags}
+use Rattle.smb_session.specs.Authenticator.{Meaning, Answered, continues, accepts, denies}
+use Rattle.smb_session.specs.Negotiate.{best_of}
+use Rattle.smb_session.specs.Numbers.{contains}
+use Rattle.smb_session.specs.Session.{SessionState, fresh_session, finished_by, with_tree, without_tree}
+use Rattle.smb_session.specs.Sessions.{setup_step, tree_connect_refusal}
+use Rattle.smb_session.specs.Setup.{setup_refusal, setup_table, setup_number, has_all_sessions, previous_ended, table_answered}
+use Rattle.smb_session.specs.declared.fault.SessionFault.TheVariants.{NotAccepted}
+use Rattle.smb_session.specs.Table.{TableState, begun, knows_session, knows_tree, read_only_of, session_ended, session_changed, logoff_refusal, tree_disconnect_refusal}
+use Rattle.smb_session.proofs.Entries.{all-changed, all-removed}
+use Rattle.smb_access.specs.Asked.{FileAsked}
+use Rattle.smb_access.specs.Effect.{entry_after, opened_by}
+use Rattle.smb_access.specs.Opens.{open_of, open_numbers, has_number, is_held_by}
+use Rattle.smb_access.specs.declared.open_row.OpenRow.{OpenRow}
+use Rattle.smb_access.specs.declared.open_row.Owner.{Owner}
+use Rattle.smb_access.specs.declared.open_row.Owner.TheVariants.{Session, Tree}
+use Rattle.smb_access.specs.declared.scan.Scan.{Scan}
+use Rattle.smb_access.specs.declared.view.View.{View}
+use Rattle.smb_locks.specs.declared.ask.LockAsk.{LockAsk}
+use Rattle.smb_locks.specs.Table.{locked, unlocked}
+use Rattle.smb_info.specs.SetInformation.{SetAsked, asks_basic, asks_rename, asks_mark, asks_allocation, asks_end}
+use Rattle.smb_entry.specs.Rename.{renamed_tree}
+use Rattle.smb_entry.specs.SetInfo.{changed_in, delete_set, size_set, entry_set}
+use Rattle.smb_opens.specs.Bytes.{read_status, write_status}
+use Rattle.smb_opens.specs.Close.{closed, closed_all}
+use Rattle.smb_opens.specs.Create.{access_granted, create_status}
+use Rattle.smb_opens.specs.Effect.{created}
+use Rattle.smb_opens.specs.Found.{entry_asked}
+use Rattle.smb_opens.specs.Good.{GoodStore}
+use Rattle.smb_opens.specs.Locks.{lock_status, unlock_status, unlocked_through}
+use Rattle.smb_opens.specs.Scans.{scan_set}
+use Rattle.smb_opens.specs.State.{StoreState}
+use Rattle.smb_opens.specs.Views.{open_view}
+use Rattle.smb_opens.proofs.Again.{opens_left as opens_written}
+use Rattle.smb_opens.proofs.Closing.{opens_closed}
+use Rattle.smb_request.specs.declared.context.Context.{Context}
+use Rattle.smb_request.specs.Bytes.{file_read, file_written}
+use Rattle.smb_request.specs.Call.{body_of, call_of}
+use Rattle.smb_request.specs.Context.{named_on, open_for_next_related}
+use Rattle.smb_request.specs.Files.{file_asked, file_created, close_response, file_closed}
+use Rattle.smb_request.specs.Held.{IsCallOf, opens_left}
+use Rattle.smb_request.specs.Laws.{NumbersInOrder}
+use Rattle.smb_request.specs.Locks.{lock_asks, asks_unlock, file_locked, file_unlocked}
+use Rattle.smb_request.specs.Needs.{is_unsupported, is_cancel_command}
+use Rattle.smb_request.specs.Negotiate.{negotiate_answer}
+use Rattle.smb_request.specs.Owners.{only_reads, AreOwned}
+use Rattle.smb_request.specs.Request.{check_request, check_session_tree_and_open, negotiated, dialect_after, acted, performed_by, performed}
+use Rattle.smb_request.specs.Response.{CommandStep, Performed, success, refused}
+use Rattle.smb_request.specs.Session.{closed_for, may_only_read, status_of_refusal, setup_answered, session_set_up, session_logged_off, tree_joined, tree_left}
+use Rattle.smb_request.specs.SetInfo.{set_status, set_through}
+use Rattle.smb_request.specs.State.{ServerState, hello_of, with_store}
+use Rattle.smb_request.proofs.Apart.{acts_known, id_held}
+use Rattle.smb_request.proofs.Configured.{created_kept, closed_kept, all_kept, ended_kept, locks_kept, locks_opens, written_kept}
+use Rattle.smb_request.proofs.Handed.{request_passed}
+use Rattle.smb_request.proofs.InfoApart.{yes_success, set_opens, queried_left, info_set_left}
+use Rattle.smb_request.proofs.Listings.{owned_scanned, listed_left}
+use Rattle.smb_request.proofs.Numbers.{others_left}
+use Rattle.smb_request.proofs.Owners.{owned_ended, owned_tree, owned_untree, owned_setup, owned_some, owned_new, owned_push, reader_only}
+use Rattle.smb_request.proofs.Performed.{call_read}
+use Rattle.smb_restart_laws.proofs.Closes.{each_keeps, good_close}
+use Rattle.smb_restart_laws.proofs.StoreKept.{good_created}
+use Rattle.smb_restart_laws.proofs.StoreChanged.{good_written, good_locked, good_unlocked, good_scanned, good_based, good_deleted, good_sized, good_renamed}
+
+-- each session's connection is known, and the numbers are not spent
+pub record IsTableHeld (table : TableState) : Type 0 where
+  pub next : (0 < table.next) × (table.next < 2 ^ 64)
+  pub known : AllByRecursion (λ e. contains table.connections e.1.connection ≡ true) table.sessions
+
+-- what is held of a server, beside the order of its numbers
+pub record IsServerHeld {S : Type 0} (server : ServerState S) : Type 0 where
+  pub table : IsTableHeld server.sessions.table
+  pub store : GoodStore server.store
+  pub owned : AreOwned server.sessions.table server.store.opens
+
+-- it is held afterwards, and what is configured, and which connections are known, is as it was
+pub record Keeps {S : Type 0} (before after : ServerState S) : Type 0 where
+  pub settings : after.settings ≡ before.settings
+  pub share : after.sessions.share ≡ before.sessions.share
+  pub room : after.store.tree.capacity ≡ before.store.tree.capacity
+  pub connections : after.sessions.table.connections ≡ before.sessions.table.connections
+  pub held : IsServerHeld after
+
+abbrev KnownBy : List ℕ → List (ℕ × SessionState) → Type 0
+KnownBy connections = AllByRecursion (λ e. contains connections e.1.connection ≡ true)
+
+-- sessions that change keep their connection
+table_changed : (f : SessionState → SessionState) → ((s : SessionState) → (f s).connection ≡ s.connection) → (table : TableState) (n : ℕ) → IsTableHeld table → IsTableHeld (session_changed f table n)
+table_changed f same table n h = record {
+  next = h.next;
+  known = all-changed (λ e. contains table.connections e.1.connection ≡ true) f n table.sessions (λ e k. ap (contains table.connections) (same e.1) ∙ k) h.known;
+}
+
+table_ended : (table : TableState) (n : ℕ) → IsTableHeld table → IsTableHeld (session_ended table n)
+table_ended table n h = record { next = h.next; known = all-removed (λ e. contains table.connections e.1.connection ≡ true) (is_at (nat_cmp n)) table.sessions h.known }
+
+all_push : (connections : List ℕ) (es : List (ℕ × SessionState)) (e : ℕ × SessionState) → KnownBy connections es → contains connections e.1.connection ≡ true → KnownBy connections (es ++ e ∷ [])
+all_push connections [] e h k = (k, tt)
+all_push connections (x ∷ es) e h k = (h.0, all_push connections es e h.1 k)
+
+ended_or_not : (table : TableState) (previous : Option ℕ) → IsTableHeld table → IsTableHeld (option_map_or (session_ended table) previous table)
+ended_or_not table None h = h
+ended_or_not table (Some n) h = table_ended table n h
+
+table_answered_held : (table : TableState) (n previous : ℕ) (answer : Answered) → IsTableHeld table → IsTableHeld (table_answered table n previous answer)
+table_answered_held table n previous (continues token) h = h
+table_answered_held table n previous (accepts user flags read_only token) h =
+    table_changed (finished_by user read_only) (λ s. refl) (option_map_or (session_ended table) (previous_ended table user previous) table) n (ended_or_not table (previous_ended table user previous) h)
+table_answered_held table n previous denies h = table_ended table n h
+
+-- a session begins on a connection that is known
+first_none : {F : Type 0} (b : Bool) (fault : F) (others : Option F) → (if b then Some fault else others) ≡ None → (b ≡ false) × (others ≡ None)
+first_none true fault others h = cc
+first_none false fault others h = (refl, h)
+
+table_begun : (table : TableState) (c : ℕ) → has_all_sessions table c ≡ false → IsTableHeld table → IsTableHeld (begun table c)
+table_begun table c room h =
+    let known : contains table.connections c ≡ true = grind (arith, room) in
+    let below : table.next < 2 ^ 64 - 1 = grind (arith, nat_tests, room) in
+    record {
+      next = (omega (arith, h.next.0), omega (arith, below));
+      known = all_push table.connections table.sessions (table.next, fresh_session c) h.known known;
+    }
+
+table_set_up : (table : TableState) (c n flags : ℕ) → setup_refusal table c n flags ≡ None → IsTableHeld table → IsTableHeld (setup_table table c n)
+table_set_up table c n flags e h = at (n == 0) refl
+  where
+    at : (b : Bool) → n == 0 ≡ b → IsTableHeld (setup_table table c n)
+    at true t =
+        let rest = (first_none (not (bit_and flags 1 == 0)) NotAccepted _ e).1 in
+        let rest' : (if has_all_sessions table c then Some NotAccepted else None) ≡ None = rw t at rest in
+        rw t (table_begun table c (first_none (has_all_sessions table c) NotAccepted None rest').0 h)
+    at false t = rw t h
+
+-- the connections that are known stay so
+answered_connections : (table : TableState) (n previous : ℕ) (answer : Answered) → (table_answered table n previous answer).connections ≡ table.connections
+answered_connections table n previous (continues token) = refl
+answered_connections table n previous (accepts user flags read_only token) = by_previous (previous_ended table user previous)
+  where
+    by_previous : (o : Option ℕ) → (session_changed (finished_by user read_only) (option_map_or (session_ended table) o table) n).connections ≡ table.connections
+    by_previous None = refl
+    by_previous (Some m) = refl
+answered_connections table n previous denies = refl
+
+set_up_connections : (table : TableState) (c n : ℕ) → (setup_table table c n).connections ≡ table.connections
+set_up_connections table c n = elim (n == 0) as (λ b. (let x : TableState = if b then begun table c else table in x).connections ≡ table.connections) [ true ↦ refl | false ↦ refl ]
+
+-- all opens of an owner are closed
+good_all : (store : StoreState) (owner : Owner) → GoodStore store → GoodStore (closed_all store owner)
+good_all store owner good = each_keeps GoodStore good_close (open_numbers (filter (is_held_by owner) store.opens)) store good
+
+good_for : (store : StoreState) (ended : Option ℕ) → GoodStore store → GoodStore (closed_for store ended)
+good_for store None good = good
+good_for store (Some session) good = good_all store (Session session) good
+
+opens_for : (table : TableState) (store : StoreState) (ended : Option ℕ) → NumbersInOrder table store → (closed_for store ended).opens ≡ opens_left ended store.opens
+opens_for table store None o = refl
+opens_for table store (Some session) o = (others_left store (Session session) o.opens).opens
+
+-- a SET_INFO leaves the capacity
+with_tree_room : (tree : OpenRow → Content) (store : StoreState) (found : Option OpenRow) → ((row : OpenRow) → (tree row).capacity ≡ store.tree.capacity) →
+    (option_map_or (λ (row : OpenRow). let x : StoreState = record store { tree = tree row } in x) found store).tree.capacity ≡ store.tree.capacity
+with_tree_room tree store None same = refl
+with_tree_room tree store (Some row) same = same row
+
+set_room : (store : StoreState) (k moment : ℕ) (ask : SetAsked) → (set_through store k moment ask).tree.capacity ≡ store.tree.capacity
+set_room store k moment (asks_basic ask) = with_tree_room (λ row. changed_in (entry_set ask moment) store.tree row.entry) store (open_of store.opens k) (λ row. refl)
+set_room store k moment (asks_rename replace name) = with_tree_room (λ row. renamed_tree store.tree row.entry (path_spelled name) moment) store (open_of store.opens k) (λ row. refl)
+set_room store k moment (asks_mark mark) = with_tree_room (λ row. changed_in (delete_set mark) store.tree row.entry) store (open_of store.opens k) (λ row. refl)
+set_room store k moment (asks_allocation size) = with_tree_room (λ row. changed_in (size_set size true moment) store.tree row.entry) store (open_of store.opens k) (λ row. refl)
+set_room store k moment (asks_end size) = with_tree_room (λ row. changed_in (size_set size false moment) store.tree row.entry) store (open_of store.opens k) (λ row. refl)
+
+module _ {S : Type 0} (call : _) (body : Option RequestValue) (read : IsCallOf call body) (server : ServerState S) (o : NumbersInOrder server.sessions.table server.store) (h : IsServerHeld server) where
+  abbrev c : ℕ
+  c = call.connection
+
+  abbrev s : ℕ
+  s = call.ids.session_id
+
+  abbrev k : ℕ
+  k = call.open_number
+
+  abbrev table : TableState
+  table = server.sessions.table
+
+  abbrev Left : ServerState S → Type 0
+  Left = Keeps server
+
+  same : Left server
+  same = record { settings = refl; share = refl; room = refl; connections = refl; held = h }
+
+  -- the store alone is another
+  stored : (store : StoreState) → store.tree.capacity ≡ server.store.tree.capacity → GoodStore store → AreOwned table store.opens → Left (with_store server store)
+  stored store room good owned = record { settings = refl; share = refl; room = room; connections = refl; held = record { table = h.table; store = good; owned = owned } }
+
+  by_status : (step : CommandStep S) (status : Option NtStatus) → (status ≡ None → Left step.server) → Left (option_map_or (refused server call.ids) status step).server
+  by_status step (Some status) f = same
+  by_status step None f = f refl
+
+  where_done : (step : CommandStep S) (status : NtStatus) (b : Bool) → is_success status ≡ b → (status ≡ Success → Left step.server) → Left (let x : CommandStep S = if b then step else refused server call.ids status in x).server
+  where_done step status true t f = f (yes_success status t)
+  where_done step status false t f = same
+
+  -- SESSION_SETUP
+  set_up_at : (m : Meaning S) (asked : SessionSetupAsked) (refusal : Option NtStatus) → option_and_then status_of_refusal (setup_refusal table c s asked.flags.0) ≡ refusal →
+      Left (option_map_or (refused server call.ids) refusal (setup_answered server call.ids (setup_step m server.sessions c s asked.previous_session_id asked.security_buffer))).server
+  set_up_at m asked (Some status) e = same
+  set_up_at m asked None e =
+      let step = setup_step m server.sessions c s asked.previous_session_id asked.security_buffer in
+      let unrefused : setup_refusal table c s asked.flags.0 ≡ None = grind (arith, e) in
+      let answer : Answered = m.answer server.sessions.authenticator (setup_number table s) asked.security_buffer in
+      record {
+        settings = refl;
+        share = refl;
+        room = ended_kept server.store step.told.ended;
+        connections = answered_connections (setup_table table c s) (setup_number table s) asked.previous_session_id answer ∙ set_up_connections table c s;
+        held = record {
+          table = table_answered_held (setup_table table c s) (setup_number table s) asked.previous_session_id answer (table_set_up table c s asked.flags.0 unrefused h.table);
+          store = good_for server.store step.told.ended h.store;
+          owned = rw (opens_for table server.store step.told.ended o) (owned_setup m server.sessions c s asked.previous_session_id asked.flags.0 asked.security_buffer server.store.opens o.sessions_given unrefused h.owned);
+        };
+      }
+
+  set_up_keeps : (m : Meaning S) (asked : SessionSetupAsked) → Left (session_set_up m server call asked).server
+  unfolding session_set_up
+  set_up_keeps m asked = set_up_at m asked (option_and_then status_of_refusal (setup_refusal table c s asked.flags.0)) refl
+
+  -- LOGOFF
+  logged_off_keeps : Left (session_logged_off server call).server
+  unfolding session_logged_off
+  logged_off_keeps = by_status _ (option_and_then status_of_refusal (logoff_refusal table c s)) (λ e. record {
+    settings = refl;
+    share = refl;
+    room = all_kept server.store (Session s);
+    connections = refl;
+    held = record {
+      table = table_ended table s h.table;
+      store = good_all server.store (Session s) h.store;
+      owned = rw (others_left server.store (Session s) o.opens).opens (owned_ended table s server.store.opens h.owned);
+    };
+  })
+
+  -- TREE_CONNECT
+  joined_keeps : (path : List ℕ) → Left (tree_joined server call path).server
+  unfolding tree_joined
+  joined_keeps path = by_status _ (option_and_then status_of_refusal (tree_connect_refusal server.sessions c s path)) (λ e. record {
+    settings = refl;
+    share = refl;
+    room = refl;
+    connections = refl;
+    held = record { table = table_changed with_tree (λ s. refl) table s h.table; store = h.store; owned = owned_tree table s server.store.opens h.owned };
+  })
+
+  -- TREE_DISCONNECT
+  left_keeps : Left (tree_left server call).server
+  unfolding tree_left
+  left_keeps = by_status _ (option_and_then status_of_refusal (tree_disconnect_refusal table c s call.ids.tree_id)) (λ e. record {
+    settings = refl;
+    share = refl;
+    room = all_kept server.store (Tree s call.ids.tree_id);
+    connections = refl;
+    held = record {
+      table = table_changed (without_tree call.ids.tree_id) (λ s. refl) table s h.table;
+      store = good_all server.store (Tree s call.ids.tree_id) h.store;
+      owned = rw (others_left server.store (Tree s call.ids.tree_id) o.opens).opens (owned_untree table s call.ids.tree_id server.store.opens h.owned);
+    };
+  })
+
+  -- CREATE
+  opened_keeps : (ask : FileAsked) → ask.session ≡ s → ask.tree ≡ call.ids.tree_id → ask.read_only ≡ may_only_read server call → knows_session table c s ≡ true → knows_tree table s call.ids.tree_id ≡ true → create_status server.store ask ≡ Success →
+      Left (with_store server (created server.store ask call.moment))
+  opened_keeps ask of_session of_tree reader known tree done =
+      let opened : OpenRow = opened_by ask server.store.next (entry_after server.store.tree ask call.moment (entry_asked server.store ask)).number (access_granted server.store ask) in
+      let known' : knows_session table c opened.session ≡ true = ap (knows_session table c) of_session ∙ known in
+      let tree' : knows_tree table opened.session opened.tree ≡ true = rw (of_session, of_tree) tree in
+      let only : unwrap_or (read_only_of table c opened.session) false ≡ true → only_reads opened ≡ true =
+      λ r. reader_only server.store ask call.moment (reader ∙ sym (ap (λ (n : ℕ). unwrap_or (read_only_of table c n) false) of_session) ∙ r) done in
+      stored (created server.store ask call.moment) (created_kept server.store ask call.moment) (good_created server.store ask call.moment h.store done)
+      (owned_push table server.store.opens opened h.owned (owned_new table c opened known' tree' only))
+
+  created_keeps : (asked : CreateAsked) → knows_session table c s ≡ true → knows_tree table s call.ids.tree_id ≡ true → Left (file_created server call asked).server
+  unfolding file_created
+  created_keeps asked known tree =
+      let ask = file_asked call.ids asked (may_only_read server call) in
+      where_done _ _ (is_success (create_status server.store ask)) refl (opened_keeps ask refl refl refl known tree)
+
+  -- CLOSE
+  closed_keeps : (row : Option OpenRow) → open_of server.store.opens k ≡ row → option_map_or (is_held_by (Tree s call.ids.tree_id)) row false ≡ true → Left (with_store server (closed server.store k))
+  closed_keeps None e held = cc
+  closed_keeps (Some row) e held =
+      stored (closed server.store k) (closed_kept server.store k) (good_close server.store k h.store)
+      (rw (opens_closed server.store k (ap (λ (o : Option OpenRow). is_some o) e)) (owned_some table (λ row. not (has_number k row)) server.store.opens h.owned))
+
+  closed_at : (flags : CloseFlags) (view : Option View) → Left (with_store server (closed server.store k)) →
+      Left (option_map_or (λ view. let x : CommandStep S = record { server = with_store server (closed server.store k); response = success call.ids (answers_close (close_response flags view)) } in x) view (refused server call.ids FileClosed)).server
+  closed_at flags None f = same
+  closed_at flags (Some view) f = f
+
+  close_keeps : (flags : CloseFlags) → Left (with_store server (closed server.store k)) → Left (file_closed server call flags).server
+  unfolding file_closed
+  close_keeps flags f = closed_at flags (open_view server.store k) f
+
+  -- QUERY_DIRECTORY
+  scanned_keeps : (scan : Scan) → Left (with_store server (scan_set server.store k scan))
+  scanned_keeps scan = stored (scan_set server.store k scan) refl (good_scanned server.store k scan h.store) (owned_scanned table k scan server.store.opens h.owned)
+
+  -- LOCK
+  locked_keeps : (asks : List LockAsk) → Left (file_locked server call asks).server
+  unfolding file_locked
+  locked_keeps asks = where_done _ _ (is_success (lock_status server.store k asks)) refl (λ done.
+      stored _ (locks_kept (λ entry. locked server.store.locks entry k asks) server.store (open_view server.store k)) (good_locked server.store k asks h.store done)
+      (rw (locks_opens (λ entry. locked server.store.locks entry k asks) server.store (open_view server.store k)) h.owned))
+
+  unlocked_at : (after : ServerState S) (status : NtStatus) (b : Bool) → Left after → Left (let x : CommandStep S = if b then record { server = after; response = success call.ids answers_lock } else refused after call.ids status in x).server
+  unlocked_at after status true f = f
+  unlocked_at after status false f = f
+
+  unlocked_keeps : (asks : List LockAsk) → Left (file_unlocked server call asks).server
+  unfolding file_unlocked
+  unlocked_keeps asks =
+      unlocked_at (with_store server (unlocked_through server.store k asks)) (unlock_status server.store k asks) (is_success (unlock_status server.store k asks))
+      (stored _ (locks_kept (λ entry. unlocked server.store.locks entry k asks) server.store (open_view server.store k)) (good_unlocked server.store k asks h.store)
+      (rw (locks_opens (λ entry. unlocked server.store.locks entry k asks) server.store (open_view server.store k)) h.owned))
+
+  locks_keep : (asks : List LockAsk) (b : Bool) → Left (let x : CommandStep S = if b then file_unlocked server call asks else file_locked server call asks in x).server
+  locks_keep asks true = unlocked_keeps asks
+  locks_keep asks false = locked_keeps asks
+
+  -- READ and WRITE
+  read_keeps : (asked : ReadRequest) → Left (file_read server call asked).server
+  unfolding file_read
+  read_keeps asked = where_done _ _ (is_success (read_status server.store (most_at_once call.dialect) k asked.offset asked.length asked.minimum_count)) refl (λ done. same)
+
+  written_keeps : (asked : WriteAsked) → Left (file_written server call asked).server
+  unfolding file_written
+  written_keeps asked =
+      where_done _ _ (is_success (write_status server.store (most_at_once call.dialect) k asked.offset asked.buffer)) refl (λ done.
+      stored _ (written_kept server.store k asked.offset asked.buffer call.moment) (good_written server.store k asked.offset asked.buffer call.moment h.store (most_at_once call.dialect) done)
+      (rw (opens_written server.store k asked.offset asked.buffer call.moment) h.owned))
+
+  -- SET_INFO
+  set_good : (ask : SetAsked) → set_status server.store k ask ≡ Success → GoodStore (set_through server.store k call.moment ask)
+  set_good (asks_basic ask) done = good_based server.store k h.store ask call.moment done
+  set_good (asks_rename replace name) done = good_renamed server.store k h.store name replace call.moment done
+  set_good (asks_mark mark) done = good_deleted server.store k h.store mark done
+  set_good (asks_allocation size) done = good_sized server.store k h.store size true call.moment done
+  set_good (asks_end size) done = good_sized server.store k h.store size false call.moment done
+
+  set_keeps : (ask : SetAsked) → set_status server.store k ask ≡ Success → Left (with_store server (set_through server.store k call.moment ask))
+  set_keeps ask done = stored _ (set_room server.store k call.moment ask) (set_good ask done) (rw (set_opens server.store k call.moment ask) h.owned)
+
+  -- NEGOTIATE
+  negotiated_at : (m : Meaning S) (best : Option Dialect) →
+      Left (option_map_or (λ best. let x : CommandStep S = record { server = server; response = success call.ids (negotiate_answer server.settings.guid (hello_of m server) call.moment (Some best) (revision_of best)) } in x) best (refused server call.ids NotSupported)).server
+  negotiated_at m None = same
+  negotiated_at m (Some best) = same
+
+  negotiated_keeps : (m : Meaning S) (dialects : List ℕ) → Left (negotiated m server call dialects).server
+  unfolding negotiated
+  negotiated_keeps m dialects = negotiated_at m (best_of dialects)
+
+  -- each command
+  tree_known : (asked : CreateAsked) → check_session_tree_and_open server call (asks_create asked) ≡ None → knows_tree table s call.ids.tree_id ≡ true
+  tree_known asked e = grind (arith, e)
+
+  acted_keeps : (m : Meaning S) (asked : RequestValue) → IsCallOf call (Some asked) → check_session_tree_and_open server call asked ≡ None → Left (acted m server call asked).server
+  acted_keeps m (asks_negotiate x) read e = negotiated_keeps m x.dialects
+  acted_keeps m (asks_session_setup x) read e = set_up_keeps m x
+  acted_keeps m (asks_logoff x) read e = logged_off_keeps
+  acted_keeps m (asks_tree_connect x) read e = joined_keeps x.path
+  acted_keeps m (asks_tree_disconnect x) read e = left_keeps
+  acted_keeps m (asks_create x) read e = created_keeps x (acts_known (λ n session. ⊥) (λ x. true) call refl server o (asks_create x) refl e) (tree_known x e)
+  acted_keeps m (asks_close x) read e = close_keeps x.flags (closed_keeps (open_of server.store.opens k) refl (id_held (λ n session. ⊥) (λ x. true) call refl server o (asks_close x) read refl e))
+  acted_keeps m (asks_flush x) read e = same
+  acted_keeps m (asks_read x) read e = read_keeps x
+  acted_keeps m (asks_write x) read e = written_keeps x
+  acted_keeps m (asks_lock x) read e = locks_keep (lock_asks x.locks) (asks_unlock (lock_asks x.locks))
+  acted_keeps m (asks_cancel x) read e = same
+  acted_keeps m (asks_echo x) read e = same
+  acted_keeps m (asks_query_directory x) read e = listed_left Left server same call scanned_keeps x
+  acted_keeps m (asks_query_info x) read e = queried_left Left server same call x
+  acted_keeps m (asks_set_info x) read e = info_set_left Left server same call set_keeps x
+
+  checked_keeps : (m : Meaning S) (asked : RequestValue) (refusal : Option NtStatus) → IsCallOf call (Some asked) → check_request server call asked ≡ refusal →
+      Left (option_map_or (refused server call.ids) refusal (acted m server call asked)).server
+  checked_keeps m asked (Some status) read e = same
+  checked_keeps m asked None read e = acted_keeps m asked read (request_passed server call asked e)
+
+  body_keeps : (m : Meaning S) (unsupported : Bool) (body : Option RequestValue) → IsCallOf call body →
+      Left (let x : CommandStep S = if unsupported then refused server call.ids NotSupported else
+      option_map_or (λ asked. option_map_or (refused server call.ids) (check_request server call asked) (acted m server call asked)) body (refused server call.ids InvalidParameter) in x).server
+  body_keeps m true body read = same
+  body_keeps m false None read = same
+  body_keeps m false (Some asked) read = checked_keeps m asked (check_request server call asked) read refl
+
+  performed_keeps : (m : Meaning S) → Left (performed_by m server call body).server
+  performed_keeps m = body_keeps m (option_map_or is_unsupported call.command false) body read
+
+pub request_keeps : {S : Type 0} (m : Meaning S) (c moment : ℕ) (server : ServerState S) (dialect : Option Dialect) (context : Context) (request : List ℕ) → NumbersInOrder server.sessions.table server.store →
+    IsServerHeld server → Keeps server (performed m c moment server dialect context request).server
+unfolding performed
+request_keeps {S} m c moment server dialect context request o h =
+    let call = call_of c moment dialect context request in
+    let left = performed_keeps call (body_of call.command request) (call_read c moment dialect context request) server o h m in
+    elim (is_cancel_command call.command) as (λ b. Keeps server (let x : Performed S = if b then record {
+      server = server;
+      dialect = dialect;
+      context = record { ids = call.ids; last_open = named_on call.inherited call.file_id };
+      response = None;
+    } else record {
+      server = (performed_by m server call (body_of call.command request)).server;
+      dialect = option_map_or (dialect_after dialect) (body_of call.command request) dialect;
+      context = record {
+        ids = (performed_by m server call (body_of call.command request)).response.ids;
+        last_open = open_for_next_related call.inherited server.store.next call.command call.file_id (performed_by m server call (body_of call.command request)).response.status;
+      };
+      response = Some (performed_by m server call (body_of call.command request)).response;
+    } in x).server) [ true ↦ record { settings = refl; share = refl; room = refl; connections = refl; held = h } | false ↦ left ]
