@@ -1,18 +1,23 @@
 #!/usr/bin/env python3
-"""believed.py: counts, by crate, the definitions that a reader must believe: those that the contracts of public functions name, and those that these name.
+"""believed.py: counts, by crate, the definitions that a reader must believe: those that the contracts of public functions
+name, and those that these name.
 
-Of these it counts those behind the main theorem, which the clauses of `Share::run` name; those behind what else the program
-promises; and those for laws, authenticators and peers of tests alone. --list prints all by file, --run those of the first count. --check fails where docs/DEFINITIONS.md does not name one beside its file, or names a file or a definition that is not there,
-and where a file of which nothing need be believed does not begin by saying so, or another one does.
-Under a heading with a crate's name the page has an item for each file, or for several, whose names it begins with, as
+Of these it counts those behind the main theorem, which the clauses of `Share::run` name; those behind what else the
+program promises; and those for laws, authenticators and peers of tests alone. --list prints all by file, --run those of
+the first count. --check fails where docs/DEFINITIONS.md does not name one beside its file, or names a file or a
+definition that is not there, and where a file of which nothing need be believed does not begin by saying so, or another
+one does. The page has two parts, of which the first names the definitions behind `Share::run` and no other. In each,
+under a heading with a crate's name, it has an item for each file, or for several, whose names it begins with, as
 `Number.antt`. Of the text behind them names count where a colon, or sections in parentheses and a colon, are behind
 them. With `, whole:` behind its files an item names all definitions.
 
-Public is what lib.rt exports; of an inner crate, whose lib.rt says `An inner crate of NAME:`, what the lib.rt of NAME exports on. Of it count
-the clauses of functions, of types' `pub` methods and of traits' methods, and the ghost members of traits, types and impls; of an `impl Model` the
-Value, and the view where a caller can look at a field. (Else the view is how the proofs come from fields to values, and a caller meets values alone: they are
-what the clauses of the calls say, whatever the view. The invariant is proved of each value that is made, and no caller is told of it.) The files are read by the layout that
-`rt fmt` gives them, without the parts for tests alone. A variable that has the name of a definition counts as the definition.
+Public is what lib.rt exports; of an inner crate, whose lib.rt says `An inner crate of NAME:`, what the lib.rt of NAME
+exports on. Of it count the clauses of functions, of types' `pub` methods and of traits' methods, and the ghost members
+of traits, types and impls; of an `impl Model` the Value, and the view where a caller can look at a field. (Else the
+view is how the proofs come from fields to values, and a caller meets values alone: they are what the clauses of the
+calls say, whatever the view. The invariant is proved of each value that is made, and no caller is told of it.) The
+files are read by the layout that `rt fmt` gives them, without the parts for tests alone. A variable that has the name
+of a definition counts as the definition.
 """
 import pathlib
 import re
@@ -200,19 +205,22 @@ def behind_program(specs):
 
 
 def items_on(page):
-    """The items of the page: the crate of the heading above, the files, whether they are named whole, and the text."""
-    for section in re.split(r"^## ", page, flags=re.M)[1:]:
-        crate, _, text = section.partition("\n")
-        for item in re.split(r"^- (?=`[\w/]+\.antt`)", text, flags=re.M)[1:]:
-            head = re.match(r"((?:`[\w/]+\.antt`,\s+)*`[\w/]+\.antt`)(?:\s+\([^)]*\))?(,\s+whole:)?", item)
-            files = re.findall(r"`([\w/]+)\.antt`", head.group(1))
-            yield crate.strip(), files, bool(head.group(2)), item.partition("\n\n")[0]
+    """The items of the page: whether they are in its first part, the crate of the heading above, the files, whether they are named whole,
+    and the text."""
+    for number, part in enumerate(re.split(r"^## ", page, flags=re.M)[1:]):
+        for section in re.split(r"^### ", part, flags=re.M)[1:]:
+            crate, _, text = section.partition("\n")
+            for item in re.split(r"^- (?=`[\w/]+\.antt`)", text, flags=re.M)[1:]:
+                head = re.match(r"((?:`[\w/]+\.antt`,\s+)*`[\w/]+\.antt`)(?:\s+\([^)]*\))?(,\s+whole:)?", item)
+                files = re.findall(r"`([\w/]+)\.antt`", head.group(1))
+                yield number == 0, crate.strip(), files, bool(head.group(2)), item.partition("\n\n")[0]
 
 
 def told(specs):
-    """The definitions that the page names, those that it names one by one, and what it names that is not there."""
-    named, quoted_there, wrong = set(), set(), []
-    for crate, files, whole, text in items_on(PAGE.read_text(encoding="utf-8")):
+    """The definitions that the page names in its first part, those that it names in the other, those that it names one by one, and what it
+    names that is not there."""
+    named, quoted_there, wrong = {True: set(), False: set()}, set(), []
+    for is_first, crate, files, whole, text in items_on(PAGE.read_text(encoding="utf-8")):
         wrong += [f"{crate}/specs/{file}.antt is not there" for file in files if (crate, file) not in specs]
         there = {(crate, file, name) for file in files if (crate, file) in specs for name in specs[crate, file].texts}
         rows = re.findall(rf"((?:`{NAME}`,\s+)*`{NAME}`)(?:\s+\([^)]*\))?:\s", text)
@@ -220,8 +228,8 @@ def told(specs):
         places = ", ".join(f"{crate}/specs/{file}.antt" for file in files)
         wrong += [f"`{name}` is not in {places}" for name in sorted(quoted - {it[2] for it in there})]
         quoted_there |= {one for one in there if one[2] in quoted}
-        named |= there if whole else {one for one in there if one[2] in quoted}
-    return named, quoted_there, wrong
+        named[is_first] |= there if whole else {one for one in there if one[2] in quoted}
+    return named[True], named[False], quoted_there, wrong
 
 
 def by_file(specs, some):
@@ -262,8 +270,11 @@ def main(words):
     roots = {root for name in {crate for crate, _ in specs} for root in Crate(name).roots(specs)}
     reached = followed(specs, roots - {None})
     if words == ["--check"]:
-        named, quoted, wrong = told(specs)
-        wrong += [f"does not name, of {line}" for line in by_file(specs, reached - named)]
+        first, others, quoted, wrong = told(specs)
+        run = behind_run(specs)
+        wrong += [f"does not name in its first part, of {line}" for line in by_file(specs, run - first)]
+        wrong += [f"names in its first part, though `Share::run` does not lead to it, of {line}" for line in by_file(specs, first - run)]
+        wrong += [f"does not name, of {line}" for line in by_file(specs, reached - first - others)]
         wrong += [f"names, though it need not be believed, of {line}" for line in by_file(specs, quoted - reached)]
         sys.exit("\n".join([*(f"{PAGE.relative_to(ROOT)}: {it}" for it in wrong), *marks(specs, reached)]) or None)
     if words not in ([], ["--list"], ["--run"]):
