@@ -1,15 +1,19 @@
 #!/usr/bin/env python3
 """logs.py: tests what --log writes of a share that is served or replayed: who came, what was refused, and why a client ended.
 
-    python3 tools/logs.py [PROGRAM]
+    python3 tools/logs.py [--unproved] [PROGRAM]
 
-The program is crates/smbshare/out/smbshare where none is named. The last line is 'logs: N passed, M failed'.
+The program is crates/smbshare/out/smbshare where none is named. With --unproved no allocation is refused, since an unproved
+program has checks before it. The last line is 'logs: N passed, M failed'.
 """
 import os
 import sys
 import tempfile
 import time
 
+# The other word is the program's, which the modules below look for.
+IS_UNPROVED = '--unproved' in sys.argv
+sys.argv = [word for word in sys.argv if word != '--unproved']
 sys.path.insert(0, os.path.dirname(os.path.abspath(__file__)))
 import served
 from frames import close, create, read, rename, write
@@ -203,7 +207,9 @@ def a_replay_of_a_record_is_logged_too():
 TESTS = (refusals_are_logged, sessions_are_logged, requests_are_logged, why_a_client_ended_is_logged,
          a_full_disk_stops_no_share, one_that_cannot_be_made_is_refused, standard_error_has_the_lines,
          a_share_is_logged_and_kept, a_pipe_that_is_closed_stops_no_share, replays_are_logged_as_their_rows,
-         a_replay_of_a_record_is_logged_too, each_allocation_beside_a_log)
+         a_replay_of_a_record_is_logged_too)
+# What no unproved program can be tested for.
+OF_PROVED = (each_allocation_beside_a_log,)
 
 if __name__ == '__main__':
-    sys.exit(served.tests_passed('logs', TESTS))
+    sys.exit(served.tests_passed('logs', TESTS if IS_UNPROVED else TESTS + OF_PROVED))

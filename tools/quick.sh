@@ -63,7 +63,7 @@ the_program() {
     python3 tools/serving.py "$program"
     python3 tools/load.py --unproved "$program"
     python3 tools/journal.py --unproved "$program"
-    python3 tools/logs.py "$program"
+    python3 tools/logs.py --unproved "$program"
     python3 tools/hostile.py --count 200 "$program"
 }
 
