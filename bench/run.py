@@ -1,0 +1,133 @@
+#!/usr/bin/env python3
+"""Runs all of bench/ over the proved program, and writes bench/FIGURES.md and bench/beside.svg.
+
+    (cd crates/smbshare && rt run < stdin > /dev/null)     builds crates/smbshare/out/smbshare
+    python3 bench/run.py [SCRIPT ..]
+
+It takes some twenty minutes. smbd and smbclient are measured beside it where they are installed (Debian's packages samba and
+smbclient); without smbclient requests.py is left out. Where scripts are named, as `beside.py`, only these run, and the other sections
+stay as they are. A section has the day and the machine of its run, and the load of the machine before it: with other work
+beside it a figure says less. A script that fails ends the run, with its words and its status; what was written until then stays.
+"""
+import datetime
+import os
+import pathlib
+import platform
+import re
+import shutil
+import subprocess
+import sys
+
+HERE = pathlib.Path(__file__).resolve().parent
+PAGE, CHART = HERE / 'FIGURES.md', HERE / 'beside.svg'
+PROGRAM = HERE.parent / 'crates' / 'smbshare' / 'out' / 'smbshare'
+HEAD = """# Figures
+
+`python3 bench/run.py` writes this page: a section for each script of this directory, which prints its rows. The program is the
+proved one. Each section says on which day and machine it ran, and what the machine did beside it.
+"""
+# In the order of the page: a script, its words behind its name, and what its figures are of.
+SCRIPTS = [
+    ('beside.py', [PROGRAM, CHART], 'Processor time of a request beside smbd, and beside two limits: a server that answers each request and does '
+     'nothing else, and one that keeps bytes and copies those of a READ and a WRITE once (bench/limit.c). smbd has a share for guests in a '
+     'folder, at most dialect 2.1. The servers take turns, seven each; a figure is the median. The processor time is the server\'s own, with '
+     'the system\'s part in it; the time by the clock has the client\'s, a script in Python, in it. bench/beside.svg shows the first.'),
+    ('serving.py', [], 'Exchanges over TCP on one machine, and what the program takes while nobody speaks. The client is a script in Python, '
+     'whose time is in the figures. A client keeps so many requests in flight. A set-up is a connection that negotiates, sets up a session, '
+     'connects to the share and ends. Of as many bytes in flight, long requests cost the program no more for each byte than short ones.'),
+    ('recording.py', [], 'What is kept and what is logged, over TCP. One client waits for each answer; medians of five. A record is text, in '
+     'hex; a journal has the bytes as they are, and a check. Without a log nothing is decoded. The last table is of a share that is begun '
+     'again from its journal.'),
+    ('requests.py', [], 'By how many requests smbclient puts and gets a file of 16 MiB, in dialect 2.1; each time 7 or 8 of them are other '
+     'requests than READs and WRITEs.'),
+    ('pages.py', [], 'READ and WRITE over TCP, one in flight, of a file of 16 MiB that is kept in pages, and the memory that files take. The '
+     'processor time is the program\'s own, with the system\'s part in it.'),
+    ('logins.py', [], 'Connections that open, negotiate, log in, connect to the share and end, one after the other: three requests by a '
+     'token, four by NTLM. Of the accounts the last one logs in, since they are looked through in order. In a replay it is the program alone '
+     'that is timed, with its start; over TCP the script\'s own time is in the figures.'),
+    ('waits.py', [], 'What another client waits for, beside one that sends a piece of chains of 16 queries, whose pattern matches none of '
+     '4,080 names of 255 units, each of which ends in 251 `b`; another one sends ECHO after ECHO.'),
+    ('drops.py', [], 'Clients\' ECHOs while the share drops what another client is owed, 30 times each. Where memory runs out the program may '
+     'have 24 MiB beside those of its start.'),
+    ('most_memory.py', [], '64 clients that take nothing, each owed as much as may be, and full files.'),
+    ('worst.py', [], 'Single frames that ask as much as a frame may, while every other client waits.'),
+    ('growth.py', [], 'The same request beside few and many entries or opens; the file that it is of is among others in one directory. The '
+     'last column is the second time by the first.'),
+    ('allocations.py', [], 'What one request allocates in a replay, counted by a small library that is loaded before the program '
+     '(`tools/count_allocations.c`), beyond what its line of the text takes. The counts are the same in each run.'),
+    ('sessions.py', [], 'Connections that open, negotiate, set up a session, connect a tree and end, beside other open sessions.'),
+    ('directories.py', [], 'A directory is listed from the start to its end, by class 37 into 65,536 bytes.'),
+    ('information.py', [], 'QUERY_INFO and SET_INFO of a file that is five directories deep, and renames beside other entries.'),
+    ('locks.py', [], 'A byte is locked and unlocked beside other locks; and a file is opened and closed beside others that have opens and '
+     'locks. Neither a LOCK nor a CLOSE goes through the locks of other files.'),
+    ('bytes.py', [], 'READ and WRITE in a replay, whose text in hex is most of the time, and a CREATE of a file with other opens.'),
+    ('files.py', [], 'Pairs of CREATE and CLOSE in a replay.'),
+    ('echo.py', [], 'ECHOs in a replay. Eight connections take turns, each stream cut into pieces of 1, 7 and 4,096 bytes. The text and the '
+     'answers are held whole, which is most of the memory.'),
+    ('show.py', [], '`show` on streams of mixed requests, and of a frame for each ECHO.'),
+]
+
+
+def folded(text):
+    """A paragraph in lines of at most 120 characters."""
+    lines = ['']
+    for word in text.split():
+        if len(lines[-1]) + len(word) >= 120:
+            lines.append('')
+        lines[-1] += f' {word}' if lines[-1] else word
+    return '\n'.join(lines)
+
+
+def first_line(words):
+    """What a command prints first; nothing where there is no such command."""
+    if not shutil.which(words[0]):
+        return ''
+    ran = subprocess.run(words, stdout=subprocess.PIPE, stderr=subprocess.DEVNULL, stdin=subprocess.DEVNULL, check=False)
+    return ran.stdout.decode(errors='replace').strip().partition('\n')[0]
+
+
+def processor():
+    """The processor by its name, as the system has it."""
+    found = re.search(r'^model name\s*: (.*)$', pathlib.Path('/proc/cpuinfo').read_text(encoding='utf-8'), re.M)
+    return found.group(1).strip() if found else platform.machine()
+
+
+def machine():
+    """When and where a script runs, and beside what."""
+    kit = first_line(['rt', 'version']).partition(' ')[0]
+    beside = [it for it in (first_line(['smbd', '--version']), first_line(['smbclient', '--version'])) if it]
+    samba = f'; Samba: {beside[0].removeprefix("Version ")}' if beside else ''
+    return (f'{datetime.date.today()}; {os.cpu_count()} processors, {processor()}; {platform.system()} {platform.release()}; {kit}{samba}; '
+            f'load before it {os.getloadavg()[0]:.1f}.')
+
+
+def sections_of(page):
+    """The sections of the page by the names of their scripts."""
+    return {part.partition('\n')[0].strip(): part.partition('\n')[2].strip() for part in re.split(r'^## ', page, flags=re.M)[1:]}
+
+
+def section(script, words, about):
+    """What a script prints, behind what its figures are of and where it ran."""
+    where = machine()
+    print(f'{script} ..', flush=True)
+    ran = subprocess.run([sys.executable, str(HERE / script), *map(str, words)], stdout=subprocess.PIPE, stdin=subprocess.DEVNULL, check=False)
+    if ran.returncode != 0:
+        sys.exit(f'{script} ended with status {ran.returncode}')
+    return f'{folded(about)}\n\n{folded(where)}\n\n{ran.stdout.decode().strip()}'
+
+
+def main(wanted):
+    unknown = set(wanted) - {script for script, _, _ in SCRIPTS}
+    if unknown or not PROGRAM.is_file():
+        sys.exit(f'there is no {unknown.pop()}' if unknown else __doc__)
+    sections = sections_of(PAGE.read_text(encoding='utf-8')) if PAGE.exists() else {}
+    for script, words, about in SCRIPTS:
+        if script in wanted or not wanted:
+            if script == 'requests.py' and not shutil.which('smbclient'):
+                continue
+            sections[script] = section(script, words, about)
+            text = HEAD + ''.join(f'\n## {name}\n\n{sections[name]}\n' for name, _, _ in SCRIPTS if name in sections)
+            PAGE.write_text(text, encoding='utf-8')
+
+
+main(sys.argv[1:])
