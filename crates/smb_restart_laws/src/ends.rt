@@ -1,15 +1,18 @@
 //! The laws of ends.
 
-ghost use Rattle.smb_restart_laws.specs.Ends.{ANewShareIsGood, TheFilesStayGood, AllConnectionsEnd, NoFileIsLost, ANameFindsItsFileAgain, NoNameIsNew, WhatIsGoneWasToGo, WhatWasToGoIsGone, AFileThatWasToGoIsGone, WhatIsMarkedIsGone, NothingIsLeftOpen};
+ghost use Rattle.smb_restart_laws.specs.Ends.{ANewShareIsGood, TheFilesStayGood, AllConnectionsEnd, NoFileIsLost};
+ghost use Rattle.smb_restart_laws.specs.Ends.{ANameFindsItsFileAgain, NoNameIsNew, WhatIsGoneWasToGo};
+ghost use Rattle.smb_restart_laws.specs.Ends.{WhatWasToGoIsGone, AFileThatWasToGoIsGone, WhatIsMarkedIsGone};
+ghost use Rattle.smb_restart_laws.specs.Ends.{NothingIsLeftOpen};
 
 use smb_session::Authenticator;
 
 /// A new share is good. Whatever happens to a share that was good, its files, opens and locks stay good, and its open
 /// connections can all end: none of these ends is refused, and nothing is put out. No file is lost: each file and
 /// folder that was not to go is found at its path, with its name, bytes, times and attributes; and none is new. What
-/// is gone was marked, or some open was to delete it when it is closed. Each file of which that is so is gone, each
-/// entry that was marked, and each folder that some open was to delete if no entry was in it. The share is good and at
-/// rest then: no connection, session, open, lock or mark is left.
+/// is gone was marked, or some open was to delete it when it is closed. Gone is each entry that was marked, each file
+/// that some open was to delete, and each folder that one was to delete and in which no entry was. The share is good
+/// and at rest then: no connection, session, open, lock or mark is left.
 ///
 /// The laws hold of every authenticator: the contract is the statement, and the body does nothing.
 pub fn laws_of_ends<A: Authenticator>()

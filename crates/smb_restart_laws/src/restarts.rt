@@ -1,6 +1,7 @@
 //! The laws of restarts.
 
-ghost use Rattle.smb_restart_laws.specs.Restarts.{AStartIsOneRun, AStartGoesOn, TwoStartsAreOne, ASecondStartLeavesTheSame, WhatIsUnreadIsEnough};
+ghost use Rattle.smb_restart_laws.specs.Restarts.{AStartIsOneRun, AStartGoesOn, TwoStartsAreOne};
+ghost use Rattle.smb_restart_laws.specs.Restarts.{ASecondStartLeavesTheSame, WhatIsUnreadIsEnough};
 
 use smb_session::Authenticator;
 
