@@ -10,6 +10,7 @@ pub mod Within
 pub mod Rows
 pub mod May
 pub mod GoodSteps
+pub mod InRange
 mod ExampleStore
 mod ExampleLocks
 mod WrongLocks

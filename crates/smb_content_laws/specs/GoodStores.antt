@@ -1,7 +1,9 @@
 -- A good store stays good: the laws hold between any two requests, from an empty store on.
-use Rattle.std.specs.Prelude.{◌≡◌, ℕ, Bool, List, [], ◌∷◌}
+use Rattle.std.specs.Prelude.{◌≡◌, ℕ, ◌<◌, ◌≤◌, ◌^◌, Bool, List, [], ◌∷◌}
+use Rattle.std.specs.List.{AllByRecursion}
 use Rattle.smb_wire.specs.declared.nt_status.NtStatus.TheVariants.{Success}
 use Rattle.smb_tree.specs.Content.{Content}
+use Rattle.smb_access.specs.Opens.{open_numbers, AreAllBelow}
 use Rattle.smb_opens.specs.Bytes.{write_status}
 use Rattle.smb_opens.specs.Create.{create_status}
 use Rattle.smb_opens.specs.Good.{UnmarkedTree, GoodStore}
@@ -44,3 +46,16 @@ abbrev pub AGoodStoreStaysGood : Type 0
 AGoodStoreStaysGood =
     (most : ℕ) (state : StoreState) (steps : List StoreStep) → GoodStore state → AllSucceed most state steps →
     GoodStore (stepped_all state steps)
+
+-- the number of each open and of the next is from 1 on and below 2 ^ 64; that of the next entry is below 2 ^ 64
+pub record HasNumbersInRange (state : StoreState) : Type 0 where
+  pub next : (1 ≤ state.next) × (state.next < 2 ^ 64)
+  pub from_one : AllByRecursion (λ number. 1 ≤ number) (open_numbers state.opens)
+  pub below : AreAllBelow (2 ^ 64) state.opens
+  pub entries : state.tree.next < 2 ^ 64
+
+-- whatever requests succeed, no number of a good store leaves its range: once the numbers are spent a CREATE is refused
+abbrev pub NumbersStayInRange : Type 0
+NumbersStayInRange =
+    (most : ℕ) (state : StoreState) (steps : List StoreStep) → GoodStore state → HasNumbersInRange state →
+    AllSucceed most state steps → HasNumbersInRange (stepped_all state steps)
