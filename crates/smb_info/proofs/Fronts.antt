@@ -9,10 +9,9 @@ use Rattle.smb_wire.specs.Number.{spelling}
 use Rattle.smb_info.specs.Candidates.{Candidate}
 use Rattle.smb_info.specs.Information.{whole}
 use Rattle.smb_info.specs.DirectoryInformation.{directory_information_of, directory_length, entry_length, distance, followed, laid}
-use Rattle.smb_info.specs.Listing.{Sought, matching, fitting, longest_front}
-use Rattle.smb_tree.specs.Content.{Row}
-use Rattle.smb_access.specs.declared.scan.ScanLast.{ScanLast}
-use Rattle.smb_info.specs.Rests.{one_by_one, rest_behind}
+use Rattle.smb_info.specs.Cursors.{matched}
+use Rattle.smb_info.specs.Listing.{Sought, fitting, longest_front}
+use Rattle.smb_info.specs.Rests.{one_by_one, rest_of}
 use Rattle.smb_info.specs.declared.directory_class.DirectoryInformationClass.{DirectoryInformationClass}
 use Rattle.smb_info.specs.declared.directory_class.DirectoryInformationClass.TheVariants.{FileDirectory, FileFullDirectory, FileBothDirectory, FileNames, FileIdBothDirectory, FileIdFullDirectory}
 
@@ -134,13 +133,13 @@ as_many class (c ∷ cs) room = elim (leb_tells (entry_length class c.name) room
 pub longest_is : (class : DirectoryInformationClass) (room : ℕ) (cs : List Candidate) → longest_front class room cs ≡ one_by_one class room cs
 longest_is class room cs = fits_all class cs room (length cs) ∙ take_all (length cs) (one_by_one class room cs) (as_many class cs room)
 
-pub rest_single : (rows : List Row) (ask : Sought) (behind : ScanLast) → ask.single ≡ true → rest_behind rows ask behind ≡ []
-unfolding rest_behind
-rest_single rows ask behind e = ap (λ (b : Bool). cond b [] (matching rows ask.folder ask.pattern behind)) e
+pub rest_single : (ask : Sought) (cs : List Candidate) → ask.single ≡ true → rest_of ask cs ≡ []
+unfolding rest_of
+rest_single ask cs e = ap (λ (b : Bool). cond b [] (matched ask.pattern cs)) e
 
-pub rest_many : (rows : List Row) (ask : Sought) (behind : ScanLast) → ask.single ≡ false → rest_behind rows ask behind ≡ matching rows ask.folder ask.pattern behind
-unfolding rest_behind
-rest_many rows ask behind e = ap (λ (b : Bool). cond b [] (matching rows ask.folder ask.pattern behind)) e
+pub rest_many : (ask : Sought) (cs : List Candidate) → ask.single ≡ false → rest_of ask cs ≡ matched ask.pattern cs
+unfolding rest_of
+rest_many ask cs e = ap (λ (b : Bool). cond b [] (matched ask.pattern cs)) e
 
 pub too_long : (o : Option ℕ) (r : Bool) (room n : ℕ) → is_some o ≡ not r → r ≡ true → IfNone o (room < n) → room < n
 too_long None r room n e t h = h

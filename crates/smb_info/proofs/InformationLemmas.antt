@@ -94,3 +94,12 @@ told_named old first second out fields name text e g h n =
     ∙ append_assoc first (92 ∷ 0 ∷ []) text
     ∙ ap (λ (xs : List ℕ). xs ++ 92 ∷ 0 ∷ text) (e ∙ appended-joined old fields)
     ∙ append_assoc old (joined fields) (92 ∷ 0 ∷ text)
+
+-- ten numbers that are put in three blocks are put one after the other
+pub put_in_three : (out one two all t u v ra rb rc rd re rf rg rh ri rj a b c d e f g h i j : List ℕ) → one ≡ out ++ t → two ≡ one ++ u → all ≡ two ++ v → t ≡ ra ++ (rb ++ []) → u ≡ rc ++ (rd ++ (re ++ (rf ++ (rg ++ (rh ++ []))))) → v ≡ ri ++ (rj ++ []) →
+    ra ≡ a → rb ≡ b → rc ≡ c → rd ≡ d → re ≡ e → rf ≡ f → rg ≡ g → rh ≡ h → ri ≡ i → rj ≡ j → all ≡ out ++ a ++ b ++ c ++ d ++ e ++ f ++ g ++ h ++ i ++ j
+put_in_three out one two all t u v ra rb rc rd re rf rg rh ri rj a b c d e f g h i j p q s k l m ea eb ec ed ee ef eg eh ei ej =
+    let blocks : all ≡ ((out ++ (ra ++ (rb ++ []))) ++ (rc ++ (rd ++ (re ++ (rf ++ (rg ++ (rh ++ []))))))) ++ (ri ++ (rj ++ [])) = cc in
+    let flat : ((out ++ (ra ++ (rb ++ []))) ++ (rc ++ (rd ++ (re ++ (rf ++ (rg ++ (rh ++ []))))))) ++ (ri ++ (rj ++ [])) ≡ out ++ ra ++ rb ++ rc ++ rd ++ re ++ rf ++ rg ++ rh ++ ri ++ rj = simp (append_assoc, append-nil) in
+    let each : out ++ ra ++ rb ++ rc ++ rd ++ re ++ rf ++ rg ++ rh ++ ri ++ rj ≡ out ++ a ++ b ++ c ++ d ++ e ++ f ++ g ++ h ++ i ++ j = cc in
+    blocks ∙ flat ∙ each

@@ -6,6 +6,7 @@ pub mod Steps
 pub mod Listings
 pub mod Refusals
 pub mod Places
+pub mod Coming
 pub mod GoingOn
 pub mod ListingRuns
 pub mod Listed

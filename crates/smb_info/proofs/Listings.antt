@@ -3,9 +3,10 @@ use Rattle.std.proofs.Common.{◌≡◌, ℕ, ◌-◌, ◌<◌, ◌≤◌, ◌^�
 use Rattle.std.proofs.lemmas.List.{take-take, length-take}
 use Rattle.smb_tree.specs.Content.{Row}
 use Rattle.smb_info.specs.Candidates.{Candidate}
+use Rattle.smb_info.specs.Cursors.{matched}
 use Rattle.smb_info.specs.DirectoryInformation.{entry_length, distance, followed, laid}
 use Rattle.smb_info.specs.Listing.{Sought, matching, at_most_one, wanted, given, reached}
-use Rattle.smb_info.specs.Rests.{one_by_one, rest_behind}
+use Rattle.smb_info.specs.Rests.{one_by_one, rest_of}
 use Rattle.smb_access.specs.declared.scan.ScanLast.{ScanLast}
 use Rattle.smb_info.specs.declared.directory_class.DirectoryInformationClass.{DirectoryInformationClass}
 use Rattle.smb_info.proofs.Fronts.{some_length, one_fits, longest_is, rest_single, rest_many}
@@ -66,15 +67,15 @@ pub some_left : (class : DirectoryInformationClass) (left : ℕ) (name : List �
 some_left class left name h = omega (arith, some_length class)
 
 -- what is wanted, where this is the first that is matched
-first_wanted : (rows : List Row) (sought : Sought) (c : Candidate) (b : Bool) → sought.single ≡ b → matching rows sought.folder sought.pattern sought.last ≡ c ∷ matching rows sought.folder sought.pattern c.behind →
-    at_most_one b (matching rows sought.folder sought.pattern sought.last) ≡ c ∷ rest_behind rows sought c.behind
-first_wanted rows sought c true s e =
-    ap (take 1) e ∙ ap (λ (cs : List Candidate). c ∷ cs) (sym (rest_single rows sought c.behind s))
-first_wanted rows sought c false s e = e ∙ ap (λ (cs : List Candidate). c ∷ cs) (sym (rest_many rows sought c.behind s))
+first_wanted : (rows : List Row) (sought : Sought) (c : Candidate) (cs : List Candidate) (b : Bool) → sought.single ≡ b → matching rows sought.folder sought.pattern sought.last ≡ c ∷ matched sought.pattern cs →
+    at_most_one b (matching rows sought.folder sought.pattern sought.last) ≡ c ∷ rest_of sought cs
+first_wanted rows sought c cs true s e =
+    ap (take 1) e ∙ ap (λ (cs : List Candidate). c ∷ cs) (sym (rest_single sought cs s))
+first_wanted rows sought c cs false s e = e ∙ ap (λ (cs : List Candidate). c ∷ cs) (sym (rest_many sought cs s))
 
-pub is_wanted : (rows : List Row) (sought : Sought) (c : Candidate) → matching rows sought.folder sought.pattern sought.last ≡ c ∷ matching rows sought.folder sought.pattern c.behind → wanted rows sought ≡ c ∷ rest_behind rows sought c.behind
-is_wanted rows sought c e = first_wanted rows sought c sought.single refl e
+pub is_wanted : (rows : List Row) (sought : Sought) (c : Candidate) (cs : List Candidate) → matching rows sought.folder sought.pattern sought.last ≡ c ∷ matched sought.pattern cs → wanted rows sought ≡ c ∷ rest_of sought cs
+is_wanted rows sought c cs e = first_wanted rows sought c cs sought.single refl e
 
-pub is_given : (rows : List Row) (class : DirectoryInformationClass) (sought : Sought) (c : Candidate) → matching rows sought.folder sought.pattern sought.last ≡ c ∷ matching rows sought.folder sought.pattern c.behind → one_by_one class sought.room (c ∷ rest_behind rows sought c.behind) ≡ given rows class sought
-is_given rows class sought c e =
-    ap (one_by_one class sought.room) (sym (is_wanted rows sought c e)) ∙ sym (longest_is class sought.room (wanted rows sought))
+pub is_given : (rows : List Row) (class : DirectoryInformationClass) (sought : Sought) (c : Candidate) (cs : List Candidate) → matching rows sought.folder sought.pattern sought.last ≡ c ∷ matched sought.pattern cs → one_by_one class sought.room (c ∷ rest_of sought cs) ≡ given rows class sought
+is_given rows class sought c cs e =
+    ap (one_by_one class sought.room) (sym (is_wanted rows sought c cs e)) ∙ sym (longest_is class sought.room (wanted rows sought))

@@ -13,6 +13,7 @@ use Rattle.smb_access.specs.declared.scan.ScanLast.{ScanLast}
 use Rattle.smb_opens.specs.State.{StoreState}
 use Rattle.smb_info.specs.Candidates.{Candidate}
 use Rattle.smb_info.specs.DirectoryInformation.{directory_class, directory_length, entry_length, laid}
+use Rattle.smb_info.specs.Cursors.{matched}
 use Rattle.smb_info.specs.Listing.{Sought, matching, at_most_one, wanted, given, reached, is_too_long}
 use Rattle.smb_info.specs.Queries.{ListAsked, is_started_by, wants_one, pattern_by, scan_by, sought_by, unmatched_fault, first_fault, class_fault, fault_by, list_fault, listed_by, bytes_by, bytes_listed, scan_after}
 use Rattle.smb_info.specs.OpenQueries.{open_list_fault, open_bytes_listed, open_scan_after, IsListRefusal}
@@ -131,19 +132,19 @@ module _ (rows : List Row) (folder : ℕ) (scan : Scan) (ask : ListAsked) where
       (subst (λ (o : Option InfoFault). IsListRefusal o (unmatched_fault scan ask)) (sym is) told)
 
   -- where one is
-  by_first : (class : DirectoryInformationClass) (sought : Sought) (c : Candidate) → Some class ≡ directory_class ask.class → true ≡ nat_le (length ask.pattern) 255 → directory_length class ≤ ask.room →
-      sought ≡ sought_by folder scan ask → matching rows sought.folder sought.pattern sought.last ≡ c ∷ matching rows sought.folder sought.pattern c.behind → list_fault rows folder scan ask ≡ refusal_of (is_too_long class ask.room c)
-  by_first class sought c e p h s m =
-      at_first class e p h ∙ ap (first_fault rows folder scan ask class) (ap (wanted rows) (sym s) ∙ is_wanted rows sought c m)
+  by_first : (class : DirectoryInformationClass) (sought : Sought) (c : Candidate) (cs : List Candidate) → Some class ≡ directory_class ask.class → true ≡ nat_le (length ask.pattern) 255 → directory_length class ≤ ask.room →
+      sought ≡ sought_by folder scan ask → matching rows sought.folder sought.pattern sought.last ≡ c ∷ matched sought.pattern cs → list_fault rows folder scan ask ≡ refusal_of (is_too_long class ask.room c)
+  by_first class sought c cs e p h s m =
+      at_first class e p h ∙ ap (first_fault rows folder scan ask class) (ap (wanted rows) (sym s) ∙ is_wanted rows sought c cs m)
 
-  pub refused_first : (class : DirectoryInformationClass) (sought : Sought) (c : Candidate) (fault : InfoFault) → Some class ≡ directory_class ask.class → true ≡ nat_le (length ask.pattern) 255 → directory_length class ≤ ask.room →
-      sought ≡ sought_by folder scan ask → matching rows sought.folder sought.pattern sought.last ≡ c ∷ matching rows sought.folder sought.pattern c.behind → IsListRefusal (refusal_of (is_too_long class ask.room c)) fault → IsListRefusal (list_fault rows folder scan ask) fault
-  refused_first class sought c fault e p h s m r =
-      subst (λ (o : Option InfoFault). IsListRefusal o fault) (sym (by_first class sought c e p h s m)) r
+  pub refused_first : (class : DirectoryInformationClass) (sought : Sought) (c : Candidate) (cs : List Candidate) (fault : InfoFault) → Some class ≡ directory_class ask.class → true ≡ nat_le (length ask.pattern) 255 → directory_length class ≤ ask.room →
+      sought ≡ sought_by folder scan ask → matching rows sought.folder sought.pattern sought.last ≡ c ∷ matched sought.pattern cs → IsListRefusal (refusal_of (is_too_long class ask.room c)) fault → IsListRefusal (list_fault rows folder scan ask) fault
+  refused_first class sought c cs fault e p h s m r =
+      subst (λ (o : Option InfoFault). IsListRefusal o fault) (sym (by_first class sought c cs e p h s m)) r
 
-  pub not_refused : (class : DirectoryInformationClass) (sought : Sought) (c : Candidate) → Some class ≡ directory_class ask.class → true ≡ nat_le (length ask.pattern) 255 → directory_length class ≤ ask.room →
-      sought ≡ sought_by folder scan ask → matching rows sought.folder sought.pattern sought.last ≡ c ∷ matching rows sought.folder sought.pattern c.behind → is_too_long class ask.room c ≡ false → list_fault rows folder scan ask ≡ None
-  not_refused class sought c e p h s m r = by_first class sought c e p h s m ∙ ap refusal_of r
+  pub not_refused : (class : DirectoryInformationClass) (sought : Sought) (c : Candidate) (cs : List Candidate) → Some class ≡ directory_class ask.class → true ≡ nat_le (length ask.pattern) 255 → directory_length class ≤ ask.room →
+      sought ≡ sought_by folder scan ask → matching rows sought.folder sought.pattern sought.last ≡ c ∷ matched sought.pattern cs → is_too_long class ask.room c ≡ false → list_fault rows folder scan ask ≡ None
+  not_refused class sought c cs e p h s m r = by_first class sought c cs e p h s m ∙ ap refusal_of r
 
   -- what is listed
   pub bytes_are : (class : DirectoryInformationClass) (sought : Sought) (old out : List ℕ) → Some class ≡ directory_class ask.class → sought ≡ sought_by folder scan ask → out ≡ old ++ laid class (given rows class sought) → out ≡ old ++ bytes_listed rows folder scan ask

@@ -1,5 +1,5 @@
 -- The children of a folder, one after the other: each is followed by those whose names come after its own.
-use Rattle.std.proofs.Common.{◌≡◌, ℕ, zero, suc, ◌≤◌, Bool, true, false, cond, ◌==◌, List, [], ◌∷◌, length, map, filter, Option, None, Some, is_some, refl, sym, ap, ◌∙◌, subst, arith}
+use Rattle.std.proofs.Common.{◌≡◌, ℕ, zero, suc, ◌≤◌, Bool, true, false, cond, ◌==◌, List, [], ◌∷◌, length, filter, Option, None, Some, is_some, refl, sym, ap, ◌∙◌, subst, arith}
 use Rattle.std.specs.List.{AllByRecursion}
 use Rattle.std.specs.Option.{option_map, option_and_then, unwrap_or}
 use Rattle.std.proofs.lemmas.Bool.{false≢true}
@@ -10,8 +10,6 @@ use Rattle.smb_tree.specs.Laws.{AreApart}
 use Rattle.smb_tree.specs.Views.{Shown, row_shown, entry_shown}
 use Rattle.smb_tree.specs.Children.{name_of, children_after, next_child, child_after}
 use Rattle.smb_tree.proofs.Apart.{numbered-from_at}
-use Rattle.smb_info.specs.Candidates.{child, children, candidates_behind}
-use Rattle.smb_access.specs.declared.scan.ScanLast.TheVariants.{Name}
 use Rattle.smb_tree.specs.ChildLaws.{and_on, in_turn}
 use Rattle.smb_tree.proofs.Siblings.{fewer, by_number}
 
@@ -54,21 +52,9 @@ turn_more rows number folder after a h =
     let few : length (children_after rows folder.0 after) ≤ length rows = filter_few _ rows in
     enough (length rows) (suc (length rows)) rows number folder after a h few (omega arith)
 
--- the entry that is told as the next child is there
-found_child : (rows : List Row) (number : ℕ) (folder : Row) (after : Option (List ℕ)) (next : ℕ) → AreApart rows → numbered rows number ≡ Some folder → child_after rows number after ≡ Some next → (row : Row) × (numbered rows next ≡ Some row)
-found_child rows number folder after next a h k =
-    let at : option_map (λ (row : Row). row.1.number) (next_child rows folder.0 after) ≡ Some next =
-    sym (ap (λ (o : Option Row). option_and_then (λ (f : Row). option_map (λ (row : Row). row.1.number) (next_child rows f.0 after)) o) h) ∙ k in
-    let there : numbered rows next ≡ next_child rows folder.0 after =
-    sym (ap (λ (o : Option ℕ). option_and_then (numbered rows) o) k) ∙ by_number rows number folder after a h in
-    elim (next_child rows folder.0 after) as (λ o. option_map (λ (row : Row). row.1.number) o ≡ Some next → numbered rows next ≡ o → (row : Row) × (numbered rows next ≡ Some row)) [
-      | None ↦ λ e b. cc
-      | Some r ↦ λ e b. (r, b)
-    ] at there
-
 -- ---- what is there of a good content
 
-holds_numbered : (P : Row → Type 0) (rows : List Row) (number : ℕ) (row : Row) → AllByRecursion P rows → numbered rows number ≡ Some row → P row
+pub holds_numbered : (P : Row → Type 0) (rows : List Row) (number : ℕ) (row : Row) → AllByRecursion P rows → numbered rows number ≡ Some row → P row
 holds_numbered P [] number row h e = cc
 holds_numbered P (x ∷ rows) number row h e =
     elim (x.1.number == number) as (λ b. cond b (Some x) (numbered rows number) ≡ Some row → P row) [
@@ -85,45 +71,6 @@ size_small content number entry good e =
           let same : row_shown content.rows row ≡ entry = cc in
           subst (λ (s : Shown). s.size ≤ 16777216) same small
     ] refl e
-
--- the children of a folder where there is no further one, and where there is one
-pub no_child : (content : Content) (number : ℕ) (after : Option (List ℕ)) → GoodContent content → is_some (numbered content.rows number) ≡ true → None ≡ child_after content.rows number after → children content.rows number after ≡ []
-unfolding children
-no_child content number after good i k =
-    let f = some_of (numbered content.rows number) i in
-    ap (map (child content.rows)) (turn_more content.rows number f.0 after good.apart f.1 ∙ ap (λ (o : Option ℕ). and_on (in_turn (length content.rows) content.rows number) (option_and_then (numbered content.rows) o)) (sym k))
-
-pub child_is_there : (content : Content) (number : ℕ) (after : Option (List ℕ)) (next : ℕ) → GoodContent content → is_some (numbered content.rows number) ≡ true → Some next ≡ child_after content.rows number after → is_some (numbered content.rows next) ≡ true
-child_is_there content number after next good i k =
-    let f = some_of (numbered content.rows number) i in
-    let r = found_child content.rows number f.0 after next good.apart f.1 (sym k) in
-    ap is_some r.1
-
-pub a_child : (content : Content) (number : ℕ) (after : Option (List ℕ)) (next : ℕ) (name : List ℕ) (entry : Shown) → GoodContent content → is_some (numbered content.rows number) ≡ true → Some next ≡ child_after content.rows number after → Some name ≡ option_map name_of (numbered content.rows next) → Some entry ≡ entry_shown content.rows next → children content.rows number after ≡ record { behind = Name name; name = entry.spelling; entry = entry } ∷ candidates_behind content.rows number (Name name)
-unfolding children candidates_behind
-a_child content number after next name entry good i k n e =
-    let f = some_of (numbered content.rows number) i in
-    let r = found_child content.rows number f.0 after next good.apart f.1 (sym k) in
-    let named : name_of r.0 ≡ name = (let q : Some name ≡ Some (name_of r.0) = n ∙ ap (λ (o : Option Row). option_map name_of o) r.1 in cc) in
-    let seen : row_shown content.rows r.0 ≡ entry = (let q : Some entry ≡ Some (row_shown content.rows r.0) = e ∙ ap (λ (o : Option Row). option_map (row_shown content.rows) o) r.1 in cc) in
-    let turns : List Row → List Row = λ rows. rows in
-    ap (map (child content.rows)) (turn_more content.rows number f.0 after good.apart f.1 ∙ ap (λ (o : Option ℕ). and_on (in_turn (length content.rows) content.rows number) (option_and_then (numbered content.rows) o)) (sym k) ∙ ap (λ (o : Option Row). and_on (in_turn (length content.rows) content.rows number) o) r.1)
-    ∙ ap (λ (ns : List ℕ). record { behind = Name ns; name = (row_shown content.rows r.0).spelling; entry = row_shown content.rows r.0 } ∷ map (child content.rows) (in_turn (length content.rows) content.rows number (Some ns))) named
-    ∙ ap (λ (s : Shown). record { behind = Name name; name = s.spelling; entry = s } ∷ map (child content.rows) (in_turn (length content.rows) content.rows number (Some name))) seen
-
-pub not_there : (content : Content) (number : ℕ) (after : Option (List ℕ)) (next : ℕ) → GoodContent content → is_some (numbered content.rows number) ≡ true → Some next ≡ child_after content.rows number after → None ≡ option_map name_of (numbered content.rows next) → ⊥
-not_there content number after next good i k n =
-    let f = some_of (numbered content.rows number) i in
-    let r = found_child content.rows number f.0 after next good.apart f.1 (sym k) in
-    let q : None ≡ Some (name_of r.0) = n ∙ ap (λ (o : Option Row). option_map name_of o) r.1 in
-    cc
-
-pub not_shown : (content : Content) (number : ℕ) (after : Option (List ℕ)) (next : ℕ) → GoodContent content → is_some (numbered content.rows number) ≡ true → Some next ≡ child_after content.rows number after → None ≡ entry_shown content.rows next → ⊥
-not_shown content number after next good i k n =
-    let f = some_of (numbered content.rows number) i in
-    let r = found_child content.rows number f.0 after next good.apart f.1 (sym k) in
-    let q : None ≡ Some (row_shown content.rows r.0) = n ∙ ap (λ (o : Option Row). option_map (row_shown content.rows) o) r.1 in
-    cc
 
 -- the folder around a folder is there
 pub around_there : (content : Content) (number : ℕ) (entry : Shown) → GoodContent content → Some entry ≡ entry_shown content.rows number → None ≡ entry_shown content.rows entry.parent → ⊥

@@ -6,7 +6,9 @@ pub mod SetInformation
 pub mod SetAsks
 pub mod FileInformation
 pub mod Candidates
+pub mod Places
 pub mod CandidateViews
+pub mod Cursors
 pub mod DirectoryInformation
 pub mod Listing
 pub mod Queries

@@ -1,16 +1,15 @@
 -- For the proofs; nothing here need be believed.
 -- What is left of a listing behind one of its entries.
 use Rattle.std.specs.Prelude.{ℕ, ◌-◌, List, [], ◌∷◌, nat_le, if◌then◌else◌}
-use Rattle.smb_tree.specs.Content.{Row}
 use Rattle.smb_info.specs.Candidates.{Candidate}
 use Rattle.smb_info.specs.DirectoryInformation.{entry_length, distance}
-use Rattle.smb_info.specs.Listing.{Sought, matching}
-use Rattle.smb_access.specs.declared.scan.ScanLast.{ScanLast}
+use Rattle.smb_info.specs.Cursors.{matched}
+use Rattle.smb_info.specs.Listing.{Sought}
 use Rattle.smb_info.specs.declared.directory_class.DirectoryInformationClass.{DirectoryInformationClass}
 
--- what is wanted behind an entry that was given
-unfoldable pub rest_behind : List Row → Sought → ScanLast → List Candidate
-rest_behind rows sought behind = if sought.single then [] else matching rows sought.folder sought.pattern behind
+-- what is wanted of the candidates behind an entry that was given
+unfoldable pub rest_of : Sought → List Candidate → List Candidate
+rest_of sought cs = if sought.single then [] else matched sought.pattern cs
 
 -- what fits in a room, taken one by one
 unfoldable pub one_by_one : DirectoryInformationClass → ℕ → List Candidate → List Candidate

@@ -3,10 +3,11 @@
 ghost use Rattle.std.specs.Prelude.{◌≡◌, ◌++◌, ◌∷◌, ◌≤◌, None, Some, true, false, if◌then◌else◌, is_some, OnOk, OnErr, IfOk, IfErr};
 ghost use Rattle.smb_wire.specs.Units.{units_of};
 ghost use Rattle.smb_tree.specs.Content.{numbered};
-ghost use Rattle.smb_tree.specs.Good.{GoodContent};
+ghost use Rattle.smb_tree.specs.Good.{GoodContent, AreLawful};
 ghost use Rattle.smb_access.specs.Opens.{open_of};
 ghost use Rattle.smb_info.specs.Asks.{list_asked, sought};
 ghost use Rattle.smb_info.specs.CandidateViews.{candidate};
+ghost use Rattle.smb_info.specs.Cursors.{to_come, Stands, matched};
 ghost use Rattle.smb_info.specs.DirectoryInformation.{entry_length, laid};
 ghost use Rattle.smb_info.specs.Listing.{matching, given, reached, is_too_long};
 ghost use Rattle.smb_info.specs.Queries.{bytes_listed, scan_after, list_fault};
@@ -14,11 +15,11 @@ ghost use Rattle.smb_info.specs.OpenQueries.{open_bytes_listed, open_scan_after,
 ghost use Rattle.smb_info.specs.declared.fault.InfoFault.TheVariants.{NoMemory, TooSmall};
 
 use super::candidate::CandidateView;
+use super::cursor::Cursor;
 use super::directory_class::DirectoryInformationClass;
 use super::directory_entry::length_within;
 use super::fault::InfoFault;
 use super::listing::put_listing;
-use super::matching_candidates::next_match;
 use super::query::{pattern_by, scan_by, unmatched, wants_one};
 use super::scan::{ListAsk, Search};
 use smb_access::{OpenNo, Opens, Scan, ScanLast};
@@ -35,12 +36,15 @@ fn put_or_undo<'a, T: Tree>(
     search: &Search<'_>,
     class: DirectoryInformationClass,
     first: &CandidateView<'a>,
+    cursor: &mut Cursor,
     out: &mut Vec<u8>,
 ) -> Result<ScanLast, InfoFault>
     requires good { GoodContent (T.content tree.now) }
+    requires lawful { AreLawful (T.content tree.now).rows }
     requires folder { is_some (numbered (T.content tree.now).rows search.now.folder) ≡ true }
+    requires stands { Stands (T.content tree.now).rows search.now.folder cursor.old }
     requires first { matching (T.content tree.now).rows search.now.folder search.now.pattern.now search.now.last ≡
-        candidate first.now ∷ matching (T.content tree.now).rows search.now.folder search.now.pattern.now first.now.behind }
+        candidate first.now ∷ matched search.now.pattern.now (to_come (T.content tree.now).rows search.now.folder cursor.old) }
     requires fits { entry_length class (units_of first.now.name) ≤ search.now.room }
     ensures ok { OnOk result (out.new.items ≡ out.old.items ++ laid class (given (T.content tree.now).rows class (sought search.now))) }
     ensures last { IfOk result (λ last. last ≡ reached search.now.last (given (T.content tree.now).rows class (sought search.now))) }
@@ -48,7 +52,7 @@ fn put_or_undo<'a, T: Tree>(
     ensures why { IfErr result (λ fault. fault ≡ NoMemory) }
 {
     let before = out.len();
-    match put_listing(tree, search, class, first, out) {
+    match put_listing(tree, search, class, first, cursor, out) {
         Ok(last) => Ok(last),
         Err(fault) => {
             out.truncate(before);
@@ -63,12 +67,15 @@ fn list_from<'a, T: Tree>(
     search: &Search<'_>,
     class: DirectoryInformationClass,
     first: &CandidateView<'a>,
+    cursor: &mut Cursor,
     out: &mut Vec<u8>,
 ) -> Result<ScanLast, InfoFault>
     requires good { GoodContent (T.content tree.now) }
+    requires lawful { AreLawful (T.content tree.now).rows }
     requires folder { is_some (numbered (T.content tree.now).rows search.now.folder) ≡ true }
+    requires stands { Stands (T.content tree.now).rows search.now.folder cursor.old }
     requires first { matching (T.content tree.now).rows search.now.folder search.now.pattern.now search.now.last ≡
-        candidate first.now ∷ matching (T.content tree.now).rows search.now.folder search.now.pattern.now first.now.behind }
+        candidate first.now ∷ matched search.now.pattern.now (to_come (T.content tree.now).rows search.now.folder cursor.old) }
     ensures ok { OnOk result (out.new.items ≡ out.old.items ++ laid class (given (T.content tree.now).rows class (sought search.now))) }
     ensures last { IfOk result (λ last. last ≡ reached search.now.last (given (T.content tree.now).rows class (sought search.now))) }
     ensures lawful { OnOk result (is_too_long class search.now.room (candidate first.now) ≡ false) }
@@ -79,7 +86,7 @@ fn list_from<'a, T: Tree>(
     if length_within(class, first.name, search.room as usize).is_none() {
         return Err(InfoFault::TooSmall);
     }
-    put_or_undo(tree, search, class, first, out)
+    put_or_undo(tree, search, class, first, cursor, out)
 }
 
 // Adds the entries of a directory that are asked for, by the scan of an open, and tells the scan as it is then.
@@ -92,6 +99,7 @@ fn list_of<T: Tree>(
     out: &mut Vec<u8>,
 ) -> Result<Scan, InfoFault>
     requires good { GoodContent (T.content tree.now) }
+    requires lawful { AreLawful (T.content tree.now).rows }
     requires folder { is_some (numbered (T.content tree.now).rows folder) ≡ true }
     ensures ok { OnOk result (out.new.items ≡
         out.old.items ++ bytes_listed (T.content tree.now).rows folder scan.now (list_asked ask.now)) }
@@ -119,17 +127,18 @@ fn list_of<T: Tree>(
         single: wants_one(ask),
         room: ask.room,
     };
-    let Some(first) = next_match(tree, folder, &pattern, &next.last) else {
+    let mut cursor = Cursor::behind(tree, folder, &next.last);
+    let Some(first) = cursor.next_match(tree, folder, &pattern) else {
         return Err(unmatched(scan, ask, &next));
     };
-    let last = list_from(tree, &search, class, &first, out)?;
+    let last = list_from(tree, &search, class, &first, &mut cursor, out)?;
     let pattern = next.pattern;
     Ok(Scan { pattern, last })
 }
 
 /// Adds the entries of a directory that are asked for through the open of a number, one behind the other, as many as there
-/// is room for, and tells the scan as it is then, which the caller keeps ([`Store::set_scan`]). Each entry is looked up by
-/// the name of the one before it. Its cost grows with the number of entries that are passed, each times the length of its
+/// is room for, and tells the scan as it is then, which the caller keeps ([`Store::set_scan`]). The children are
+/// looked up 16 at a time, by the name of the last one before them. Its cost grows with the number of entries that are passed, each times the length of its
 /// name, with at most four steps for each unit; the pattern is made ready once. It takes no memory beside `out`.
 ///
 /// [`BadClass`](InfoFault::BadClass) where no class that is told has the number, [`BadPattern`](InfoFault::BadPattern)

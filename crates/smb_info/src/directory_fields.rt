@@ -71,22 +71,44 @@ fn name_length(entry: &CandidateView<'_>) -> u32
     entry.name.len() as u32 * 2
 }
 
+// A number in 4 bytes, the lowest first.
+#[tactic(auto, unfolding(smb_wire::specs::Number::spelling))]
+fn in_four(number: u32) -> [u8; 4]
+    ensures { result ≡ spelling 4 number }
+{
+    number.to_le_bytes()
+}
+
+// A number in 8 bytes, the lowest first.
+#[tactic(auto, unfolding(smb_wire::specs::Number::spelling))]
+fn in_eight(number: u64) -> [u8; 8]
+    ensures { result ≡ spelling 8 number }
+{
+    number.to_le_bytes()
+}
+
 fn put_directory(next: u32, entry: &CandidateView<'_>, out: &mut Vec<u8>) -> Result<(), WireFault>
     requires { 2 * length (units_of entry.now.name) < 2 ^ 32 }
     ensures ok { OnOk result (out.new.items ≡ appended out.old.items (directory_fields next (candidate entry.now))) }
     ensures fits { OnOk result (AllFit (directory_fields next (candidate entry.now))) }
     ensures kept { take (length out.old.items) out.new.items ≡ out.old.items }
 {
-    put_u32(out, next)?;
-    put_u32(out, 0)?;
-    put_u64(out, entry.entry.basic.creation_time)?;
-    put_u64(out, entry.entry.basic.last_access_time)?;
-    put_u64(out, entry.entry.basic.last_write_time)?;
-    put_u64(out, entry.entry.basic.change_time)?;
-    put_u64(out, entry.entry.size)?;
-    put_u64(out, allocation_size(entry.entry.size))?;
-    put_u32(out, attributes(&entry.entry))?;
-    put_u32(out, name_length(entry))?;
+    let basic = &entry.entry.basic;
+    put_bytes(out, [in_four(next), in_four(0)].as_flattened())?;
+    let long = [
+        in_eight(basic.creation_time),
+        in_eight(basic.last_access_time),
+        in_eight(basic.last_write_time),
+        in_eight(basic.change_time),
+        in_eight(entry.entry.size),
+        in_eight(allocation_size(entry.entry.size)),
+    ];
+    put_bytes(out, long.as_flattened())?;
+    let last = [
+        in_four(attributes(&entry.entry)),
+        in_four(name_length(entry)),
+    ];
+    put_bytes(out, last.as_flattened())?;
     Ok(())
 }
 
@@ -112,6 +134,17 @@ fn put_no_short_name(out: &mut Vec<u8>) -> Result<(), WireFault>
     ensures err { OnErr result (out.new.items ≡ out.old.items) }
 {
     put_bytes(out, &[0; 24])
+}
+
+// What stands between the fixed front and the number of an entry: no extended attributes, no short name, and what is
+// reserved around it, all of it zeros.
+#[tactic(auto, unfolding(smb_wire::specs::Number::spelling))]
+fn put_no_short_name_and_more(out: &mut Vec<u8>) -> Result<(), WireFault>
+    ensures ok { OnOk result (out.new.items ≡ out.old.items
+        ++ (spelling 4 0 ++ (spelling 1 0 ++ (spelling 1 0 ++ (spelling 24 0 ++ spelling 2 0))))) }
+    ensures err { OnErr result (out.new.items ≡ out.old.items) }
+{
+    put_bytes(out, &[0; 32])
 }
 
 fn put_both_directory(
@@ -153,8 +186,8 @@ fn put_id_both_directory(
     ensures fits { OnOk result (AllFit (id_both_directory_fields next (candidate entry.now))) }
     ensures kept { take (length out.old.items) out.new.items ≡ out.old.items }
 {
-    put_both_directory(next, entry, out)?;
-    put_u16(out, 0)?;
+    put_directory(next, entry, out)?;
+    put_no_short_name_and_more(out)?;
     put_u64(out, entry.entry.number)?;
     Ok(())
 }

@@ -14,7 +14,7 @@
 #![tactic(auto)]
 
 mod candidate;
-mod candidates;
+mod cursor;
 mod directory;
 mod directory_class;
 mod directory_entry;
@@ -29,7 +29,6 @@ mod file_system_fields;
 mod following;
 mod laws;
 mod listing;
-mod matching_candidates;
 mod query;
 mod scan;
 mod set_info;

@@ -7,6 +7,8 @@ pub mod Altering
 pub mod Pruning
 pub mod Childing
 pub mod Nexting
+pub mod Batches
+pub mod Turning
 pub mod Putting
 pub mod Adding
 pub mod Rooted

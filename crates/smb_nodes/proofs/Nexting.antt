@@ -28,7 +28,7 @@ lt_reverse Less = refl
 lt_reverse Equal = refl
 lt_reverse Greater = refl
 
-before_behind : (a b : List ℕ) → is_before a b ≡ is_gt (slice_cmp nat_cmp b a)
+pub before_behind : (a b : List ℕ) → is_before a b ≡ is_gt (slice_cmp nat_cmp b a)
 before_behind a b = ap is_lt (nat_list_cmp_total.antisymm a b) ∙ lt_reverse (slice_cmp nat_cmp b a)
 
 some_equal : {A : Type 0} {a b : A} → Some a ≡ Some b → a ≡ b

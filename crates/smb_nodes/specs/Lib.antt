@@ -1,5 +1,6 @@
 pub mod Nodes
 pub mod Changes
+pub mod Nexts
 pub mod Seen
 pub mod Tree
 pub mod Shows

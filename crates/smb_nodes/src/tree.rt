@@ -9,7 +9,7 @@ use super::change::{overwrite, put_mark, rebase, resize};
 use super::first::{indexed, rooted};
 use super::look::{name_of, node_at, number_or_none, slot_of, view_of, walk_down};
 use super::moves::{is_within, move_fault, target_in};
-use super::next::next_child;
+use super::next::{next_child, next_children};
 use super::node::Node;
 use super::paths::{around, last_spelling};
 use super::places::{evict, is_slot, reparent, settle};
@@ -19,7 +19,9 @@ use super::ways::{bound_for, deepest_with, levels_beneath};
 use super::whole_names::whole_name;
 use slab::Slab;
 use smb_pages::Pages;
-use smb_tree::{Basic, EntryCopy, EntryNo, EntryView, Kind, Tree, TreeFault, allocation_size};
+use smb_tree::{
+    Basic, Children, EntryCopy, EntryNo, EntryView, Kind, Tree, TreeFault, allocation_size,
+};
 use smb_wire::{FileAttributes, FoldedName, PathView};
 use std::alloc::{AllocError, Global};
 use std::collections::BTreeMap;
@@ -34,6 +36,7 @@ use std::marker::Model;
 /// - [`entry`](Tree::entry), [`name`](Tree::name), [`set_basic`](Tree::set_basic), [`set_mark`](Tree::set_mark):
 ///   nothing more. [`used`](Tree::used) is kept, and not counted.
 /// - [`child_after`](Tree::child_after): one look-up in the folder's children.
+/// - [`children_after`](Tree::children_after): one look-up there for all of them, and then a step for each.
 /// - [`is_within`](Tree::is_within): a second look-up in the index, and at most one step up by slots for each component of
 ///   the path.
 /// - [`copy_entry`](Tree::copy_entry): one step up for each component, and memory for the name.
@@ -147,6 +150,13 @@ impl Tree for NodeTree {
         let slot = slot_of(&self.index, number)?;
         let child = next_child(&self.nodes, slot, after)?;
         Some(number_or_none(&self.nodes, child))
+    }
+
+    fn children_after(&self, number: EntryNo, after: Option<&FoldedName>, children: &mut Children) {
+        match slot_of(&self.index, number) {
+            Some(slot) => next_children(&self.nodes, &self.nodes[slot].children, after, children),
+            None => children.clear(),
+        }
     }
 
     fn name(&self, number: EntryNo) -> Option<FoldedName> {

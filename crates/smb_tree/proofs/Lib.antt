@@ -13,6 +13,7 @@ pub mod AfterWrites
 pub mod Orders
 pub mod Names
 pub mod Siblings
+pub mod ChildLists
 pub mod Heads
 pub mod NewRows
 pub mod NewPaths

@@ -6,6 +6,7 @@ use Rattle.std.specs.Cmp.Lexicographic.{pointwise}
 use Rattle.smb_tree.specs.Content.{Row, numbered, entry_at}
 use Rattle.smb_tree.specs.Laws.{AreApart}
 use Rattle.smb_tree.specs.Children.{name_of, is_before, child_after}
+use Rattle.smb_tree.specs.declared.tree.TheConstants.{CHILDREN_AT_ONCE}
 
 -- a row, and what follows it
 abbrev pub and_on : (Option (List ℕ) → List Row) → Option Row → List Row
@@ -18,6 +19,10 @@ abbrev pub in_turn : ℕ → List Row → ℕ → Option (List ℕ) → List Row
 in_turn zero rows number after = []
 in_turn (suc steps) rows number after =
     and_on (in_turn steps rows number) (option_and_then (numbered rows) (child_after rows number after))
+
+-- the numbers of the children that come next after a given name, or first: of as many as are looked up at once
+unfoldable pub children_at_once : List Row → ℕ → Option (List ℕ) → List ℕ
+children_at_once rows number after = map (λ row. row.1.number) (in_turn CHILDREN_AT_ONCE rows number after)
 
 -- each name comes before the one that follows it
 abbrev pub AreInOrder : List (List ℕ) → Type 0

@@ -40,4 +40,4 @@ pub use entry_copy::EntryCopy;
 pub use fault::TreeFault;
 pub use laws::{laws_of_contents, laws_of_moves};
 pub use plain::PlainTree;
-pub use tree::Tree;
+pub use tree::{CHILDREN_AT_ONCE, Children, Tree};

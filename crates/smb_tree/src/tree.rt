@@ -8,6 +8,7 @@ ghost use Rattle.smb_tree.specs.Content.{numbered, number_at, next_number, used_
 ghost use Rattle.smb_tree.specs.Moves.{moved, is_row_within};
 ghost use Rattle.smb_tree.specs.WholeNames.{copied, entry_copied};
 ghost use Rattle.smb_tree.specs.Children.{name_of, child_after};
+ghost use Rattle.smb_tree.specs.ChildLaws.{children_at_once};
 ghost use Rattle.smb_tree.specs.Faults.{add_fault, size_fault, basic_fault, mark_fault, remove_fault, move_fault, copy_fault, read_fault, write_fault};
 ghost use Rattle.smb_tree.specs.Views.{shown, entry_shown};
 ghost use Rattle.smb_tree.specs.declared.fault.TreeFault.TheVariants.{NoMemory};
@@ -15,8 +16,15 @@ ghost use Rattle.smb_tree.specs.declared.fault.TreeFault.TheVariants.{NoMemory};
 use super::entry::{Basic, EntryNo, EntryView, Kind};
 use super::entry_copy::EntryCopy;
 use super::fault::TreeFault;
+use arrayvec::ArrayVec;
 use smb_wire::{FileAttributes, FoldedName, PathView};
 use std::alloc::Global;
+
+/// How many children of a folder are looked up at once at most.
+pub const CHILDREN_AT_ONCE: usize = 16;
+
+/// The numbers of children that are looked up at once.
+pub type Children = ArrayVec<EntryNo, CHILDREN_AT_ONCE>;
 
 /// A tree of files and folders. Its content is the list of entries at their paths, with the next entry
 /// number and the capacity; every call answers by it, and changes it as it says. After a refusal it is as it
@@ -48,6 +56,25 @@ pub trait Tree {
     /// where no further child stands or no entry has the number.
     fn child_after(&self, number: EntryNo, after: Option<&FoldedName>) -> Option<EntryNo>
         ensures { result ≡ child_after (content self.now).rows number (option_copied after.entry) };
+
+    /// The children of an entry whose folded names come next after a given one, or first where none is given: those that
+    /// [`child_after`](Tree::child_after) gives one after the other, at most 16. What the list held before is gone.
+    fn children_after(&self, number: EntryNo, after: Option<&FoldedName>, children: &mut Children)
+        ensures { children.new.items ≡ children_at_once (content self.now).rows number (option_copied after.entry) }
+    {
+        children.clear();
+        let mut last = after.copied();
+        while !children.is_full() {
+            let Some(child) = self.child_after(number, last.as_ref()) else {
+                return;
+            };
+            let Some(name) = self.name(child) else {
+                return;
+            };
+            children.push(child);
+            last = Some(name);
+        }
+    }
 
     /// The name of the entry of a number: the last component of its path, folded; the root's is empty. None where no
     /// entry has the number.

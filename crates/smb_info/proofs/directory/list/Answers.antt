@@ -14,6 +14,9 @@ unreachable-unreachable g c = c.unreachable.result
 pub list_of-requires-clause-good : goal.list_of-requires-clause-good
 list_of-requires-clause-good g c = rw c.tree.ensures c.good.ensures.tree
 
+pub list_of-requires-clause-lawful : goal.list_of-requires-clause-lawful
+list_of-requires-clause-lawful g c = rw c.tree.ensures c.good.ensures.lawful
+
 pub list_of-requires-clause-folder : goal.list_of-requires-clause-folder
 list_of-requires-clause-folder g c = entry_stands (g.T.Tree.content c.tree.result.now) c.args.store.now.tree (g.O.Opens.content c.opens.result.now) c.args.store.now.opens c.args.number c.in-Some.row.now c.tree.ensures c.opens.ensures c.good.ensures.present (c.in-Some.ensures {u = tt})
 

@@ -3,6 +3,7 @@ use Rattle.smb_tree.specs.Content.{Row}
 use Rattle.smb_info.specs.Asks.{sought}
 use Rattle.smb_info.specs.Candidates.{Candidate}
 use Rattle.smb_info.specs.CandidateViews.{candidate}
+use Rattle.smb_info.specs.Cursors.{to_come}
 use Rattle.smb_info.specs.DirectoryInformation.{laid}
 use Rattle.smb_info.specs.Listing.{reached}
 use Rattle.smb_info.proofs.Listings.{is_given}
@@ -14,6 +15,12 @@ put_listing-requires-clause-good g c = c.requires.good
 pub put_listing-requires-clause-folder : goal.put_listing-requires-clause-folder
 put_listing-requires-clause-folder g c = c.requires.folder
 
+pub put_listing-requires-clause-lawful : goal.put_listing-requires-clause-lawful
+put_listing-requires-clause-lawful g c = c.requires.lawful
+
+pub put_listing-requires-clause-stands : goal.put_listing-requires-clause-stands
+put_listing-requires-clause-stands g c = c.requires.stands
+
 pub put_listing-requires-clause-fits : goal.put_listing-requires-clause-fits
 put_listing-requires-clause-fits g c = c.requires.fits
 
@@ -21,13 +28,13 @@ pub returns-in-Ok-clause-ok : goal.returns-in-Ok-clause-ok
 returns-in-Ok-clause-ok g c =
     let rows : List Row = (g.T.Tree.content c.args.tree.now).rows in
     c.in-Ok.ensures.ok
-    ∙ ap (λ (cs : List Candidate). c.args.out.now.items ++ laid c.args.class cs) (is_given rows c.args.class (sought c.args.search.now) (candidate c.args.first.now) c.requires.first)
+    ∙ ap (λ (cs : List Candidate). c.args.out.now.items ++ laid c.args.class cs) (is_given rows c.args.class (sought c.args.search.now) (candidate c.args.first.now) (to_come rows c.args.search.now.folder c.args.cursor.now) c.requires.first)
 
 pub returns-in-Ok-clause-last : goal.returns-in-Ok-clause-last
 returns-in-Ok-clause-last g c =
     let rows : List Row = (g.T.Tree.content c.args.tree.now).rows in
     c.in-Ok.ensures.last
-    ∙ ap (λ (cs : List Candidate). reached c.args.search.now.last cs) (is_given rows c.args.class (sought c.args.search.now) (candidate c.args.first.now) c.requires.first)
+    ∙ ap (λ (cs : List Candidate). reached c.args.search.now.last cs) (is_given rows c.args.class (sought c.args.search.now) (candidate c.args.first.now) (to_come rows c.args.search.now.folder c.args.cursor.now) c.requires.first)
 
 pub returns-in-Err-clause-err : goal.returns-in-Err-clause-err
 returns-in-Err-clause-err g c =

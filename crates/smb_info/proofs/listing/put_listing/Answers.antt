@@ -4,12 +4,13 @@ use Rattle.smb_tree.specs.Content.{Row}
 use Rattle.smb_info.specs.Candidates.{Candidate}
 use Rattle.smb_info.specs.CandidateViews.{candidate}
 use Rattle.smb_info.specs.Asks.{sought}
-use Rattle.smb_info.specs.Rests.{rest_behind, one_by_one}
+use Rattle.smb_info.specs.Cursors.{to_come}
+use Rattle.smb_info.specs.Rests.{rest_of, one_by_one}
 use Rattle.smb_info.proofs.Listings.{put_first, reached_first, put_more, reached_more, put_last, reached_last, kept_by, near_by, some_left}
 use Rattle.smb_info.proofs.listing.put_listing.Goals as goal
 
 pub invariant_of-at : goal.invariant_of-at
-invariant_of-at g c = record { few = c.args.first.now.few }
+invariant_of-at g c = record { few = c.args.first.now.few; short = c.args.first.now.short }
 
 pub room_behind-left-requires : goal.room_behind-left-requires
 room_behind-left-requires g c = omega (arith, c.requires.fits)
@@ -18,13 +19,14 @@ pub loop-next-init : goal.loop-next-init
 loop-next-init g c =
     let rows : List Row = (g.T.Tree.content c.args.tree.now).rows in
     let first : Candidate = candidate c.args.first.now in
-    let rest : List Candidate = rest_behind rows (sought c.args.search.now) c.args.first.now.behind in
+    let rest : List Candidate = rest_of (sought c.args.search.now) (to_come rows c.args.search.now.folder c.args.cursor.now) in
     record {
       short = omega (arith, c.requires.fits);
       near = near_by c.args.class c.args.search.now.room c.room_behind-left.result first.name (omega arith) c.room_behind-left.ensures;
       small = omega (arith, c.room_behind-left.ensures);
       all = put_first c.args.class c.args.search.now.room c.room_behind-left.result first rest c.args.out.now.items c.requires.fits c.room_behind-left.ensures;
       last = reached_first c.args.class c.args.search.now.room c.room_behind-left.result first rest c.args.search.now.last c.requires.fits c.room_behind-left.ensures;
+      stands = c.requires.stands;
       kept = take_all (length c.args.out.now.items) c.args.out.now.items (omega arith);
     }
 
@@ -33,6 +35,12 @@ following-requires-clause-good g c = c.requires.good
 
 pub following-requires-clause-folder : goal.following-requires-clause-folder
 following-requires-clause-folder g c = c.requires.folder
+
+pub following-requires-clause-lawful : goal.following-requires-clause-lawful
+following-requires-clause-lawful g c = c.requires.lawful
+
+pub following-requires-clause-stands : goal.following-requires-clause-stands
+following-requires-clause-stands g c = c.loop-next.invariant.stands
 
 pub put_followed-requires : goal.put_followed-requires
 put_followed-requires g c =
@@ -59,8 +67,8 @@ loop-next-preserved g c =
     let rows : List Row = (g.T.Tree.content c.args.tree.now).rows in
     let at : Candidate = candidate c.loop-next.at in
     let next : Candidate = candidate c.in-Some.next in
-    let rest : List Candidate = rest_behind rows (sought c.args.search.now) c.loop-next.at.behind in
-    let more : List Candidate = rest_behind rows (sought c.args.search.now) c.in-Some.next.behind in
+    let rest : List Candidate = rest_of (sought c.args.search.now) (to_come rows c.args.search.now.folder c.loop-next.cursor) in
+    let more : List Candidate = rest_of (sought c.args.search.now) (to_come rows c.args.search.now.folder c.following.new.cursor) in
     let fits = c.in-Some.ensures.fits in
     let left = c.room_behind-left-in-Some.ensures in
     record {
@@ -69,6 +77,7 @@ loop-next-preserved g c =
       small = omega (arith, left, c.loop-next.invariant.small);
       all = put_more c.args.class c.loop-next.left c.room_behind-left-in-Some.result at next rest more c.loop-next.out.items c.put_followed.new.out.items c.in_ok-put_followed.ensures.ok c.in-Some.ensures.some fits left ∙ c.loop-next.invariant.all;
       last = reached_more c.args.class c.loop-next.left c.room_behind-left-in-Some.result at next rest more c.args.search.now.last c.in-Some.ensures.some fits left ∙ c.loop-next.invariant.last;
+      stands = c.in-Some.ensures.stands;
       kept = kept_by c.args.out.now.items c.loop-next.out.items c.put_followed.new.out.items c.loop-next.invariant.kept c.put_followed.ensures.kept;
     }
 
@@ -88,14 +97,14 @@ returns-in_err-put_last-clause-kept g c =
 pub returns-clause-ok : goal.returns-clause-ok
 returns-clause-ok g c =
     let rows : List Row = (g.T.Tree.content c.args.tree.now).rows in
-    let rest : List Candidate = rest_behind rows (sought c.args.search.now) c.loop-next.at.behind in
+    let rest : List Candidate = rest_of (sought c.args.search.now) (to_come rows c.args.search.now.folder c.loop-next.cursor) in
     put_last c.args.class (candidate c.loop-next.at) (one_by_one c.args.class c.loop-next.left rest) c.loop-next.out.items c.put_last.new.out.items c.in_ok-put_last.ensures.ok c.in_default.ensures.none ∙ c.loop-next.invariant.all
 
 pub returns-clause-last : goal.returns-clause-last
 returns-clause-last g c =
     let rows : List Row = (g.T.Tree.content c.args.tree.now).rows in
-    let rest : List Candidate = rest_behind rows (sought c.args.search.now) c.loop-next.at.behind in
-    reached_last (candidate c.loop-next.at) (one_by_one c.args.class c.loop-next.left rest) c.args.search.now.last c.in_default.ensures.none ∙ c.loop-next.invariant.last
+    let rest : List Candidate = rest_of (sought c.args.search.now) (to_come rows c.args.search.now.folder c.loop-next.cursor) in
+    c.behind.ensures ∙ reached_last (candidate c.loop-next.at) (one_by_one c.args.class c.loop-next.left rest) c.args.search.now.last c.in_default.ensures.none ∙ c.loop-next.invariant.last
 
 pub returns-clause-kept : goal.returns-clause-kept
 returns-clause-kept g c =
