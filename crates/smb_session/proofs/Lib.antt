@@ -9,3 +9,4 @@ pub mod Tables
 pub mod Steps
 pub mod Paths
 pub mod Gone
+pub mod Taken

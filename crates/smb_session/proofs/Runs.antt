@@ -129,7 +129,7 @@ found_all usable rest first count found l h =
     sym split ∙ h.left
 
 -- a list that is not empty is its first number and the others
-tail_of : {X : Type 0} (x : X) (xs : List X) → take (length (x ∷ xs) - 1) (drop 1 (x ∷ xs)) ≡ xs
+pub tail_of : {X : Type 0} (x : X) (xs : List X) → take (length (x ∷ xs) - 1) (drop 1 (x ∷ xs)) ≡ xs
 tail_of x xs = let n : suc (length xs) - 1 ≡ length xs = omega arith in rw n (take_all (length xs) xs (omega arith))
 
 pub opened : (usable ns : List ℕ) (first count found : ℕ) → 1 ≤ length ns → FoundSoFar usable ns first count found →

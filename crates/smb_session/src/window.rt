@@ -1,6 +1,6 @@
 //! The message window of a connection ([MS-SMB2] 3.3.1.1, 3.3.5.2.3).
 
-ghost use Rattle.std.specs.Prelude.{◌≡◌, ◌<◌, ◌≤◌, ◌+◌, ◌++◌, ℕ, filter, not, length, IsTrue, if◌then◌else◌};
+ghost use Rattle.std.specs.Prelude.{◌≡◌, ◌<◌, ◌≤◌, ◌+◌, ◌++◌, ℕ, filter, not, length, position, ◌==◌, IsTrue, if◌then◌else◌};
 ghost use Rattle.std.specs.Bool.{OnTrue, OnFalse};
 ghost use Rattle.std.specs.List.{list_all};
 ghost use Rattle.arrayvec.specs.ArrayVec.{array_vec_len};
@@ -107,25 +107,45 @@ fn is_in_run(run: (u64, u16), number: u64) -> bool
     run.0 <= number && number - run.0 < u64::from(run.1)
 }
 
-/// Whether a number is one of those of runs.
-fn is_taken(runs: &[(u64, u16)], number: u64) -> bool
-    ensures { result ≡ contains (numbers_of runs.now) number }
+/// The place of a number, or None.
+fn place_of(usable: &ArrayVec<u64, MOST_CREDITS>, number: u64) -> Option<usize>
+    ensures { result ≡ position (λ n. n == number) usable.now.items }
+{
+    usable.iter().position(|usable| *usable == number)
+}
+
+/// Takes a number out: one look-up, from the lowest on, and one move of those behind it.
+fn take_number(usable: &mut ArrayVec<u64, MOST_CREDITS>, number: u64)
+    requires { IsRising usable.old.items }
+    ensures { usable.new.items ≡ filter (λ n. not (contains (upward number 1) n)) usable.old.items }
+{
+    if let Some(place) = place_of(usable, number) {
+        let _ = usable.remove(place);
+    }
+}
+
+/// Takes the numbers of a run out, where they are several in one pass.
+fn take_run(usable: &mut ArrayVec<u64, MOST_CREDITS>, run: (u64, u16))
+    requires { IsRising usable.old.items }
+    ensures { usable.new.items ≡ filter (λ n. not (contains (upward run.0 run.1) n)) usable.old.items }
+{
+    if run.1 == 1 {
+        take_number(usable, run.0);
+        return;
+    }
+    usable.retain(|number| !is_in_run(run, *number));
+}
+
+/// Takes the numbers of runs out, run by run.
+fn take_out(usable: &mut ArrayVec<u64, MOST_CREDITS>, runs: &[(u64, u16)])
+    requires { IsRising usable.old.items }
+    ensures { usable.new.items ≡ filter (λ n. not (contains (numbers_of runs.now) n)) usable.old.items }
 {
     let mut rest = runs;
     while let [run, others @ ..] = rest {
-        if is_in_run(*run, number) {
-            return true;
-        }
+        take_run(usable, *run);
         rest = others;
     }
-    false
-}
-
-/// Takes the numbers of runs out, in one pass.
-fn take_out(usable: &mut ArrayVec<u64, MOST_CREDITS>, runs: &[(u64, u16)])
-    ensures { usable.new.items ≡ filter (λ n. not (contains (numbers_of runs.now) n)) usable.old.items }
-{
-    usable.retain(|number| !is_taken(runs, *number));
 }
 
 /// Adds the numbers from `first` upward.
@@ -163,7 +183,8 @@ impl Window {
 
     /// Takes the numbers of the requests of a chain out, each given by its first number and how many follow upward from
     /// there, itself counted; where they are distinct and may each be used. False changes nothing. It costs a pass over
-    /// the window for each of them at most, whatever the numbers are, and one more.
+    /// the window for each of them at most, which ends at the number that is looked for, and one move of those behind
+    /// it; where a request takes several numbers, another pass.
     pub fn take_runs(&mut self, runs: &[(u64, u16)]) -> bool
         ensures all { result ≡ may_use self.old (numbers_of runs.now) }
         ensures taken { OnTrue result (self.new ≡ without_ids self.old (numbers_of runs.now)) }
