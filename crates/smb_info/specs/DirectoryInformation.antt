@@ -58,38 +58,29 @@ both_directory_fields next c =
     ∷ num 70 24 0  -- ShortName
     ∷ []
 
--- FileNamesInformation, class 12 (2.4.28)
-abbrev pub names_fields : ℕ → Candidate → List Field
-names_fields next c =
-    num 0 4 next  -- NextEntryOffset
-    ∷ num 4 4 0  -- FileIndex
-    ∷ num 8 4 (2 * length c.name)  -- FileNameLength
-    ∷ []
-
--- FileIdBothDirectoryInformation, class 37 (2.4.17)
-abbrev pub id_both_directory_fields : ℕ → Candidate → List Field
-id_both_directory_fields next c =
-    both_directory_fields next c
-    ++ num 94 2 0  -- Reserved2
-    ∷ num 96 8 c.entry.number  -- FileId
-    ∷ []
-
--- FileIdFullDirectoryInformation, class 38 (2.4.18)
-abbrev pub id_full_directory_fields : ℕ → Candidate → List Field
-id_full_directory_fields next c =
-    full_directory_fields next c
-    ++ num 68 4 0  -- Reserved
-    ∷ num 72 8 c.entry.number  -- FileId
-    ∷ []
-
 -- the fields of a class
 abbrev pub fields_of : DirectoryInformationClass → ℕ → Candidate → List Field
 fields_of FileDirectory next c = directory_fields next c
 fields_of FileFullDirectory next c = full_directory_fields next c
 fields_of FileBothDirectory next c = both_directory_fields next c
-fields_of FileNames next c = names_fields next c
-fields_of FileIdBothDirectory next c = id_both_directory_fields next c
-fields_of FileIdFullDirectory next c = id_full_directory_fields next c
+-- FileNamesInformation, class 12 (2.4.28)
+fields_of FileNames next c =
+    num 0 4 next  -- NextEntryOffset
+    ∷ num 4 4 0  -- FileIndex
+    ∷ num 8 4 (2 * length c.name)  -- FileNameLength
+    ∷ []
+-- FileIdBothDirectoryInformation, class 37 (2.4.17)
+fields_of FileIdBothDirectory next c =
+    both_directory_fields next c
+    ++ num 94 2 0  -- Reserved2
+    ∷ num 96 8 c.entry.number  -- FileId
+    ∷ []
+-- FileIdFullDirectoryInformation, class 38 (2.4.18)
+fields_of FileIdFullDirectory next c =
+    full_directory_fields next c
+    ++ num 68 4 0  -- Reserved
+    ∷ num 72 8 c.entry.number  -- FileId
+    ∷ []
 
 -- what a class tells of an entry: its fields, and behind them the name as it is spelled
 abbrev pub directory_information_of : DirectoryInformationClass → ℕ → Candidate → Information
@@ -99,13 +90,9 @@ directory_information_of class next c = record { fields = fields_of class next c
 abbrev pub entry_length : DirectoryInformationClass → List ℕ → ℕ
 entry_length class name = directory_length class + 2 * length name
 
--- the next multiple of 8, or the number itself where it is one
-abbrev pub rounded_up : ℕ → ℕ
-rounded_up n = (n + 7) / 8 * 8
-
--- how far behind the beginning of an entry the next one begins, at a multiple of 8
+-- how far behind the beginning of an entry the next one begins: its length, rounded up to a multiple of 8
 abbrev pub distance : DirectoryInformationClass → List ℕ → ℕ
-distance class name = rounded_up (entry_length class name)
+distance class name = (entry_length class name + 7) / 8 * 8
 
 -- an entry that another one follows, with zeros up to that
 abbrev pub followed : DirectoryInformationClass → Candidate → List ℕ

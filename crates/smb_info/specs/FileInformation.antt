@@ -90,26 +90,6 @@ alignment_fields =
     num 0 4 0  -- AlignmentRequirement
     ∷ []
 
--- FileNetworkOpenInformation, class 34
-abbrev pub network_open_fields : Copied → List Field
-network_open_fields e =
-    num 0 8 e.basic.creation_time  -- CreationTime
-    ∷ num 8 8 e.basic.last_access_time  -- LastAccessTime
-    ∷ num 16 8 e.basic.last_write_time  -- LastWriteTime
-    ∷ num 24 8 e.basic.change_time  -- ChangeTime
-    ∷ num 32 8 (allocation_size e.size)  -- AllocationSize
-    ∷ num 40 8 e.size  -- EndOfFile
-    ∷ num 48 4 (attributes_of e)  -- FileAttributes
-    ∷ num 52 4 0  -- Reserved
-    ∷ []
-
--- FileAttributeTagInformation, class 35
-abbrev pub attribute_tag_fields : Copied → List Field
-attribute_tag_fields e =
-    num 0 4 (attributes_of e)  -- FileAttributes
-    ∷ num 4 4 0  -- ReparseTag
-    ∷ []
-
 -- fields that begin so many bytes further on
 abbrev pub further : ℕ → List Field → List Field
 further n [] = []
@@ -119,13 +99,6 @@ further n (raw place w text ∷ fields) = raw (n + place) w text ∷ further n f
 -- the name of an entry from the root of the share on: a separator, two bytes, and the components of its path
 abbrev pub full_name : Copied → List ℕ
 full_name e = 92 ∷ 0 ∷ e.name
-
--- the classes before it, one behind the other, and FileNameLength; the name follows
-abbrev pub all_fields : Copied → ℕ → List Field
-all_fields e access =
-    basic_fields e ++ (further 40 (standard_fields e) ++ (further 64 (internal_fields e) ++ (further 72 ea_fields
-    ++ (further 76 (access_fields access) ++ (further 80 position_fields ++ (further 88 mode_fields
-    ++ (further 92 alignment_fields ++ num 96 4 (length (full_name e)) ∷ [])))))))
 
 -- what a class tells of an entry through an open with this access
 abbrev pub file_information_of : FileInformationClass → Copied → ℕ → Information
@@ -137,9 +110,36 @@ file_information_of FileAccess e access = record { fields = access_fields access
 file_information_of FilePosition e access = record { fields = position_fields; name = [] }
 file_information_of FileMode e access = record { fields = mode_fields; name = [] }
 file_information_of FileAlignment e access = record { fields = alignment_fields; name = [] }
-file_information_of FileAll e access = record { fields = all_fields e access; name = full_name e }
-file_information_of FileNetworkOpen e access = record { fields = network_open_fields e; name = [] }
-file_information_of FileAttributeTag e access = record { fields = attribute_tag_fields e; name = [] }
+-- FileAllInformation, class 18: the classes before it, one behind the other, and FileNameLength; the name follows
+file_information_of FileAll e access = record {
+  fields =
+      basic_fields e ++ (further 40 (standard_fields e) ++ (further 64 (internal_fields e) ++ (further 72 ea_fields
+      ++ (further 76 (access_fields access) ++ (further 80 position_fields ++ (further 88 mode_fields
+      ++ (further 92 alignment_fields ++ num 96 4 (length (full_name e)) ∷ [])))))));
+  name = full_name e;
+}
+-- FileNetworkOpenInformation, class 34
+file_information_of FileNetworkOpen e access = record {
+  fields =
+      num 0 8 e.basic.creation_time  -- CreationTime
+      ∷ num 8 8 e.basic.last_access_time  -- LastAccessTime
+      ∷ num 16 8 e.basic.last_write_time  -- LastWriteTime
+      ∷ num 24 8 e.basic.change_time  -- ChangeTime
+      ∷ num 32 8 (allocation_size e.size)  -- AllocationSize
+      ∷ num 40 8 e.size  -- EndOfFile
+      ∷ num 48 4 (attributes_of e)  -- FileAttributes
+      ∷ num 52 4 0  -- Reserved
+      ∷ [];
+  name = [];
+}
+-- FileAttributeTagInformation, class 35
+file_information_of FileAttributeTag e access = record {
+  fields =
+      num 0 4 (attributes_of e)  -- FileAttributes
+      ∷ num 4 4 0  -- ReparseTag
+      ∷ [];
+  name = [];
+}
 
 -- what the class of a number tells, if there is one
 abbrev pub file_information : ℕ → Copied → ℕ → Option Information

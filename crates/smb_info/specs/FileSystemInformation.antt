@@ -2,7 +2,7 @@
 use Rattle.std.specs.Prelude.{ℕ, ◌-◌, ◌*◌, ◌/◌, List, [], ◌∷◌, length, Bool, nat_le, ◌==◌, ◌&&◌, if◌then◌else◌, Option, None, Some}
 use Rattle.std.specs.Option.{option_map}
 use Rattle.std.specs.List.{list_all}
-use Rattle.smb_wire.specs.Fields.{Field, num}
+use Rattle.smb_wire.specs.Fields.{num}
 use Rattle.smb_wire.specs.Pairs.{unit_bytes}
 use Rattle.smb_info.specs.Information.{Information}
 use Rattle.smb_info.specs.declared.file_system_class.FileSystemInformationClass.{FileSystemInformationClass}
@@ -36,61 +36,57 @@ total_units v = v.capacity / 4096
 abbrev pub available_units : VolumeFacts → ℕ
 available_units v = (v.capacity - v.used) / 4096
 
--- FileFsVolumeInformation, class 1; the label follows
-abbrev pub volume_fields : VolumeFacts → List Field
-volume_fields v =
-    num 0 8 v.created  -- VolumeCreationTime
-    ∷ num 8 4 1  -- VolumeSerialNumber
-    ∷ num 12 4 (2 * length v.label)  -- VolumeLabelLength
-    ∷ num 16 1 0  -- SupportsObjects
-    ∷ num 17 1 0  -- Reserved
-    ∷ []
-
--- FileFsSizeInformation, class 3
-abbrev pub size_fields : VolumeFacts → List Field
-size_fields v =
-    num 0 8 (total_units v)  -- TotalAllocationUnits
-    ∷ num 8 8 (available_units v)  -- AvailableAllocationUnits
-    ∷ num 16 4 8  -- SectorsPerAllocationUnit
-    ∷ num 20 4 512  -- BytesPerSector
-    ∷ []
-
--- FileFsDeviceInformation, class 4: a disk, which is mounted
-abbrev pub device_fields : List Field
-device_fields =
-    num 0 4 7  -- DeviceType
-    ∷ num 4 4 0x20  -- Characteristics
-    ∷ []
-
--- FileFsAttributeInformation, class 5: names keep their case 2 and are Unicode 4; the name follows
-abbrev pub attribute_fields : List Field
-attribute_fields =
-    num 0 4 6  -- FileSystemAttributes
-    ∷ num 4 4 255  -- MaximumComponentNameLength
-    ∷ num 8 4 10  -- FileSystemNameLength
-    ∷ []
-
--- FileFsFullSizeInformation, class 7
-abbrev pub full_size_fields : VolumeFacts → List Field
-full_size_fields v =
-    num 0 8 (total_units v)  -- TotalAllocationUnits
-    ∷ num 8 8 (available_units v)  -- CallerAvailableAllocationUnits
-    ∷ num 16 8 (available_units v)  -- ActualAvailableAllocationUnits
-    ∷ num 24 4 8  -- SectorsPerAllocationUnit
-    ∷ num 28 4 512  -- BytesPerSector
-    ∷ []
-
--- MEMFS
-abbrev pub file_system_name : List ℕ
-file_system_name = 77 ∷ 69 ∷ 77 ∷ 70 ∷ 83 ∷ []
-
--- what a class tells of a volume
+-- what a class tells of a volume (2.5): its fields, and the text behind them
 abbrev pub fs_information_of : FileSystemInformationClass → VolumeFacts → Information
-fs_information_of FileFsVolume v = record { fields = volume_fields v; name = unit_bytes v.label }
-fs_information_of FileFsSize v = record { fields = size_fields v; name = [] }
-fs_information_of FileFsDevice v = record { fields = device_fields; name = [] }
-fs_information_of FileFsAttribute v = record { fields = attribute_fields; name = unit_bytes file_system_name }
-fs_information_of FileFsFullSize v = record { fields = full_size_fields v; name = [] }
+-- FileFsVolumeInformation, class 1; the label follows
+fs_information_of FileFsVolume v = record {
+  fields =
+      num 0 8 v.created  -- VolumeCreationTime
+      ∷ num 8 4 1  -- VolumeSerialNumber
+      ∷ num 12 4 (2 * length v.label)  -- VolumeLabelLength
+      ∷ num 16 1 0  -- SupportsObjects
+      ∷ num 17 1 0  -- Reserved
+      ∷ [];
+  name = unit_bytes v.label;
+}
+-- FileFsSizeInformation, class 3
+fs_information_of FileFsSize v = record {
+  fields =
+      num 0 8 (total_units v)  -- TotalAllocationUnits
+      ∷ num 8 8 (available_units v)  -- AvailableAllocationUnits
+      ∷ num 16 4 8  -- SectorsPerAllocationUnit
+      ∷ num 20 4 512  -- BytesPerSector
+      ∷ [];
+  name = [];
+}
+-- FileFsDeviceInformation, class 4: a disk, which is mounted
+fs_information_of FileFsDevice v = record {
+  fields =
+      num 0 4 7  -- DeviceType
+      ∷ num 4 4 0x20  -- Characteristics
+      ∷ [];
+  name = [];
+}
+-- FileFsAttributeInformation, class 5: names keep their case 2 and are Unicode 4; the name MEMFS follows
+fs_information_of FileFsAttribute v = record {
+  fields =
+      num 0 4 6  -- FileSystemAttributes
+      ∷ num 4 4 255  -- MaximumComponentNameLength
+      ∷ num 8 4 10  -- FileSystemNameLength
+      ∷ [];
+  name = unit_bytes (77 ∷ 69 ∷ 77 ∷ 70 ∷ 83 ∷ []);
+}
+-- FileFsFullSizeInformation, class 7
+fs_information_of FileFsFullSize v = record {
+  fields =
+      num 0 8 (total_units v)  -- TotalAllocationUnits
+      ∷ num 8 8 (available_units v)  -- CallerAvailableAllocationUnits
+      ∷ num 16 8 (available_units v)  -- ActualAvailableAllocationUnits
+      ∷ num 24 4 8  -- SectorsPerAllocationUnit
+      ∷ num 28 4 512  -- BytesPerSector
+      ∷ [];
+  name = [];
+}
 
 -- what the class of a number tells, if there is one
 abbrev pub fs_information : ℕ → VolumeFacts → Option Information

@@ -16,3 +16,4 @@ pub mod OpenQueries
 pub mod ListingLaws
 pub mod Asks
 pub mod Rests
+pub mod Parts

@@ -3,7 +3,8 @@
 ghost use Rattle.std.specs.Prelude.{◌≡◌, ◌<◌, ◌≤◌, ◌^◌, ◌-◌, ◌++◌, ◌∷◌, [], length, take, IfNone, IfSome, OnOk, OnErr};
 ghost use Rattle.smb_wire.specs.Units.{units_of};
 ghost use Rattle.smb_info.specs.CandidateViews.{candidate};
-ghost use Rattle.smb_info.specs.DirectoryInformation.{entry_length, distance, rounded_up, followed, laid};
+ghost use Rattle.smb_info.specs.DirectoryInformation.{entry_length, distance, followed, laid};
+ghost use Rattle.smb_info.specs.Parts.{rounded_up};
 
 use super::candidate::CandidateView;
 use super::directory_class::DirectoryInformationClass;

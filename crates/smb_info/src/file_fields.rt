@@ -3,7 +3,8 @@
 ghost use Rattle.std.specs.Prelude.{◌≡◌, ◌<◌, ◌++◌, length, take, OnOk};
 ghost use Rattle.smb_wire.specs.Fields.{AllFit, appended};
 ghost use Rattle.smb_tree.specs.WholeNames.{copied};
-ghost use Rattle.smb_info.specs.FileInformation.{file_information_of, attributes_of, flag, basic_fields, standard_fields, network_open_fields, attribute_tag_fields, all_fields};
+ghost use Rattle.smb_info.specs.FileInformation.{file_information_of, attributes_of, flag, basic_fields, standard_fields};
+ghost use Rattle.smb_info.specs.Parts.{network_open_fields, attribute_tag_fields, all_fields};
 ghost use Rattle.smb_info.specs.Information.{whole};
 
 use super::file_class::FileInformationClass;

@@ -1,5 +1,5 @@
 use Rattle.smb_tree.specs.WholeNames.{copied}
-use Rattle.smb_info.specs.FileInformation.{all_fields}
+use Rattle.smb_info.specs.Parts.{all_fields}
 use Rattle.smb_info.proofs.InformationLemmas.{told_named}
 use Rattle.smb_info.proofs.file_fields.put_information.Goals as goal
 
