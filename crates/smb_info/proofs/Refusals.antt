@@ -14,8 +14,9 @@ use Rattle.smb_opens.specs.State.{StoreState}
 use Rattle.smb_info.specs.Candidates.{Candidate}
 use Rattle.smb_info.specs.DirectoryInformation.{directory_class, directory_length, entry_length, laid}
 use Rattle.smb_info.specs.Cursors.{matched}
-use Rattle.smb_info.specs.Listing.{Sought, matching, at_most_one, wanted, given, reached, is_too_long}
-use Rattle.smb_info.specs.Queries.{ListAsked, is_started_by, wants_one, pattern_by, scan_by, sought_by, unmatched_fault, first_fault, class_fault, fault_by, list_fault, listed_by, bytes_by, bytes_listed, scan_after}
+use Rattle.smb_info.specs.Listing.{Sought, matching, at_most_one, wanted, given, reached}
+use Rattle.smb_info.specs.Parts.{is_too_long, wants_one, unmatched_fault}
+use Rattle.smb_info.specs.Queries.{ListAsked, is_started_by, pattern_by, scan_by, sought_by, first_fault, class_fault, fault_by, list_fault, listed_by, bytes_by, bytes_listed, scan_after}
 use Rattle.smb_info.specs.OpenQueries.{open_list_fault, open_bytes_listed, open_scan_after, IsListRefusal}
 use Rattle.smb_info.specs.declared.fault.InfoFault.{InfoFault}
 use Rattle.smb_info.specs.declared.fault.InfoFault.TheVariants.{BadClass, BadPattern, TooSmall, NoMatch, NoMore, NoMemory}

@@ -1,5 +1,5 @@
 -- What is listed of a directory behind a place ([MS-FSA] 2.1.5.6.3).
-use Rattle.std.specs.Prelude.{ℕ, zero, suc, List, [], ◌∷◌, length, take, filter, Bool, true, false, nat_lt, nat_le, if◌then◌else◌}
+use Rattle.std.specs.Prelude.{ℕ, zero, suc, List, [], ◌∷◌, length, take, filter, Bool, true, false, nat_le, if◌then◌else◌}
 use Rattle.smb_tree.specs.Content.{Row}
 use Rattle.smb_patterns.specs.Patterns.{is_match}
 use Rattle.smb_info.specs.Candidates.{Candidate, candidates_behind}
@@ -35,19 +35,11 @@ fitting class room cs zero = []
 fitting class room cs (suc n) =
     if nat_le (length (laid class (take (suc n) cs))) room then take (suc n) cs else fitting class room cs n
 
--- the longest front of the candidates that is laid in the room
-abbrev pub longest_front : DirectoryInformationClass → ℕ → List Candidate → List Candidate
-longest_front class room cs = fitting class room cs (length cs)
-
--- the entries that are given
+-- the entries that are given: the longest front of what is wanted that is laid in the room
 abbrev pub given : List Row → DirectoryInformationClass → Sought → List Candidate
-given rows class sought = longest_front class sought.room (wanted rows sought)
+given rows class sought = fitting class sought.room (wanted rows sought) (length (wanted rows sought))
 
 -- how far a scan is that has given these; where it gave none, as far as it was
 abbrev pub reached : ScanLast → List Candidate → ScanLast
 reached last [] = last
 reached last (c ∷ cs) = reached c.behind cs
-
--- an entry does not fit whole, though it stands alone
-abbrev pub is_too_long : DirectoryInformationClass → ℕ → Candidate → Bool
-is_too_long class room c = nat_lt room (length (laid class (c ∷ [])))

@@ -11,7 +11,8 @@ use Rattle.smb_patterns.specs.Patterns.{Matches}
 use Rattle.smb_info.specs.Candidates.{Candidate, child}
 use Rattle.smb_info.specs.DirectoryInformation.{directory_class, laid}
 use Rattle.smb_info.specs.Listing.{matching}
-use Rattle.smb_info.specs.Queries.{ListAsked, restarts, wants_one, is_started_by, pattern_by, scan_by, entries_listed, scan_after}
+use Rattle.smb_info.specs.Queries.{ListAsked, is_started_by, pattern_by, scan_by, entries_listed, scan_after}
+use Rattle.smb_info.specs.Parts.{restarts, wants_one}
 use Rattle.smb_info.specs.declared.directory_class.DirectoryInformationClass.{DirectoryInformationClass}
 
 -- a candidate is the folder itself as `.`, the one around it as `..`, or a child of it as it is spelled

@@ -1,13 +1,24 @@
 -- For the proofs; nothing here need be believed.
 -- Tables and steps by names that the code and the proofs speak of.
-use Rattle.std.specs.Prelude.{ℕ, ◌*◌, List, [], ◌∷◌, length, ◌+◌, ◌++◌, ◌/◌}
-use Rattle.smb_wire.specs.Fields.{Field, num}
+use Rattle.std.specs.Prelude.{ℕ, ◌*◌, List, [], ◌∷◌, length, ◌+◌, ◌++◌, ◌/◌, ◌%◌, take, drop, Bool, not, nat_le, ◌==◌, ◌&&◌, ◌||◌, if◌then◌else◌, nat_lt}
+use Rattle.smb_wire.specs.Fields.{Field, num, number_in}
 use Rattle.smb_info.specs.FileSystemInformation.{VolumeFacts, available_units, total_units}
 use Rattle.smb_tree.specs.WholeNames.{Copied}
 use Rattle.smb_tree.specs.Entries.{allocation_size}
 use Rattle.smb_info.specs.FileInformation.{access_fields, alignment_fields, attributes_of, basic_fields, ea_fields, full_name, further, internal_fields, mode_fields, position_fields, standard_fields}
 use Rattle.smb_info.specs.Candidates.{Candidate}
-use Rattle.smb_info.specs.DirectoryInformation.{both_directory_fields, full_directory_fields}
+use Rattle.smb_info.specs.DirectoryInformation.{both_directory_fields, full_directory_fields, laid}
+use Rattle.smb_wire.specs.Pairs.{units_in}
+use Rattle.smb_entry.specs.declared.ask.BasicAsk.{BasicAsk}
+use Rattle.smb_info.specs.SetInformation.{name_length}
+use Rattle.smb_wire.specs.Access.{has_any}
+use Rattle.smb_wire.specs.QueryDirectoryFlags.{RESTART_SCANS, RETURN_SINGLE_ENTRY, REOPEN}
+use Rattle.smb_access.specs.declared.scan.Scan.{Scan}
+use Rattle.smb_info.specs.declared.fault.InfoFault.{InfoFault}
+use Rattle.smb_info.specs.declared.fault.InfoFault.TheVariants.{NoMatch, NoMore}
+use Rattle.smb_info.specs.Queries.{ListAsked, is_started_by, scan_by}
+use Rattle.smb_info.specs.declared.directory_class.DirectoryInformationClass.{DirectoryInformationClass}
+use Rattle.smb_info.specs.Listing.{fitting}
 
 -- FileFsVolumeInformation, class 1; the label follows
 abbrev pub volume_fields : VolumeFacts → List Field
@@ -111,3 +122,52 @@ id_full_directory_fields next c =
 -- the next multiple of 8, or the number itself where it is one
 abbrev pub rounded_up : ℕ → ℕ
 rounded_up n = (n + 7) / 8 * 8
+
+-- CreationTime, LastAccessTime, LastWriteTime, ChangeTime, FileAttributes; 4 bytes are reserved
+abbrev pub basic_of : List ℕ → BasicAsk
+basic_of bytes = record {
+  creation_time = number_in 8 0 bytes;
+  last_access_time = number_in 8 8 bytes;
+  last_write_time = number_in 8 16 bytes;
+  change_time = number_in 8 24 bytes;
+  attributes = record { 0 = number_in 4 32 bytes };
+}
+
+-- ReplaceIfExists and DeletePending: any number but 0 is yes
+abbrev pub is_yes : List ℕ → Bool
+is_yes bytes = not (number_in 1 0 bytes == 0)
+
+-- RootDirectory of a rename
+abbrev pub root_directory : List ℕ → ℕ
+root_directory = number_in 8 8
+
+-- a rename says a name: it counts from the share's root, has units, whole ones, and ends within the buffer
+abbrev pub is_rename : List ℕ → Bool
+is_rename bytes =
+    (root_directory bytes == 0) && not (name_length bytes == 0)
+    && nat_le (20 + name_length bytes) (length bytes) && (name_length bytes % 2 == 0)
+
+-- the name of a rename
+abbrev pub rename_of : List ℕ → List ℕ
+rename_of bytes = units_in (take (name_length bytes) (drop 20 bytes))
+
+-- the scan is to start anew (2.2.33)
+abbrev pub restarts : ListAsked → Bool
+restarts ask = has_any ask.flags RESTART_SCANS || has_any ask.flags REOPEN
+
+-- at most one entry is wanted (2.2.33)
+abbrev pub wants_one : ListAsked → Bool
+wants_one ask = has_any ask.flags RETURN_SINGLE_ENTRY
+
+-- why nothing is listed where no name is matched: NO_SUCH_FILE where the query starts the scan, which then stands; else
+-- NO_MORE_FILES
+abbrev pub unmatched_fault : Scan → ListAsked → InfoFault
+unmatched_fault scan ask = if is_started_by scan ask then NoMatch (scan_by scan ask) else NoMore
+
+-- the longest front of the candidates that is laid in the room
+abbrev pub longest_front : DirectoryInformationClass → ℕ → List Candidate → List Candidate
+longest_front class room cs = fitting class room cs (length cs)
+
+-- an entry does not fit whole, though it stands alone
+abbrev pub is_too_long : DirectoryInformationClass → ℕ → Candidate → Bool
+is_too_long class room c = nat_lt room (length (laid class (c ∷ [])))

@@ -8,7 +8,7 @@ use Rattle.smb_access.specs.declared.scan.Scan.{Scan}
 use Rattle.smb_access.specs.declared.scan.ScanLast.TheVariants.{Start}
 use Rattle.smb_info.specs.Candidates.{Candidate}
 use Rattle.smb_info.specs.DirectoryInformation.{directory_class, directory_length, laid}
-use Rattle.smb_info.specs.Listing.{Sought, wanted, given, reached, is_too_long}
+use Rattle.smb_info.specs.Listing.{Sought, wanted, given, reached}
 use Rattle.smb_info.specs.declared.fault.InfoFault.{InfoFault}
 use Rattle.smb_info.specs.declared.fault.InfoFault.TheVariants.{BadClass, BadPattern, TooSmall, NoMatch, NoMore}
 use Rattle.smb_info.specs.declared.directory_class.DirectoryInformationClass.{DirectoryInformationClass}
@@ -21,17 +21,10 @@ pub record ListAsked : Type 0 where
   pub pattern : List ℕ
   pub room : ℕ
 
--- the scan is to start anew (2.2.33)
-abbrev pub restarts : ListAsked → Bool
-restarts ask = has_any ask.flags RESTART_SCANS || has_any ask.flags REOPEN
-
--- at most one entry is wanted (2.2.33)
-abbrev pub wants_one : ListAsked → Bool
-wants_one ask = has_any ask.flags RETURN_SINGLE_ENTRY
-
--- the query starts the scan: none was started through this open, or it is to start anew
+-- the query starts the scan: it is to start anew (2.2.33), or none was started through this open
 abbrev pub is_started_by : Scan → ListAsked → Bool
-is_started_by scan ask = restarts ask || not (is_some scan.pattern)
+is_started_by scan ask =
+    has_any ask.flags RESTART_SCANS || has_any ask.flags REOPEN || not (is_some scan.pattern)
 
 -- the pattern by which the scan goes on: that of a query that starts it and has one, else that of the scan before, else `*`
 abbrev pub pattern_by : Scan → ListAsked → List ℕ
@@ -45,26 +38,22 @@ scan_by scan ask = record {
   last = if is_started_by scan ask then Start else scan.last;
 }
 
--- what it seeks in a directory
+-- what it seeks in a directory; RETURN_SINGLE_ENTRY asks for one entry at most (2.2.33)
 abbrev pub sought_by : ℕ → Scan → ListAsked → Sought
 sought_by folder scan ask = record {
   folder = folder;
   pattern = pattern_by scan ask;
   last = (scan_by scan ask).last;
-  single = wants_one ask;
+  single = has_any ask.flags RETURN_SINGLE_ENTRY;
   room = ask.room;
 }
 
--- why nothing is listed where no name is matched: NO_SUCH_FILE where the query starts the scan, which then stands; else
--- NO_MORE_FILES
-abbrev pub unmatched_fault : Scan → ListAsked → InfoFault
-unmatched_fault scan ask = if is_started_by scan ask then NoMatch (scan_by scan ask) else NoMore
-
 module _ (rows : List Row) (folder : ℕ) (scan : Scan) (ask : ListAsked) where
-  -- why nothing is listed of what is wanted: no name is matched, or the first entry does not fit whole
+  -- why nothing is listed of what is wanted: no name is matched, which is NO_SUCH_FILE where the query starts the scan,
+  -- and the scan is kept, and else NO_MORE_FILES; or the first entry does not fit whole, though it is the only one
   abbrev pub first_fault : DirectoryInformationClass → List Candidate → Option InfoFault
-  first_fault class [] = Some (unmatched_fault scan ask)
-  first_fault class (c ∷ cs) = if is_too_long class ask.room c then Some TooSmall else None
+  first_fault class [] = Some (if is_started_by scan ask then NoMatch (scan_by scan ask) else NoMore)
+  first_fault class (c ∷ cs) = if nat_lt ask.room (length (laid class (c ∷ []))) then Some TooSmall else None
 
   -- why nothing is listed by a class: the pattern has over 255 units, there is no room for the fixed part, or as above
   abbrev pub class_fault : DirectoryInformationClass → Option InfoFault

@@ -35,43 +35,24 @@ pub data SetAsked : Type 0 where
   asks_allocation : ℕ → SetAsked
   asks_end : ℕ → SetAsked
 
+-- FileNameLength of a rename, in bytes
+abbrev pub name_length : List ℕ → ℕ
+name_length = number_in 4 16
+
+-- what the buffer of a class asks
+abbrev pub asked_of : List ℕ → SetInformationClass → SetAsked
 -- CreationTime, LastAccessTime, LastWriteTime, ChangeTime, FileAttributes; 4 bytes are reserved
-abbrev pub basic_of : List ℕ → BasicAsk
-basic_of bytes = record {
+asked_of bytes FileBasic = asks_basic (record {
   creation_time = number_in 8 0 bytes;
   last_access_time = number_in 8 8 bytes;
   last_write_time = number_in 8 16 bytes;
   change_time = number_in 8 24 bytes;
   attributes = record { 0 = number_in 4 32 bytes };
-}
-
--- ReplaceIfExists and DeletePending: any number but 0 is yes
-abbrev pub is_yes : List ℕ → Bool
-is_yes bytes = not (number_in 1 0 bytes == 0)
-
--- RootDirectory of a rename
-abbrev pub root_directory : List ℕ → ℕ
-root_directory = number_in 8 8
-
--- FileNameLength of a rename, in bytes
-abbrev pub name_length : List ℕ → ℕ
-name_length = number_in 4 16
-
--- a rename says a name: it counts from the share's root, has units, whole ones, and ends within the buffer
-abbrev pub is_rename : List ℕ → Bool
-is_rename bytes =
-    (root_directory bytes == 0) && not (name_length bytes == 0)
-    && nat_le (20 + name_length bytes) (length bytes) && (name_length bytes % 2 == 0)
-
--- the name of a rename
-abbrev pub rename_of : List ℕ → List ℕ
-rename_of bytes = units_in (take (name_length bytes) (drop 20 bytes))
-
--- what the buffer of a class asks
-abbrev pub asked_of : List ℕ → SetInformationClass → SetAsked
-asked_of bytes FileBasic = asks_basic (basic_of bytes)
-asked_of bytes FileRename = asks_rename (is_yes bytes) (rename_of bytes)
-asked_of bytes FileDisposition = asks_mark (is_yes bytes)
+})
+-- ReplaceIfExists: any number but 0 is yes; FileName
+asked_of bytes FileRename = asks_rename (not (number_in 1 0 bytes == 0)) (units_in (take (name_length bytes) (drop 20 bytes)))
+-- DeletePending: any number but 0 is yes
+asked_of bytes FileDisposition = asks_mark (not (number_in 1 0 bytes == 0))
 asked_of bytes FileAllocation = asks_allocation (number_in 8 0 bytes)
 asked_of bytes FileEndOfFile = asks_end (number_in 8 0 bytes)
 
@@ -79,9 +60,12 @@ asked_of bytes FileEndOfFile = asks_end (number_in 8 0 bytes)
 abbrev pub set_of : ℕ → List ℕ → Option SetAsked
 set_of number bytes = option_map (asked_of bytes) (set_class number)
 
--- the buffer of a class says something, where it has the fixed part
+-- the buffer of a class says something, where it has the fixed part: a rename has to say a name, which counts from the
+-- share's root (RootDirectory is 0), has units, whole ones, and ends within the buffer
 abbrev pub is_readable : List ℕ → SetInformationClass → Bool
-is_readable bytes FileRename = is_rename bytes
+is_readable bytes FileRename =
+    (number_in 8 8 bytes == 0) && not (name_length bytes == 0)
+    && nat_le (20 + name_length bytes) (length bytes) && (name_length bytes % 2 == 0)
 is_readable bytes _ = true
 
 -- why nothing is asked: the number is of no class that can be set, the fixed part is not whole, or a rename says no name

@@ -4,7 +4,8 @@ ghost use Rattle.std.specs.Prelude.{◌≡◌, ◌∷◌, [], unwrap_or};
 ghost use Rattle.smb_wire.specs.Names.{folded};
 ghost use Rattle.smb_wire.specs.Units.{units_of};
 ghost use Rattle.smb_info.specs.Asks.{list_asked};
-ghost use Rattle.smb_info.specs.Queries.{is_started_by, wants_one, pattern_by, scan_by, unmatched_fault};
+ghost use Rattle.smb_info.specs.Queries.{is_started_by, pattern_by, scan_by};
+ghost use Rattle.smb_info.specs.Parts.{wants_one, unmatched_fault};
 
 use super::fault::InfoFault;
 use super::scan::ListAsk;

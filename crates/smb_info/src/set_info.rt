@@ -1,7 +1,8 @@
 //! What a SET_INFO asks ([MS-FSCC] 2.4).
 
 ghost use Rattle.std.specs.Prelude.{◌≡◌, ◌≤◌, None, Some, IfOk, IfErr, IfSome, OnOk, is_some, length};
-ghost use Rattle.smb_info.specs.SetInformation.{set_class, set_length, set_of, set_fault, basic_of, rename_of, is_rename};
+ghost use Rattle.smb_info.specs.SetInformation.{set_class, set_length, set_of, set_fault};
+ghost use Rattle.smb_info.specs.Parts.{basic_of, rename_of, is_rename};
 ghost use Rattle.smb_wire.specs.Units.{units_of};
 ghost use Rattle.smb_info.specs.SetAsks.{set_asked};
 

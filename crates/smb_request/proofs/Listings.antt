@@ -13,7 +13,8 @@ use Rattle.smb_opens.specs.Views.{open_view}
 use Rattle.smb_info.specs.Queries.{ListAsked, is_started_by, scan_by, sought_by, first_fault, fault_by, list_fault, bytes_by, bytes_listed}
 use Rattle.smb_info.specs.Candidates.{Candidate}
 use Rattle.smb_info.specs.DirectoryInformation.{directory_class, directory_length, laid}
-use Rattle.smb_info.specs.Listing.{fitting, wanted, is_too_long}
+use Rattle.smb_info.specs.Listing.{fitting, wanted}
+use Rattle.smb_info.specs.Parts.{is_too_long}
 use Rattle.smb_info.specs.declared.directory_class.DirectoryInformationClass.{DirectoryInformationClass}
 use Rattle.smb_tree.specs.Content.{Row}
 use Rattle.smb_opens.specs.State.{StoreState}
