@@ -1,5 +1,7 @@
 -- What queries of a directory list, in a user's words.
-use Rattle.std.specs.Prelude.{◌≡◌, ℕ, ◌≤◌, true, false, is_some, ◌⊎◌, List, [], ◌∷◌, ◌++◌, length, map, take, All, Some}
+use Rattle.std.specs.Prelude.{◌≡◌, ℕ, ◌≤◌, true, false, is_some, ◌⊎◌, ◌||◌, List, [], ◌∷◌, ◌++◌, length, map, take, All, Some}
+use Rattle.smb_wire.specs.Access.{has_any}
+use Rattle.smb_wire.specs.QueryDirectoryFlags.{RESTART_SCANS, REOPEN, RETURN_SINGLE_ENTRY}
 use Rattle.smb_tree.specs.Content.{Row, Content, numbered, entry_at}
 use Rattle.smb_tree.specs.Good.{GoodContent}
 use Rattle.smb_tree.specs.Children.{name_of, is_child}
@@ -12,7 +14,6 @@ use Rattle.smb_info.specs.Candidates.{Candidate, child}
 use Rattle.smb_info.specs.DirectoryInformation.{directory_class, laid}
 use Rattle.smb_info.specs.Listing.{matching}
 use Rattle.smb_info.specs.Queries.{ListAsked, is_started_by, pattern_by, scan_by, entries_listed, scan_after}
-use Rattle.smb_info.specs.Parts.{restarts, wants_one}
 use Rattle.smb_info.specs.declared.directory_class.DirectoryInformationClass.{DirectoryInformationClass}
 
 -- a candidate is the folder itself as `.`, the one around it as `..`, or a child of it as it is spelled
@@ -29,7 +30,7 @@ abbrev pub AFolderIsListedInFull : Type 0
 AFolderIsListedInFull =
     (content : Content) (number : ℕ) (folder : Row) (scan : Scan) (ask : ListAsked) (class : DirectoryInformationClass) →
     GoodContent content → numbered content.rows number ≡ Some folder → directory_class ask.class ≡ Some class →
-    is_started_by scan ask ≡ true → pattern_by scan ask ≡ 42 ∷ [] → wants_one ask ≡ false →
+    is_started_by scan ask ≡ true → pattern_by scan ask ≡ 42 ∷ [] → has_any ask.flags RETURN_SINGLE_ENTRY ≡ false →
     length (laid class (matching content.rows number (42 ∷ []) Start)) ≤ ask.room →
     (listed : List Row) ×
     (map (λ c. c.name) (entries_listed content.rows number scan ask) ≡ (46 ∷ []) ∷ (46 ∷ 46 ∷ []) ∷ map (λ row. row.1.spelling) listed) ×
@@ -51,7 +52,7 @@ NothingIsLeftOut =
 abbrev pub TheNextQueryGoesOn : Type 0
 TheNextQueryGoesOn =
     (content : Content) (number : ℕ) (scan : Scan) (ask next : ListAsked) →
-    GoodContent content → is_some (numbered content.rows number) ≡ true → restarts next ≡ false →
+    GoodContent content → is_some (numbered content.rows number) ≡ true → has_any next.flags RESTART_SCANS || has_any next.flags REOPEN ≡ false →
     (n : ℕ) ×
     (entries_listed content.rows number scan ask
     ++ entries_listed content.rows number (scan_after content.rows number scan ask) next
