@@ -10,7 +10,7 @@ use Rattle.smb_tree.specs.Faults.{add_fault}
 use Rattle.smb_tree.proofs.Apart.{apart_changed, apart_added, numbered-push, numbered-changed, numbered-fresh}
 use Rattle.smb_tree.proofs.Spaces.{space_changed, space_more}
 use Rattle.smb_tree.specs.Good.{GoodContent}
-use Rattle.smb_access.specs.Present.{ArePresent}
+use Rattle.smb_access.specs.Parts.{ArePresent}
 use Rattle.smb_access.specs.declared.open_row.OpenRow.{OpenRow}
 use Rattle.smb_access.proofs.Rows.{all_push, all_more}
 

@@ -6,8 +6,9 @@ use Rattle.smb_tree.specs.Content.{Path, Row, Content, numbered, removed}
 use Rattle.smb_tree.proofs.Apart.{number-from_numbered}
 use Rattle.smb_tree.specs.Children.{is_child, has_children, first_by_name, next_child, child_after}
 use Rattle.smb_access.specs.declared.open_row.OpenRow.{OpenRow}
-use Rattle.smb_access.specs.Close.{can_be_deleted, is_deletable, has_mark, tree_cleared, is_due}
-use Rattle.smb_access.specs.Opens.{has_open, is_on_entry, number_of, open_on_entry}
+use Rattle.smb_access.specs.Close.{is_deletable, has_mark}
+use Rattle.smb_access.specs.Parts.{can_be_deleted, tree_cleared, is_due, is_on_entry}
+use Rattle.smb_access.specs.Opens.{has_open, number_of, open_on_entry}
 use Rattle.smb_access.proofs.Removed.{leaf}
 
 -- an entry that can be deleted stands

@@ -5,7 +5,8 @@ use Rattle.std.specs.Int.Bits.{and_zero_r}
 use lib.Arith.{bin_ind}
 use lib.Bits.{and_step, or_step}
 use Rattle.smb_wire.specs.Access.{has_any, GENERIC_ALL, GENERIC_EXECUTE, GENERIC_WRITE, GENERIC_READ, MAXIMUM_ALLOWED, FILE_ALL_ACCESS, FILE_GENERIC_EXECUTE, FILE_GENERIC_WRITE, FILE_GENERIC_READ, FILE_SHARE_ALL}
-use Rattle.smb_access.specs.Access.{most_allowed, rights_for, granted}
+use Rattle.smb_access.specs.Access.{most_allowed, granted}
+use Rattle.smb_access.specs.Parts.{rights_for}
 use Rattle.smb_access.specs.Asked.{FileAsked, share_asked}
 
 -- of two masks joined the bits within another one are those of each

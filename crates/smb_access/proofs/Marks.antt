@@ -7,8 +7,8 @@ use Rattle.smb_tree.specs.Children.{is_child, has_children}
 use Rattle.smb_tree.specs.Laws.{AreApart}
 use Rattle.smb_tree.proofs.Keys.{same_path-eq}
 use Rattle.smb_tree.proofs.Apart.{numbered-changed, numbered-push, at-from_numbered}
-use Rattle.smb_access.specs.Close.{can_be_deleted, is_deletable, has_mark}
-use Rattle.smb_access.specs.Found.{is_marked}
+use Rattle.smb_access.specs.Close.{is_deletable, has_mark}
+use Rattle.smb_access.specs.Parts.{can_be_deleted, is_marked}
 use Rattle.smb_access.specs.Opens.{has_open}
 use Rattle.smb_access.specs.declared.open_row.OpenRow.{OpenRow}
 use Rattle.smb_access.proofs.Removed.{leaf}

@@ -7,7 +7,8 @@ use Rattle.smb_wire.specs.Access.{has_any, FILE_WRITE_DATA, FILE_APPEND_DATA, FI
 use Rattle.smb_wire.specs.declared.access.Access.{Access}
 use Rattle.smb_wire.specs.declared.access.ShareAccess.{ShareAccess}
 use Rattle.smb_access.specs.Access.{is_reading, is_writing, is_deleting}
-use Rattle.smb_access.specs.Sharing.{Use, is_shared_access, is_kept_out, is_conflict}
+use Rattle.smb_access.specs.Sharing.{is_shared_access, is_kept_out, is_conflict}
+use Rattle.smb_access.specs.Parts.{Use}
 
 -- of a mask that has all bits of another no fewer are set
 any_more : (less more mask : ℕ) → bit_and less more ≡ less → has_any less mask ≡ true → has_any more mask ≡ true

@@ -13,7 +13,8 @@ use Rattle.smb_tree.proofs.Apart.{numbered-changed}
 use Rattle.smb_access.specs.declared.found.Target.{Target}
 use Rattle.smb_wire.specs.Dispositions.{overwrites_by}
 use Rattle.smb_access.specs.Asked.{FileAsked}
-use Rattle.smb_access.specs.Effect.{overwritten, overwritten_basic, overwritten_tree, standing_tree}
+use Rattle.smb_access.specs.Effect.{overwritten}
+use Rattle.smb_access.specs.Parts.{overwritten_basic, overwritten_tree, standing_tree}
 use Rattle.smb_access.specs.Looked.{target_of}
 use Rattle.smb_tree.specs.Good.{GoodContent}
 use Rattle.smb_access.proofs.Changes.{Shrinks, space_within_changed}

@@ -11,7 +11,8 @@ use Rattle.smb_tree.specs.Laws.{AreApart, AreBelow}
 use Rattle.smb_tree.proofs.Keys.{same_path-eq, same_path-sym}
 use Rattle.smb_tree.proofs.Apart.{at-from_numbered}
 use Rattle.smb_tree.proofs.Removals.{at-without, apart_removed, space_without}
-use Rattle.smb_access.specs.Close.{can_be_deleted, is_deletable, has_mark}
+use Rattle.smb_access.specs.Close.{is_deletable, has_mark}
+use Rattle.smb_access.specs.Parts.{can_be_deleted}
 use Rattle.smb_tree.specs.Good.{GoodContent}
 
 pub all_removed : (P : Row → Type 0) (rows : List Row) (n : ℕ) → AllByRecursion P rows → AllByRecursion P (without rows n)

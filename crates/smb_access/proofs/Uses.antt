@@ -7,8 +7,8 @@ use Rattle.smb_wire.specs.Access.{has_any, FILE_SHARE_READ, FILE_SHARE_WRITE, FI
 use Rattle.smb_access.specs.declared.open_row.OpenRow.{OpenRow}
 use Rattle.smb_access.specs.declared.use_kind.SharingUse.TheVariants.{Reads, Writes, Deletes, SharesNoRead, SharesNoWrite, SharesNoDelete}
 use Rattle.smb_access.specs.Access.{is_reading, is_writing, is_deleting}
-use Rattle.smb_access.specs.Opens.{is_on_entry}
-use Rattle.smb_access.specs.Sharing.{is_shared_access, is_kept_out, has_use, has_conflict}
+use Rattle.smb_access.specs.Parts.{is_on_entry, has_conflict}
+use Rattle.smb_access.specs.Sharing.{is_shared_access, is_kept_out, has_use}
 use Rattle.smb_access.specs.Uses.{is_kept_out_by_some, keeps_out_some}
 
 -- two tests that give the same find the same

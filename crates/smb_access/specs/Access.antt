@@ -1,7 +1,7 @@
 -- Access that is asked for, and access that is granted ([MS-SMB2] 2.2.13.1, 3.3.5.9).
 use Rattle.std.specs.Prelude.{ℕ, Bool, not, ◌==◌, ◌||◌, if◌then◌else◌, bit_and, bit_or}
 use Rattle.smb_wire.specs.declared.access.Access.{Access}
-use Rattle.smb_wire.specs.Access.{has_any, FILE_READ_DATA, FILE_EXECUTE, DELETE, FILE_WRITE_DATA, FILE_APPEND_DATA, FILE_WRITE_ATTRIBUTES, MAXIMUM_ALLOWED, GENERIC_ALL, GENERIC_EXECUTE, GENERIC_WRITE, GENERIC_READ, FILE_ALL_ACCESS, FILE_GENERIC_EXECUTE, FILE_GENERIC_WRITE, FILE_GENERIC_READ}
+use Rattle.smb_wire.specs.Access.{has_any, FILE_READ_DATA, FILE_EXECUTE, DELETE, FILE_WRITE_DATA, FILE_APPEND_DATA, MAXIMUM_ALLOWED, GENERIC_ALL, GENERIC_EXECUTE, GENERIC_WRITE, GENERIC_READ, FILE_ALL_ACCESS, FILE_GENERIC_EXECUTE, FILE_GENERIC_WRITE, FILE_GENERIC_READ}
 
 -- a file's bytes may be read: FILE_READ_DATA or FILE_EXECUTE
 abbrev pub is_reading : Access → Bool
@@ -15,14 +15,6 @@ is_deleting access = has_any access.0 DELETE
 abbrev pub is_writing : Access → Bool
 is_writing access = has_any access.0 FILE_WRITE_DATA || has_any access.0 FILE_APPEND_DATA
 
--- an entry's times and attributes may be set
-abbrev pub is_writing_attributes : Access → Bool
-is_writing_attributes access = has_any access.0 FILE_WRITE_ATTRIBUTES
-
--- every right but FILE_WRITE_DATA and FILE_APPEND_DATA
-abbrev pub read_only_access : ℕ
-read_only_access = 0x1F01F9
-
 -- the rights that a session can be granted that may only read: FILE_GENERIC_READ and FILE_GENERIC_EXECUTE together
 abbrev pub reader_access : ℕ
 reader_access = 0x1200A9
@@ -31,23 +23,11 @@ reader_access = 0x1200A9
 abbrev pub is_past_reading : Access → Bool
 is_past_reading access = not (bit_and access.0 reader_access == access.0)
 
--- all that MAXIMUM_ALLOWED stands for: what a session can have that may only read; else what the entry allows, which
--- is a read-only file or another entry
+-- all that MAXIMUM_ALLOWED stands for: what a session can have that may only read; else what the entry allows: a
+-- read-only file every right but FILE_WRITE_DATA and FILE_APPEND_DATA, another entry every right
 abbrev pub most_allowed : Bool → Bool → ℕ
 most_allowed read_only on_read_only =
-    if read_only then reader_access else if on_read_only then read_only_access else FILE_ALL_ACCESS
-
--- the rights, MAXIMUM_ALLOWED and the four generic bits
-abbrev pub known_access : ℕ
-known_access = 0xF21F01FF
-
--- nothing is asked for, or a bit that is not known
-abbrev pub is_bad_access : ℕ → Bool
-is_bad_access access = access == 0 || not (bit_and access known_access == access)
-
--- the rights that a bit stands for, where it is set
-abbrev pub rights_for : ℕ → ℕ → ℕ → ℕ
-rights_for access bit rights = if has_any access bit then rights else 0
+    if read_only then reader_access else if on_read_only then 0x1F01F9 else FILE_ALL_ACCESS
 
 -- the access that is granted to a session that may only read or to another one, on a read-only file or on another
 -- entry: the rights asked for, those that the generic bits stand for, and with MAXIMUM_ALLOWED all that is allowed; these
@@ -56,9 +36,9 @@ abbrev pub granted : ℕ → Bool → Bool → Access
 granted access read_only on_read_only = record {
   0 =
       bit_or (bit_and access FILE_ALL_ACCESS)
-      (bit_or (rights_for access GENERIC_ALL FILE_ALL_ACCESS)
-      (bit_or (rights_for access GENERIC_EXECUTE FILE_GENERIC_EXECUTE)
-      (bit_or (rights_for access GENERIC_WRITE FILE_GENERIC_WRITE)
-      (bit_or (rights_for access GENERIC_READ FILE_GENERIC_READ)
-      (rights_for access MAXIMUM_ALLOWED (most_allowed read_only on_read_only))))));
+      (bit_or (if has_any access GENERIC_ALL then FILE_ALL_ACCESS else 0)
+      (bit_or (if has_any access GENERIC_EXECUTE then FILE_GENERIC_EXECUTE else 0)
+      (bit_or (if has_any access GENERIC_WRITE then FILE_GENERIC_WRITE else 0)
+      (bit_or (if has_any access GENERIC_READ then FILE_GENERIC_READ else 0)
+      (if has_any access MAXIMUM_ALLOWED then most_allowed read_only on_read_only else 0)))));
 }

@@ -1,13 +1,10 @@
 -- What a CREATE request asks ([MS-SMB2] 2.2.13).
-use Rattle.std.specs.Prelude.{ℕ, Bool, List, ◌||◌, ◌&&◌, if◌then◌else◌, bit_and, bit_or}
+use Rattle.std.specs.Prelude.{ℕ, Bool, List, if◌then◌else◌, bit_and, bit_or}
 use Rattle.smb_wire.specs.Units.{units_of}
 use Rattle.smb_wire.specs.Access.{has_any, FILE_SHARE_ALL}
-use Rattle.smb_wire.specs.declared.access.Access.{Access}
-use Rattle.smb_wire.specs.Dispositions.{overwrites_by, must_be_new_by}
-use Rattle.smb_access.specs.Access.{is_past_reading}
 use Rattle.smb_wire.specs.declared.access.ShareAccess.{ShareAccess}
-use Rattle.smb_wire.specs.CreateOptions.{FILE_DIRECTORY_FILE, FILE_NON_DIRECTORY_FILE, FILE_DELETE_ON_CLOSE, FILE_OPEN_BY_FILE_ID}
-use Rattle.smb_wire.specs.Attributes.{FILE_ATTRIBUTE_READONLY, FILE_ATTRIBUTE_ARCHIVE}
+use Rattle.smb_wire.specs.CreateOptions.{FILE_DIRECTORY_FILE}
+use Rattle.smb_wire.specs.Attributes.{FILE_ATTRIBUTE_ARCHIVE}
 use Rattle.smb_tree.specs.declared.entry.Kind.{Kind}
 use Rattle.smb_tree.specs.declared.entry.Kind.TheVariants.{File, Folder}
 use Rattle.smb_access.specs.declared.ask.CreateAsk.{CreateAsk}
@@ -42,34 +39,9 @@ asked ask = record {
 abbrev pub share_asked : FileAsked → ShareAccess
 share_asked ask = record { 0 = bit_and ask.share FILE_SHARE_ALL }
 
--- a folder is asked for
-abbrev pub asks_folder : FileAsked → Bool
-asks_folder ask = has_any ask.options FILE_DIRECTORY_FILE
-
--- a file is asked for
-abbrev pub asks_file : FileAsked → Bool
-asks_file ask = has_any ask.options FILE_NON_DIRECTORY_FILE
-
--- the entry is asked for by its number
-abbrev pub asks_by_number : FileAsked → Bool
-asks_by_number ask = has_any ask.options FILE_OPEN_BY_FILE_ID
-
--- the entry is to be deleted when the open is closed
-abbrev pub asks_delete : FileAsked → Bool
-asks_delete ask = has_any ask.options FILE_DELETE_ON_CLOSE
-
--- FILE_ATTRIBUTE_READONLY is given
-abbrev pub asks_read_only : FileAsked → Bool
-asks_read_only ask = has_any ask.attributes FILE_ATTRIBUTE_READONLY
-
--- a session that may only read asks for more: for a right to change something, or to create or overwrite an entry
-abbrev pub asks_past_reading : FileAsked → Access → Bool
-asks_past_reading ask access =
-    ask.read_only && (is_past_reading access || must_be_new_by ask.disposition || overwrites_by ask.disposition)
-
--- what an entry becomes that is added
+-- what an entry becomes that is added: a folder where FILE_DIRECTORY_FILE is set
 abbrev pub kind_asked : FileAsked → Kind
-kind_asked ask = if asks_folder ask then Folder else File
+kind_asked ask = if has_any ask.options FILE_DIRECTORY_FILE then Folder else File
 
 -- the attributes of a new file or folder; a file gets FILE_ATTRIBUTE_ARCHIVE besides those that are given
 abbrev pub attributes_asked : Kind → FileAsked → ℕ

@@ -1,7 +1,6 @@
 pub mod Numbers
 pub mod Scans
 pub mod Opens
-pub mod Present
 pub mod Plain
 pub mod Access
 pub mod Asked
@@ -14,3 +13,4 @@ pub mod Views
 pub mod Effect
 pub mod Close
 pub mod Faults
+pub mod Parts

@@ -16,10 +16,11 @@ use Rattle.smb_access.specs.declared.fault.StoreFault.{StoreFault}
 use Rattle.smb_access.specs.declared.fault.StoreFault.TheVariants.{Status, NoMemory as NoRoom}
 use Rattle.smb_access.specs.declared.found.Target.{Target}
 use Rattle.smb_access.specs.declared.found.CreateLookup.{CreateLookup}
-use Rattle.smb_access.specs.Access.{is_bad_access, granted, is_writing, is_deleting}
-use Rattle.smb_access.specs.Asked.{FileAsked, asks_folder, asks_file, asks_by_number, asks_delete, asks_read_only, asks_past_reading}
+use Rattle.smb_access.specs.Access.{granted, is_writing, is_deleting}
+use Rattle.smb_access.specs.Parts.{is_bad_access, asks_folder, asks_file, asks_by_number, asks_delete, asks_read_only, asks_past_reading, has_conflict}
+use Rattle.smb_access.specs.Asked.{FileAsked}
 use Rattle.smb_access.specs.StatusRows.{StatusRow}
-use Rattle.smb_access.specs.Sharing.{use_asked, has_conflict}
+use Rattle.smb_access.specs.Sharing.{use_asked}
 
 -- of an entry, what decides
 abbrev pub target_of : Entry → Target

@@ -6,7 +6,3 @@ use Rattle.std.specs.List.{AllByRecursion}
 abbrev pub AreRising : List ℕ → Type 0
 AreRising [] = Unit {0}
 AreRising (number ∷ numbers) = AllByRecursion (λ later. number < later) numbers × AreRising numbers
-
--- each is below this one
-abbrev pub AreNumbersBelow : ℕ → List ℕ → Type 0
-AreNumbersBelow limit = AllByRecursion (λ number. number < limit)

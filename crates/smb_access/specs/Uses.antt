@@ -5,7 +5,7 @@ use Rattle.std.specs.List.{list_any}
 use Rattle.smb_wire.specs.declared.access.Access.{Access}
 use Rattle.smb_wire.specs.declared.access.ShareAccess.{ShareAccess}
 use Rattle.smb_access.specs.declared.open_row.OpenRow.{OpenRow}
-use Rattle.smb_access.specs.Opens.{is_on_entry}
+use Rattle.smb_access.specs.Parts.{is_on_entry}
 use Rattle.smb_access.specs.Sharing.{is_shared_access, is_kept_out}
 
 -- some open of an entry does not share something that an access has

@@ -1,11 +1,8 @@
 -- What is shown of an entry that is open ([MS-FSCC] 2.4.2, 2.4.27).
-use Rattle.std.specs.Prelude.{ℕ, List, length, Option, None, Some}
-use Rattle.std.specs.Option.{option_map}
+use Rattle.std.specs.Prelude.{length}
 use Rattle.smb_wire.specs.declared.access.Access.{Access}
 use Rattle.smb_tree.specs.Entries.{Entry, allocation_size, shown_attributes}
-use Rattle.smb_tree.specs.Content.{Row, numbered}
 use Rattle.smb_tree.specs.Views.{Shown}
-use Rattle.smb_access.specs.declared.open_row.OpenRow.{OpenRow}
 use Rattle.smb_access.specs.declared.view.View.{View}
 
 -- an entry through an open with this access
@@ -23,15 +20,6 @@ view_of access entry = record {
   mark = entry.mark;
   access = access;
 }
-
--- the entry of a number, through an open with this access
-abbrev pub view_at : List Row → ℕ → Access → Option View
-view_at rows number access = option_map (λ row. view_of access row.1) (numbered rows number)
-
--- what an open shows
-abbrev pub view_through : List Row → Option OpenRow → Option View
-view_through rows None = None
-view_through rows (Some row) = view_at rows row.entry row.access
 
 -- the same of what a tree shows of an entry
 abbrev pub view_shown : Access → Shown → View

@@ -1,7 +1,8 @@
 //! Access that is asked for and access that is granted.
 
 ghost use Rattle.std.specs.Prelude.{◌≡◌};
-ghost use Rattle.smb_access.specs.Access.{is_bad_access, rights_for, granted, is_reading, is_writing, is_deleting, is_writing_attributes, is_past_reading, most_allowed};
+ghost use Rattle.smb_access.specs.Access.{granted, is_reading, is_writing, is_deleting, is_past_reading, most_allowed};
+ghost use Rattle.smb_access.specs.Parts.{is_bad_access, rights_for, is_writing_attributes};
 
 use bitflags::Flags;
 use smb_wire::Access;

@@ -4,9 +4,10 @@ ghost use Rattle.std.specs.Prelude.{◌||◌, ◌&&◌, not, ◌≡◌, ◌≢�
 ghost use Rattle.smb_wire.specs.Paths.{is_separator, path_fault, path_spelled};
 ghost use Rattle.smb_wire.specs.PathViews.{parts_of};
 ghost use Rattle.smb_wire.specs.Units.{units_of};
-ghost use Rattle.smb_access.specs.Asked.{asked, asks_folder, asks_file, asks_by_number, asks_delete, asks_read_only, asks_past_reading};
+ghost use Rattle.smb_access.specs.Asked.{asked};
+ghost use Rattle.smb_access.specs.Parts.{asks_folder, asks_file, asks_by_number, asks_delete, asks_read_only, asks_past_reading, is_bad_access};
 ghost use Rattle.smb_wire.specs.Dispositions.{disposition_code};
-ghost use Rattle.smb_access.specs.Access.{is_bad_access, is_deleting, granted};
+ghost use Rattle.smb_access.specs.Access.{is_deleting, granted};
 ghost use Rattle.smb_access.specs.StatusRows.{StatusRow, first_status};
 ghost use Rattle.smb_access.specs.Looked.{asked_rows, place_rows, kind_rows, room_rows, is_file_target, is_folder_target, is_read_only_target, is_marked_target, is_root_target, target_becomes_read_only};
 

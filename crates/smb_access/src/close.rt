@@ -2,7 +2,8 @@
 
 ghost use Rattle.std.specs.Prelude.{◌≡◌, true, is_some};
 ghost use Rattle.smb_tree.specs.Content.{numbered};
-ghost use Rattle.smb_access.specs.Close.{is_deletable, has_mark, tree_marked, tree_cleared, is_due};
+ghost use Rattle.smb_access.specs.Close.{is_deletable, has_mark};
+ghost use Rattle.smb_access.specs.Parts.{tree_marked, tree_cleared, is_due};
 
 use super::found::ROOT;
 use super::open_row::OpenRow;

@@ -6,7 +6,7 @@ ghost use Rattle.smb_tree.specs.Content.{numbered};
 ghost use Rattle.smb_tree.specs.Entries.{is_folder_kind, kept_basic};
 ghost use Rattle.smb_wire.specs.Dispositions.{disposition_code, overwrites_by};
 ghost use Rattle.smb_access.specs.Asked.{asked, kind_asked, attributes_asked};
-ghost use Rattle.smb_access.specs.Effect.{overwritten_basic, standing_tree, action_on, opened_by};
+ghost use Rattle.smb_access.specs.Parts.{overwritten_basic, standing_tree, action_on, opened_by};
 ghost use Rattle.smb_access.specs.Looked.{target_of};
 ghost use Rattle.smb_tree.specs.Good.{GoodContent};
 ghost use Rattle.smb_access.specs.declared.fault.StoreFault.TheVariants.{NoMemory};

@@ -12,8 +12,8 @@
 //! - CREATE: what is asked is a [`CreateAsk`] (`specs/Asked.antt`). [`look`] looks up the entry and the folder around it
 //!   (`specs/Found.antt`), [`checks`] goes through the rows of the table, [`access`] says which access is granted
 //!   (`specs/Access.antt`), [`sharing`] which two opens of an entry conflict (`specs/Sharing.antt`), and [`effect`] overwrites an
-//!   entry and makes the open (`specs/Effect.antt`).
-//! - CLOSE: [`close`] marks an entry, and removes one that is marked and has no open (`specs/Close.antt`).
+//!   entry and makes the open (`specs/Effect.antt`, `specs/Parts.antt`).
+//! - CLOSE: [`close`] marks an entry, and removes one that is marked and has no open (`specs/Close.antt`, `specs/Parts.antt`).
 //!
 //! Calls take time as the tree and the opens say: [`sharing::conflicts`] asks the opens at most six questions ([`Opens::has_use`]),
 //! and [`look::count_entries`] goes through all numbers of entries.

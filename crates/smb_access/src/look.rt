@@ -10,7 +10,8 @@ ghost use Rattle.smb_tree.specs.Views.{shown};
 ghost use Rattle.smb_access.specs.Found.{is_reached};
 ghost use Rattle.smb_access.specs.Looked.{target_of, is_folder_target};
 ghost use Rattle.smb_tree.specs.Good.{GoodContent};
-ghost use Rattle.smb_access.specs.Views.{view_shown, view_at};
+ghost use Rattle.smb_access.specs.Views.{view_shown};
+ghost use Rattle.smb_access.specs.Parts.{view_at};
 
 use super::found::Target;
 use super::view::View;

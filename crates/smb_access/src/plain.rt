@@ -2,7 +2,8 @@
 
 ghost use Rattle.std.specs.Prelude.{ℕ, ◌≡◌, ◌&&◌, nat_lt, [], Some, option_copied, slice_get, drop, filter};
 ghost use Rattle.indexmap.specs.IndexMap.{values};
-ghost use Rattle.smb_access.specs.Opens.{is_on_entry, is_above, open_on_entry_after, open_after};
+ghost use Rattle.smb_access.specs.Opens.{is_above, open_on_entry_after, open_after};
+ghost use Rattle.smb_access.specs.Parts.{is_on_entry};
 ghost use Rattle.smb_access.specs.Plain.{AreKeyed};
 ghost use Rattle.smb_access.specs.Sharing.{uses};
 

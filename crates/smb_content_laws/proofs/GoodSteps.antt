@@ -24,24 +24,24 @@ use Rattle.smb_access.specs.declared.open_row.OpenRow.{OpenRow}
 use Rattle.smb_access.specs.declared.view.View.{View}
 use Rattle.smb_access.specs.Access.{granted}
 use Rattle.smb_access.specs.Asked.{FileAsked, kind_asked, attributes_asked}
-use Rattle.smb_access.specs.Effect.{opened_by, standing_tree}
-use Rattle.smb_access.specs.Found.{path_asked, is_read_only_file, is_marked, is_reached}
+use Rattle.smb_access.specs.Parts.{opened_by, standing_tree, is_marked, has_conflict, use_of}
+use Rattle.smb_access.specs.Found.{path_asked, is_read_only_file, is_reached}
 use Rattle.smb_access.specs.Looked.{target_of}
 use Rattle.smb_access.specs.Opens.{open_of, with_scan}
-use Rattle.smb_access.specs.Sharing.{has_conflict, use_of}
 use Rattle.smb_access.specs.StatusRows.{StatusRow, first_status}
 use Rattle.smb_access.proofs.Trees.{reached_folder}
 use Rattle.smb_entry.specs.declared.ask.BasicAsk.{BasicAsk}
-use Rattle.smb_entry.specs.Bytes.{has_no_room, keeps_from_writing, write_rows, written_tree}
-use Rattle.smb_entry.specs.Rename.{path_named, path_numbered, is_not_replaced, rename_rows, renamed_tree}
-use Rattle.smb_entry.specs.SetInfo.{changed_in, delete_set, entry_set, resized_file, leaves_size, has_entries, has_no_space, delete_rows, size_rows, basic_rows}
+use Rattle.smb_entry.specs.Parts.{has_no_room, keeps_from_writing, write_rows, written_tree, delete_set, entry_set, resized_file, leaves_size, has_entries, has_no_space, delete_rows, size_rows, basic_rows, is_not_replaced, rename_rows, renamed_tree}
+use Rattle.smb_entry.specs.Rename.{path_named, path_numbered}
+use Rattle.smb_entry.specs.SetInfo.{changed_in}
 use Rattle.smb_entry.specs.Ways.{way_between, name_rows, way_rows, count_replaced}
 use Rattle.smb_entry.proofs.Under.{path_found}
 use Rattle.smb_opens.specs.Bytes.{write_status, written_to}
-use Rattle.smb_opens.specs.Close.{closed_open, closed}
+use Rattle.smb_opens.specs.Close.{closed}
+use Rattle.smb_opens.specs.Parts.{closed_open, created_by, has_all_opens, has_all_entries}
 use Rattle.smb_opens.specs.Create.{conflicts, create_rows, create_status}
-use Rattle.smb_opens.specs.Effect.{created, created_by}
-use Rattle.smb_opens.specs.Found.{entry_asked, has_all_opens, has_all_entries}
+use Rattle.smb_opens.specs.Effect.{created}
+use Rattle.smb_opens.specs.Found.{entry_asked}
 use Rattle.smb_opens.specs.Good.{UnmarkedTree, GoodStore, IsKept}
 use Rattle.smb_opens.specs.Locks.{lock_status, locked_through, with_locks_of}
 use Rattle.smb_opens.specs.Renames.{rename_status, renamed_through}

@@ -7,9 +7,10 @@ use Rattle.std.specs.List.{AllByRecursion, list_any}
 use Rattle.smb_locks.specs.declared.ask.LockAsk.{LockAsk}
 use Rattle.smb_locks.specs.declared.lock.Lock.{Lock}
 use Rattle.smb_locks.specs.Asks.{locks_asked}
-use Rattle.smb_locks.specs.Conflicts.{conflicts, bars_read, bars_write, is_read_barred, is_write_barred}
+use Rattle.smb_locks.specs.Conflicts.{conflicts, is_read_barred, is_write_barred}
+use Rattle.smb_locks.specs.Parts.{bars_read, bars_write, lock_fault}
 use Rattle.smb_locks.specs.Good.{GoodLockTable}
-use Rattle.smb_locks.specs.Locking.{lock_fault, locks_fault, lock_all_fault}
+use Rattle.smb_locks.specs.Locking.{locks_fault, lock_all_fault}
 use Rattle.smb_locks.specs.Ranges.{Overlap}
 use Rattle.smb_locks.specs.Table.{Table, locks_on, locked}
 use Rattle.smb_locks.proofs.Ends.{test_from_conflict, bar_from_read_test, bar_from_write_test}

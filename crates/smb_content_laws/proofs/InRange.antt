@@ -13,16 +13,17 @@ use Rattle.smb_locks.specs.Table.{Table, locked, unlocked}
 use Rattle.smb_access.specs.declared.open_row.OpenRow.{OpenRow}
 use Rattle.smb_access.specs.declared.view.View.{View}
 use Rattle.smb_access.specs.Asked.{FileAsked}
-use Rattle.smb_access.specs.Effect.{opened_by, entry_after}
+use Rattle.smb_access.specs.Effect.{entry_after}
+use Rattle.smb_access.specs.Parts.{opened_by}
 use Rattle.smb_access.specs.Opens.{open_of, without_open, open_numbers, is_held_by}
 use Rattle.smb_access.proofs.Rows.{all_more}
-use Rattle.smb_entry.specs.Bytes.{written_tree}
-use Rattle.smb_entry.specs.Rename.{renamed_tree}
-use Rattle.smb_entry.specs.SetInfo.{changed_in, delete_set, size_set, entry_set}
-use Rattle.smb_opens.specs.Close.{closed_open, closed, closed_each}
+use Rattle.smb_entry.specs.Parts.{written_tree, delete_set, size_set, entry_set, renamed_tree}
+use Rattle.smb_entry.specs.SetInfo.{changed_in}
+use Rattle.smb_opens.specs.Close.{closed}
+use Rattle.smb_opens.specs.Parts.{closed_open, closed_each, has_all_opens}
 use Rattle.smb_opens.specs.Create.{access_granted, create_status}
 use Rattle.smb_opens.specs.Effect.{created}
-use Rattle.smb_opens.specs.Found.{entry_asked, has_all_opens}
+use Rattle.smb_opens.specs.Found.{entry_asked}
 use Rattle.smb_opens.specs.Good.{GoodStore}
 use Rattle.smb_opens.specs.Locks.{with_locks_of}
 use Rattle.smb_opens.specs.State.{StoreState}

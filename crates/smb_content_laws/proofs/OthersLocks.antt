@@ -7,7 +7,8 @@ use Rattle.smb_locks.specs.declared.lock.Lock.{Lock}
 use Rattle.smb_locks.specs.declared.range.ByteRange.{ByteRange}
 use Rattle.smb_locks.specs.Asks.{are_unlocks, range_asked, locks_asked}
 use Rattle.smb_locks.specs.Good.{GoodLockTable}
-use Rattle.smb_locks.specs.Table.{Table, locks_on, with_locks, locked, unlocked, others_locks, without_holder}
+use Rattle.smb_locks.specs.Table.{Table, locks_on, with_locks, locked, unlocked, without_holder}
+use Rattle.smb_locks.specs.Laws.{others_locks}
 use Rattle.smb_locks.specs.Unlocking.{is_lock_over, without_oldest, unlock_fault, left_by}
 use Rattle.smb_locks.proofs.Tables.{on_with, on_other, on_dropped}
 

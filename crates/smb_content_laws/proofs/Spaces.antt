@@ -15,15 +15,17 @@ use Rattle.smb_tree.proofs.Removals.{space_without}
 use Rattle.smb_tree.proofs.Spaces.{space_changed}
 use Rattle.smb_access.specs.declared.open_row.OpenRow.{OpenRow}
 use Rattle.smb_access.specs.Asked.{FileAsked}
-use Rattle.smb_access.specs.Close.{is_deletable, is_due, tree_marked, tree_cleared}
+use Rattle.smb_access.specs.Close.{is_deletable}
+use Rattle.smb_access.specs.Parts.{is_due, tree_marked, tree_cleared}
 use Rattle.smb_access.specs.Effect.{overwritten, tree_after}
 use Rattle.smb_access.specs.Found.{path_asked}
 use Rattle.smb_access.specs.Opens.{open_of, without_open}
-use Rattle.smb_entry.specs.Bytes.{written_file}
-use Rattle.smb_entry.specs.Rename.{path_named, dated, renamed_tree}
-use Rattle.smb_entry.specs.SetInfo.{changed_in, leaves_size, size_set, resized_file}
+use Rattle.smb_entry.specs.Parts.{written_file, leaves_size, size_set, resized_file, dated, renamed_tree}
+use Rattle.smb_entry.specs.Rename.{path_named}
+use Rattle.smb_entry.specs.SetInfo.{changed_in}
 use Rattle.smb_opens.specs.Bytes.{written_to}
-use Rattle.smb_opens.specs.Close.{closed_open, closed, removes_entry, is_removed_with}
+use Rattle.smb_opens.specs.Close.{closed, is_removed_with}
+use Rattle.smb_opens.specs.Parts.{closed_open, removes_entry}
 use Rattle.smb_opens.specs.Effect.{created}
 use Rattle.smb_opens.specs.Found.{entry_asked}
 use Rattle.smb_opens.specs.Good.{GoodStore}

@@ -13,7 +13,8 @@ use Rattle.smb_locks.specs.Asks.{are_unlocks, range_asked}
 use Rattle.smb_locks.specs.Good.{GoodLockTable}
 use Rattle.smb_locks.specs.Ranges.{is_past_the_end}
 use Rattle.smb_locks.specs.Table.{Table, locks_on, unlocked}
-use Rattle.smb_locks.specs.Unlocking.{is_lock_over, without_oldest, unlock_fault, left_by, unlock_error_at, unlock_error_from, unlock_all_error}
+use Rattle.smb_locks.specs.Unlocking.{is_lock_over, without_oldest, unlock_fault, left_by, unlock_error_from, unlock_all_error}
+use Rattle.smb_locks.specs.Parts.{unlock_error_at}
 use Rattle.smb_locks.proofs.Tables.{on_with}
 use Rattle.smb_content_laws.specs.Locking.{IsOver, LosesOldest, LosesEach}
 

@@ -10,11 +10,13 @@ use Rattle.smb_locks.specs.declared.fault.LockFault.{LockFault}
 use Rattle.smb_locks.specs.declared.fault.LockFault.TheVariants.{BadFlags, BadRange, Full, NotGranted, NotLocked, NoMemory}
 use Rattle.smb_locks.specs.declared.fault.UnlockError.{UnlockError}
 use Rattle.smb_locks.specs.declared.lock.Lock.{Lock}
-use Rattle.smb_locks.specs.Asks.{are_locks, locks_asked}
+use Rattle.smb_locks.specs.Asks.{locks_asked}
+use Rattle.smb_locks.specs.Parts.{are_locks}
+use Rattle.smb_locks.specs.Laws.{others_locks}
 use Rattle.smb_locks.specs.Conflicts.{is_write_barred}
 use Rattle.smb_locks.specs.Locking.{locks_fault, lock_all_fault}
 use Rattle.smb_locks.specs.Ranges.{Overlap}
-use Rattle.smb_locks.specs.Table.{Table, locks_on, locked, unlocked, others_locks}
+use Rattle.smb_locks.specs.Table.{Table, locks_on, locked, unlocked}
 use Rattle.smb_locks.specs.Unlocking.{unlock_all_error}
 use Rattle.smb_locks.proofs.Asked.{no_memory}
 use Rattle.smb_locks.proofs.Members.{others_kept}
@@ -23,10 +25,11 @@ use Rattle.smb_access.specs.declared.open_row.OpenRow.{OpenRow}
 use Rattle.smb_access.specs.declared.view.View.{View}
 use Rattle.smb_access.specs.Opens.{open_of}
 use Rattle.smb_access.specs.StatusRows.{first_status}
-use Rattle.smb_entry.specs.Bytes.{keeps_from_reading, keeps_from_writing, read_rows, write_rows, has_no_room}
+use Rattle.smb_entry.specs.Parts.{keeps_from_reading, keeps_from_writing, read_rows, write_rows, has_no_room}
 use Rattle.smb_entry.specs.Locks.{lock_fault_status, lock_status_by, locks_shown}
 use Rattle.smb_opens.specs.Bytes.{read_status, write_status}
-use Rattle.smb_opens.specs.Close.{closed, closed_open}
+use Rattle.smb_opens.specs.Close.{closed}
+use Rattle.smb_opens.specs.Parts.{closed_open}
 use Rattle.smb_opens.specs.Good.{GoodStore}
 use Rattle.smb_opens.specs.Locks.{lock_status, unlock_status, with_locks_of, locked_through, unlocked_through}
 use Rattle.smb_opens.specs.State.{StoreState}

@@ -16,16 +16,17 @@ use Rattle.smb_locks.specs.Table.{Table, locked, unlocked}
 use Rattle.smb_access.specs.declared.open_row.OpenRow.{OpenRow}
 use Rattle.smb_access.specs.declared.view.View.{View}
 use Rattle.smb_access.specs.Asked.{FileAsked, kind_asked, attributes_asked}
-use Rattle.smb_access.specs.Close.{is_deletable, is_due, tree_marked, tree_cleared}
-use Rattle.smb_access.specs.Effect.{overwritten, overwritten_tree, tree_after}
+use Rattle.smb_access.specs.Close.{is_deletable}
+use Rattle.smb_access.specs.Parts.{is_due, tree_marked, tree_cleared, overwritten_tree, view_through}
+use Rattle.smb_access.specs.Effect.{overwritten, tree_after}
 use Rattle.smb_access.specs.Opens.{open_of, without_open, open_numbers, is_held_by}
 use Rattle.smb_access.specs.StatusRows.{first_status}
-use Rattle.smb_access.specs.Views.{view_of, view_through}
-use Rattle.smb_entry.specs.Bytes.{keeps_from_writing, has_no_room, write_rows, written_file, written_tree}
-use Rattle.smb_entry.specs.Rename.{dated, renamed_tree}
-use Rattle.smb_entry.specs.SetInfo.{changed_in, delete_set, entry_set, leaves_size, size_set, resized_file, has_no_space, size_rows}
+use Rattle.smb_access.specs.Views.{view_of}
+use Rattle.smb_entry.specs.Parts.{keeps_from_writing, has_no_room, write_rows, written_file, written_tree, delete_set, entry_set, leaves_size, size_set, resized_file, has_no_space, size_rows, dated, renamed_tree}
+use Rattle.smb_entry.specs.SetInfo.{changed_in}
 use Rattle.smb_opens.specs.Bytes.{write_status}
-use Rattle.smb_opens.specs.Close.{closed_open, closed, closed_each}
+use Rattle.smb_opens.specs.Close.{closed}
+use Rattle.smb_opens.specs.Parts.{closed_open, closed_each}
 use Rattle.smb_opens.specs.Found.{entry_asked}
 use Rattle.smb_opens.specs.Good.{GoodStore}
 use Rattle.smb_opens.specs.Locks.{with_locks_of}

@@ -10,7 +10,8 @@ use Rattle.smb_locks.specs.declared.ask.LockAsk.{LockAsk}
 use Rattle.smb_locks.specs.declared.fault.LockFault.{LockFault}
 use Rattle.smb_locks.specs.declared.fault.LockFault.TheVariants.{BadFlags, BadRange, Full, NotGranted}
 use Rattle.smb_locks.specs.declared.lock.Lock.{Lock}
-use Rattle.smb_locks.specs.Asks.{locks_asked, are_locks}
+use Rattle.smb_locks.specs.Asks.{locks_asked}
+use Rattle.smb_locks.specs.Parts.{are_locks}
 use Rattle.smb_locks.specs.Conflicts.{conflicts, is_read_barred}
 use Rattle.smb_locks.specs.Good.{GoodLockTable}
 use Rattle.smb_locks.specs.Locking.{lock_all_fault}

@@ -11,7 +11,8 @@ use Rattle.smb_locks.specs.Conflicts.{is_read_barred, is_write_barred}
 use Rattle.smb_locks.specs.Good.{GoodLockTable}
 use Rattle.smb_locks.specs.Locking.{lock_all_fault}
 use Rattle.smb_locks.specs.Ranges.{Overlap}
-use Rattle.smb_locks.specs.Table.{Table, locks_on, locked, unlocked, others_locks, without_holder}
+use Rattle.smb_locks.specs.Table.{Table, locks_on, locked, unlocked, without_holder}
+use Rattle.smb_locks.specs.Laws.{others_locks}
 use Rattle.smb_locks.specs.Unlocking.{unlock_all_error}
 use Rattle.smb_access.specs.declared.open_row.OpenRow.{OpenRow}
 use Rattle.smb_access.specs.Opens.{open_of}

@@ -1,5 +1,5 @@
 -- The space that files use: the sum of their allocation sizes, never over the capacity, and given back by a removal.
-use Rattle.std.specs.Prelude.{◌≡◌, ◌≢◌, ℕ, ◌+◌, ◌%◌, ◌<◌, ◌≤◌, Bool, true, false, max, sum, map, List, [], ◌∷◌}
+use Rattle.std.specs.Prelude.{◌≡◌, ◌≢◌, ℕ, ◌+◌, ◌%◌, ◌<◌, ◌≤◌, Bool, true, false, max, sum, map, List, [], ◌∷◌, ◌&&◌, nat_le}
 use Rattle.std.specs.Prelude.{length, None, Some}
 use Rattle.smb_wire.specs.declared.nt_status.NtStatus.TheVariants.{Success}
 use Rattle.smb_wire.specs.Dispositions.{overwrites_by}
@@ -9,7 +9,6 @@ use Rattle.smb_access.specs.declared.open_row.OpenRow.{OpenRow}
 use Rattle.smb_access.specs.Asked.{FileAsked}
 use Rattle.smb_access.specs.Opens.{open_of}
 use Rattle.smb_entry.specs.Rename.{path_named}
-use Rattle.smb_entry.specs.SetInfo.{leaves_size}
 use Rattle.smb_opens.specs.Bytes.{write_status, written_to}
 use Rattle.smb_opens.specs.Close.{closed, is_removed_with}
 use Rattle.smb_opens.specs.Effect.{created}
@@ -66,7 +65,7 @@ abbrev pub ASizeTakesItsSpace : Type 0
 ASizeTakesItsSpace =
     (state : StoreState) (number size : ℕ) (is_allocation : Bool) (moment : ℕ) (row : OpenRow) (before : Row) →
     open_of state.opens number ≡ Some row → numbered state.tree.rows row.entry ≡ Some before →
-    leaves_size (length before.1.bytes) size is_allocation ≡ false →
+    (is_allocation && nat_le (length before.1.bytes) size) ≡ false →
     space_of (size_set_through state number size is_allocation moment) + allocation_size (length before.1.bytes)
     ≡ space_of state + allocation_size size
 

@@ -1,13 +1,13 @@
 -- What must succeed does: where no row of its table holds, the status of a request is STATUS_SUCCESS.
-use Rattle.std.specs.Prelude.{◌≡◌, ◌≢◌, ◌↔◌, ◌⊎◌, ℕ, ◌+◌, ◌-◌, ◌<◌, ◌≤◌, min, Bool, true, false, List, ◌∷◌, ◌++◌}
+use Rattle.std.specs.Prelude.{◌≡◌, ◌≢◌, ◌↔◌, ◌⊎◌, ℕ, ◌+◌, ◌-◌, ◌<◌, ◌≤◌, min, Bool, true, false, List, ◌∷◌, ◌++◌, ◌||◌, ◌&&◌, not}
 use Rattle.std.specs.Prelude.{length, None, Some}
 use Rattle.std.specs.List.{AllByRecursion}
-use Rattle.smb_wire.specs.Access.{has_any, FILE_WRITE_DATA, FILE_APPEND_DATA}
-use Rattle.smb_wire.specs.Attributes.{FILE_ATTRIBUTE_DIRECTORY}
+use Rattle.smb_wire.specs.Access.{has_any, FILE_WRITE_DATA, FILE_APPEND_DATA, FILE_WRITE_ATTRIBUTES}
+use Rattle.smb_wire.specs.Attributes.{FILE_ATTRIBUTE_DIRECTORY, FILE_ATTRIBUTE_READONLY}
 use Rattle.smb_wire.specs.Limits.{most_file_bytes}
 use Rattle.smb_wire.specs.declared.nt_status.NtStatus.{NtStatus}
 use Rattle.smb_wire.specs.declared.nt_status.NtStatus.TheVariants.{Success}
-use Rattle.smb_tree.specs.Content.{used_space, with_bytes, with_size}
+use Rattle.smb_tree.specs.Content.{used_space, with_bytes, with_size, numbered}
 use Rattle.smb_tree.specs.Entries.{is_folder_kind}
 use Rattle.smb_locks.specs.declared.ask.LockAsk.{LockAsk}
 use Rattle.smb_locks.specs.Locking.{lock_all_fault}
@@ -15,11 +15,9 @@ use Rattle.smb_locks.specs.Table.{locks_on}
 use Rattle.smb_locks.specs.Unlocking.{unlock_all_error}
 use Rattle.smb_access.specs.declared.view.View.{View}
 use Rattle.smb_access.specs.Asked.{FileAsked}
-use Rattle.smb_access.specs.Access.{is_reading, is_deleting, is_writing_attributes}
+use Rattle.smb_access.specs.Access.{is_reading, is_deleting}
 use Rattle.smb_access.specs.StatusRows.{StatusRow, first_status}
 use Rattle.smb_entry.specs.declared.ask.BasicAsk.{BasicAsk}
-use Rattle.smb_entry.specs.Bytes.{keeps_from_reading, keeps_from_writing}
-use Rattle.smb_entry.specs.SetInfo.{has_entries, shows_read_only_file, has_bad_time}
 use Rattle.smb_opens.specs.Bytes.{read_status, write_status}
 use Rattle.smb_opens.specs.Create.{create_rows, create_status}
 use Rattle.smb_opens.specs.Found.{entry_asked}
@@ -27,6 +25,10 @@ use Rattle.smb_opens.specs.Locks.{lock_status, unlock_status}
 use Rattle.smb_opens.specs.SetInfo.{delete_status, size_status, basic_status}
 use Rattle.smb_opens.specs.State.{StoreState}
 use Rattle.smb_opens.specs.Views.{open_view, status_through}
+use Rattle.std.specs.Option.{option_map_or}
+use Rattle.smb_entry.specs.SetInfo.{is_bad_time}
+use Rattle.smb_tree.specs.Children.{has_children}
+use Rattle.smb_locks.specs.Conflicts.{is_read_barred, is_write_barred}
 
 -- no row of a table holds
 abbrev pub NoneHolds : List StatusRow → Type 0
@@ -66,7 +68,8 @@ pub record MayRead (state : StoreState) (most number offset count minimum : ℕ)
   pub within : count ≤ most
   pub file : is_folder_kind view.kind ≡ false
   pub access : is_reading view.access ≡ true
-  pub free : keeps_from_reading state.locks number view offset count ≡ false
+  pub free :
+      is_read_barred (locks_on state.locks view.entry) number (record { offset = offset; length = count }) ≡ false
   pub there : 0 < count → offset < view.size
   pub enough : minimum ≤ min count (view.size - offset)
 
@@ -89,7 +92,8 @@ pub record MayWrite (state : StoreState) (most number offset : ℕ) (buffer : Li
   pub within : length buffer ≤ most
   pub file : is_folder_kind view.kind ≡ false
   pub access : WritesAt view offset
-  pub free : keeps_from_writing state.locks number view offset (length buffer) ≡ false
+  pub free :
+      is_write_barred (locks_on state.locks view.entry) number (record { offset = offset; length = length buffer }) ≡ false
   pub small : 0 < length buffer → offset + length buffer ≤ most_file_bytes
   pub fits : 0 < length buffer → used_space (with_bytes state.tree view.entry offset buffer).rows ≤ state.tree.capacity
 
@@ -114,8 +118,10 @@ ALockSucceeds =
 pub record MayMark (state : StoreState) (is_deleted : Bool) (view : View) : Type 0 where
   pub access : is_deleting view.access ≡ true
   pub other : is_deleted ≡ true → view.entry ≢ 1
-  pub writable : is_deleted ≡ true → shows_read_only_file view ≡ false
-  pub empty : is_deleted ≡ true → has_entries state.tree.rows view.entry ≡ false
+  pub writable : is_deleted ≡ true →
+      (not (is_folder_kind view.kind) && has_any view.attributes.0 FILE_ATTRIBUTE_READONLY) ≡ false
+  pub empty : is_deleted ≡ true →
+      option_map_or (λ row. has_children state.tree.rows row.0) (numbered state.tree.rows view.entry) false ≡ false
 
 -- a SET_INFO of a mark succeeds exactly where it may
 abbrev pub ASetOfAMarkSucceeds : Type 0
@@ -140,9 +146,11 @@ ASetOfASizeSucceeds =
 -- what one of times and attributes needs ([MS-FSA] 2.1.5.15.2): all four times are times, a file is not to be a
 -- directory, and the open was granted FILE_WRITE_ATTRIBUTES
 pub record MaySetTimes (ask : BasicAsk) (view : View) : Type 0 where
-  pub times : has_bad_time ask ≡ false
+  pub times :
+      (is_bad_time ask.creation_time || is_bad_time ask.last_access_time || is_bad_time ask.last_write_time
+      || is_bad_time ask.change_time) ≡ false
   pub kind : (is_folder_kind view.kind ≡ true) ⊎ (has_any ask.attributes.0 FILE_ATTRIBUTE_DIRECTORY ≡ false)
-  pub access : is_writing_attributes view.access ≡ true
+  pub access : has_any view.access.0 FILE_WRITE_ATTRIBUTES ≡ true
 
 -- a SET_INFO of times and attributes succeeds exactly where it may
 abbrev pub ASetOfTimesSucceeds : Type 0

@@ -13,7 +13,7 @@ use Rattle.smb_locks.specs.Table.{locks_on}
 use Rattle.smb_access.specs.declared.open_row.OpenRow.{OpenRow}
 use Rattle.smb_access.specs.Close.{has_mark}
 use Rattle.smb_access.specs.Opens.{open_of}
-use Rattle.smb_opens.specs.Good.{AreLocksHeld, AreMarksDue}
+use Rattle.smb_opens.specs.Parts.{AreLocksHeld, AreMarksDue}
 use Rattle.smb_opens.specs.Readers.{LeavesFiles}
 use Rattle.smb_opens.proofs.Readers.{leaves_files_refl, leaves_files_trans}
 use Rattle.smb_request.specs.Owners.{is_owned, AreOwned}

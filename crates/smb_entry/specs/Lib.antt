@@ -3,3 +3,4 @@ pub mod Locks
 pub mod SetInfo
 pub mod Rename
 pub mod Ways
+pub mod Parts

@@ -5,10 +5,11 @@ ghost use Rattle.smb_wire.specs.Paths.{folded_path};
 ghost use Rattle.smb_wire.specs.PathViews.{parts_of};
 ghost use Rattle.smb_tree.specs.Content.{numbered};
 ghost use Rattle.smb_tree.specs.Good.{GoodContent};
-ghost use Rattle.smb_access.specs.Present.{ArePresent};
+ghost use Rattle.smb_access.specs.Parts.{ArePresent};
 ghost use Rattle.smb_access.specs.Numbers.{AreRising};
 ghost use Rattle.smb_access.specs.Opens.{open_numbers};
-ghost use Rattle.smb_entry.specs.Rename.{is_beneath, path_numbered, has_open_beneath};
+ghost use Rattle.smb_entry.specs.Rename.{is_beneath, path_numbered};
+ghost use Rattle.smb_entry.specs.Parts.{has_open_beneath};
 
 use smb_access::Opens;
 use smb_tree::{EntryNo, Tree};

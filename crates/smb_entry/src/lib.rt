@@ -2,7 +2,7 @@
 //!
 //! An inner crate of smb_opens: functions over any tree, any opens and plain values, which smb_opens joins to a store. What an
 //! open shows of its entry is a view of smb_access, the inner crate below. Whether a request may is a table of statuses, of
-//! which the first row that holds decides.
+//! which the first row that holds decides. The tables are in smb_opens, and here by what the code looks at (`specs/Parts.antt`).
 //!
 //! - READ and WRITE: [`bytes`] (`specs/Bytes.antt`). LOCK: [`locks`] (`specs/Locks.antt`).
 //! - SET_INFO: [`set_info`] (`specs/SetInfo.antt`), of what a [`BasicAsk`] asks.

@@ -2,7 +2,8 @@
 use Rattle.std.proofs.Common.{◌≡◌, ◌==◌, ◌&&◌, ◌<◌, ℕ, slice_get, nat_lt, Bool, true, false, not, cond, Option, Some, List, [], ◌∷◌, ◌++◌, filter, refl, sym, ap, subst, arith, ◌∙◌}
 use Rattle.std.proofs.lemmas.Bool.Decides.{nat_tests}
 use Rattle.std.specs.List.{AllByRecursion, find}
-use Rattle.smb_access.specs.Numbers.{AreNumbersBelow, AreRising}
+use Rattle.smb_access.specs.Numbers.{AreRising}
+use Rattle.smb_access.specs.Parts.{AreNumbersBelow}
 use Rattle.smb_access.specs.Opens.{AreAllBelow, first_held_by, number_of, open_numbers, open_of, open_on_entry_after, with_scan, without_open}
 use Rattle.smb_access.specs.declared.open_row.OpenRow.{OpenRow}
 use Rattle.smb_access.specs.declared.open_row.Owner.{Owner}

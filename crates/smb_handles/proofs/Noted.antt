@@ -1,7 +1,7 @@
 -- The groups of an open: one of each kind.
 use Rattle.std.proofs.Common.{Result, Ok, Err, OnErr, ◌≡◌, ◌≢◌, ◌==◌, ◌&&◌, ℕ, Bool, true, false, cond, List, [], ◌∷◌, ◌++◌, refl, sym, ap, arith, ◌∙◌}
 use Rattle.std.proofs.lemmas.Bool.Decides.{nat_tests}
-use Rattle.smb_access.specs.Numbers.{AreNumbersBelow}
+use Rattle.smb_access.specs.Parts.{AreNumbersBelow}
 use Rattle.smb_access.specs.declared.open_row.OpenRow.{OpenRow}
 use Rattle.smb_handles.specs.declared.key.GroupKey.{GroupKey}
 use Rattle.smb_handles.specs.declared.key.GroupKey.TheVariants.{Entry, Session, Tree}

@@ -11,7 +11,7 @@ use Rattle.std.specs.BTreeMap.{is_at, insert_entry}
 use Rattle.std.specs.Map.{remove_entry}
 use Rattle.std.specs.BTreeSet.{insert_key}
 use Rattle.std.specs.Set.{remove_key}
-use Rattle.smb_access.specs.Numbers.{AreNumbersBelow}
+use Rattle.smb_access.specs.Parts.{AreNumbersBelow}
 use Rattle.smb_handles.specs.Groups.{without_number}
 
 pub insert_key_last : (ks : List ℕ) (n : ℕ) → AreNumbersBelow n ks → insert_key nat_cmp ks n ≡ ks ++ n ∷ []

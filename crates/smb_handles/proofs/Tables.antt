@@ -4,7 +4,7 @@ use Rattle.std.specs.Option.{option_map}
 use Rattle.std.specs.Ordering.{nat_cmp}
 use Rattle.std.specs.BTreeMap.{is_at}
 use Rattle.std.specs.Map.{lookup, remove_entry}
-use Rattle.smb_access.specs.Numbers.{AreNumbersBelow}
+use Rattle.smb_access.specs.Parts.{AreNumbersBelow}
 use Rattle.smb_access.specs.Opens.{AreAllBelow, with_scan, without_open}
 use Rattle.smb_access.specs.declared.open_row.OpenRow.{OpenRow}
 use Rattle.smb_access.specs.declared.scan.Scan.{Scan}

@@ -3,7 +3,8 @@ use Rattle.std.proofs.Common.{◌≡◌, ◌==◌, ◌&&◌, ◌<◌, ◌≤◌,
 use Rattle.std.proofs.lemmas.Bool.Decides.{nat_tests}
 use Rattle.std.specs.List.{AllByRecursion, cons_option, list_any}
 use Rattle.smb_access.specs.Numbers.{AreRising}
-use Rattle.smb_access.specs.Opens.{is_on_entry, open_numbers, open_of, with_scan, without_open}
+use Rattle.smb_access.specs.Opens.{open_numbers, open_of, with_scan, without_open}
+use Rattle.smb_access.specs.Parts.{is_on_entry}
 use Rattle.smb_access.specs.Sharing.{uses, has_use}
 use Rattle.smb_access.specs.declared.open_row.OpenRow.{OpenRow}
 use Rattle.smb_access.specs.declared.scan.Scan.{Scan}

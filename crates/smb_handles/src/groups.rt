@@ -1,7 +1,7 @@
 //! For each group of opens the ordered set of their numbers.
 
 ghost use Rattle.std.specs.Prelude.{◌≡◌, ◌≢◌, ◌++◌, ◌∷◌, [], OnOk, OnErr, slice_get, find, nat_lt};
-ghost use Rattle.smb_access.specs.Numbers.{AreNumbersBelow};
+ghost use Rattle.smb_access.specs.Parts.{AreNumbersBelow};
 ghost use Rattle.smb_handles.specs.Groups.{KeepsNoEmptySet, members, without_number, noted, forgotten};
 ghost use Rattle.smb_handles.specs.declared.key.GroupKey.{GroupKey};
 

@@ -3,7 +3,7 @@
 ghost use Rattle.std.specs.Prelude.{ℕ, ◌≡◌, ◌≢◌, ◌<◌, ◌≤◌, length, ◌++◌, ◌∷◌, [], OnOk, OnErr, find, nat_lt, slice_get};
 ghost use Rattle.std.specs.List.{AllByRecursion};
 ghost use Rattle.std.specs.Option.{option_map};
-ghost use Rattle.smb_access.specs.Numbers.{AreNumbersBelow};
+ghost use Rattle.smb_access.specs.Parts.{AreNumbersBelow};
 ghost use Rattle.slab.specs.Slab.{get};
 ghost use Rattle.smb_handles.specs.Groups.{members, noted};
 ghost use Rattle.smb_handles.specs.Uses.{counted, more};

@@ -4,8 +4,8 @@ use Rattle.std.specs.Option.{option_map_or}
 use Rattle.std.proofs.lemmas.Bool.{le-leb, lt-leb, true≢false}
 use Rattle.std.proofs.lemmas.Bool.Decides.{leb_tells}
 use Rattle.smb_tree.specs.Content.{Row, Content, numbered}
-use Rattle.smb_access.specs.Opens.{has_number, open_of}
-use Rattle.smb_access.specs.Present.{ArePresent}
+use Rattle.smb_access.specs.Opens.{open_of}
+use Rattle.smb_access.specs.Parts.{has_number, ArePresent}
 use Rattle.smb_access.specs.Scans.{no_scan}
 use Rattle.smb_access.specs.declared.open_row.OpenRow.{OpenRow}
 use Rattle.smb_access.specs.declared.scan.Scan.{Scan}

@@ -7,9 +7,10 @@ use Rattle.smb_locks.specs.declared.ask.LockAsk.{LockAsk}
 use Rattle.smb_locks.specs.declared.fault.LockFault.{LockFault}
 use Rattle.smb_locks.specs.declared.fault.LockFault.TheVariants.{BadRange, Full, NotGranted, NoMemory}
 use Rattle.smb_locks.specs.declared.lock.Lock.{Lock}
-use Rattle.smb_locks.specs.Asks.{lock_by, locks_asked}
+use Rattle.smb_locks.specs.Asks.{locks_asked}
+use Rattle.smb_locks.specs.Parts.{lock_by, lock_fault}
 use Rattle.smb_locks.specs.Conflicts.{conflicts}
-use Rattle.smb_locks.specs.Locking.{lock_fault, locks_fault}
+use Rattle.smb_locks.specs.Locking.{locks_fault}
 use Rattle.smb_locks.specs.Ranges.{is_past_the_end}
 
 -- a conflict with a lock that is asked for, by the elements that ask

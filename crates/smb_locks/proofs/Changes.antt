@@ -9,11 +9,13 @@ use Rattle.std.specs.Ordering.{nat_cmp}
 use Rattle.smb_locks.specs.declared.ask.LockAsk.{LockAsk}
 use Rattle.smb_locks.specs.declared.fault.LockFault.{LockFault}
 use Rattle.smb_locks.specs.declared.lock.Lock.{Lock}
-use Rattle.smb_locks.specs.Asks.{are_locks, are_unlocks, locks_asked, range_asked}
+use Rattle.smb_locks.specs.Asks.{are_unlocks, locks_asked, range_asked}
+use Rattle.smb_locks.specs.Parts.{are_locks}
+use Rattle.smb_locks.specs.Laws.{others_locks}
 use Rattle.smb_locks.specs.Good.{GoodLockTable}
 use Rattle.smb_locks.specs.Locking.{locks_fault, lock_all_fault}
 use Rattle.smb_locks.specs.Ranges.{is_past_the_end}
-use Rattle.smb_locks.specs.Table.{Table, HoldsNoneElsewhere, locks_on, with_locks, locked, unlocked, others_locks, without_holder}
+use Rattle.smb_locks.specs.Table.{Table, HoldsNoneElsewhere, locks_on, with_locks, locked, unlocked, without_holder}
 use Rattle.smb_locks.specs.Unlocking.{left_by}
 use Rattle.smb_locks.proofs.Entries.{removed-none, set-inserted, removed-set, found-all}
 use Rattle.smb_locks.proofs.Same.{dropped_on}

@@ -5,7 +5,8 @@ use Rattle.std.proofs.lemmas.List.Folds.{Any-from_list_any, list_any-from_Any}
 use Rattle.std.specs.List.{list_any}
 use Rattle.smb_locks.specs.declared.lock.Lock.{Lock}
 use Rattle.smb_locks.specs.declared.range.ByteRange.{ByteRange}
-use Rattle.smb_locks.specs.Conflicts.{Conflicts, conflicts, BarsRead, bars_read, BarsWrite, bars_write}
+use Rattle.smb_locks.specs.Conflicts.{Conflicts, conflicts, BarsRead, BarsWrite}
+use Rattle.smb_locks.specs.Parts.{bars_read, bars_write}
 use Rattle.smb_locks.specs.Ranges.{Overlap, overlaps}
 
 pub overlap_from_ends : (a b : ByteRange) → overlaps a b ≡ true → Overlap a b

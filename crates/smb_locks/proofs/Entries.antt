@@ -6,7 +6,7 @@ use Rattle.std.specs.List.{AllByRecursion}
 use Rattle.std.specs.Map.{lookup, set_value, remove_entry}
 use Rattle.std.specs.BTreeMap.{is_at, insert_entry}
 use Rattle.std.specs.Ordering.{nat_cmp}
-use Rattle.smb_locks.specs.Good.{IsAscending}
+use Rattle.smb_locks.specs.Parts.{IsAscending}
 use Rattle.smb_locks.proofs.Alls.{all-weaker}
 
 -- the test of a query by number

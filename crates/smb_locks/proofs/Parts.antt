@@ -7,12 +7,12 @@ use Rattle.smb_locks.specs.declared.fault.LockFault.{LockFault}
 use Rattle.smb_locks.specs.declared.fault.LockFault.TheVariants.{BadFlags, BadRange, Full, NotGranted}
 use Rattle.smb_locks.specs.declared.lock.Lock.{Lock}
 use Rattle.smb_locks.specs.declared.ask.LockAsk.{LockAsk}
-use Rattle.smb_locks.specs.Asks.{are_locks, locks_asked}
+use Rattle.smb_locks.specs.Asks.{locks_asked}
+use Rattle.smb_locks.specs.Parts.{are_locks, lock_fault, AreCompatible}
 use Rattle.smb_locks.specs.Conflicts.{conflicts}
-use Rattle.smb_locks.specs.Good.{AreCompatible}
-use Rattle.smb_locks.specs.Locking.{lock_fault, locks_fault, lock_all_fault}
+use Rattle.smb_locks.specs.Locking.{locks_fault, lock_all_fault}
 use Rattle.smb_locks.specs.Ranges.{is_past_the_end}
-use Rattle.smb_locks.proofs.Ends.{test_from_conflict}
+use Rattle.smb_locks.proofs.Ends.{overlap_from_ends, test_from_conflict}
 
 no_row : (a b c : Bool) → (if a then Some BadRange else if b then Some Full else if c then Some NotGranted else None) ≡ None → (a ≡ false) × (b ≡ false) × (c ≡ false)
 no_row true b c h = cc
@@ -48,13 +48,13 @@ beside asked held none apart overlap = (held_shared held.exclusive refl, asked_s
   where
     held_shared : (b : Bool) → held.exclusive ≡ b → held.exclusive ≡ false
     held_shared true e =
-        let t = test_from_conflict asked held (overlap, inr (e, apart)) in
+        let t = test_from_conflict asked held (overlap_from_ends held.range asked.range overlap, inr (e, apart)) in
         cc
     held_shared false e = e
 
     asked_shared : (b : Bool) → asked.exclusive ≡ b → asked.exclusive ≡ false
     asked_shared true e =
-        let t = test_from_conflict asked held (overlap, inl e) in
+        let t = test_from_conflict asked held (overlap_from_ends held.range asked.range overlap, inl e) in
         cc
     asked_shared false e = e
 

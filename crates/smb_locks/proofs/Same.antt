@@ -4,8 +4,10 @@ use Rattle.std.proofs.lemmas.Bool.{eqb-true, eqb-false, cases_order}
 use Rattle.std.proofs.lemmas.Bool.Decides.{nat_tests}
 use Rattle.std.specs.List.{AllByRecursion}
 use Rattle.smb_locks.specs.declared.lock.Lock.{Lock}
-use Rattle.smb_locks.specs.Good.{GoodLockTable, IsAscending}
-use Rattle.smb_locks.specs.Table.{Table, HoldsNoneElsewhere, locks_on, with_locks, others_locks, without_holder}
+use Rattle.smb_locks.specs.Good.{GoodLockTable}
+use Rattle.smb_locks.specs.Parts.{IsAscending}
+use Rattle.smb_locks.specs.Laws.{others_locks}
+use Rattle.smb_locks.specs.Table.{Table, HoldsNoneElsewhere, locks_on, with_locks, without_holder}
 use Rattle.smb_locks.proofs.Alls.{all-weaker}
 use Rattle.smb_locks.proofs.Entries.{at_same, lookup-above}
 use Rattle.smb_locks.proofs.Keeping.{good_others}

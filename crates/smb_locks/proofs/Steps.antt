@@ -6,7 +6,8 @@ use Rattle.std.proofs.lemmas.List.Quantifiers.{position-Some}
 use Rattle.std.specs.List.{list_any, position_or_len}
 use Rattle.std.specs.Map.Calls.{RetainsPairs}
 use Rattle.smb_locks.specs.declared.lock.Lock.{Lock}
-use Rattle.smb_locks.specs.Table.{others_locks, without_holder}
+use Rattle.smb_locks.specs.Table.{without_holder}
+use Rattle.smb_locks.specs.Laws.{others_locks}
 use Rattle.smb_locks.specs.Unlocking.{without_oldest}
 
 -- the place of the oldest

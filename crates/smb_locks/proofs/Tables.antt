@@ -10,11 +10,14 @@ use Rattle.std.specs.Ordering.{nat_cmp}
 use Rattle.smb_locks.specs.declared.ask.LockAsk.{LockAsk}
 use Rattle.smb_locks.specs.declared.lock.Lock.{Lock}
 use Rattle.smb_locks.specs.Asks.{locks_asked, are_unlocks}
-use Rattle.smb_locks.specs.Good.{AreCompatible, AreAllCompatible, GoodLocks, GoodLockTable, IsAscending}
+use Rattle.smb_locks.specs.Good.{GoodLocks, GoodLockTable}
+use Rattle.smb_locks.specs.Parts.{AreCompatible, AreAllCompatible, IsAscending}
+use Rattle.smb_locks.specs.Laws.{others_locks}
 use Rattle.smb_locks.specs.Locking.{lock_all_fault}
-use Rattle.smb_locks.specs.Table.{Table, locks_on, with_locks, locked, unlocked, others_locks, without_holder}
+use Rattle.smb_locks.specs.Ranges.{Overlap}
+use Rattle.smb_locks.specs.Table.{Table, locks_on, with_locks, locked, unlocked, without_holder}
 use Rattle.smb_locks.specs.Unlocking.{left_by}
-use Rattle.smb_locks.proofs.Ends.{overlap_turned}
+use Rattle.smb_locks.proofs.Ends.{overlap_from_ends, ends_from_overlap, overlap_turned}
 use Rattle.smb_locks.proofs.Entries.{same_number, all-inserted, all-removed, rising-inserted, rising-removed, lookup-above, found-inserted, other-inserted, found-removed, other-removed, found-all}
 use Rattle.smb_locks.proofs.Keeping.{good_none, good_more, good_left, good_others}
 use Rattle.smb_locks.proofs.Parts.{locks_granted}
@@ -138,11 +141,16 @@ pair_at x xs a b h ih (inl e) (inr cb) apart overlap =
     subst P e (at_member (AreCompatible x) xs b h cb) apart overlap
 pair_at x xs a b h ih (inr ca) (inl f) apart overlap =
     let P : Lock → Type 0 = λ lock. AreCompatible lock a in
-    let turned = subst P f (at_member (AreCompatible x) xs a h ca) (λ e. apart (sym e)) (overlap_turned a.range b.range overlap) in
+    let turned = subst P f (at_member (AreCompatible x) xs a h ca) (λ e. apart (sym e)) (ends_from_overlap b.range a.range (overlap_turned a.range b.range (overlap_from_ends a.range b.range overlap))) in
     (turned.1, turned.0)
 pair_at x xs a b h ih (inr ca) (inr cb) apart overlap = ih ca cb apart overlap
 
-pub compatible_pair : (locks : List Lock) (a b : Lock) → AreAllCompatible locks → Contains locks a → Contains locks b → AreCompatible a b
-compatible_pair [] a b h ca cb = let l = ca.1 in absurd (omega arith)
-compatible_pair (x ∷ xs) a b h ca cb =
-    pair_at x xs a b h.0 (λ da db. compatible_pair xs a b h.1 da db) (member_cases x xs a ca) (member_cases x xs b cb)
+compatible_members : (locks : List Lock) (a b : Lock) → AreAllCompatible locks → Contains locks a → Contains locks b → AreCompatible a b
+compatible_members [] a b h ca cb = let l = ca.1 in absurd (omega arith)
+compatible_members (x ∷ xs) a b h ca cb =
+    pair_at x xs a b h.0 (λ da db. compatible_members xs a b h.1 da db) (member_cases x xs a ca) (member_cases x xs b cb)
+
+pub compatible_pair : (locks : List Lock) (a b : Lock) → AreAllCompatible locks → Contains locks a → Contains locks b →
+    a.holder ≢ b.holder → Overlap a.range b.range → (a.exclusive ≡ false) × (b.exclusive ≡ false)
+compatible_pair locks a b h ca cb apart overlap =
+    compatible_members locks a b h ca cb apart (ends_from_overlap a.range b.range overlap)

@@ -12,6 +12,7 @@ abbrev pub Conflicts : Lock → Lock → Type 0
 Conflicts asked held =
     Overlap held.range asked.range × ((asked.exclusive ≡ true) ⊎ ((held.exclusive ≡ true) × (held.holder ≢ asked.holder)))
 
+-- the same as a test
 abbrev pub conflicts : Lock → Lock → Bool
 conflicts asked held =
     overlaps held.range asked.range && (asked.exclusive || (held.exclusive && not (held.holder == asked.holder)))
@@ -20,19 +21,18 @@ conflicts asked held =
 abbrev pub BarsRead : ℕ → ByteRange → Lock → Type 0
 BarsRead holder range lock = Overlap lock.range range × (lock.exclusive ≡ true) × (lock.holder ≢ holder)
 
-abbrev pub bars_read : ℕ → ByteRange → Lock → Bool
-bars_read holder range lock = overlaps lock.range range && lock.exclusive && not (lock.holder == holder)
-
 -- it bars the writes that it overlaps, and so does any shared lock, the own ones too ([MS-SMB2] 3.3.5.13)
 abbrev pub BarsWrite : ℕ → ByteRange → Lock → Type 0
 BarsWrite holder range lock = Overlap lock.range range × ((lock.exclusive ≡ false) ⊎ (lock.holder ≢ holder))
 
-abbrev pub bars_write : ℕ → ByteRange → Lock → Bool
-bars_write holder range lock = overlaps lock.range range && (not lock.exclusive || not (lock.holder == holder))
-
--- some lock of a file bars an open from reading, or from writing, a range
+-- some lock of a file bars an open from reading a range: another open's exclusive lock that overlaps it
+-- ([MS-SMB2] 3.3.5.12)
 abbrev pub is_read_barred : List Lock → ℕ → ByteRange → Bool
-is_read_barred locks holder range = list_any (bars_read holder range) locks
+is_read_barred locks holder range =
+    list_any (λ lock. overlaps lock.range range && lock.exclusive && not (lock.holder == holder)) locks
 
+-- some lock of a file bars an open from writing a range: another open's lock that overlaps it, or a shared one of its own
+-- ([MS-SMB2] 3.3.5.13)
 abbrev pub is_write_barred : List Lock → ℕ → ByteRange → Bool
-is_write_barred locks holder range = list_any (bars_write holder range) locks
+is_write_barred locks holder range =
+    list_any (λ lock. overlaps lock.range range && (not lock.exclusive || not (lock.holder == holder))) locks

@@ -1,34 +1,26 @@
 -- What holds of the locks between calls.
-use Rattle.std.specs.Prelude.{◌≡◌, ◌≢◌, ℕ, ◌<◌, ◌≤◌, false, List, [], ◌∷◌, length, map}
+use Rattle.std.specs.Prelude.{◌≡◌, ◌≢◌, ◌<◌, ◌≤◌, false, List, [], ◌∷◌, length, map, true}
 use Rattle.std.specs.List.{AllByRecursion}
 use Rattle.smb_wire.specs.Limits.{most_locks}
 use Rattle.smb_locks.specs.declared.lock.Lock.{Lock}
-use Rattle.smb_locks.specs.Ranges.{Overlap, is_past_the_end}
+use Rattle.smb_locks.specs.Ranges.{is_past_the_end, overlaps}
 use Rattle.smb_locks.specs.Table.{Table}
 
--- two locks may be held at once: if they are of different opens and overlap, neither is exclusive
-abbrev pub AreCompatible : Lock → Lock → Type 0
-AreCompatible a b = a.holder ≢ b.holder → Overlap a.range b.range → (a.exclusive ≡ false) × (b.exclusive ≡ false)
+-- each element has a relation to each later one
+abbrev pub EachToLater : {A : Type 0} → (A → A → Type 0) → List A → Type 0
+EachToLater Holds [] = Unit {0}
+EachToLater Holds (one ∷ others) = AllByRecursion (Holds one) others × EachToLater Holds others
 
--- each lock with each newer one
-abbrev pub AreAllCompatible : List Lock → Type 0
-AreAllCompatible [] = Unit {0}
-AreAllCompatible (lock ∷ locks) = AllByRecursion (AreCompatible lock) locks × AreAllCompatible locks
-
--- the locks of a file: no two overlapping ones of different opens have an exclusive one among them; at most 256;
--- no range reaches past the end
+-- the locks of a file: of two overlapping ones of different opens neither is exclusive; at most 256; no range reaches past
+-- the end
 pub record GoodLocks (locks : List Lock) : Type 0 where
-  pub compatible : AreAllCompatible locks
+  pub compatible : EachToLater
+      (λ a b. a.holder ≢ b.holder → overlaps a.range b.range ≡ true → (a.exclusive ≡ false) × (b.exclusive ≡ false)) locks
   pub few : length locks ≤ most_locks
   pub within : AllByRecursion (λ lock. is_past_the_end lock.range ≡ false) locks
 
--- each number is below those behind it
-abbrev pub IsAscending : List ℕ → Type 0
-IsAscending [] = Unit {0}
-IsAscending (number ∷ numbers) = AllByRecursion (λ later. number < later) numbers × IsAscending numbers
-
 -- a table: its files in rising number, each with some locks, which are good
 pub record GoodLockTable (table : Table) : Type 0 where
-  pub rising : IsAscending (map (λ entry. entry.0) table)
+  pub rising : EachToLater (λ number later. number < later) (map (λ entry. entry.0) table)
   pub listed : AllByRecursion (λ entry. 0 < length entry.1) table
   pub good : AllByRecursion (λ entry. GoodLocks entry.1) table

@@ -1,5 +1,5 @@
 -- What follows from the definitions.
-use Rattle.std.specs.Prelude.{◌≡◌, ◌≢◌, ◌↔◌, ◌⊎◌, ℕ, List, false, IsTrue, [], None, Any, Contains}
+use Rattle.std.specs.Prelude.{◌≡◌, ◌≢◌, ◌↔◌, ◌⊎◌, ℕ, List, false, IsTrue, [], None, Any, Contains, ◌==◌, not, filter}
 use Rattle.smb_locks.specs.declared.ask.LockAsk.{LockAsk}
 use Rattle.smb_locks.specs.declared.lock.Lock.{Lock}
 use Rattle.smb_locks.specs.declared.range.ByteRange.{ByteRange}
@@ -7,7 +7,7 @@ use Rattle.smb_locks.specs.Conflicts.{Conflicts, conflicts, BarsRead, BarsWrite,
 use Rattle.smb_locks.specs.Good.{GoodLockTable}
 use Rattle.smb_locks.specs.Locking.{lock_all_fault}
 use Rattle.smb_locks.specs.Ranges.{Overlap, overlaps}
-use Rattle.smb_locks.specs.Table.{Table, locks_on, with_locks, locked, unlocked, others_locks, without_holder}
+use Rattle.smb_locks.specs.Table.{Table, locks_on, with_locks, locked, unlocked, without_holder}
 
 -- comparing the ends of two ranges says whether some number is in both: also of empty ranges, and of those up to the
 -- number 2^64 - 1
@@ -44,6 +44,10 @@ EachFileHasItsLocks =
     (table : Table) (file : ℕ) (locks : List Lock) → GoodLockTable table →
     (locks_on (with_locks table file locks) file ≡ locks) ×
     ((other : ℕ) → other ≢ file → locks_on (with_locks table file locks) other ≡ locks_on table other)
+
+-- the locks that an open does not hold
+abbrev pub others_locks : ℕ → List Lock → List Lock
+others_locks holder = filter (λ lock. not (lock.holder == holder))
 
 -- an open that is dropped holds nothing, and every other lock stays, in order
 abbrev pub ADroppedOpenHoldsNothing : Type 0

@@ -6,3 +6,4 @@ pub mod Unlocking
 pub mod Table
 pub mod Good
 pub mod Laws
+pub mod Parts

@@ -30,16 +30,13 @@ abbrev pub unlocked : Table → ℕ → ℕ → List LockAsk → Table
 unlocked table file holder asks =
     if are_unlocks asks then with_locks table file (left_by holder (locks_on table file) asks) else table
 
--- the locks that an open does not hold
-abbrev pub others_locks : ℕ → List Lock → List Lock
-others_locks holder = filter (λ lock. not (lock.holder == holder))
-
 -- without the locks of an open, on whichever files it holds them
 abbrev pub without_holder : ℕ → Table → Table
 without_holder holder table =
-    filter (λ entry. nat_lt 0 (length entry.1)) (map (λ entry. (entry.0, others_locks holder entry.1)) table)
+    filter (λ entry. nat_lt 0 (length entry.1))
+    (map (λ entry. (entry.0, filter (λ lock. not (lock.holder == holder)) entry.1)) table)
 
 -- an open holds locks on no file but this one: of every other file all locks are others'
 abbrev pub HoldsNoneElsewhere : Table → ℕ → ℕ → Type 0
 HoldsNoneElsewhere table file holder =
-    (other : ℕ) → other ≢ file → others_locks holder (locks_on table other) ≡ locks_on table other
+    (other : ℕ) → other ≢ file → filter (λ lock. not (lock.holder == holder)) (locks_on table other) ≡ locks_on table other

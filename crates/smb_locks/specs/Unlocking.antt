@@ -1,6 +1,7 @@
 -- Requests that unlock, over the locks of a file, oldest first ([MS-SMB2] 3.3.5.14.1).
 use Rattle.std.specs.Prelude.{ℕ, ◌+◌, ◌==◌, ◌&&◌, Bool, not, List, [], ◌∷◌, if◌then◌else◌, Option, None, Some, is_some}
 use Rattle.std.specs.List.{list_any}
+use Rattle.std.specs.Option.{option_map_or}
 use Rattle.smb_locks.specs.declared.ask.LockAsk.{LockAsk}
 use Rattle.smb_locks.specs.declared.fault.LockFault.{LockFault}
 use Rattle.smb_locks.specs.declared.fault.LockFault.TheVariants.{BadFlags, BadRange, NotLocked}
@@ -33,16 +34,11 @@ left_by holder locks (ask ∷ asks) =
     if is_some (unlock_fault holder locks (range_asked ask)) then locks
     else left_by holder (without_oldest (is_lock_over holder (range_asked ask)) locks) asks
 
--- the refusal of the elements from a place on: of this one, or else of those behind it
-abbrev pub unlock_error_at : ℕ → Option LockFault → Option UnlockError → Option UnlockError
-unlock_error_at done None later = later
-unlock_error_at done (Some fault) later = Some (record { done = done; fault = fault })
-
 -- where so many are done: the first element that is refused, by how many were done before it, and why
 abbrev pub unlock_error_from : ℕ → ℕ → List Lock → List LockAsk → Option UnlockError
 unlock_error_from done holder locks [] = None
 unlock_error_from done holder locks (ask ∷ asks) =
-    unlock_error_at done (unlock_fault holder locks (range_asked ask))
+    option_map_or (λ fault. Some (record { done = done; fault = fault })) (unlock_fault holder locks (range_asked ask))
     (unlock_error_from (done + 1) holder (without_oldest (is_lock_over holder (range_asked ask)) locks) asks)
 
 -- why a request is refused: the flags of all its elements come first

@@ -1,7 +1,8 @@
 //! What the elements of a LOCK request ask.
 
 ghost use Rattle.std.specs.Prelude.{◌≡◌, ◌&&◌, ◌||◌};
-ghost use Rattle.smb_locks.specs.Asks.{is_immediate, may_wait, is_unlock, are_locks, are_unlocks, range_asked, lock_by};
+ghost use Rattle.smb_locks.specs.Asks.{are_unlocks, range_asked};
+ghost use Rattle.smb_locks.specs.Parts.{is_immediate, may_wait, is_unlock, are_locks, lock_by};
 
 use super::lock::Lock;
 use super::range::ByteRange;

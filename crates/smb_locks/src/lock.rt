@@ -1,7 +1,8 @@
 //! A lock of a file.
 
 ghost use Rattle.std.specs.Prelude.{◌≡◌};
-ghost use Rattle.smb_locks.specs.Conflicts.{conflicts, bars_read, bars_write};
+ghost use Rattle.smb_locks.specs.Conflicts.{conflicts};
+ghost use Rattle.smb_locks.specs.Parts.{bars_read, bars_write};
 ghost use Rattle.smb_locks.specs.Unlocking.{is_lock_over};
 
 use super::range::ByteRange;

@@ -17,10 +17,10 @@ use Rattle.smb_access.specs.Asked.{FileAsked}
 use Rattle.smb_access.specs.Close.{has_mark}
 use Rattle.smb_access.specs.Numbers.{AreRising}
 use Rattle.smb_access.specs.Opens.{open_of, open_numbers, AreAllBelow}
-use Rattle.smb_access.specs.Present.{ArePresent}
+use Rattle.smb_access.specs.Parts.{ArePresent, AreCompatible}
 use Rattle.smb_access.specs.Scans.{no_scan}
-use Rattle.smb_access.specs.Sharing.{AreCompatible}
-use Rattle.smb_opens.specs.Good.{GoodStore, IsMasked, AreMasked}
+use Rattle.smb_opens.specs.Good.{GoodStore, IsMasked}
+use Rattle.smb_opens.specs.Parts.{AreMasked}
 use Rattle.smb_opens.specs.State.{StoreState}
 use Rattle.smb_opens.proofs.Conflicts.{compatible_pushed}
 

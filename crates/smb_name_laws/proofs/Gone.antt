@@ -13,13 +13,15 @@ use Rattle.smb_tree.proofs.Apart.{numbered-from_at, at-from_numbered, number-fro
 use Rattle.smb_tree.proofs.Keys.{same_path-eq, same_path-itself}
 use Rattle.smb_tree.proofs.Removals.{at-without}
 use Rattle.smb_access.specs.declared.open_row.OpenRow.{OpenRow}
-use Rattle.smb_access.specs.Close.{can_be_deleted, is_deletable, has_mark, tree_marked, is_due, tree_cleared}
+use Rattle.smb_access.specs.Close.{is_deletable, has_mark}
+use Rattle.smb_access.specs.Parts.{can_be_deleted, tree_marked, is_due, tree_cleared, is_on_entry}
 use Rattle.smb_access.specs.Numbers.{AreRising}
-use Rattle.smb_access.specs.Opens.{open_of, without_open, open_numbers, has_open, is_on_entry}
+use Rattle.smb_access.specs.Opens.{open_of, without_open, open_numbers, has_open}
 use Rattle.smb_access.proofs.Removed.{numbered-removed}
 use Rattle.smb_access.proofs.Rows.{rising_without}
 use Rattle.smb_entry.proofs.Looks.{hit}
-use Rattle.smb_opens.specs.Close.{closed_open, closed}
+use Rattle.smb_opens.specs.Close.{closed}
+use Rattle.smb_opens.specs.Parts.{closed_open}
 use Rattle.smb_opens.specs.Good.{GoodStore}
 use Rattle.smb_opens.specs.State.{StoreState}
 use Rattle.smb_opens.proofs.Closing.{number_found, IsMarked, tree_marked_marked, goes, closed_is}

@@ -9,8 +9,9 @@ use Rattle.smb_tree.specs.Good.{GoodContent}
 use Rattle.smb_tree.proofs.Apart.{numbered-from_at, at-push, at-changed, numbered-fresh}
 use Rattle.smb_tree.proofs.Keys.{same_path-itself}
 use Rattle.smb_access.specs.declared.open_row.OpenRow.{OpenRow}
-use Rattle.smb_access.specs.Asked.{FileAsked, asks_file, kind_asked}
-use Rattle.smb_access.specs.Effect.{overwritten, overwritten_tree, entry_after, tree_after, opened_by}
+use Rattle.smb_access.specs.Asked.{FileAsked, kind_asked}
+use Rattle.smb_access.specs.Parts.{asks_file, overwritten_tree, opened_by}
+use Rattle.smb_access.specs.Effect.{overwritten, entry_after, tree_after}
 use Rattle.smb_access.specs.Found.{path_asked}
 use Rattle.smb_access.specs.Opens.{open_of, AreAllBelow}
 use Rattle.smb_opens.specs.Create.{access_granted, create_status}

@@ -19,10 +19,12 @@ use Rattle.smb_tree.proofs.Keys.{same_path-eq, same_path-itself, same_path-sym}
 use Rattle.smb_access.specs.declared.open_row.OpenRow.{OpenRow}
 use Rattle.smb_access.specs.declared.view.View.{View}
 use Rattle.smb_access.specs.Found.{is_read_only_file}
-use Rattle.smb_access.specs.Opens.{open_of, has_open, is_on_entry}
+use Rattle.smb_access.specs.Opens.{open_of, has_open}
+use Rattle.smb_access.specs.Parts.{is_on_entry, view_at, view_through}
 use Rattle.smb_access.specs.StatusRows.{StatusRow, first_status}
-use Rattle.smb_access.specs.Views.{view_of, view_at, view_through}
-use Rattle.smb_entry.specs.Rename.{path_named, path_numbered, is_not_replaced, rename_rows, dated, renamed_tree}
+use Rattle.smb_access.specs.Views.{view_of}
+use Rattle.smb_entry.specs.Rename.{path_named, path_numbered}
+use Rattle.smb_entry.specs.Parts.{is_not_replaced, rename_rows, dated, renamed_tree}
 use Rattle.smb_entry.specs.Ways.{name_rows}
 use Rattle.smb_entry.proofs.Looks.{hit}
 use Rattle.smb_entry.proofs.Under.{path_found, path_at}

@@ -10,11 +10,13 @@ use Rattle.smb_tree.proofs.Apart.{numbered-changed}
 use Rattle.smb_tree.proofs.Removals.{at-without_none}
 use Rattle.smb_access.specs.declared.open_row.OpenRow.{OpenRow}
 use Rattle.smb_access.specs.declared.open_row.Owner.{Owner}
-use Rattle.smb_access.specs.Close.{is_deletable, tree_marked, is_due}
-use Rattle.smb_access.specs.Opens.{open_of, without_open, open_numbers, has_open, is_on_entry, is_held_by}
+use Rattle.smb_access.specs.Close.{is_deletable}
+use Rattle.smb_access.specs.Parts.{tree_marked, is_due, is_on_entry}
+use Rattle.smb_access.specs.Opens.{open_of, without_open, open_numbers, has_open, is_held_by}
 use Rattle.smb_access.proofs.Removed.{numbered-removed, deletable_removed}
 use Rattle.smb_access.proofs.Rows.{rising_without}
-use Rattle.smb_opens.specs.Close.{closed_open, closed, closed_each, closed_all}
+use Rattle.smb_opens.specs.Close.{closed, closed_all}
+use Rattle.smb_opens.specs.Parts.{closed_open, closed_each}
 use Rattle.smb_opens.specs.Good.{GoodStore}
 use Rattle.smb_opens.specs.State.{StoreState}
 use Rattle.smb_opens.proofs.Closing.{tree_marked_marked, opens_closed, good_closed}

@@ -9,11 +9,12 @@ use Rattle.smb_locks.specs.Table.{Table, locked, unlocked}
 use Rattle.smb_access.specs.declared.open_row.OpenRow.{OpenRow}
 use Rattle.smb_access.specs.declared.view.View.{View}
 use Rattle.smb_access.specs.Asked.{FileAsked}
-use Rattle.smb_access.specs.Effect.{overwritten, overwritten_tree, entry_after, tree_after}
+use Rattle.smb_access.specs.Effect.{overwritten, entry_after, tree_after}
+use Rattle.smb_access.specs.Parts.{overwritten_tree}
 use Rattle.smb_access.specs.Found.{path_asked}
 use Rattle.smb_access.specs.Opens.{open_of}
-use Rattle.smb_entry.specs.Bytes.{written_file, written_tree}
-use Rattle.smb_entry.specs.SetInfo.{changed_in, delete_set, size_set, entry_set}
+use Rattle.smb_entry.specs.Parts.{written_file, written_tree, delete_set, size_set, entry_set}
+use Rattle.smb_entry.specs.SetInfo.{changed_in}
 use Rattle.smb_opens.specs.Found.{entry_asked}
 use Rattle.smb_opens.specs.Locks.{with_locks_of}
 use Rattle.smb_opens.specs.State.{StoreState}

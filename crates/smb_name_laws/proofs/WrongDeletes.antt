@@ -8,7 +8,7 @@ use Rattle.smb_tree.specs.Entries.{Entry}
 use Rattle.smb_access.specs.declared.open_row.OpenRow.{OpenRow}
 use Rattle.smb_access.specs.declared.open_row.Owner.{Owner}
 use Rattle.smb_access.specs.declared.open_row.Owner.TheVariants.{Session}
-use Rattle.smb_access.specs.Close.{tree_marked, tree_cleared}
+use Rattle.smb_access.specs.Parts.{tree_marked, tree_cleared}
 use Rattle.smb_access.specs.Opens.{open_of, first_held_by, is_held_by}
 use Rattle.smb_opens.specs.Close.{closed, closed_all}
 use Rattle.smb_opens.specs.Good.{GoodStore}

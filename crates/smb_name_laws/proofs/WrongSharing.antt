@@ -12,8 +12,9 @@ use Rattle.smb_access.specs.declared.open_row.OpenRow.{OpenRow}
 use Rattle.smb_access.specs.Access.{granted}
 use Rattle.smb_access.specs.Asked.{FileAsked, share_asked}
 use Rattle.smb_access.specs.Found.{is_read_only_file}
-use Rattle.smb_access.specs.Opens.{open_of, is_on_entry}
-use Rattle.smb_access.specs.Sharing.{Use, is_shared_access, is_kept_out, is_conflict, use_asked, use_of}
+use Rattle.smb_access.specs.Opens.{open_of}
+use Rattle.smb_access.specs.Parts.{is_on_entry, Use, use_of}
+use Rattle.smb_access.specs.Sharing.{is_shared_access, is_kept_out, is_conflict, use_asked}
 use Rattle.smb_access.specs.StatusRows.{first_status}
 use Rattle.smb_opens.specs.Create.{create_rows, create_status}
 use Rattle.smb_opens.specs.Found.{entry_asked}

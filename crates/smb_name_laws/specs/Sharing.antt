@@ -7,7 +7,7 @@ use Rattle.smb_tree.specs.Entries.{Entry}
 use Rattle.smb_access.specs.declared.open_row.OpenRow.{OpenRow}
 use Rattle.smb_access.specs.Asked.{FileAsked, share_asked}
 use Rattle.smb_access.specs.Opens.{open_of}
-use Rattle.smb_access.specs.Sharing.{is_shared_access, is_kept_out, is_conflict, use_asked, use_of}
+use Rattle.smb_access.specs.Sharing.{is_shared_access, is_kept_out, is_conflict, use_asked}
 use Rattle.smb_opens.specs.Close.{closed}
 use Rattle.smb_opens.specs.Create.{access_granted, create_status}
 use Rattle.smb_opens.specs.Found.{entry_asked}
@@ -66,7 +66,7 @@ WhoUsesNothingIsNotRefused =
 abbrev pub NoOtherConflicts : StoreState → FileAsked → Entry → ℕ → Type 0
 NoOtherConflicts state ask entry number =
     (other : ℕ) (row : OpenRow) → open_of state.opens other ≡ Some row → row.entry ≡ entry.number → other ≢ number →
-    is_conflict (use_asked ask (access_granted state ask)) (use_of row) ≡ false
+    is_conflict (use_asked ask (access_granted state ask)) (row.access, row.share) ≡ false
 
 -- a CREATE that is refused for one open's sharing alone succeeds once that open is closed, unless this was to delete
 -- the entry, or no number of an open is left

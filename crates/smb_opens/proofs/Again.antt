@@ -9,7 +9,7 @@ use Rattle.smb_tree.proofs.AfterWrites.{other_changed, read_written}
 use Rattle.smb_tree.proofs.Apart.{numbered-changed}
 use Rattle.smb_access.specs.declared.open_row.OpenRow.{OpenRow}
 use Rattle.smb_opens.specs.Bytes.{file_bytes, written_to}
-use Rattle.smb_entry.specs.Bytes.{written_file, written_tree}
+use Rattle.smb_entry.specs.Parts.{written_file, written_tree}
 use Rattle.smb_access.specs.Opens.{open_of}
 use Rattle.smb_opens.specs.State.{StoreState}
 

@@ -4,16 +4,19 @@ use Rattle.std.specs.Option.{option_map_or}
 use Rattle.smb_wire.specs.declared.nt_status.NtStatus.TheVariants.{Success, InvalidParameter, InvalidDeviceRequest, AccessDenied, FileLockConflict, FileClosed}
 use Rattle.smb_access.specs.StatusRows.{first_status}
 use Rattle.smb_locks.specs.declared.lock.Lock.{Lock}
-use Rattle.smb_locks.specs.Conflicts.{BarsRead, bars_read, BarsWrite, bars_write}
+use Rattle.smb_locks.specs.Conflicts.{BarsRead, BarsWrite}
+use Rattle.smb_locks.specs.Parts.{bars_read, bars_write}
+use Rattle.smb_locks.specs.Laws.{others_locks}
 use Rattle.smb_locks.specs.Ranges.{Overlap}
-use Rattle.smb_locks.specs.Table.{locks_on, others_locks}
+use Rattle.smb_locks.specs.Table.{locks_on}
 use Rattle.smb_locks.proofs.Ends.{read_test_from_bar, write_test_from_bar, test_from_some}
 use Rattle.smb_locks.proofs.Tables.{good_on, on_dropped, compatible_pair}
 use Rattle.smb_access.specs.declared.open_row.OpenRow.{OpenRow}
 use Rattle.smb_access.specs.declared.view.View.{View}
-use Rattle.smb_entry.specs.Bytes.{keeps_from_reading, keeps_from_writing, read_rows, write_rows, has_no_room}
+use Rattle.smb_entry.specs.Parts.{keeps_from_reading, keeps_from_writing, read_rows, write_rows, has_no_room}
 use Rattle.smb_opens.specs.Bytes.{read_status, write_status}
-use Rattle.smb_opens.specs.Close.{closed, closed_open}
+use Rattle.smb_opens.specs.Close.{closed}
+use Rattle.smb_opens.specs.Parts.{closed_open}
 use Rattle.smb_opens.specs.Good.{GoodStore}
 use Rattle.smb_access.specs.Opens.{open_of}
 use Rattle.smb_opens.specs.State.{StoreState}

@@ -21,12 +21,14 @@ use Rattle.smb_tree.proofs.Keys.{same_path-eq, same_path-sym}
 use Rattle.smb_tree.proofs.Kept.{numbers_kept, replaced_gone, good_kept}
 use Rattle.smb_tree.proofs.Renamed.{same_number}
 use Rattle.smb_access.specs.declared.open_row.OpenRow.{OpenRow}
-use Rattle.smb_access.specs.Close.{can_be_deleted, has_mark}
-use Rattle.smb_access.specs.Found.{is_marked, is_pending}
-use Rattle.smb_access.specs.Present.{ArePresent}
-use Rattle.smb_opens.specs.Good.{AreMarksDue, IsKept}
+use Rattle.smb_access.specs.Close.{has_mark}
+use Rattle.smb_access.specs.Parts.{can_be_deleted, is_marked, ArePresent}
+use Rattle.smb_access.specs.Found.{is_pending}
+use Rattle.smb_opens.specs.Good.{IsKept}
+use Rattle.smb_opens.specs.Parts.{AreMarksDue}
 use Rattle.smb_access.specs.Opens.{has_open}
-use Rattle.smb_entry.specs.Rename.{is_beneath, path_numbered, has_open_beneath, is_not_replaced}
+use Rattle.smb_entry.specs.Rename.{is_beneath, path_numbered}
+use Rattle.smb_entry.specs.Parts.{has_open_beneath, is_not_replaced}
 use Rattle.smb_opens.specs.State.{StoreState}
 use Rattle.smb_access.proofs.Removed.{leaf, length-removed}
 use Rattle.smb_access.proofs.Trees.{at_path, above_at}

@@ -10,12 +10,13 @@ use Rattle.smb_locks.proofs.Tables.{good_dropped}
 use Rattle.smb_tree.proofs.Apart.{numbered-changed}
 use Rattle.smb_access.specs.declared.open_row.OpenRow.{OpenRow}
 use Rattle.smb_access.specs.declared.view.View.{View}
-use Rattle.smb_access.specs.Close.{is_deletable, has_mark, tree_marked, tree_cleared, is_due}
-use Rattle.smb_opens.specs.Close.{closed_open, closed, removes_entry, is_removed_with}
+use Rattle.smb_access.specs.Close.{is_deletable, has_mark}
+use Rattle.smb_access.specs.Parts.{tree_marked, tree_cleared, is_due, ArePresent}
+use Rattle.smb_opens.specs.Close.{closed, is_removed_with}
+use Rattle.smb_opens.specs.Parts.{closed_open, removes_entry, AreMarksDue}
 use Rattle.smb_tree.specs.Good.{GoodContent, AreLawful}
 use Rattle.smb_tree.proofs.Lawful.{lawful_changed, lawful_without}
-use Rattle.smb_opens.specs.Good.{GoodStore, IsKept, IsMasked, AreMarksDue}
-use Rattle.smb_access.specs.Present.{ArePresent}
+use Rattle.smb_opens.specs.Good.{GoodStore, IsKept, IsMasked}
 use Rattle.smb_access.specs.Numbers.{AreRising}
 use Rattle.smb_access.specs.Opens.{open_of, without_open, open_numbers, has_open}
 use Rattle.smb_opens.specs.State.{StoreState}

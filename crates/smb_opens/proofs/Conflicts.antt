@@ -3,9 +3,9 @@ use Rattle.std.proofs.Common.{◌≡◌, ◌==◌, ℕ, List, [], ◌∷◌, ◌
 use Rattle.std.proofs.lemmas.Bool.Decides.{nat_tests}
 use Rattle.smb_tree.specs.Content.{Row, numbered}
 use Rattle.smb_access.specs.declared.open_row.OpenRow.{OpenRow}
-use Rattle.smb_access.specs.Present.{ArePresent}
+use Rattle.smb_access.specs.Parts.{ArePresent, Use, use_of, has_conflict, AreCompatible}
 use Rattle.smb_access.specs.Opens.{open_of, without_open}
-use Rattle.smb_access.specs.Sharing.{Use, is_shared_access, is_kept_out, is_conflict, use_of, has_conflict, AreCompatible}
+use Rattle.smb_access.specs.Sharing.{is_shared_access, is_kept_out, is_conflict}
 
 both_ways : (a b c d : Bool) → (a && b && (c || d)) ≡ (b && a && (d || c))
 both_ways a b c d = grind arith

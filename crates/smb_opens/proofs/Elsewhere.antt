@@ -6,8 +6,10 @@ use Rattle.smb_tree.specs.Entries.{Entry}
 use Rattle.smb_tree.specs.Content.{Row, Content, numbered, with_mark, removed}
 use Rattle.smb_tree.specs.Laws.{AreApart}
 use Rattle.smb_tree.proofs.Apart.{numbered-changed}
-use Rattle.smb_access.specs.Close.{is_deletable, tree_marked, is_due}
-use Rattle.smb_opens.specs.Close.{closed, closed_open}
+use Rattle.smb_access.specs.Close.{is_deletable}
+use Rattle.smb_access.specs.Parts.{tree_marked, is_due}
+use Rattle.smb_opens.specs.Close.{closed}
+use Rattle.smb_opens.specs.Parts.{closed_open}
 use Rattle.smb_opens.specs.Good.{GoodStore}
 use Rattle.smb_access.specs.Opens.{open_of, without_open}
 use Rattle.smb_opens.specs.State.{StoreState}

@@ -9,11 +9,13 @@ use Rattle.smb_locks.specs.declared.ask.LockAsk.{LockAsk}
 use Rattle.smb_locks.specs.declared.lock.Lock.{Lock}
 use Rattle.smb_locks.specs.Good.{GoodLockTable}
 use Rattle.smb_locks.specs.Locking.{lock_all_fault}
-use Rattle.smb_locks.specs.Table.{Table, HoldsNoneElsewhere, locks_on, locked, unlocked, others_locks, without_holder}
+use Rattle.smb_locks.specs.Table.{Table, HoldsNoneElsewhere, locks_on, locked, unlocked, without_holder}
+use Rattle.smb_locks.specs.Laws.{others_locks}
 use Rattle.smb_locks.proofs.Members.{member_locked, member_unlocked, member_dropped, others_kept}
 use Rattle.smb_locks.proofs.Tables.{good_locked, good_unlocked}
 use Rattle.smb_access.specs.declared.open_row.OpenRow.{OpenRow}
-use Rattle.smb_opens.specs.Good.{AreLocksHeld, GoodStore, IsKept}
+use Rattle.smb_opens.specs.Good.{GoodStore, IsKept}
+use Rattle.smb_opens.specs.Parts.{AreLocksHeld}
 use Rattle.smb_access.specs.Opens.{open_of, without_open}
 use Rattle.smb_opens.specs.State.{StoreState}
 use Rattle.smb_access.proofs.Rows.{all_more}

@@ -4,11 +4,12 @@ use Rattle.std.specs.Option.{option_map}
 use Rattle.smb_tree.specs.Content.{Row, numbered}
 use Rattle.smb_access.specs.declared.open_row.OpenRow.{OpenRow}
 use Rattle.smb_access.specs.declared.open_row.Owner.{Owner}
-use Rattle.smb_opens.specs.Close.{closed, closed_all, closed_each}
+use Rattle.smb_opens.specs.Close.{closed, closed_all}
+use Rattle.smb_opens.specs.Parts.{closed_each}
 use Rattle.smb_opens.specs.Good.{GoodStore}
 use Rattle.smb_access.specs.Opens.{open_of, first_held_by}
 use Rattle.smb_opens.specs.State.{StoreState}
-use Rattle.smb_access.specs.Views.{view_at, view_through}
+use Rattle.smb_access.specs.Parts.{view_at, view_through}
 use Rattle.smb_opens.proofs.Closing.{opens_closed}
 use Rattle.smb_access.proofs.Rows.{found, numbers_held, first_stands, first_closed, none_held}
 

@@ -14,7 +14,8 @@ use Rattle.smb_locks.specs.Asks.{are_unlocks, range_asked}
 use Rattle.smb_locks.specs.Locking.{lock_all_fault}
 use Rattle.smb_locks.specs.Ranges.{is_past_the_end}
 use Rattle.smb_locks.specs.Table.{Table, locks_on, locked}
-use Rattle.smb_locks.specs.Unlocking.{is_lock_over, without_oldest, unlock_error_at, unlock_error_from, unlock_all_error}
+use Rattle.smb_locks.specs.Unlocking.{is_lock_over, without_oldest, unlock_error_from, unlock_all_error}
+use Rattle.smb_locks.specs.Parts.{unlock_error_at}
 use Rattle.smb_access.specs.declared.fault.StoreFault.{StoreFault}
 use Rattle.smb_access.specs.declared.view.View.{View}
 use Rattle.smb_access.specs.Faults.{IsRefusal}

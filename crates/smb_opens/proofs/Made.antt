@@ -24,26 +24,24 @@ use Rattle.smb_access.specs.declared.view.Created.{Created as CreatedOpen}
 use Rattle.smb_wire.specs.declared.access.Access.{Access}
 use Rattle.smb_wire.specs.Dispositions.{overwrites_by}
 use Rattle.smb_access.specs.Asked.{FileAsked, share_asked, kind_asked, attributes_asked}
-use Rattle.smb_access.specs.Effect.{overwritten, overwritten_tree, standing_tree, entry_after, opened_by, action_on}
-use Rattle.smb_opens.specs.Effect.{create_result_by, created_by}
-use Rattle.smb_opens.specs.Found.{has_all_opens}
-use Rattle.smb_access.specs.Found.{is_marked}
+use Rattle.smb_access.specs.Effect.{overwritten, entry_after}
+use Rattle.smb_access.specs.Parts.{overwritten_tree, standing_tree, opened_by, action_on, is_marked, ArePresent, use_of, has_conflict, view_at}
+use Rattle.smb_opens.specs.Parts.{create_result_by, created_by, has_all_opens, AreMarksDue}
 use Rattle.smb_access.specs.Looked.{target_of, is_read_only_target, target_conflicts}
 use Rattle.smb_tree.specs.Good.{GoodContent, AreLawful}
 use Rattle.smb_tree.proofs.Lawful.{lawful_changed, lawful_push, lawful_new, keeps_kept, kept_twice}
-use Rattle.smb_opens.specs.Good.{GoodStore, IsKept, IsMasked, AreMarksDue}
-use Rattle.smb_access.specs.Present.{ArePresent}
+use Rattle.smb_opens.specs.Good.{GoodStore, IsKept, IsMasked}
 use Rattle.smb_access.specs.Opens.{without_open, AreAllBelow}
 use Rattle.smb_access.specs.Access.{granted}
 use Rattle.smb_access.specs.Close.{has_mark}
-use Rattle.smb_access.specs.Sharing.{use_asked, use_of, has_conflict}
+use Rattle.smb_access.specs.Sharing.{use_asked}
 use Rattle.smb_wire.specs.Access.{FILE_WRITE_DATA, FILE_ALL_ACCESS, FILE_SHARE_ALL}
 use Rattle.smb_access.proofs.Granted.{granted_masked, share_masked}
 use Rattle.smb_opens.proofs.Conflicts.{compatible_pushed, fresh_conflict, less_conflict}
 use Rattle.smb_access.proofs.Marks.{mark_pushed, mark_changed, deletable_pushed, deletable_changed, open_pushed_too}
 use Rattle.smb_access.proofs.Mores.{more_conflicts, or_has}
 use Rattle.smb_opens.specs.State.{StoreState}
-use Rattle.smb_access.specs.Views.{view_of, view_at}
+use Rattle.smb_access.specs.Views.{view_of}
 use Rattle.smb_opens.proofs.Held.{held_pushed}
 use Rattle.smb_access.proofs.Rows.{all_push, rising_push, below_push, without_last}
 use Rattle.smb_access.proofs.Changes.{free_path, good_push, numbered-last, good_changed, keeps_of, length-changed, present_push, present_changed}

@@ -8,7 +8,8 @@ use Rattle.smb_tree.specs.Content.{Path, Row, Content, is_same_path, entry_at, c
 use Rattle.smb_tree.proofs.Apart.{at-changed, at-push, numbered-from_at}
 use Rattle.smb_wire.specs.Dispositions.{overwrites_by}
 use Rattle.smb_access.specs.Asked.{FileAsked}
-use Rattle.smb_access.specs.Effect.{overwritten, overwritten_tree, tree_after, entry_after}
+use Rattle.smb_access.specs.Effect.{overwritten, tree_after, entry_after}
+use Rattle.smb_access.specs.Parts.{overwritten_tree}
 use Rattle.smb_opens.specs.Effect.{created}
 use Rattle.smb_access.specs.Found.{path_asked}
 use Rattle.smb_opens.specs.Found.{entry_asked}

@@ -15,7 +15,8 @@ use Rattle.smb_access.specs.declared.fault.StoreFault.TheVariants.{Status, NoMem
 use Rattle.smb_wire.specs.NtStatus.{status_code}
 use Rattle.smb_access.specs.declared.open_row.OpenRow.{OpenRow}
 use Rattle.smb_access.specs.declared.found.CreateLookup.{CreateLookup}
-use Rattle.smb_access.specs.Asked.{FileAsked, asks_file, asks_past_reading}
+use Rattle.smb_access.specs.Asked.{FileAsked}
+use Rattle.smb_access.specs.Parts.{asks_file, asks_past_reading, is_marked}
 use Rattle.smb_wire.specs.declared.nt_status.NtStatus.{NtStatus}
 use Rattle.smb_wire.specs.declared.nt_status.NtStatus.TheVariants.{Success, SharingViolation}
 use Rattle.smb_access.specs.declared.found.Target.{Target}
@@ -25,8 +26,9 @@ use Rattle.smb_opens.specs.Create.{create_rows, create_status, access_granted}
 use Rattle.smb_access.specs.Looked.{target_of, asked_rows, place_rows, kind_rows, room_rows, found_rows, is_read_only_target, is_folder_target, is_marked_target, target_conflicts}
 use Rattle.smb_opens.specs.Looked.{found_at, found_by}
 use Rattle.smb_access.specs.Faults.{IsRefusal}
-use Rattle.smb_access.specs.Found.{path_asked, is_read_only_file, is_reached, is_marked, is_pending}
-use Rattle.smb_opens.specs.Found.{entry_asked, has_all_opens, has_all_entries}
+use Rattle.smb_access.specs.Found.{path_asked, is_read_only_file, is_reached, is_pending}
+use Rattle.smb_opens.specs.Found.{entry_asked}
+use Rattle.smb_opens.specs.Parts.{has_all_opens, has_all_entries}
 use Rattle.smb_opens.specs.Good.{GoodStore}
 use Rattle.smb_opens.specs.State.{StoreState}
 use Rattle.smb_access.proofs.Trees.{reached_folder}

@@ -14,7 +14,8 @@ use Rattle.smb_access.specs.declared.open_row.OpenRow.{OpenRow}
 use Rattle.smb_opens.specs.Good.{GoodStore}
 use Rattle.smb_opens.specs.Laws.{kind_and_bytes}
 use Rattle.smb_access.specs.Opens.{open_of}
-use Rattle.smb_entry.specs.Rename.{path_named, dated, renamed_tree}
+use Rattle.smb_entry.specs.Rename.{path_named}
+use Rattle.smb_entry.specs.Parts.{dated, renamed_tree}
 use Rattle.smb_opens.specs.Renames.{renamed_through}
 use Rattle.smb_opens.specs.State.{StoreState}
 use Rattle.smb_opens.proofs.Once.{AreOnce, once_of_apart, numbered-once}

@@ -9,14 +9,16 @@ use Rattle.smb_tree.proofs.Apart.{numbered-from_at}
 use Rattle.smb_access.specs.declared.open_row.OpenRow.{OpenRow}
 use Rattle.smb_access.specs.Asked.{FileAsked, kind_asked, attributes_asked}
 use Rattle.smb_opens.specs.Create.{access_granted}
-use Rattle.smb_access.specs.Effect.{overwritten, tree_after, entry_after, opened_by}
-use Rattle.smb_opens.specs.Effect.{created_by, created, create_result}
+use Rattle.smb_access.specs.Effect.{overwritten, tree_after, entry_after}
+use Rattle.smb_access.specs.Parts.{opened_by, view_at, view_through}
+use Rattle.smb_opens.specs.Effect.{created, create_result}
+use Rattle.smb_opens.specs.Parts.{created_by}
 use Rattle.smb_access.specs.Found.{path_asked}
 use Rattle.smb_opens.specs.Found.{entry_asked}
 use Rattle.smb_opens.specs.Good.{GoodStore}
 use Rattle.smb_access.specs.Opens.{open_of, AreAllBelow}
 use Rattle.smb_opens.specs.State.{StoreState}
-use Rattle.smb_access.specs.Views.{view_of, view_at, view_through}
+use Rattle.smb_access.specs.Views.{view_of}
 use Rattle.smb_opens.specs.Views.{open_view}
 use Rattle.smb_opens.proofs.Made.{shown_added, shown_standing}
 

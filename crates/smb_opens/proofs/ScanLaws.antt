@@ -6,11 +6,11 @@ use Rattle.smb_tree.specs.Content.{Row, Content, numbered}
 use Rattle.smb_locks.specs.Table.{Table}
 use Rattle.smb_access.specs.declared.open_row.OpenRow.{OpenRow}
 use Rattle.smb_access.specs.declared.scan.Scan.{Scan}
-use Rattle.smb_access.specs.Opens.{open_of, open_numbers, has_open, has_number, with_scan}
-use Rattle.smb_access.specs.Present.{ArePresent}
-use Rattle.smb_access.specs.Sharing.{Use, AreCompatible, is_conflict, use_of}
-use Rattle.smb_access.specs.Views.{view_through}
-use Rattle.smb_opens.specs.Good.{GoodStore, IsKept, IsMasked, AreMasked}
+use Rattle.smb_access.specs.Opens.{open_of, open_numbers, has_open, with_scan}
+use Rattle.smb_access.specs.Parts.{has_number, ArePresent, Use, AreCompatible, use_of, view_through}
+use Rattle.smb_access.specs.Sharing.{is_conflict}
+use Rattle.smb_opens.specs.Good.{GoodStore, IsKept, IsMasked}
+use Rattle.smb_opens.specs.Parts.{AreMasked}
 use Rattle.smb_opens.specs.Laws.{LeavesScan}
 use Rattle.smb_opens.specs.Scans.{scan_set}
 use Rattle.smb_opens.specs.State.{StoreState}

@@ -7,7 +7,8 @@ use Rattle.smb_access.specs.declared.open_row.OpenRow.{OpenRow}
 use Rattle.smb_access.specs.declared.view.View.{View}
 use Rattle.smb_access.specs.Opens.{open_of}
 use Rattle.smb_opens.specs.State.{StoreState}
-use Rattle.smb_access.specs.Views.{view_of, view_through}
+use Rattle.smb_access.specs.Views.{view_of}
+use Rattle.smb_access.specs.Parts.{view_through}
 use Rattle.smb_opens.specs.Views.{open_view}
 
 -- the open of a number and its entry, which show this

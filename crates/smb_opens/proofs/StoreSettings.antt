@@ -4,7 +4,7 @@ use Rattle.std.proofs.lemmas.Bool.{eqb-true}
 use Rattle.std.proofs.lemmas.Bool.Decides.{nat_tests}
 use Rattle.std.specs.Option.{option_map, option_map_or}
 use Rattle.std.specs.Prelude.{Result, Ok, Err, OnOk, OnErr}
-use Rattle.smb_wire.specs.declared.nt_status.NtStatus.TheVariants.{Success, AccessDenied, CannotDelete, DirectoryNotEmpty}
+use Rattle.smb_wire.specs.declared.nt_status.NtStatus.TheVariants.{Success, AccessDenied, CannotDelete, DirectoryNotEmpty, FileClosed}
 use Rattle.smb_tree.specs.Children.{has_children}
 use Rattle.smb_tree.specs.Content.{Row, Content, numbered, changed, resized, used_space, with_size, with_mark}
 use Rattle.smb_tree.specs.Entries.{Entry, is_folder_kind}
@@ -16,14 +16,17 @@ use Rattle.smb_access.specs.declared.fault.StoreFault.{StoreFault}
 use Rattle.smb_access.specs.declared.open_row.OpenRow.{OpenRow}
 use Rattle.smb_access.specs.declared.view.View.{View}
 use Rattle.smb_access.specs.Access.{is_deleting}
-use Rattle.smb_access.specs.Close.{can_be_deleted, is_deletable}
+use Rattle.smb_access.specs.Close.{is_deletable}
+use Rattle.smb_access.specs.Parts.{can_be_deleted}
 use Rattle.smb_access.specs.StatusRows.{first_status}
 use Rattle.smb_tree.proofs.Lawful.{KeepsLawful, lawful_changed, keeps_kept, kept_twice}
 use Rattle.smb_tree.specs.Good.{GoodContent}
-use Rattle.smb_opens.specs.Good.{AreMarksDue, IsKept}
+use Rattle.smb_opens.specs.Good.{IsKept}
+use Rattle.smb_opens.specs.Parts.{AreMarksDue}
 use Rattle.smb_access.specs.Opens.{open_of, has_open}
-use Rattle.smb_entry.specs.SetInfo.{changed_in, shows_read_only_file, has_entries, attributes_set, delete_rows, delete_set, has_no_space, resized_file, leaves_size, size_set, entry_set}
-use Rattle.smb_opens.specs.SetInfo.{changed_through, size_set_through}
+use Rattle.smb_entry.specs.SetInfo.{changed_in}
+use Rattle.smb_entry.specs.Parts.{shows_read_only_file, has_entries, attributes_set, delete_rows, delete_set, has_no_space, resized_file, leaves_size, size_set, entry_set}
+use Rattle.smb_opens.specs.SetInfo.{changed_through, size_set_through, delete_status}
 use Rattle.smb_opens.specs.State.{StoreState}
 use Rattle.smb_access.proofs.Changes.{Keeps, Shrinks, keeps_of, good_changed, length-changed, present_changed}
 use Rattle.smb_access.proofs.Marks.{deletable_changed, mark_elsewhere}
@@ -31,6 +34,8 @@ use Rattle.smb_entry.proofs.Settings.{changed_alike}
 use Rattle.smb_opens.proofs.Shows.{ShownBy, entry_of}
 use Rattle.smb_opens.proofs.Through.{kind_shown, marks_kept}
 use Rattle.smb_entry.proofs.Writes.{good_within}
+use Rattle.smb_wire.specs.declared.nt_status.NtStatus.{NtStatus}
+use Rattle.smb_opens.specs.Views.{open_view}
 
 -- the entry that is shown exists
 pub at_shown : (state : StoreState) (number : ℕ) (view : View) → (s : ShownBy state number view) → numbered state.tree.rows view.entry ≡ Some s.row
@@ -203,3 +208,10 @@ nothing_set state number view size is_allocation moment s leaves =
     let more : leaves_size (length s.row.1.bytes) size is_allocation ≡ true = ap (λ (n : ℕ). leaves_size n size is_allocation) (sym (size_shown state number view s)) ∙ leaves in
     let same : changed f state.tree.rows view.entry ≡ state.tree.rows = changed_itself f state.tree.rows view.entry s.row (at_shown state number view s) (leaves_by size moment s.row.1 (leaves_size (length s.row.1.bytes) size is_allocation) more) in
     set_through f state number view state.tree s (sym (ap (λ (rows : List Row). let c : Content = record state.tree { rows = rows } in c) same))
+
+-- what refuses by the rows for what is shown is the status of a SET_INFO of a mark
+pub delete_refused : (state : StoreState) (number : ℕ) (view : View) (is_deleted is_occupied : Bool) (status : NtStatus) → Some view ≡ open_view state number →
+    is_occupied ≡ has_entries state.tree.rows view.entry → first_status (delete_rows view is_occupied is_deleted) ≡ status → delete_status state number is_deleted ≡ status
+delete_refused state number view is_deleted is_occupied status shows there why =
+    ap (λ (o : Option View). option_map_or (λ (v : View). first_status (delete_rows v (has_entries state.tree.rows v.entry) is_deleted)) o FileClosed) (sym shows)
+    ∙ ap (λ (b : Bool). first_status (delete_rows view b is_deleted)) (sym there) ∙ why

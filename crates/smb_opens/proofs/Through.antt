@@ -16,12 +16,13 @@ use Rattle.smb_access.specs.declared.fault.StoreFault.{StoreFault}
 use Rattle.smb_access.specs.declared.open_row.OpenRow.{OpenRow}
 use Rattle.smb_access.specs.declared.view.View.{View}
 use Rattle.smb_opens.specs.Bytes.{file_bytes, written_to}
-use Rattle.smb_entry.specs.Bytes.{keeps_from_writing, write_rows, has_no_room, written_file, written_tree}
+use Rattle.smb_entry.specs.Parts.{keeps_from_writing, write_rows, has_no_room, written_file, written_tree}
 use Rattle.smb_access.specs.StatusRows.{first_status}
 use Rattle.smb_access.specs.Faults.{IsRefusal}
 use Rattle.smb_tree.proofs.Lawful.{lawful_changed, keeps_kept, kept_twice}
 use Rattle.smb_tree.specs.Good.{GoodContent}
-use Rattle.smb_opens.specs.Good.{AreMarksDue, IsKept}
+use Rattle.smb_opens.specs.Good.{IsKept}
+use Rattle.smb_opens.specs.Parts.{AreMarksDue}
 use Rattle.smb_opens.specs.State.{StoreState}
 use Rattle.smb_access.proofs.Changes.{present_changed, length-changed}
 use Rattle.smb_access.proofs.Marks.{deletable_changed, mark_changed}

@@ -1,19 +1,43 @@
--- READ and WRITE of a file through an open of a store ([MS-SMB2] 3.3.5.12, 3.3.5.13).
-use Rattle.std.specs.Prelude.{ℕ, ◌==◌, List, [], length, if◌then◌else◌}
+-- READ and WRITE of a file through an open of a store ([MS-SMB2] 3.3.5.12, 3.3.5.13). The rows are those of docs/PROFILE.md.
+use Rattle.std.specs.Prelude.{ℕ, ◌==◌, List, [], length, if◌then◌else◌, ◌||◌, ◌&&◌, not, nat_lt, ◌∷◌, ◌-◌, nat_le, ◌+◌, min}
 use Rattle.std.specs.Option.{option_map_or}
 use Rattle.smb_wire.specs.declared.nt_status.NtStatus.{NtStatus}
-use Rattle.smb_tree.specs.Content.{bytes_read}
+use Rattle.smb_tree.specs.Content.{bytes_read, used_space, with_bytes, written}
 use Rattle.smb_access.specs.declared.open_row.OpenRow.{OpenRow}
 use Rattle.smb_access.specs.Opens.{open_of}
 use Rattle.smb_opens.specs.State.{StoreState}
 use Rattle.smb_opens.specs.declared.bytes.FilePart.{FilePart}
 use Rattle.smb_opens.specs.Views.{status_through}
-use Rattle.smb_entry.specs.Bytes.{keeps_from_reading, read_rows, keeps_from_writing, has_no_room, write_rows, written_tree}
+use Rattle.smb_wire.specs.declared.nt_status.NtStatus.TheVariants.{InvalidParameter, AccessDenied, DiskFull, InvalidDeviceRequest, EndOfFile, FileLockConflict}
+use Rattle.smb_access.specs.Access.{is_writing, is_reading}
+use Rattle.smb_locks.specs.Table.{locks_on}
+use Rattle.smb_entry.specs.SetInfo.{changed_in}
+use Rattle.smb_tree.specs.Entries.{is_folder_kind}
+use Rattle.smb_wire.specs.Limits.{most_file_bytes}
+use Rattle.smb_wire.specs.Access.{has_any, FILE_WRITE_DATA}
+use Rattle.smb_locks.specs.Conflicts.{is_read_barred, is_write_barred}
+use Rattle.smb_entry.specs.Bytes.{written_basic}
 
 -- the status of a READ of the open of a number, by the most bytes that one request may ask for
 abbrev pub read_status : StoreState → ℕ → ℕ → ℕ → ℕ → ℕ → NtStatus
-read_status state most number offset count minimum = status_through state number
-    (λ view. read_rows most view (keeps_from_reading state.locks number view offset count) offset count minimum)
+read_status state most number offset count minimum = status_through state number (λ view.
+    -- RD1. more is asked for than one request reads ([MS-SMB2] 3.3.5.12)
+    (nat_lt most count, InvalidParameter)
+    -- RD2. the entry is a folder ([MS-FSA] 2.1.5.2)
+    ∷ (is_folder_kind view.kind, InvalidDeviceRequest)
+    -- RD3. the open was granted neither FILE_READ_DATA nor FILE_EXECUTE ([MS-SMB2] 3.3.5.12)
+    ∷ (not (is_reading view.access), AccessDenied)
+    -- RD4. another open's exclusive lock overlaps the range that is asked for ([MS-FSA] 2.1.5.2)
+    ∷ (
+      is_read_barred (locks_on state.locks view.entry) number (record { offset = offset; length = count }),
+      FileLockConflict,
+    )
+    -- RD5. bytes are asked for behind the last one, or fewer are there than the request wants at least ([MS-SMB2] 3.3.5.12)
+    ∷ (
+      nat_lt 0 count && nat_le view.size offset || nat_lt (min count (view.size - offset)) minimum,
+      EndOfFile,
+    )
+    ∷ [])
 
 -- the bytes that it reads: those of the file from the offset on, at most so many
 abbrev pub file_bytes : StoreState → ℕ → ℕ → ℕ → List ℕ
@@ -26,11 +50,39 @@ part_bytes state part = bytes_read state.tree.rows part.entry part.offset part.c
 
 -- the status of a WRITE through the open of a number, by the most bytes that one request may bring
 abbrev pub write_status : StoreState → ℕ → ℕ → ℕ → List ℕ → NtStatus
-write_status state most number offset buffer = status_through state number
-    (λ view. write_rows most view (keeps_from_writing state.locks number view offset (length buffer)) offset (length buffer) (has_no_room state.tree view.entry offset buffer))
+write_status state most number offset buffer = status_through state number (λ view.
+    -- WR1. more is given than one request writes ([MS-SMB2] 3.3.5.13)
+    (nat_lt most (length buffer), InvalidParameter)
+    -- WR2. the entry is a folder ([MS-FSA] 2.1.5.3)
+    ∷ (is_folder_kind view.kind, InvalidDeviceRequest)
+    -- WR3. the open was granted neither FILE_WRITE_DATA nor FILE_APPEND_DATA, or the latter alone, and the offset is before
+    -- the end of the file ([MS-SMB2] 3.3.5.13)
+    ∷ (
+      not (is_writing view.access) || not (has_any view.access.0 FILE_WRITE_DATA) && nat_lt offset view.size,
+      AccessDenied,
+    )
+    -- WR4. another open's lock, or a shared one of its own, overlaps the range ([MS-FSA] 2.1.5.3)
+    ∷ (
+      is_write_barred (locks_on state.locks view.entry) number (record { offset = offset; length = length buffer }),
+      FileLockConflict,
+    )
+    -- WR5. there are bytes, and no room for them: the file would be longer than 16,777,216 bytes, or the space that files
+    -- use pass the capacity ([MS-FSA] 2.1.5.3)
+    ∷ (
+      nat_lt 0 (length buffer)
+          && (nat_lt most_file_bytes (offset + length buffer)
+          || nat_lt state.tree.capacity (used_space (with_bytes state.tree view.entry offset buffer).rows)),
+      DiskFull,
+    )
+    ∷ [])
 
--- the store after a WRITE that succeeds; no bytes change nothing
+-- the store after a WRITE that succeeds: the bytes are at the offset, a gap before them is zeros, and the times of the last
+-- write and change are the moment ([MS-FSA] 2.1.5.3); no bytes change nothing
 abbrev pub written_to : StoreState → ℕ → ℕ → List ℕ → ℕ → StoreState
 written_to state number offset buffer moment = option_map_or
-    (λ (row : OpenRow). if length buffer == 0 then state else record state { tree = written_tree state.tree row.entry offset buffer moment })
+    (λ (row : OpenRow). if length buffer == 0 then state else record state {
+      tree = changed_in
+          (λ entry. record entry { bytes = written offset buffer entry.bytes; basic = written_basic moment entry.basic })
+          state.tree row.entry;
+    })
     (open_of state.opens number) state

@@ -1,19 +1,25 @@
 -- The status of a CREATE ([MS-SMB2] 3.3.5.9): the rows in order, the first whose condition holds decides.
-use Rattle.std.specs.Prelude.{◌||◌, ◌&&◌, Bool, false, not, nat_lt, List, [], ◌∷◌, slice_index, Option, None, Some}
-use Rattle.std.specs.Option.{is_none, is_some}
+use Rattle.std.specs.Prelude.{◌||◌, ◌&&◌, Bool, false, not, nat_lt, List, [], ◌∷◌, slice_index, Option, Some, ◌-◌, nat_le, ◌==◌, bit_and, length, None}
+use Rattle.std.specs.Option.{is_none, is_some, option_map_or}
 use Rattle.smb_wire.specs.declared.access.Access.{Access}
 use Rattle.smb_wire.specs.Dispositions.{overwrites_by, must_exist_by, must_be_new_by}
 use Rattle.smb_wire.specs.declared.nt_status.NtStatus.{NtStatus}
 use Rattle.smb_wire.specs.declared.nt_status.NtStatus.TheVariants.{InvalidParameter, NotSupported, ObjectNameInvalid, AccessDenied, ObjectPathNotFound, DeletePending, ObjectNameNotFound, ObjectNameCollision, FileIsADirectory, NotADirectory, CannotDelete, SharingViolation, TooManyOpenedFiles, DiskFull}
 use Rattle.smb_wire.specs.Paths.{is_separator, path_fault}
-use Rattle.smb_tree.specs.Entries.{Entry, is_folder}
-use Rattle.smb_access.specs.Access.{is_bad_access, granted, is_writing, is_deleting}
-use Rattle.smb_access.specs.Asked.{FileAsked, asks_folder, asks_file, asks_by_number, asks_delete, asks_past_reading}
-use Rattle.smb_access.specs.Found.{path_asked, is_file, is_root, is_read_only_file, is_pending, becomes_read_only, is_reached}
-use Rattle.smb_opens.specs.Found.{entry_asked, has_all_opens, has_all_entries}
-use Rattle.smb_access.specs.Sharing.{has_conflict, use_asked}
+use Rattle.smb_tree.specs.Entries.{Entry, is_folder, is_folder_kind}
+use Rattle.smb_access.specs.Access.{granted, is_writing, is_deleting, is_past_reading}
+use Rattle.smb_access.specs.Asked.{FileAsked}
+use Rattle.smb_access.specs.Found.{path_asked, is_read_only_file, is_pending, is_reached}
+use Rattle.smb_opens.specs.Found.{entry_asked}
+use Rattle.smb_access.specs.Sharing.{use_asked, is_conflict}
 use Rattle.smb_opens.specs.State.{StoreState}
 use Rattle.smb_access.specs.StatusRows.{StatusRow, first_status}
+use Rattle.smb_wire.specs.Limits.{most_opens, most_entries}
+use Rattle.smb_wire.specs.Counters.{is_spent}
+use Rattle.smb_wire.specs.Access.{has_any}
+use Rattle.smb_wire.specs.Attributes.{FILE_ATTRIBUTE_READONLY}
+use Rattle.std.specs.List.{list_any}
+use Rattle.smb_wire.specs.CreateOptions.{FILE_DIRECTORY_FILE, FILE_NON_DIRECTORY_FILE, FILE_DELETE_ON_CLOSE, FILE_OPEN_BY_FILE_ID}
 
 -- the access that a request is granted, by the entry that it names (3.3.5.9)
 abbrev pub access_granted : StoreState → FileAsked → Access
@@ -23,64 +29,88 @@ access_granted state ask = granted ask.access ask.read_only (is_read_only_file (
 abbrev pub conflicts : StoreState → FileAsked → Option Entry → Bool
 conflicts state ask None = false
 conflicts state ask (Some entry) =
-    has_conflict state.opens entry.number
-    (use_asked ask (granted ask.access ask.read_only (is_read_only_file (Some entry))))
+    let wanted = use_asked ask (granted ask.access ask.read_only (is_read_only_file (Some entry))) in
+    list_any (λ row. row.entry == entry.number && is_conflict wanted (row.access, row.share)) state.opens
 
--- the rows of a CREATE that names this entry, by their numbers in docs/PROFILE.md
+-- the rows of a CREATE that names this entry, as docs/PROFILE.md has them
 abbrev pub create_rows : StoreState → FileAsked → Option Entry → List StatusRow
 create_rows state ask entry =
-    -- 1. no disposition ([MS-SMB2] 2.2.13)
+    -- C1. no disposition ([MS-SMB2] 2.2.13)
     (nat_lt 5 ask.disposition, InvalidParameter)
-    -- 2. a folder is asked for that is to be a file, or to be overwritten (2.2.13)
-    ∷ (asks_folder ask && (asks_file ask || overwrites_by ask.disposition), InvalidParameter)
-    -- 3. the name begins with a separator (2.2.13)
-    ∷ (is_separator (slice_index ask.name 0), InvalidParameter)
-    -- 4. an entry is asked for by its number (3.3.5.9)
-    ∷ (asks_by_number ask, NotSupported)
-    -- 5. the name is no path ([MS-FSCC] 2.1.5)
-    ∷ (is_some (path_fault ask.name), ObjectNameInvalid)
-    -- 6. no access is asked for, or an unknown one; or FILE_DELETE_ON_CLOSE, and DELETE is not granted
-    -- ([MS-SMB2] 2.2.13.1, [MS-FSA] 2.1.5.1)
+    -- C2. a folder is asked for that is to be a file, or to be overwritten (2.2.13)
     ∷ (
-      is_bad_access ask.access
-          || asks_delete ask && not (is_deleting (granted ask.access ask.read_only (is_read_only_file entry))),
+      has_any ask.options FILE_DIRECTORY_FILE
+          && (has_any ask.options FILE_NON_DIRECTORY_FILE || overwrites_by ask.disposition),
+      InvalidParameter,
+    )
+    -- C3. the name begins with a separator (2.2.13)
+    ∷ (is_separator (slice_index ask.name 0), InvalidParameter)
+    -- C4. an entry is asked for by its number (3.3.5.9)
+    ∷ (has_any ask.options FILE_OPEN_BY_FILE_ID, NotSupported)
+    -- C5. the name is no path ([MS-FSCC] 2.1.5)
+    ∷ (is_some (path_fault ask.name), ObjectNameInvalid)
+    -- C6. no access is asked for, or a bit besides the rights, MAXIMUM_ALLOWED and the four generic ones; or
+    -- FILE_DELETE_ON_CLOSE, and DELETE is not granted ([MS-SMB2] 2.2.13.1, [MS-FSA] 2.1.5.1)
+    ∷ (
+      ask.access == 0 || not (bit_and ask.access 0xF21F01FF == ask.access)
+          || has_any ask.options FILE_DELETE_ON_CLOSE
+          && not (is_deleting (granted ask.access ask.read_only (is_read_only_file entry))),
       AccessDenied,
     )
-    -- 6b. the session may only read, and asks for a right to change something, or to create or overwrite an entry
+    -- C6b. the session may only read, and asks for a right to change something, or to create or overwrite an entry
     -- ([MS-SMB2] 3.3.5.9)
-    ∷ (asks_past_reading ask (granted ask.access ask.read_only (is_read_only_file entry)), AccessDenied)
-    -- 7. an entry above the path is absent, or a file ([MS-FSA] 2.1.5.1)
+    ∷ (
+      ask.read_only
+          && (is_past_reading (granted ask.access ask.read_only (is_read_only_file entry))
+          || must_be_new_by ask.disposition || overwrites_by ask.disposition),
+      AccessDenied,
+    )
+    -- C7. an entry above the path is absent, or a file ([MS-FSA] 2.1.5.1)
     ∷ (not (is_reached state.tree.rows (path_asked ask)), ObjectPathNotFound)
-    -- 8. the entry or its folder is marked, so it is about to be deleted ([MS-FSA] 2.1.5.1)
+    -- C8. the entry or its folder is marked, so it is about to be deleted ([MS-FSA] 2.1.5.1)
     ∷ (is_pending state.tree.rows (path_asked ask), DeletePending)
-    -- 9. the entry is absent, and has to exist ([MS-FSA] 2.1.5.1)
+    -- C9. the entry is absent, and has to exist ([MS-FSA] 2.1.5.1)
     ∷ (is_none entry && must_exist_by ask.disposition, ObjectNameNotFound)
-    -- 9b. it is absent, and the session may only read ([MS-SMB2] 3.3.5.9)
+    -- C9b. it is absent, and the session may only read ([MS-SMB2] 3.3.5.9)
     ∷ (ask.read_only && is_none entry, AccessDenied)
-    -- 10. it exists, and has to be new ([MS-FSA] 2.1.5.1)
+    -- C10. it exists, and has to be new ([MS-FSA] 2.1.5.1)
     ∷ (is_some entry && must_be_new_by ask.disposition, ObjectNameCollision)
-    -- 11. it is a folder, where a file is asked for or bytes are to be overwritten ([MS-FSA] 2.1.5.1.2)
-    ∷ (is_folder entry && (asks_file ask || overwrites_by ask.disposition), FileIsADirectory)
-    -- 12. it is a file, where a folder is asked for ([MS-FSA] 2.1.5.1.2)
-    ∷ (is_file entry && asks_folder ask, NotADirectory)
-    -- 13. it is a read-only file, and is to be overwritten or written ([MS-FSA] 2.1.5.1.2)
+    -- C11. it is a folder, where a file is asked for or bytes are to be overwritten ([MS-FSA] 2.1.5.1.2)
+    ∷ (
+      is_folder entry && (has_any ask.options FILE_NON_DIRECTORY_FILE || overwrites_by ask.disposition),
+      FileIsADirectory,
+    )
+    -- C12. it is a file, where a folder is asked for ([MS-FSA] 2.1.5.1.2)
+    ∷ (
+      option_map_or (λ found. not (is_folder_kind found.kind)) entry false && has_any ask.options FILE_DIRECTORY_FILE,
+      NotADirectory,
+    )
+    -- C13. it is a read-only file, and is to be overwritten or written ([MS-FSA] 2.1.5.1.2)
     ∷ (
       is_read_only_file entry
           && (overwrites_by ask.disposition || is_writing (granted ask.access ask.read_only (is_read_only_file entry))),
       AccessDenied,
     )
-    -- 14. it is to be deleted on close, and is the root or a file that is read-only or becomes so
-    -- ([MS-FSA] 2.1.5.1.1, 2.1.5.1.2)
+    -- C14. it is to be deleted on close, and is the root (of number 1), or a file that is read-only or becomes so: that is
+    -- overwritten, or added, with FILE_ATTRIBUTE_READONLY ([MS-FSA] 2.1.5.1.1, 2.1.5.1.2)
     ∷ (
-      asks_delete ask && (is_root entry || is_read_only_file entry || becomes_read_only ask entry),
+      has_any ask.options FILE_DELETE_ON_CLOSE
+          && (option_map_or (λ found. found.number == 1) entry false || is_read_only_file entry
+          || option_map_or
+          (λ found. not (is_folder_kind found.kind) && overwrites_by ask.disposition) entry
+          (not (has_any ask.options FILE_DIRECTORY_FILE))
+          && has_any ask.attributes FILE_ATTRIBUTE_READONLY),
       CannotDelete,
     )
-    -- 15. it has an open that this one conflicts with ([MS-FSA] 2.1.5.1.2)
+    -- C15. it has an open that this one conflicts with ([MS-FSA] 2.1.5.1.2)
     ∷ (conflicts state ask entry, SharingViolation)
-    -- 16. no more opens
-    ∷ (has_all_opens state, TooManyOpenedFiles)
-    -- 17. it is absent, and there are no more entries
-    ∷ (is_none entry && has_all_entries state, DiskFull)
+    -- C16. 1,024 opens exist, or their numbers are spent
+    ∷ (nat_le most_opens (length state.opens) || is_spent 64 state.next, TooManyOpenedFiles)
+    -- C17. it is absent, and 4,096 entries exist besides the root, or their numbers are spent
+    ∷ (
+      is_none entry && (nat_le most_entries (length state.tree.rows - 1) || is_spent 64 state.tree.next),
+      DiskFull,
+    )
     ∷ []
 
 -- the status of a CREATE (3.3.5.9)

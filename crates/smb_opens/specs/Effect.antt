@@ -1,38 +1,49 @@
 -- What a CREATE that succeeds does to a store ([MS-SMB2] 3.3.5.9).
-use Rattle.std.specs.Prelude.{ℕ, ◌+◌, [], ◌∷◌, ◌++◌, Option}
-use Rattle.smb_tree.specs.Entries.{Entry}
+use Rattle.std.specs.Prelude.{ℕ, ◌+◌, [], ◌∷◌, ◌++◌, if◌then◌else◌}
 use Rattle.smb_access.specs.declared.view.Created.{Created as CreatedOpen}
-use Rattle.smb_wire.specs.declared.access.Access.{Access}
-use Rattle.smb_access.specs.Asked.{FileAsked}
+use Rattle.smb_access.specs.Asked.{FileAsked, share_asked}
 use Rattle.smb_opens.specs.Create.{access_granted}
 use Rattle.smb_opens.specs.Found.{entry_asked}
 use Rattle.smb_opens.specs.State.{StoreState}
 use Rattle.smb_access.specs.Views.{view_of}
-use Rattle.smb_access.specs.Effect.{entry_after, tree_after, action_taken, opened_by}
+use Rattle.smb_access.specs.Effect.{entry_after, tree_after}
+use Rattle.smb_wire.specs.Dispositions.{overwrites_by, supersedes_by}
+use Rattle.smb_access.specs.declared.open_row.OpenRow.{OpenRow}
+use Rattle.std.specs.Option.{option_map_or}
+use Rattle.smb_wire.specs.Access.{has_any}
+use Rattle.smb_access.specs.Scans.{no_scan}
+use Rattle.smb_wire.specs.declared.create_action.CreateAction.TheVariants.{Superseded, Created, Overwritten, Opened}
+use Rattle.smb_wire.specs.CreateOptions.{FILE_DELETE_ON_CLOSE}
 
--- the store afterwards, of an entry that stood or did not
-abbrev pub created_by : StoreState → FileAsked → ℕ → Access → Option Entry → StoreState
-created_by state ask moment access stood = record {
-  tree = tree_after state.tree ask moment stood;
-  opens = state.opens ++ opened_by ask state.next (entry_after state.tree ask moment stood).number access ∷ [];
-  locks = state.locks;
-  next = state.next + 1;
-}
-
--- the store afterwards: the open is the last one, and its number the next
+-- the store afterwards: the tree with the entry added or overwritten where that is asked; and the open that is made, the
+-- last one, under the next number (3.3.1.10)
 abbrev pub created : StoreState → FileAsked → ℕ → StoreState
 created state ask moment =
-    created_by state ask moment (access_granted state ask) (entry_asked state ask)
+    let opened : OpenRow = record {
+      number = state.next;
+      entry = (entry_after state.tree ask moment (entry_asked state ask)).number;
+      session = ask.session;
+      tree = ask.tree;
+      access = access_granted state ask;
+      share = share_asked ask;
+      delete_on_close = has_any ask.options FILE_DELETE_ON_CLOSE;
+      scan = no_scan;
+    } in
+    record {
+      tree = tree_after state.tree ask moment (entry_asked state ask);
+      opens = state.opens ++ opened ∷ [];
+      locks = state.locks;
+      next = state.next + 1;
+    }
 
--- what is told of it, of an entry that stood or did not
-abbrev pub create_result_by : StoreState → FileAsked → ℕ → Access → Option Entry → CreatedOpen
-create_result_by state ask moment access stood = record {
-  number = state.next;
-  action = action_taken ask stood;
-  view = view_of access (entry_after state.tree ask moment stood);
-}
-
--- what is told: the open's number, what was done, and the entry as it stands afterwards
+-- what is told: the open's number, what was done (2.2.14), and the entry as it stands afterwards
 abbrev pub create_result : StoreState → FileAsked → ℕ → CreatedOpen
-create_result state ask moment =
-    create_result_by state ask moment (access_granted state ask) (entry_asked state ask)
+create_result state ask moment = record {
+  number = state.next;
+  action =
+      option_map_or
+      (λ found. if supersedes_by ask.disposition then Superseded else
+      if overwrites_by ask.disposition then Overwritten else Opened)
+      (entry_asked state ask) Created;
+  view = view_of (access_granted state ask) (entry_after state.tree ask moment (entry_asked state ask));
+}

@@ -10,7 +10,8 @@ use Rattle.smb_tree.specs.Content.{Path, Row, entry_at, number_at, numbered, is_
 use Rattle.smb_wire.specs.declared.nt_status.NtStatus.TheVariants.{Success}
 use Rattle.smb_locks.specs.declared.lock.Lock.{Lock}
 use Rattle.smb_locks.specs.Ranges.{Overlap}
-use Rattle.smb_locks.specs.Table.{locks_on, others_locks}
+use Rattle.smb_locks.specs.Table.{locks_on}
+use Rattle.smb_locks.specs.Laws.{others_locks}
 use Rattle.smb_access.specs.Asked.{FileAsked}
 use Rattle.smb_opens.specs.Bytes.{read_status, file_bytes, write_status, written_to}
 use Rattle.smb_opens.specs.Close.{closed}
@@ -25,7 +26,7 @@ use Rattle.smb_opens.specs.Renames.{renamed_through}
 use Rattle.smb_access.specs.declared.scan.Scan.{Scan}
 use Rattle.smb_opens.specs.Scans.{scan_set}
 use Rattle.smb_opens.specs.SetInfo.{delete_set_through, size_set_through, basic_set_through}
-use Rattle.smb_access.specs.Sharing.{Use, is_conflict}
+use Rattle.smb_access.specs.Sharing.{is_conflict}
 use Rattle.smb_opens.specs.State.{StoreState}
 use Rattle.smb_opens.specs.Steps.{StoreStep, stepped_all, NoneChanges}
 use Rattle.smb_opens.specs.Views.{open_view}
@@ -57,12 +58,12 @@ ACreateReturnsWhatIsShown =
 
 -- a conflict is one both ways
 abbrev pub AConflictIsMutual : Type 0
-AConflictIsMutual = (one other : Use) → is_conflict one other ≡ is_conflict other one
+AConflictIsMutual = (one other : Access × ShareAccess) → is_conflict one other ≡ is_conflict other one
 
 -- more access never removes a conflict
 abbrev pub MoreAccessKeepsAConflict : Type 0
 MoreAccessKeepsAConflict =
-    (access more : Access) (share : ShareAccess) (other : Use) → bit_and access.0 more.0 ≡ access.0 →
+    (access more : Access) (share : ShareAccess) (other : Access × ShareAccess) → bit_and access.0 more.0 ≡ access.0 →
     is_conflict (access, share) other ≡ true → is_conflict (more, share) other ≡ true
 
 -- a CLOSE leaves every entry but its own as it is

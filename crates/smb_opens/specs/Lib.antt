@@ -14,3 +14,4 @@ pub mod Steps
 pub mod Good
 pub mod Laws
 pub mod Readers
+pub mod Parts

@@ -1,16 +1,17 @@
 -- LOCK of a file through an open of a store ([MS-SMB2] 3.3.5.14).
-use Rattle.std.specs.Prelude.{ℕ, List, Option, None, Some, if◌then◌else◌}
+use Rattle.std.specs.Prelude.{ℕ, List, Option, None, Some, if◌then◌else◌, ◌++◌}
 use Rattle.std.specs.Option.{option_map}
 use Rattle.smb_wire.specs.declared.nt_status.NtStatus.{NtStatus}
 use Rattle.smb_tree.specs.Entries.{is_folder_kind}
 use Rattle.smb_locks.specs.declared.ask.LockAsk.{LockAsk}
 use Rattle.smb_locks.specs.Locking.{lock_all_fault}
-use Rattle.smb_locks.specs.Table.{Table, locked, unlocked}
-use Rattle.smb_locks.specs.Unlocking.{unlock_all_error}
+use Rattle.smb_locks.specs.Table.{Table, locks_on, with_locks}
+use Rattle.smb_locks.specs.Unlocking.{unlock_all_error, left_by}
 use Rattle.smb_access.specs.declared.view.View.{View}
 use Rattle.smb_opens.specs.State.{StoreState}
 use Rattle.smb_opens.specs.Views.{open_view}
 use Rattle.smb_entry.specs.Locks.{lock_status_by, locks_shown}
+use Rattle.smb_locks.specs.Asks.{locks_asked, are_unlocks}
 
 -- the status of a LOCK that locks, through the open of a number: the first of its elements that is refused beside those
 -- before it, and their flags before all (3.3.5.14.2)
@@ -31,12 +32,17 @@ with_locks_of table state None = state
 with_locks_of table state (Some view) =
     if is_folder_kind view.kind then state else record state { locks = table view.entry }
 
--- the store after a LOCK that locks and succeeds: each of its elements is a lock of the file, held by the open
+-- the store after a LOCK that locks and succeeds: its locks, held by the open, are the newest of the file, in order
 abbrev pub locked_through : StoreState → ℕ → List LockAsk → StoreState
 locked_through state number asks =
-    with_locks_of (λ entry. locked state.locks entry number asks) state (open_view state number)
+    with_locks_of (λ file. with_locks state.locks file (locks_on state.locks file ++ locks_asked number asks))
+    state (open_view state number)
 
--- the store after a LOCK that unlocks, which may be refused at an element: those before it are unlocked
+-- the store after a LOCK that unlocks, which may be refused at an element: those before it are unlocked; with the flags
+-- of a wrong one nothing is done
 abbrev pub unlocked_through : StoreState → ℕ → List LockAsk → StoreState
 unlocked_through state number asks =
-    with_locks_of (λ entry. unlocked state.locks entry number asks) state (open_view state number)
+    with_locks_of
+    (λ file. if are_unlocks asks
+    then with_locks state.locks file (left_by number (locks_on state.locks file) asks) else state.locks)
+    state (open_view state number)

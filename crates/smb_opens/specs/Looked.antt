@@ -5,7 +5,7 @@ use Rattle.smb_tree.specs.Content.{Path, entry_at}
 use Rattle.smb_access.specs.declared.found.CreateLookup.{CreateLookup}
 use Rattle.smb_access.specs.Asked.{FileAsked}
 use Rattle.smb_access.specs.Found.{path_asked, is_reached, is_pending}
-use Rattle.smb_opens.specs.Found.{has_all_opens, has_all_entries}
+use Rattle.smb_opens.specs.Parts.{has_all_opens, has_all_entries}
 use Rattle.smb_opens.specs.State.{StoreState}
 use Rattle.smb_access.specs.Looked.{target_of}
 

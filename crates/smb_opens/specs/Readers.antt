@@ -1,5 +1,5 @@
 -- Whoever may only read changes no file.
-use Rattle.std.specs.Prelude.{◌≡◌, ◌≢◌, ℕ, ◌||◌, ◌&&◌, Bool, true, false, List, [], ◌∷◌, ◌++◌, map, Some, Contains}
+use Rattle.std.specs.Prelude.{◌≡◌, ◌≢◌, ℕ, ◌||◌, ◌&&◌, Bool, true, false, List, [], ◌∷◌, ◌++◌, map, Some, Contains, ◌==◌}
 use Rattle.std.specs.List.{list_any}
 use Rattle.smb_wire.specs.declared.nt_status.NtStatus.TheVariants.{Success}
 use Rattle.smb_tree.specs.Content.{Row, numbered}
@@ -7,7 +7,7 @@ use Rattle.smb_access.specs.declared.open_row.OpenRow.{OpenRow}
 use Rattle.smb_access.specs.Access.{is_past_reading}
 use Rattle.smb_access.specs.Asked.{FileAsked}
 use Rattle.smb_access.specs.Close.{has_mark}
-use Rattle.smb_access.specs.Opens.{is_on_entry, open_of}
+use Rattle.smb_access.specs.Opens.{open_of}
 use Rattle.smb_entry.specs.declared.ask.BasicAsk.{BasicAsk}
 use Rattle.smb_opens.specs.Bytes.{write_status}
 use Rattle.smb_opens.specs.Create.{create_status}
@@ -19,7 +19,7 @@ use Rattle.smb_opens.specs.Steps.{StoreStep, creates, writes, locks, unlocks, se
 
 -- some open of an entry is to delete it when it is closed ([MS-SMB2] 2.2.13)
 abbrev pub opens_to_delete : List OpenRow → ℕ → Bool
-opens_to_delete opens entry = list_any (λ row. is_on_entry entry row && row.delete_on_close) opens
+opens_to_delete opens entry = list_any (λ row. row.entry == entry && row.delete_on_close) opens
 
 -- an entry is to go with its last open: it is marked, or some open is to delete it ([MS-FSA] 2.1.5.4)
 abbrev pub is_to_go : StoreState → ℕ → Bool

@@ -1,21 +1,71 @@
--- A rename of a store's entry ([MS-SMB2] 3.3.5.21.1, [MS-FSA] 2.1.5.15.11).
-use Rattle.std.specs.Prelude.{ℕ, Bool, List}
+-- A rename of a store's entry ([MS-SMB2] 3.3.5.21.1, [MS-FSA] 2.1.5.15.11). The rows are those of docs/PROFILE.md.
+use Rattle.std.specs.Prelude.{ℕ, Bool, List, ◌||◌, ◌&&◌, false, not, [], ◌∷◌, slice_index, Some, is_some, ◌==◌, length}
 use Rattle.std.specs.Option.{option_map_or}
 use Rattle.smb_wire.specs.declared.nt_status.NtStatus.{NtStatus}
-use Rattle.smb_wire.specs.Paths.{path_spelled}
+use Rattle.smb_wire.specs.Paths.{path_spelled, is_separator, path_fault, folded_path}
 use Rattle.smb_access.specs.declared.open_row.OpenRow.{OpenRow}
-use Rattle.smb_access.specs.Opens.{open_of}
-use Rattle.smb_entry.specs.Rename.{path_named, path_numbered, rename_rows, renamed_tree}
+use Rattle.smb_access.specs.Opens.{open_of, has_open}
+use Rattle.smb_entry.specs.Rename.{path_numbered, is_beneath}
 use Rattle.smb_opens.specs.State.{StoreState}
 use Rattle.smb_opens.specs.Views.{status_through}
+use Rattle.smb_wire.specs.declared.nt_status.NtStatus.TheVariants.{InvalidParameter, ObjectNameInvalid, AccessDenied, ObjectPathNotFound, DeletePending, ObjectNameCollision, Success}
+use Rattle.smb_access.specs.Access.{is_deleting}
+use Rattle.smb_access.specs.Found.{is_read_only_file, is_pending, is_reached}
+use Rattle.smb_tree.specs.Content.{entry_at, is_same_path}
+use Rattle.smb_entry.specs.SetInfo.{changed_in}
+use Rattle.std.specs.List.{list_any}
+use Rattle.smb_tree.specs.Entries.{is_folder_kind, kept_basic}
+use Rattle.smb_tree.specs.Faults.{would_be_too_deep}
+use Rattle.smb_tree.specs.Moves.{moved}
 
--- the status of a SET_INFO that renames the entry of an open; with the flag a file at the new path is replaced
+-- the status of a SET_INFO that renames the entry of an open to what a name spells; with the flag (ReplaceIfExists) an
+-- entry that exists at the new path may be replaced
 abbrev pub rename_status : StoreState → ℕ → List ℕ → Bool → NtStatus
-rename_status state number name replace = status_through state number
-    (λ view. rename_rows state.tree.rows state.opens view name replace (path_numbered state.tree.rows view.entry) (path_named name))
+rename_status state number name replace = status_through state number (λ view.
+    let rows = state.tree.rows in
+    let from = path_numbered rows view.entry in
+    let to = folded_path (path_spelled name) in
+    -- N1. the name is empty, or begins with a separator ([MS-FSCC] 2.4.42)
+    (length name == 0 || is_separator (slice_index name 0), InvalidParameter)
+    -- N2. the name is no path ([MS-FSCC] 2.1.5, [MS-FSA] 2.1.5.15.11)
+    ∷ (is_some (path_fault name), ObjectNameInvalid)
+    -- N3. the open was not granted DELETE, or the entry is the root ([MS-FSA] 2.1.5.15.11)
+    ∷ (not (is_deleting view.access) || view.entry == 1, AccessDenied)
+    -- N4. the entry is marked, so it is about to be deleted ([MS-FSA] 2.1.5.15.11)
+    ∷ (view.mark, DeletePending)
+    -- N5. the new path lies beneath the entry ([MS-FSA] 2.1.5.15.11)
+    ∷ (is_beneath from to, InvalidParameter)
+    -- N6. an entry above the new path is absent, or a file ([MS-FSA] 2.1.5.15.11)
+    ∷ (not (is_reached rows to), ObjectPathNotFound)
+    -- N7. the new path is the old one, but for how it is spelled: nothing more is asked ([MS-FSA] 2.1.5.15.11)
+    ∷ (is_same_path from to, Success)
+    -- N8. the entry is a folder, and an entry beneath it has an open ([MS-FSA] 2.1.5.15.11)
+    ∷ (
+      is_folder_kind view.kind
+          && list_any (λ (row : OpenRow). is_beneath from (path_numbered rows row.entry)) state.opens,
+      AccessDenied,
+    )
+    -- N9. the entry at the new path, or its folder, is marked ([MS-FSA] 2.1.5.15.11)
+    ∷ (is_pending rows to, DeletePending)
+    -- N10. an entry exists at the new path, and ReplaceIfExists is not set ([MS-FSCC] 2.4.42)
+    ∷ (is_some (entry_at rows to) && not replace, ObjectNameCollision)
+    -- N11. it is a folder, a read-only file, or has an open ([MS-FSA] 2.1.5.15.11)
+    ∷ (
+      option_map_or
+          (λ entry. is_folder_kind entry.kind || is_read_only_file (Some entry) || has_open state.opens entry.number)
+          (entry_at rows to) false,
+      AccessDenied,
+    )
+    -- N12. a path would have more than 32 components ([MS-FSCC] 2.1.5)
+    ∷ (would_be_too_deep rows from to, ObjectNameInvalid)
+    ∷ [])
 
--- the store afterwards; opens and locks are of entries, by their numbers, and stay
+-- the store afterwards: the entry is moved, with all that lies beneath it, to the path that the name spells, where a file
+-- is gone; its time of the last change is the moment; opens and locks are of entries, by their numbers, and stay
 abbrev pub renamed_through : StoreState → ℕ → List ℕ → ℕ → StoreState
 renamed_through state number name moment = option_map_or
-    (λ (row : OpenRow). record state { tree = renamed_tree state.tree row.entry (path_spelled name) moment })
+    (λ (row : OpenRow). record state {
+      tree = changed_in (λ entry. record entry { basic = kept_basic (record entry.basic { change_time = moment }) })
+          (moved state.tree row.entry (path_spelled name)) row.entry;
+    })
     (open_of state.opens number) state

@@ -1,14 +1,23 @@
--- SET_INFO of a file or a folder through an open of a store ([MS-SMB2] 3.3.5.21.1, [MS-FSA] 2.1.5.15).
-use Rattle.std.specs.Prelude.{ℕ, Bool}
+-- SET_INFO of a file or a folder through an open of a store ([MS-SMB2] 3.3.5.21.1, [MS-FSA] 2.1.5.15). The rows are those
+-- of docs/PROFILE.md, each status by the first that holds.
+use Rattle.std.specs.Prelude.{ℕ, Bool, ◌||◌, ◌&&◌, false, not, nat_lt, [], ◌∷◌, nat_le, if◌then◌else◌, ◌==◌, length}
 use Rattle.std.specs.Option.{option_map_or}
 use Rattle.smb_wire.specs.declared.nt_status.NtStatus.{NtStatus}
-use Rattle.smb_tree.specs.Entries.{Entry}
+use Rattle.smb_tree.specs.Entries.{Entry, is_folder_kind, kept_basic}
 use Rattle.smb_entry.specs.declared.ask.BasicAsk.{BasicAsk}
 use Rattle.smb_access.specs.declared.open_row.OpenRow.{OpenRow}
 use Rattle.smb_access.specs.Opens.{open_of}
 use Rattle.smb_opens.specs.State.{StoreState}
 use Rattle.smb_opens.specs.Views.{status_through}
-use Rattle.smb_entry.specs.SetInfo.{changed_in, has_entries, delete_rows, delete_set, has_no_space, size_rows, size_set, basic_rows, entry_set}
+use Rattle.smb_entry.specs.SetInfo.{changed_in, is_bad_time, time_set}
+use Rattle.smb_wire.specs.declared.nt_status.NtStatus.TheVariants.{InvalidParameter, AccessDenied, CannotDelete, DiskFull, DirectoryNotEmpty}
+use Rattle.smb_access.specs.Access.{is_deleting}
+use Rattle.smb_tree.specs.Children.{has_children}
+use Rattle.smb_wire.specs.Limits.{most_file_bytes}
+use Rattle.smb_wire.specs.Access.{has_any, FILE_WRITE_DATA, FILE_WRITE_ATTRIBUTES}
+use Rattle.smb_tree.specs.Content.{used_space, with_size, resized, numbered}
+use Rattle.smb_entry.specs.Bytes.{written_basic}
+use Rattle.smb_wire.specs.Attributes.{FILE_ATTRIBUTE_READONLY, FILE_ATTRIBUTE_DIRECTORY}
 
 -- the store with the entry of an open changed, by the number of the open; without such an open it is as it was
 abbrev pub changed_through : (Entry → Entry) → StoreState → ℕ → StoreState
@@ -20,30 +29,83 @@ changed_through change state number = option_map_or
 
 -- the status of a SET_INFO that marks the entry of an open, or takes its mark away
 abbrev pub delete_status : StoreState → ℕ → Bool → NtStatus
-delete_status state number is_deleted = status_through state number
-    (λ view. delete_rows view (has_entries state.tree.rows view.entry) is_deleted)
+delete_status state number is_deleted = status_through state number (λ view.
+    -- the open was not granted DELETE ([MS-FSA] 2.1.5.15.3)
+    (not (is_deleting view.access), AccessDenied)
+    -- (of an entry that is no longer to be deleted, this row alone)
+    ∷ (if is_deleted then
+    -- it is the root, or a read-only file ([MS-FSA] 2.1.5.15.3, [MS-FSCC] 2.6)
+    (
+      view.entry == 1 || not (is_folder_kind view.kind) && has_any view.attributes.0 FILE_ATTRIBUTE_READONLY,
+      CannotDelete,
+    )
+    -- it is a folder in which entries are ([MS-FSA] 2.1.5.15.3)
+    ∷ (
+      option_map_or (λ row. has_children state.tree.rows row.0) (numbered state.tree.rows view.entry) false,
+      DirectoryNotEmpty,
+    )
+    ∷ []
+    else []))
 
--- the store afterwards ([MS-FSA] 2.1.5.15.3)
+-- the store afterwards; what its opens are to delete when they are closed is left ([MS-FSA] 2.1.5.15.3)
 abbrev pub delete_set_through : StoreState → ℕ → Bool → StoreState
-delete_set_through state number is_deleted = changed_through (delete_set is_deleted) state number
+delete_set_through state number is_deleted = changed_through (λ entry. record entry { mark = is_deleted }) state number
 
 -- FileEndOfFileInformation and FileAllocationInformation: a file's size ([MS-FSCC] 2.4.13, 2.4.4)
 
 -- the status of a SET_INFO that sets the size of a file through the open of a number, or its allocation size
 abbrev pub size_status : StoreState → ℕ → ℕ → NtStatus
-size_status state number size = status_through state number
-    (λ view. size_rows view (has_no_space state.tree view.entry size))
+size_status state number size = status_through state number (λ view.
+    -- the entry is a folder ([MS-FSA] 2.1.5.15.1, 2.1.5.15.4)
+    (is_folder_kind view.kind, InvalidParameter)
+    -- the open was not granted FILE_WRITE_DATA ([MS-FSA] 2.1.5.15.1, 2.1.5.15.4)
+    ∷ (not (has_any view.access.0 FILE_WRITE_DATA), AccessDenied)
+    -- there is no room: the size is over 16,777,216 bytes, or the space that files use would pass the capacity
+    -- ([MS-FSA] 2.1.5.15.1, 2.1.5.15.4)
+    ∷ (
+      nat_lt most_file_bytes size
+          || nat_lt state.tree.capacity (used_space (with_size state.tree view.entry size).rows),
+      DiskFull,
+    )
+    ∷ [])
 
--- the store afterwards; locks are left, and bar nothing
+-- the store afterwards: the bytes are cut, or have zeros behind them, and the times of the last write and change are the
+-- moment (2.1.5.15.4); an allocation size that is no less than the size before sets nothing (2.1.5.15.1); locks stay
 abbrev pub size_set_through : StoreState → ℕ → ℕ → Bool → ℕ → StoreState
-size_set_through state number size is_allocation moment = changed_through (size_set size is_allocation moment) state number
+size_set_through state number size is_allocation moment = changed_through
+    (λ entry. if is_allocation && nat_le (length entry.bytes) size then entry else record entry {
+      bytes = resized size entry.bytes;
+      basic = written_basic moment entry.basic;
+    })
+    state number
 
 -- FileBasicInformation: an entry's times and attributes ([MS-FSCC] 2.4.7)
 
 -- the status of a SET_INFO that sets the times and attributes of the entry of an open
 abbrev pub basic_status : StoreState → ℕ → BasicAsk → NtStatus
-basic_status state number ask = status_through state number (λ view. basic_rows view ask)
+basic_status state number ask = status_through state number (λ view.
+    -- what is asked for is no time, or a file is to have FILE_ATTRIBUTE_DIRECTORY ([MS-FSCC] 2.4.7, [MS-FSA] 2.1.5.15.2)
+    (
+      is_bad_time ask.creation_time || is_bad_time ask.last_access_time || is_bad_time ask.last_write_time
+          || is_bad_time ask.change_time
+          || not (is_folder_kind view.kind) && has_any ask.attributes.0 FILE_ATTRIBUTE_DIRECTORY,
+      InvalidParameter,
+    )
+    -- the open was not granted FILE_WRITE_ATTRIBUTES ([MS-FSA] 2.1.5.15.2)
+    ∷ (not (has_any view.access.0 FILE_WRITE_ATTRIBUTES), AccessDenied)
+    ∷ [])
 
--- the store afterwards ([MS-FSA] 2.1.5.15.2)
+-- the store afterwards; for a 0 the time of the last change becomes the moment, and the attributes are left ([MS-FSA]
+-- 2.1.5.15.2); of the attributes a tree keeps four ([MS-FSCC] 2.6)
 abbrev pub basic_set_through : StoreState → ℕ → BasicAsk → ℕ → StoreState
-basic_set_through state number ask moment = changed_through (entry_set ask moment) state number
+basic_set_through state number ask moment = changed_through
+    (λ entry. record entry {
+      basic = kept_basic (record {
+        creation_time = time_set ask.creation_time entry.basic.creation_time;
+        last_access_time = time_set ask.last_access_time entry.basic.last_access_time;
+        last_write_time = time_set ask.last_write_time entry.basic.last_write_time;
+        change_time = if ask.change_time == 0 then moment else time_set ask.change_time entry.basic.change_time;
+        attributes = record { 0 = if ask.attributes.0 == 0 then entry.basic.attributes.0 else ask.attributes.0 };
+      });
+    })
+    state number

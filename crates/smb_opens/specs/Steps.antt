@@ -11,12 +11,13 @@ use Rattle.smb_opens.specs.Close.{closed, closed_all}
 use Rattle.smb_opens.specs.Effect.{created}
 use Rattle.smb_opens.specs.Found.{entry_asked}
 use Rattle.smb_opens.specs.Locks.{locked_through, unlocked_through}
-use Rattle.smb_access.specs.Opens.{is_on_entry, open_of}
+use Rattle.smb_access.specs.Opens.{open_of}
 use Rattle.smb_opens.specs.Renames.{renamed_through}
 use Rattle.smb_access.specs.declared.scan.Scan.{Scan}
 use Rattle.smb_opens.specs.Scans.{scan_set}
 use Rattle.smb_opens.specs.SetInfo.{delete_set_through, size_set_through, basic_set_through}
 use Rattle.smb_opens.specs.State.{StoreState}
+use Rattle.smb_access.specs.declared.open_row.OpenRow.{OpenRow}
 
 -- a request with what it does where it is performed (an unlock may be refused behind some of its ranges, and is the step
 -- of those before): a CREATE at a moment; a WRITE of bytes at an offset through the open of a number, at a moment; a LOCK
@@ -60,12 +61,12 @@ abbrev pub is_change_of : ℕ → StoreState → StoreStep → Bool
 is_change_of entry state (creates ask moment) =
     overwrites_by ask.disposition && option_map_or (λ found. found.number == entry) (entry_asked state ask) false
 is_change_of entry state (writes number offset buffer moment) =
-    option_map_or (is_on_entry entry) (open_of state.opens number) false
+    option_map_or (λ (row : OpenRow). row.entry == entry) (open_of state.opens number) false
 is_change_of entry state (locks number asks) = false
 is_change_of entry state (unlocks number asks) = false
 is_change_of entry state (sets_delete number is_deleted) = false
 is_change_of entry state (sets_size number size is_allocation moment) =
-    option_map_or (is_on_entry entry) (open_of state.opens number) false
+    option_map_or (λ (row : OpenRow). row.entry == entry) (open_of state.opens number) false
 is_change_of entry state (sets_basic number ask moment) = false
 is_change_of entry state (renames number name moment) = false
 is_change_of entry state (sets_scan number scan) = false

@@ -1,17 +1,21 @@
 -- What an open of a store shows ([MS-FSCC] 2.4.2, 2.4.27).
 use Rattle.std.specs.Prelude.{ℕ, List, Option}
-use Rattle.std.specs.Option.{option_map_or}
+use Rattle.std.specs.Option.{option_map_or, option_map, option_and_then}
 use Rattle.smb_wire.specs.declared.nt_status.NtStatus.{NtStatus}
 use Rattle.smb_wire.specs.declared.nt_status.NtStatus.TheVariants.{FileClosed}
 use Rattle.smb_access.specs.declared.view.View.{View}
 use Rattle.smb_access.specs.Opens.{open_of}
 use Rattle.smb_access.specs.StatusRows.{StatusRow, first_status}
-use Rattle.smb_access.specs.Views.{view_through}
 use Rattle.smb_opens.specs.State.{StoreState}
+use Rattle.smb_access.specs.Views.{view_of}
+use Rattle.smb_access.specs.declared.open_row.OpenRow.{OpenRow}
+use Rattle.smb_tree.specs.Content.{numbered}
 
--- what the open of a number shows
+-- what the open of a number shows: its entry, by the access that it has
 abbrev pub open_view : StoreState → ℕ → Option View
-open_view state number = view_through state.tree.rows (open_of state.opens number)
+open_view state number = option_and_then
+    (λ (row : OpenRow). option_map (λ found. view_of row.access found.1) (numbered state.tree.rows row.entry))
+    (open_of state.opens number)
 
 -- the status of what is asked through the open of a number, by the rows for what it shows; FILE_CLOSED where there is none
 abbrev pub status_through : StoreState → ℕ → (View → List StatusRow) → NtStatus

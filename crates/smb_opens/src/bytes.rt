@@ -1,7 +1,7 @@
 //! READ, WRITE and FLUSH of a file through an open ([MS-SMB2] 3.3.5.11 to 3.3.5.13).
 
 ghost use Rattle.std.specs.Prelude.{◌≡◌, ◌≢◌, ◌≤◌, ◌++◌, IsSome, IfOk, IfErr, OnOk, OnErr, length};
-ghost use Rattle.smb_entry.specs.Bytes.{keeps_from_reading, keeps_from_writing};
+ghost use Rattle.smb_entry.specs.Parts.{keeps_from_reading, keeps_from_writing};
 ghost use Rattle.smb_opens.specs.Bytes.{read_status, part_bytes, file_bytes, write_status, written_to};
 ghost use Rattle.smb_access.specs.Faults.{IsRefusal};
 ghost use Rattle.smb_access.specs.Opens.{open_of};

@@ -17,8 +17,8 @@
 //!
 //! [`Store::set_delete`], [`Store::set_size`] and [`Store::set_basic`] answer a SET_INFO, as `specs/SetInfo.antt` says: of
 //! the mark of an entry, of the size of a file, and of an entry's times and attributes. [`Store::rename`] answers one of an
-//! entry's name: with the status that the table of smb_entry's `specs/Rename.antt` gives; or the entry is moved with all that lies beneath
-//! it, as `specs/Renames.antt` says.
+//! entry's name: with the status that the table of `specs/Renames.antt` gives; or the entry is moved with all that lies beneath it, as the
+//! same file says.
 //!
 //! Each call that has a table is Ok only where its status by the table is STATUS_SUCCESS, and out of memory comes only
 //! there too (`IsRefusal` of smb_access).

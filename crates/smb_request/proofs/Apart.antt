@@ -44,7 +44,8 @@ use Rattle.smb_opens.specs.Locks.{lock_status, unlock_status, unlocked_through, 
 use Rattle.smb_opens.specs.Bytes.{read_status, write_status, written_to}
 use Rattle.smb_opens.specs.Close.{closed}
 use Rattle.smb_opens.specs.Create.{access_granted, create_status}
-use Rattle.smb_access.specs.Effect.{entry_after, opened_by}
+use Rattle.smb_access.specs.Effect.{entry_after}
+use Rattle.smb_access.specs.Parts.{opened_by}
 use Rattle.smb_opens.specs.Effect.{created}
 use Rattle.smb_opens.specs.Found.{entry_asked}
 use Rattle.smb_access.specs.Numbers.{AreRising}
@@ -65,7 +66,7 @@ use Rattle.smb_request.specs.Response.{success, refused}
 use Rattle.smb_request.specs.Session.{may_only_read, status_of_refusal, session_logged_off, tree_joined, tree_left}
 use Rattle.smb_request.specs.State.{ServerState, with_store}
 use Rattle.smb_request.specs.Laws.{NumbersInOrder, IsInOrder, IsAsItWas, IsOver, ReplacesSession}
-use Rattle.smb_entry.specs.Bytes.{written_tree}
+use Rattle.smb_entry.specs.Parts.{written_tree}
 use Rattle.smb_access.specs.declared.open_row.Owner.{Owner}
 use Rattle.smb_request.specs.SetInfo.{set_through}
 use Rattle.smb_request.proofs.Handed.{mapped_there, request_passed}

@@ -10,11 +10,13 @@ use Rattle.smb_access.specs.declared.open_row.Owner.{Owner}
 use Rattle.smb_access.specs.declared.open_row.Owner.TheVariants.{Session}
 use Rattle.smb_access.specs.declared.view.View.{View}
 use Rattle.smb_access.specs.Asked.{FileAsked}
-use Rattle.smb_entry.specs.Bytes.{written_tree}
+use Rattle.smb_entry.specs.Parts.{written_tree}
 use Rattle.smb_opens.specs.Bytes.{written_to}
-use Rattle.smb_access.specs.Close.{is_deletable, is_due, tree_marked, tree_cleared}
-use Rattle.smb_opens.specs.Close.{closed_open, closed, closed_each, closed_all}
-use Rattle.smb_access.specs.Effect.{tree_after, standing_tree, overwritten_tree}
+use Rattle.smb_access.specs.Close.{is_deletable}
+use Rattle.smb_access.specs.Parts.{is_due, tree_marked, tree_cleared, standing_tree, overwritten_tree}
+use Rattle.smb_opens.specs.Close.{closed, closed_all}
+use Rattle.smb_opens.specs.Parts.{closed_open, closed_each}
+use Rattle.smb_access.specs.Effect.{tree_after}
 use Rattle.smb_opens.specs.Effect.{created}
 use Rattle.smb_opens.specs.Found.{entry_asked}
 use Rattle.smb_opens.specs.Locks.{with_locks_of}

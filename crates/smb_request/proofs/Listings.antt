@@ -32,7 +32,8 @@ use Rattle.smb_session.specs.Table.{TableState}
 use Rattle.smb_access.specs.declared.open_row.OpenRow.{OpenRow}
 use Rattle.smb_access.specs.declared.open_row.Owner.TheVariants.{Session}
 use Rattle.smb_access.specs.Numbers.{AreRising}
-use Rattle.smb_access.specs.Opens.{open_of, open_numbers, has_number, with_scan, is_held_by}
+use Rattle.smb_access.specs.Opens.{open_of, open_numbers, with_scan, is_held_by}
+use Rattle.smb_access.specs.Parts.{has_number}
 use Rattle.smb_info.specs.Information.{Information, fixed_length, info_fault, told, whole}
 use Rattle.smb_request.specs.Information.{fault_status, IsWhy}
 use Rattle.smb_request.specs.Owners.{AreOwned, is_owned}

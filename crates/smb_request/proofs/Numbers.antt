@@ -11,7 +11,8 @@ use Rattle.smb_session.proofs.Numbers.{keys-removed}
 use Rattle.smb_session.proofs.Windows.{rising-filter, all-append, all-more}
 use Rattle.smb_access.specs.declared.open_row.OpenRow.{OpenRow}
 use Rattle.smb_access.specs.declared.open_row.Owner.{Owner}
-use Rattle.smb_opens.specs.Close.{closed, closed_open, closed_all, closed_each}
+use Rattle.smb_opens.specs.Close.{closed, closed_all}
+use Rattle.smb_opens.specs.Parts.{closed_open, closed_each}
 use Rattle.smb_opens.specs.Good.{GoodStore}
 use Rattle.smb_access.specs.Numbers.{AreRising}
 use Rattle.smb_access.specs.Opens.{open_of, open_numbers, first_held_by}

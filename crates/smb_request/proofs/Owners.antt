@@ -22,7 +22,8 @@ use Rattle.smb_access.specs.Opens.{is_held_by}
 use Rattle.smb_wire.specs.declared.nt_status.NtStatus.TheVariants.{Success}
 use Rattle.smb_access.specs.Access.{is_past_reading}
 use Rattle.smb_access.specs.Asked.{FileAsked}
-use Rattle.smb_access.specs.Effect.{entry_after, opened_by}
+use Rattle.smb_access.specs.Effect.{entry_after}
+use Rattle.smb_access.specs.Parts.{opened_by}
 use Rattle.smb_opens.specs.Create.{access_granted, create_status}
 use Rattle.smb_opens.specs.Found.{entry_asked}
 use Rattle.smb_opens.specs.State.{StoreState}

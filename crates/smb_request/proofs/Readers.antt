@@ -24,8 +24,9 @@ use Rattle.smb_session.specs.Setup.{setup_refusal}
 use Rattle.smb_session.specs.Table.{TableState, session_at, knows_session, knows_tree, read_only_of, numbers_on, session_ended, logoff_refusal, tree_disconnect_refusal}
 use Rattle.smb_access.specs.Access.{is_past_reading}
 use Rattle.smb_access.specs.Asked.{FileAsked}
-use Rattle.smb_access.specs.Effect.{entry_after, opened_by}
-use Rattle.smb_access.specs.Opens.{open_of, has_number, is_held_by}
+use Rattle.smb_access.specs.Effect.{entry_after}
+use Rattle.smb_access.specs.Parts.{opened_by, has_number}
+use Rattle.smb_access.specs.Opens.{open_of, is_held_by}
 use Rattle.smb_access.specs.declared.open_row.OpenRow.{OpenRow}
 use Rattle.smb_access.specs.declared.open_row.Owner.TheVariants.{Session, Tree}
 use Rattle.smb_access.specs.declared.scan.Scan.{Scan}

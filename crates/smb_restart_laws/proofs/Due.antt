@@ -9,14 +9,15 @@ use Rattle.smb_tree.specs.Content.{Row, Content, numbered, with_mark, removed}
 use Rattle.smb_tree.specs.Laws.{AreApart}
 use Rattle.smb_tree.proofs.Apart.{numbered-changed}
 use Rattle.smb_access.specs.declared.open_row.OpenRow.{OpenRow}
-use Rattle.smb_access.specs.Close.{is_deletable, has_mark, tree_marked, is_due}
+use Rattle.smb_access.specs.Close.{is_deletable, has_mark}
+use Rattle.smb_access.specs.Parts.{tree_marked, is_due, is_on_entry, ArePresent}
 use Rattle.smb_access.specs.Numbers.{AreRising}
-use Rattle.smb_access.specs.Opens.{open_of, without_open, open_numbers, is_on_entry}
-use Rattle.smb_access.specs.Present.{ArePresent}
+use Rattle.smb_access.specs.Opens.{open_of, without_open, open_numbers}
 use Rattle.smb_access.proofs.Closing.{deletable_row}
 use Rattle.smb_access.proofs.Removed.{numbered-removed, mark_removed, deletable_removed}
 use Rattle.smb_access.proofs.Rows.{kept_above}
-use Rattle.smb_opens.specs.Close.{closed_open, closed}
+use Rattle.smb_opens.specs.Close.{closed}
+use Rattle.smb_opens.specs.Parts.{closed_open}
 use Rattle.smb_opens.specs.Good.{GoodStore}
 use Rattle.smb_opens.specs.Readers.{opens_to_delete, is_to_go}
 use Rattle.smb_opens.specs.State.{StoreState}

@@ -9,7 +9,8 @@ use Rattle.smb_tree.specs.Entries.{Entry, is_folder, is_folder_kind}
 use Rattle.smb_tree.specs.Good.{GoodContent}
 use Rattle.smb_tree.proofs.Apart.{numbered-from_at, at-from_numbered, number-from_numbered}
 use Rattle.smb_tree.proofs.Keys.{same_path-eq}
-use Rattle.smb_access.specs.Close.{can_be_deleted, is_deletable}
+use Rattle.smb_access.specs.Close.{is_deletable}
+use Rattle.smb_access.specs.Parts.{can_be_deleted}
 
 second_of : (a b : Bool) → (a && b) ≡ true → b ≡ true
 second_of true b h = h

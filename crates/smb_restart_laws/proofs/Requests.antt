@@ -31,8 +31,9 @@ use Rattle.smb_session.specs.declared.fault.SessionFault.TheVariants.{NotAccepte
 use Rattle.smb_session.specs.Table.{TableState, begun, knows_session, knows_tree, read_only_of, session_ended, session_changed, logoff_refusal, tree_disconnect_refusal}
 use Rattle.smb_session.proofs.Entries.{all-changed, all-removed}
 use Rattle.smb_access.specs.Asked.{FileAsked}
-use Rattle.smb_access.specs.Effect.{entry_after, opened_by}
-use Rattle.smb_access.specs.Opens.{open_of, open_numbers, has_number, is_held_by}
+use Rattle.smb_access.specs.Effect.{entry_after}
+use Rattle.smb_access.specs.Parts.{opened_by, has_number}
+use Rattle.smb_access.specs.Opens.{open_of, open_numbers, is_held_by}
 use Rattle.smb_access.specs.declared.open_row.OpenRow.{OpenRow}
 use Rattle.smb_access.specs.declared.open_row.Owner.{Owner}
 use Rattle.smb_access.specs.declared.open_row.Owner.TheVariants.{Session, Tree}
@@ -41,8 +42,8 @@ use Rattle.smb_access.specs.declared.view.View.{View}
 use Rattle.smb_locks.specs.declared.ask.LockAsk.{LockAsk}
 use Rattle.smb_locks.specs.Table.{locked, unlocked}
 use Rattle.smb_info.specs.SetInformation.{SetAsked, asks_basic, asks_rename, asks_mark, asks_allocation, asks_end}
-use Rattle.smb_entry.specs.Rename.{renamed_tree}
-use Rattle.smb_entry.specs.SetInfo.{changed_in, delete_set, size_set, entry_set}
+use Rattle.smb_entry.specs.Parts.{renamed_tree, delete_set, size_set, entry_set}
+use Rattle.smb_entry.specs.SetInfo.{changed_in}
 use Rattle.smb_opens.specs.Bytes.{read_status, write_status}
 use Rattle.smb_opens.specs.Close.{closed, closed_all}
 use Rattle.smb_opens.specs.Create.{access_granted, create_status}

@@ -17,7 +17,8 @@ use Rattle.smb_locks.specs.declared.fault.LockFault.{LockFault}
 use Rattle.smb_locks.specs.declared.fault.LockFault.TheVariants.{BadFlags, BadRange, Full, NotGranted, NotLocked, NoMemory}
 use Rattle.smb_locks.specs.declared.lock.Lock.{Lock}
 use Rattle.smb_locks.specs.Locking.{locks_fault, lock_all_fault}
-use Rattle.smb_locks.specs.Asks.{locks_asked, are_locks}
+use Rattle.smb_locks.specs.Asks.{locks_asked}
+use Rattle.smb_locks.specs.Parts.{are_locks}
 use Rattle.smb_locks.specs.Table.{locks_on, locked, unlocked}
 use Rattle.smb_access.specs.declared.fault.StoreFault.{StoreFault}
 use Rattle.smb_access.specs.declared.open_row.OpenRow.{OpenRow}
@@ -25,11 +26,11 @@ use Rattle.smb_access.specs.declared.scan.Scan.{Scan}
 use Rattle.smb_access.specs.declared.view.View.{View}
 use Rattle.smb_access.specs.Opens.{open_of, with_scan}
 use Rattle.smb_access.specs.StatusRows.{StatusRow, first_status}
-use Rattle.smb_entry.specs.Bytes.{write_rows, has_no_room, keeps_from_writing, written_tree}
+use Rattle.smb_entry.specs.Parts.{write_rows, has_no_room, keeps_from_writing, written_tree, has_entries, has_no_space, delete_rows, size_rows, basic_rows, entry_set, delete_set, leaves_size, resized_file, rename_rows, renamed_tree}
 use Rattle.smb_entry.specs.Locks.{lock_fault_status, lock_status_by, locks_shown}
-use Rattle.smb_entry.specs.SetInfo.{has_entries, has_no_space, delete_rows, size_rows, basic_rows, entry_set, delete_set, leaves_size, changed_in, resized_file}
+use Rattle.smb_entry.specs.SetInfo.{changed_in}
 use Rattle.smb_entry.specs.Ways.{way_between, count_replaced, name_rows, way_rows}
-use Rattle.smb_entry.specs.Rename.{path_named, path_numbered, rename_rows, renamed_tree}
+use Rattle.smb_entry.specs.Rename.{path_named, path_numbered}
 use Rattle.smb_entry.specs.declared.ask.BasicAsk.{BasicAsk}
 use Rattle.smb_entry.specs.declared.rename.RenameLookup.{RenameLookup}
 use Rattle.smb_opens.specs.Bytes.{write_status, written_to}

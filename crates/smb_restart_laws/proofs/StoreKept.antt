@@ -10,12 +10,13 @@ use Rattle.smb_tree.proofs.Apart.{numbered-from_at}
 use Rattle.smb_access.specs.declared.found.Target.{Target}
 use Rattle.smb_access.specs.declared.open_row.OpenRow.{OpenRow}
 use Rattle.smb_access.specs.Asked.{FileAsked, kind_asked, attributes_asked}
-use Rattle.smb_access.specs.Effect.{opened_by}
+use Rattle.smb_access.specs.Parts.{opened_by}
 use Rattle.smb_access.specs.Found.{path_asked, is_read_only_file}
 use Rattle.smb_access.specs.Looked.{target_of, asked_rows, found_rows}
 use Rattle.smb_access.specs.StatusRows.{StatusRow, first_status}
 use Rattle.smb_opens.specs.Create.{access_granted, create_rows, create_status}
-use Rattle.smb_opens.specs.Effect.{created, created_by}
+use Rattle.smb_opens.specs.Effect.{created}
+use Rattle.smb_opens.specs.Parts.{created_by}
 use Rattle.smb_opens.specs.Found.{entry_asked}
 use Rattle.smb_opens.specs.Looked.{found_by}
 use Rattle.smb_opens.specs.Good.{GoodStore, IsKept}

@@ -1,6 +1,6 @@
 use Rattle.std.proofs.Common.{◌≡◌, slice_get, filter}
 use Rattle.indexmap.specs.IndexMap.{values}
-use Rattle.smb_access.specs.Opens.{is_on_entry}
+use Rattle.smb_access.specs.Parts.{is_on_entry}
 use Rattle.smb_access.proofs.plain.row_on_entry.Given as goal
 
 abbrev pub invariant-loop-row : goal.invariant-loop-row

@@ -1,7 +1,7 @@
 use Rattle.std.proofs.Common.{◌≡◌, ap, ◌∙◌}
 use Rattle.smb_tree.specs.Entries.{Entry, kept_basic}
 use Rattle.smb_tree.specs.Views.{Shown, shown}
-use Rattle.smb_entry.specs.SetInfo.{basic_set, entry_set}
+use Rattle.smb_entry.specs.Parts.{basic_set, entry_set}
 use Rattle.smb_entry.proofs.Settings.{changed_alike}
 use Rattle.smb_access.proofs.Trees.{row_of_shown}
 use Rattle.smb_entry.proofs.set_info.set_entry.Goals as goal

@@ -1,4 +1,5 @@
-use Rattle.smb_locks.specs.Conflicts.{BarsRead, bars_read, BarsWrite, bars_write}
+use Rattle.smb_locks.specs.Conflicts.{BarsRead, BarsWrite}
+use Rattle.smb_locks.specs.Parts.{bars_read, bars_write}
 use Rattle.smb_locks.proofs.Ends.{overlap_from_ends, ends_from_overlap, overlap_turned, empty_apart, conflict_from_test, test_from_conflict, bar_from_read_test, read_test_from_bar, bar_from_write_test, write_test_from_bar, some_from_test, test_from_some}
 use Rattle.smb_locks.proofs.Members.{member_locked, member_unlocked, member_dropped, others_kept}
 use Rattle.smb_locks.proofs.Tables.{good_empty, good_on, on_with, on_other, good_locked, good_unlocked, good_dropped, on_dropped, compatible_pair}

@@ -14,7 +14,7 @@ use Rattle.smb_opens.proofs.RenameLaws.{rename_keeps}
 use Rattle.smb_opens.proofs.ScanLaws.{scan_leaves}
 use Rattle.smb_opens.proofs.SetLaws.{leaves_others, times_set, mark_set, front, not_opened}
 use Rattle.smb_opens.proofs.StoreSettings.{size_keeps}
-use Rattle.smb_entry.specs.SetInfo.{size_set}
+use Rattle.smb_entry.specs.Parts.{size_set}
 use Rattle.smb_opens.proofs.laws.laws_of_stores.Goals as goal
 
 pub returns : goal.returns

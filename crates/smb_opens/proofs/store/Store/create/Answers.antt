@@ -4,7 +4,7 @@ use Rattle.smb_wire.specs.declared.access.Access.{Access}
 use Rattle.smb_wire.specs.declared.nt_status.NtStatus.TheVariants.{Success}
 use Rattle.smb_wire.specs.Paths.{folded_path}
 use Rattle.smb_access.specs.Asked.{asked}
-use Rattle.smb_opens.specs.Effect.{created_by, create_result_by}
+use Rattle.smb_opens.specs.Parts.{created_by, create_result_by}
 use Rattle.smb_opens.specs.Found.{entry_asked}
 use Rattle.smb_opens.proofs.Passing.{access_found, status_told, refused_memory, refused_asked, handed_refusal, lawful_ok, free_found, room_found, above_found, alone_found, file_found, absent_found}
 use Rattle.smb_opens.proofs.store.Store.create.Goals as goal

@@ -6,8 +6,8 @@ use Rattle.smb_wire.proofs.Parting.{ends_count}
 use Rattle.smb_tree.specs.Content.{entry_at, parent}
 use Rattle.smb_tree.specs.Faults.{add_fault}
 use Rattle.smb_access.specs.Asked.{asked}
-use Rattle.smb_opens.specs.Found.{has_all_opens}
-use Rattle.smb_access.specs.Found.{is_marked}
+use Rattle.smb_opens.specs.Parts.{has_all_opens}
+use Rattle.smb_access.specs.Parts.{is_marked}
 use Rattle.smb_opens.specs.State.{StoreState}
 use Rattle.smb_access.specs.declared.open_row.OpenRow.{OpenRow}
 use Rattle.smb_access.proofs.Counts.{end_some}

@@ -1,7 +1,7 @@
 use Rattle.std.proofs.Common.{sym, ap, ◌∙◌}
 use Rattle.smb_wire.specs.Paths.{folded_path}
 use Rattle.smb_wire.specs.PathViews.{parts_of}
-use Rattle.smb_opens.specs.Found.{has_all_opens, has_all_entries}
+use Rattle.smb_opens.specs.Parts.{has_all_opens, has_all_entries}
 use Rattle.smb_opens.specs.Looked.{found_at}
 use Rattle.smb_opens.specs.State.{StoreState}
 use Rattle.smb_opens.proofs.Passing.{found_is}

@@ -2,8 +2,9 @@ use Rattle.std.proofs.Common.{Some, ap, ◌∙◌}
 use Rattle.std.specs.Option.{option_map}
 use Rattle.smb_access.specs.Access.{granted}
 use Rattle.smb_access.specs.Asked.{asked}
-use Rattle.smb_access.specs.Effect.{action_on}
-use Rattle.smb_opens.specs.Found.{has_all_opens, entry_asked}
+use Rattle.smb_access.specs.Parts.{action_on}
+use Rattle.smb_opens.specs.Found.{entry_asked}
+use Rattle.smb_opens.specs.Parts.{has_all_opens}
 use Rattle.smb_access.specs.Found.{path_asked}
 use Rattle.smb_access.specs.Looked.{target_of, target_conflicts}
 use Rattle.smb_opens.specs.State.{StoreState}

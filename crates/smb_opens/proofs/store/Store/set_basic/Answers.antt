@@ -1,5 +1,5 @@
 use Rattle.std.proofs.Common.{sym, ap, ◌∙◌}
-use Rattle.smb_entry.specs.SetInfo.{entry_set}
+use Rattle.smb_entry.specs.Parts.{entry_set}
 use Rattle.smb_opens.specs.State.{StoreState}
 use Rattle.smb_opens.specs.Views.{open_view}
 use Rattle.smb_opens.proofs.Shows.{shown_by}

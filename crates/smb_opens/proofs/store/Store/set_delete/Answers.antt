@@ -1,10 +1,11 @@
-use Rattle.std.proofs.Common.{Bool, sym, ap, ◌∙◌}
+use Rattle.std.proofs.Common.{rules, ◌≡◌, Bool, sym, ap, ◌∙◌}
 use Rattle.smb_access.specs.StatusRows.{first_status}
-use Rattle.smb_entry.specs.SetInfo.{delete_rows, delete_set}
+use Rattle.smb_entry.specs.Parts.{delete_rows, delete_set}
+use Rattle.smb_opens.specs.SetInfo.{delete_status}
 use Rattle.smb_opens.specs.State.{StoreState}
 use Rattle.smb_opens.specs.Views.{open_view}
 use Rattle.smb_opens.proofs.Shows.{shown_by}
-use Rattle.smb_opens.proofs.StoreSettings.{there_shown, set_through, kept_deleted}
+use Rattle.smb_opens.proofs.StoreSettings.{there_shown, set_through, kept_deleted, delete_refused}
 use Rattle.smb_opens.proofs.store.Store.set_delete.Goals as goal
 
 pub mark_entry-requires : goal.mark_entry-requires
@@ -23,3 +24,11 @@ returns-clause-store g c =
     let state : StoreState = record { tree = g.T.Tree.content c.self.inside.tree; opens = g.O.Opens.content c.self.inside.opens; locks = c.self.inside.locks; next = c.self.inside.next } in
     let shown = shown_by state c.args.number c.in-Some.view (c.in-Some.ensures.value ∙ sym (ap (λ (s : StoreState). open_view s c.args.number) c.self.view_is)) in
     rw (← c.self.view_is) (set_through (delete_set c.args.is_deleted) state c.args.number c.in-Some.view _ shown c.mark_entry.ensures)
+
+pub returns-in_err-may_delete-clause-why : goal.returns-in_err-may_delete-clause-why
+returns-in_err-may_delete-clause-why g c =
+    let state : StoreState = record { tree = g.T.Tree.content c.self.inside.tree; opens = g.O.Opens.content c.self.inside.opens; locks = c.self.inside.locks; next = c.self.inside.next } in
+    let shows = c.in-Some.ensures.value ∙ sym (ap (λ (s : StoreState). open_view s c.args.number) c.self.view_is) in
+    let told = delete_refused state c.args.number c.in-Some.view c.args.is_deleted c.has_entries-is_occupied.result c.in_err-may_delete.field-0.0 shows c.has_entries-is_occupied.ensures c.in_err-may_delete.ensures.why in
+    let refused : delete_status c.args.self.now c.args.number c.args.is_deleted ≡ c.in_err-may_delete.field-0.0 = sym (ap (λ (s : StoreState). delete_status s c.args.number c.args.is_deleted) c.self.view_is) ∙ told in
+    search rules

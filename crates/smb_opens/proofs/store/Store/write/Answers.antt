@@ -1,5 +1,5 @@
 use Rattle.std.proofs.Common.{length, sym, ap, ◌∙◌}
-use Rattle.smb_entry.specs.Bytes.{keeps_from_writing}
+use Rattle.smb_entry.specs.Parts.{keeps_from_writing}
 use Rattle.smb_opens.specs.State.{StoreState}
 use Rattle.smb_opens.specs.Views.{open_view}
 use Rattle.smb_opens.proofs.Shows.{shown_by}

@@ -1,5 +1,6 @@
 use Rattle.std.proofs.Common.{◌≡◌, not, true, is_some, IsSome, sym, subst, ◌∙◌}
-use Rattle.smb_access.specs.Opens.{has_number, open_of}
+use Rattle.smb_access.specs.Opens.{open_of}
+use Rattle.smb_access.specs.Parts.{has_number}
 use Rattle.smb_opens.proofs.Closing.{opens_closed}
 use Rattle.smb_request.proofs.Numbered.{is_there}
 use Rattle.smb_request.proofs.Configured.{closed_kept}

@@ -4,7 +4,8 @@ use Rattle.smb_session.specs.Table.{knows_session, knows_tree, read_only_of}
 use Rattle.smb_body.specs.Create.{create_asked}
 use Rattle.smb_access.specs.declared.open_row.OpenRow.{OpenRow}
 use Rattle.smb_access.specs.Asked.{FileAsked, asked}
-use Rattle.smb_access.specs.Effect.{entry_after, opened_by}
+use Rattle.smb_access.specs.Effect.{entry_after}
+use Rattle.smb_access.specs.Parts.{opened_by}
 use Rattle.smb_access.specs.Faults.{IsRefusal}
 use Rattle.smb_opens.specs.Create.{access_granted, create_status}
 use Rattle.smb_opens.specs.Found.{entry_asked}

@@ -4,8 +4,8 @@ use Rattle.smb_tree.specs.Faults.{copy_fault}
 use Rattle.smb_tree.specs.declared.fault.TreeFault.{TreeFault}
 use Rattle.smb_access.specs.declared.open_row.OpenRow.{OpenRow}
 use Rattle.smb_opens.specs.Good.{GoodStore}
-use Rattle.smb_access.specs.Present.{ArePresent}
-use Rattle.smb_access.specs.Opens.{has_number, open_of}
+use Rattle.smb_access.specs.Parts.{ArePresent, has_number}
+use Rattle.smb_access.specs.Opens.{open_of}
 use Rattle.smb_request.proofs.server.Server.open_information.Goals as goal
 
 -- the entry of an open stands
