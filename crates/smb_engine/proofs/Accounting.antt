@@ -10,7 +10,8 @@ use Rattle.std.proofs.lemmas.Bool.{ltb-false, eq-eqb}
 use Rattle.smb_session.specs.Authenticator.{Meaning}
 use Rattle.smb_engine.specs.State.{is_open, StreamState, ShareState, stream_of, ended}
 use Rattle.smb_engine.specs.Run.{bytes_step}
-use Rattle.smb_engine.specs.Stream.{unread, unread_stream}
+use Rattle.smb_engine.specs.Stream.{unread}
+use Rattle.smb_engine.specs.Parts.{unread_stream}
 use Rattle.smb_engine.specs.Refusals.{EventOutOfMemory}
 use Rattle.smb_engine.specs.Event.{brings, ends}
 use Rattle.smb_engine.specs.Happenings.{Happening, performed, cut_short, runs_out_of_memory, run_of}

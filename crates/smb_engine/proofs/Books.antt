@@ -10,7 +10,8 @@ use Rattle.std.proofs.lemmas.List.Folds.{list_any-append}
 use Rattle.std.proofs.lemmas.Bool.{eqb-true}
 use Rattle.smb_session.specs.Authenticator.{Meaning}
 use Rattle.smb_engine.specs.State.{StreamState, ShareState, stream_of}
-use Rattle.smb_engine.specs.Stream.{unread, unread_stream}
+use Rattle.smb_engine.specs.Stream.{unread}
+use Rattle.smb_engine.specs.Parts.{unread_stream}
 use Rattle.smb_engine.specs.Refusals.{run_behind}
 use Rattle.smb_engine.specs.Laws.{StreamsInOrder, moved, run_after}
 use Rattle.smb_engine.specs.Happenings.{Happening, runs_out_in, runs_out_of_memory, run_of}

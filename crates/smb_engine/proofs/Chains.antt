@@ -25,7 +25,8 @@ use Rattle.smb_request.specs.Context.{first_context}
 use Rattle.smb_request.specs.State.{ServerState}
 use Rattle.smb_request.specs.Response.{Performed}
 use Rattle.smb_request.specs.Request.{performed}
-use Rattle.smb_engine.specs.Run.{PerformedRequest, is_cancel, is_negotiate_request, runs_of, message_ids, keeps_negotiate_rule, ChainState, replied, one_performed, all_performed, requests_of_chain, admitted, chain_begun, Step, refused_step, first_negotiate, first_step, framed_chain, chain_step, payload_step}
+use Rattle.smb_engine.specs.Run.{PerformedRequest, message_ids, keeps_negotiate_rule, ChainState, one_performed, all_performed, requests_of_chain, admitted, Step, refused_step, first_negotiate, first_step, chain_step, payload_step}
+use Rattle.smb_engine.specs.Parts.{is_cancel, is_negotiate_request, runs_of, replied, chain_begun, framed_chain}
 use Rattle.smb_engine.specs.Output.{reply_frame}
 use Rattle.smb_engine.specs.Refusals.{server_after}
 use Rattle.smb_request.specs.declared.response.NoReply.{NoReply}

@@ -5,7 +5,8 @@ use Rattle.std.proofs.lemmas.Bool.{lt-ltb, ne_eqb, eq-eqb, true≢false}
 use Rattle.smb_session.specs.Authenticator.{Meaning}
 use Rattle.smb_engine.specs.State.{ShareState}
 use Rattle.smb_engine.specs.Stream.{unread}
-use Rattle.smb_engine.specs.Run.{Ran, event_refusal, unknown_refusal}
+use Rattle.smb_engine.specs.Run.{Ran, event_refusal}
+use Rattle.smb_engine.specs.Parts.{unknown_refusal}
 use Rattle.smb_engine.specs.Happenings.{Happening, event_of, happening_step, run_of}
 use Rattle.smb_engine.specs.Record.{PeerCall}
 use Rattle.smb_engine.specs.ServedPeers.{PeerState}

@@ -16,11 +16,14 @@ use Rattle.smb_access.specs.Opens.{open_of}
 use Rattle.smb_opens.specs.Parts.{AreLocksHeld, AreMarksDue}
 use Rattle.smb_opens.specs.Readers.{LeavesFiles}
 use Rattle.smb_opens.proofs.Readers.{leaves_files_refl, leaves_files_trans}
-use Rattle.smb_request.specs.Owners.{is_owned, AreOwned}
+use Rattle.smb_request.specs.Owners.{AreOwned}
+use Rattle.smb_request.specs.Parts.{is_owned}
 use Rattle.smb_engine.specs.declared.fault.ServeFault.{ServeFault}
-use Rattle.smb_engine.specs.State.{StreamState, ShareState, ended, without_stream}
+use Rattle.smb_engine.specs.State.{StreamState, ShareState, ended}
+use Rattle.smb_engine.specs.Parts.{without_stream, unknown_refusal}
 use Rattle.smb_engine.specs.Event.{ends}
-use Rattle.smb_engine.specs.Run.{Ran, run, unknown_refusal, event_step, refused_at_once, then_ran}
+use Rattle.smb_engine.specs.Run.{Ran, run, event_step}
+use Rattle.smb_engine.specs.Happenings.{refused_at_once, then_ran}
 use Rattle.smb_engine.specs.Good.{GoodState}
 use Rattle.smb_engine.specs.Rest.{ends_of, IsAtRest}
 use Rattle.smb_engine.proofs.Cuts.{run_goes_on}

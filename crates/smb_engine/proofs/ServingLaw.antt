@@ -7,7 +7,8 @@ use Rattle.std.proofs.lemmas.Bool.{true≢false}
 use Rattle.smb_session.specs.Authenticator.{Meaning}
 use Rattle.smb_engine.specs.State.{ShareState, is_open}
 use Rattle.smb_engine.specs.Good.{GoodState}
-use Rattle.smb_engine.specs.Stream.{unread, unread_entry}
+use Rattle.smb_engine.specs.Stream.{unread}
+use Rattle.smb_engine.specs.Parts.{unread_entry}
 use Rattle.smb_engine.specs.Happenings.{Happening, run_of}
 use Rattle.smb_engine.specs.Record.{PeerCall, taken_by, closes_of}
 use Rattle.smb_engine.specs.ServedPeers.{PeerState}

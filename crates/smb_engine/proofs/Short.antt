@@ -6,7 +6,8 @@ use Rattle.smb_engine.specs.declared.connection.Connection.{Connection}
 use Rattle.smb_request.specs.State.{ServerState}
 use Rattle.smb_engine.specs.InPlace.{step_behind}
 use Rattle.smb_engine.specs.Run.{Step}
-use Rattle.smb_engine.specs.Output.{Output, end_of, IsShort, AreShort, longest_reply, output_bytes}
+use Rattle.smb_engine.specs.Output.{Output, end_of, AreShort, output_bytes}
+use Rattle.smb_engine.specs.Parts.{IsShort, longest_reply}
 
 pub both_short : (outputs others : List Output) → AreShort outputs → AreShort others → AreShort (outputs ++ others)
 both_short = all-append IsShort

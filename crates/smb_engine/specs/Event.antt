@@ -1,6 +1,5 @@
 -- What happens to a share.
-use Rattle.std.specs.Prelude.{ℕ, List, map, Option, slice_get}
-use Rattle.std.specs.Option.{option_map}
+use Rattle.std.specs.Prelude.{ℕ, List, map}
 use Rattle.smb_engine.specs.declared.event.Event.{Event}
 use Rattle.smb_engine.specs.declared.event.Event.TheVariants.{Opened, Bytes, Ended}
 
@@ -16,14 +15,8 @@ text_of (Opened connection) = opens connection
 text_of (Bytes connection moment piece) = brings connection moment piece.items
 text_of (Ended connection) = ends connection
 
-abbrev pub events_of : List Event → List EventText
-events_of events = map text_of events
-
 -- the connection of an event, and that of the one at a place
 abbrev pub connection_of : EventText → ℕ
 connection_of (opens connection) = connection
 connection_of (brings connection moment piece) = connection
 connection_of (ends connection) = connection
-
-abbrev pub connection_at : List EventText → ℕ → Option ℕ
-connection_at events place = option_map connection_of (slice_get events place)

@@ -1,12 +1,13 @@
 -- A run in which memory may run out, as it may for a share that goes on then.
-use Rattle.std.specs.Prelude.{ℕ, Bool, true, false, ◌==◌, List, [], ◌∷◌, None, count_by}
-use Rattle.std.specs.Option.{option_map_or}
+use Rattle.std.specs.Prelude.{ℕ, Bool, true, false, ◌==◌, List, [], ◌∷◌, None, count_by, suc, ◌++◌, Some}
+use Rattle.std.specs.Option.{option_map_or, option_map}
 use Rattle.std.specs.List.{list_any}
 use Rattle.smb_session.specs.Authenticator.{Meaning}
 use Rattle.smb_engine.specs.State.{ShareState}
 use Rattle.smb_engine.specs.Event.{EventText, opens, brings, ends}
-use Rattle.smb_engine.specs.Run.{EventStep, quiet_step, event_step, event_refusal, Ran, then_ran, refused_at_once}
+use Rattle.smb_engine.specs.Run.{EventStep, quiet_step, event_step, event_refusal, Ran, Stop}
 use Rattle.smb_engine.specs.Refusals.{stopped}
+use Rattle.smb_engine.specs.declared.fault.ServeFault.{ServeFault}
 
 -- an event that is performed whole, or one in which memory runs out after so many of its requests
 pub data Happening : Type 0 where
@@ -37,6 +38,17 @@ runs_out_in connection (cut_short event done) = is_piece_of connection event
 
 abbrev pub runs_out_of_memory : ℕ → List Happening → Bool
 runs_out_of_memory connection happenings = list_any (runs_out_in connection) happenings
+
+-- a stop as seen one event earlier
+abbrev pub later : Stop → Stop
+later stop = record stop { place = suc stop.place }
+
+-- a step, and a run behind it; and a run that is refused at its first event
+abbrev pub then_ran : {S : Type 0} → EventStep S → Ran S → Ran S
+then_ran step ran = record { state = ran.state; outputs = step.outputs ++ ran.outputs; stop = option_map later ran.stop }
+
+abbrev pub refused_at_once : {S : Type 0} → ShareState S → ServeFault → Ran S
+refused_at_once s fault = record { state = s; outputs = []; stop = Some (record { place = 0; fault = fault }) }
 
 module _ {S : Type 0} (authenticator : Meaning S) where
   -- what a happening leaves and puts out. Where memory runs out, nothing is put out

@@ -12,7 +12,8 @@ use Rattle.smb_engine.specs.Event.{EventText, brings, connection_of}
 use Rattle.smb_engine.specs.State.{ShareState, stream_of}
 use Rattle.smb_engine.specs.Good.{GoodState}
 use Rattle.smb_engine.specs.Stream.{unread}
-use Rattle.smb_engine.specs.Run.{PerformedRequest, Stop, Ran, later, run, event_refusal, event_step}
+use Rattle.smb_engine.specs.Run.{PerformedRequest, Stop, Ran, run, event_refusal, event_step}
+use Rattle.smb_engine.specs.Happenings.{later}
 use Rattle.smb_engine.specs.Refusals.{run_behind}
 use Rattle.smb_engine.specs.Output.{Output, frame_to, end_of}
 

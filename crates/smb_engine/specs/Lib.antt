@@ -21,3 +21,4 @@ pub mod Serving
 pub mod Openings
 pub mod ServingLaws
 pub mod Filetime
+pub mod Parts

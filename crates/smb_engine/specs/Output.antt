@@ -11,13 +11,14 @@ pub data Output : Type 0 where
   frame_to : ℕ → List ℕ → Output
   end_of : ℕ → Output
 
--- an answer, without where its bytes lie
-abbrev pub output_of : Answer → Output
-output_of (Frame connection bytes) = frame_to connection bytes.items
-output_of (End connection) = end_of connection
-
+-- answers, without where their bytes lie
 abbrev pub outputs_of : List Answer → List Output
-outputs_of answers = map output_of answers
+outputs_of answers = map
+    (λ answer. elim answer [
+      | Frame connection bytes ↦ frame_to connection bytes.items
+      | End connection ↦ end_of connection
+    ])
+    answers
 
 -- the replies to a payload as one frame; where there is none, nothing is sent
 abbrev pub reply_frame : ℕ → List ℕ → List Output
@@ -29,13 +30,6 @@ abbrev pub output_bytes : Output → List ℕ
 output_bytes (frame_to connection bytes) = bytes
 output_bytes (end_of connection) = []
 
--- the most bytes of a frame's payload, to a client: the responses to the requests of a chain
-abbrev pub longest_reply : ℕ
-longest_reply = most_requests * longest_response
-
--- a frame's payload has at most that many bytes, behind the 4 of its length
-abbrev pub IsShort : Output → Type 0
-IsShort output = length (output_bytes output) ≤ 4 + longest_reply
-
+-- a frame's payload has at most as many bytes as the responses to the requests of a chain, behind the 4 of its length
 abbrev pub AreShort : List Output → Type 0
-AreShort = AllByRecursion IsShort
+AreShort = AllByRecursion (λ output. length (output_bytes output) ≤ 4 + most_requests * longest_response)

@@ -25,16 +25,16 @@ stopped authenticator s (brings connection moment piece) k =
     ended (record s { server = server_after s.server (bytes_step authenticator s connection moment piece).requests k }) connection
 stopped authenticator s (ends connection) k = s
 
--- whether memory can be wanting at an event: at no end, and at a piece only where its connection is open
-abbrev pub can_want_memory : {S : Type 0} → ShareState S → EventText → Bool
-can_want_memory s (opens connection) = true
-can_want_memory s (brings connection moment piece) = is_open s connection
-can_want_memory s (ends connection) = false
-
--- memory ran out after so many requests of an event, of which it has so many or more: each whose change is left is among
--- them. Where the last of them change nothing, as ECHO and READ, the state does not tell their number.
+-- memory ran out after so many requests of an event, of which it has so many or more: each whose change is left is
+-- among them. Where the last of them change nothing, as ECHO and READ, the state does not tell their number.
 pub record EventOutOfMemory {S : Type 0} (authenticator : Meaning S) (s : ShareState S) (event : EventText) (done : ℕ) (left : ShareState S) : Type 0 where
-  pub wanting : can_want_memory s event ≡ true
+  -- memory can be wanting at no end, and at a piece only where its connection is open
+  pub wanting :
+      elim event as (λ e. Bool) [
+        | opens connection ↦ true
+        | brings connection moment piece ↦ is_open s connection
+        | ends connection ↦ false
+      ] ≡ true
   pub within : done ≤ length (event_step authenticator s event).requests
   pub state : left ≡ unread (stopped authenticator s event done)
 
@@ -59,13 +59,6 @@ PieceStopped authenticator s connection moment piece TooManyConnections left = �
 PieceStopped authenticator s connection moment piece BadEvent left = ⊥
 PieceStopped authenticator s connection moment piece BadConfig left = ⊥
 
--- where one event stops: it is refused and changes nothing, or memory ran out after some of its requests
-abbrev pub EventStopped : {S : Type 0} → Meaning S → ShareState S → EventText → ServeFault → ShareState S → Type 0
-EventStopped authenticator s event (NoMemory done) left = (event_refusal s event ≡ None) × EventOutOfMemory authenticator s event done left
-EventStopped authenticator s event TooManyConnections left = (event_refusal s event ≡ Some TooManyConnections) × (left ≡ s)
-EventStopped authenticator s event BadEvent left = (event_refusal s event ≡ Some BadEvent) × (left ≡ s)
-EventStopped authenticator s event BadConfig left = ⊥
-
 -- a run as the code holds its state, behind what was put out before
 abbrev pub run_behind : {S : Type 0} → List Output → Ran S → Ran S
 run_behind before ran = record { state = unread ran.state; outputs = before ++ ran.outputs; stop = ran.stop }
@@ -77,7 +70,9 @@ pub record RunOutOfMemory {S : Type 0} (authenticator : Meaning S) (start : Shar
   pub others : List EventText
   pub at : drop place events ≡ event ∷ others
   pub unrefused : (run authenticator start (take place events)).stop ≡ None
-  pub stops : EventStopped authenticator (run authenticator start (take place events)).state event (NoMemory done) left
+  pub stops :
+      (event_refusal (run authenticator start (take place events)).state event ≡ None)
+      × EventOutOfMemory authenticator (run authenticator start (take place events)).state event done left
   pub outputs : after ≡ before ++ (run authenticator start (take place events)).outputs
 
 -- what an error of a run says: the definition stops there, or memory ran out

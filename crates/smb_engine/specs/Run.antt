@@ -1,14 +1,17 @@
 -- What a share does, to be read once from top to bottom: a request of a chain, the chain, a payload, a piece of a
 -- connection's stream, an event and a run of events, each over the definition before it ([MS-SMB2] 3.3.5).
-use Rattle.std.specs.Prelude.{ℕ, suc, Bool, true, false, ◌&&◌, ◌||◌, ◌==◌, not, nat_lt, nat_le, List, [], ◌∷◌, ◌++◌, length, filter, map, replicate, Option, Some, None, is_none, if◌then◌else◌}
+use Rattle.std.specs.Prelude.{ℕ, suc, Bool, true, false, ◌&&◌, ◌||◌, ◌==◌, not, nat_lt, nat_le, List, [], ◌∷◌, ◌++◌, length, drop, filter, map, replicate, Option, Some, None, is_none, if◌then◌else◌}
 use Rattle.std.specs.Option.{option_map, option_map_or}
 use Rattle.std.specs.List.{list_any}
+use Rattle.std.specs.Map.{set_value}
+use Rattle.std.specs.BTreeMap.{is_at}
+use Rattle.std.specs.Ordering.{nat_cmp}
 use Rattle.smb_wire.specs.Limits.{longest_payload, most_connections}
 use Rattle.smb_wire.specs.Commands.{code_of}
 use Rattle.smb_wire.specs.Counters.{is_spent}
 use Rattle.smb_wire.specs.declared.command.Command.TheVariants.{Negotiate, Cancel}
 use Rattle.smb_wire.specs.declared.dialect.Dialect.{Dialect}
-use Rattle.smb_frame.specs.Reading.{rest, fault_of}
+use Rattle.smb_frame.specs.Reading.{payloads, rest, fault_of}
 use Rattle.smb_head.specs.Headers.{header_of}
 use Rattle.smb_head.specs.Chains.{chain_of, is_related}
 use Rattle.smb_head.specs.Replies.{Reply, joined_replies}
@@ -22,15 +25,14 @@ use Rattle.smb_request.specs.Charge.{charge_of}
 use Rattle.smb_request.specs.Negotiate.{negotiate_answer}
 use Rattle.smb_request.specs.Smb1.{answer_to_smb1, reply_to_smb1}
 use Rattle.smb_request.specs.Context.{first_context}
-use Rattle.smb_request.specs.State.{ServerState, hello_of}
-use Rattle.smb_request.specs.Response.{ResponseState, Performed}
+use Rattle.smb_request.specs.State.{ServerState}
+use Rattle.smb_request.specs.Response.{ResponseState}
 use Rattle.smb_request.specs.Request.{performed}
 use Rattle.smb_engine.specs.declared.arrival.Arrival.{Arrival}
 use Rattle.smb_engine.specs.declared.connection.Connection.{Connection}
 use Rattle.smb_engine.specs.declared.fault.ServeFault.{ServeFault}
 use Rattle.smb_engine.specs.declared.fault.ServeFault.TheVariants.{TooManyConnections, BadEvent}
-use Rattle.smb_engine.specs.State.{StreamState, ShareState, stream_of, with_stream, opened, ended}
-use Rattle.smb_engine.specs.Stream.{added_payloads}
+use Rattle.smb_engine.specs.State.{StreamState, ShareState, stream_of, opened, ended}
 use Rattle.smb_engine.specs.Event.{EventText, opens, brings, ends}
 use Rattle.smb_engine.specs.Output.{Output, end_of, reply_frame}
 
@@ -44,15 +46,16 @@ pub record PerformedRequest (S : Type 0) : Type 0 where
   pub request : Option (List ℕ)
   pub after : ServerState S
 
--- a chain in progress: the server, the connection, what the next related request acts under (3.3.5.2.7.2), and the replies
+-- a chain in progress: the server, the connection, what the next related request acts under (3.3.5.2.7.2), and the
+-- replies
 pub record ChainState (S : Type 0) : Type 0 where
   pub server : ServerState S
   pub connection : Connection
   pub context : Context
   pub replies : List Reply
 
--- the reply to a request: its header has the request's numbers, the flag SERVER_TO_REDIR (1), RELATED_OPERATIONS (4) where
--- the request had it, and the credits that are granted (3.3.4.1)
+-- the reply to a request: its header has the request's numbers, the flag SERVER_TO_REDIR (1), RELATED_OPERATIONS (4)
+-- where the request had it, and the credits that are granted (3.3.4.1)
 abbrev pub reply_to : List ℕ → ResponseState → ℕ → Reply
 reply_to request response credits = record {
   header = record {
@@ -71,23 +74,27 @@ reply_to request response credits = record {
   body = response.body;
 }
 
--- a chain after a request that was performed: its response grants credits and joins the replies (3.3.1.2); without a
--- response neither changes
-abbrev pub replied : {S : Type 0} → ChainState S → List ℕ → Performed S → ChainState S
-replied chain request p = option_map_or
-    (λ response. let credits = credits_granted chain.connection.window (header_of request).credits in record {
-      server = p.server;
-      connection = record chain.connection { dialect = p.dialect; window = with_more chain.connection.window credits };
-      context = p.context;
-      replies = chain.replies ++ reply_to request response credits ∷ [];
-    })
-    p.response
-    (record { server = p.server; connection = record chain.connection { dialect = p.dialect }; context = p.context; replies = chain.replies })
-
 module _ {S : Type 0} (authenticator : Meaning S) (arrival : Arrival) where
-  -- one request of a chain on a connection (3.3.5.2)
+  -- one request of a chain on a connection (3.3.5.2): its response grants credits and joins the replies (3.3.1.2);
+  -- without a response neither changes
   unfoldable pub one_performed : ChainState S → List ℕ → ChainState S
-  one_performed chain request = replied chain request (performed authenticator arrival.connection_id arrival.moment chain.server chain.connection.dialect chain.context request)
+  one_performed chain request =
+      let before = chain.connection in
+      let p = performed authenticator arrival.connection_id arrival.moment chain.server before.dialect chain.context request in
+      option_map_or
+      (λ response. let credits = credits_granted before.window (header_of request).credits in record {
+        server = p.server;
+        connection = record before { dialect = p.dialect; window = with_more before.window credits };
+        context = p.context;
+        replies = chain.replies ++ reply_to request response credits ∷ [];
+      })
+      p.response
+      (record {
+        server = p.server;
+        connection = record before { dialect = p.dialect };
+        context = p.context;
+        replies = chain.replies;
+      })
 
   -- A CHAIN
 
@@ -103,28 +110,19 @@ module _ {S : Type 0} (authenticator : Meaning S) (arrival : Arrival) where
       record { before = chain.server; context = chain.context; request = Some request; after = (one_performed chain request).server }
       ∷ requests_of_chain (one_performed chain request) requests
 
--- whether a request is a CANCEL (2.2.30), or a NEGOTIATE (2.2.3)
-abbrev pub is_cancel : List ℕ → Bool
-is_cancel request = (header_of request).command.0 == code_of Cancel
-
-abbrev pub is_negotiate_request : List ℕ → Bool
-is_negotiate_request request = (header_of request).command.0 == code_of Negotiate
-
--- the MessageIds that a chain uses in a dialect, by request: its own, and how many from there upward; a CANCEL uses none
--- (3.3.5.2.3)
-abbrev pub runs_of : Option Dialect → List (List ℕ) → List (ℕ × ℕ)
-runs_of dialect requests =
-    map (λ request. ((header_of request).message_id, charge_of dialect (header_of request).credit_charge)) (filter (λ request. not (is_cancel request)) requests)
-
--- and all of them
+-- the MessageIds that a chain uses in a dialect: of each request its own, and by its charge those from there upward; a
+-- CANCEL uses none (3.3.5.2.3)
 abbrev pub message_ids : Option Dialect → List (List ℕ) → List ℕ
-message_ids dialect requests = numbers_of (runs_of dialect requests)
+message_ids dialect requests = numbers_of (map
+    (λ request. ((header_of request).message_id, charge_of dialect (header_of request).credit_charge))
+    (filter (λ request. not ((header_of request).command.0 == code_of Cancel)) requests))
 
 -- until a dialect is negotiated a chain is one NEGOTIATE alone, and afterwards it holds none (3.3.5.2, 3.3.5.4)
 abbrev pub keeps_negotiate_rule : Option Dialect → List (List ℕ) → Bool
-keeps_negotiate_rule None (request ∷ []) = is_negotiate_request request
+keeps_negotiate_rule None (request ∷ []) = (header_of request).command.0 == code_of Negotiate
 keeps_negotiate_rule None requests = false
-keeps_negotiate_rule (Some dialect) requests = not (list_any is_negotiate_request requests)
+keeps_negotiate_rule (Some dialect) requests =
+    not (list_any (λ request. (header_of request).command.0 == code_of Negotiate) requests)
 
 -- the requests of a payload that are performed; none where the payload is no chain, breaks the rule about NEGOTIATE, or
 -- uses a MessageId twice or one that the window lacks (3.3.5.2.3)
@@ -133,15 +131,6 @@ admitted connection payload =
     option_map_or
     (λ requests. if keeps_negotiate_rule connection.dialect requests && may_use connection.window (message_ids connection.dialect requests) then Some requests else None)
     (chain_of payload) None
-
--- where a chain begins: its MessageIds are no more in the window (3.3.1.1)
-abbrev pub chain_begun : {S : Type 0} → ServerState S → Connection → List (List ℕ) → ChainState S
-chain_begun server connection requests = record {
-  server = server;
-  connection = record connection { payload_came = true; window = without_ids connection.window (message_ids connection.dialect requests) };
-  context = first_context;
-  replies = [];
-}
 
 -- A PAYLOAD
 
@@ -163,34 +152,47 @@ unfoldable pub first_negotiate : Connection → List ℕ → Option Smb1Dialects
 first_negotiate connection payload = if connection.payload_came then None else smb1_of payload
 
 module _ {S : Type 0} (authenticator : Meaning S) (arrival : Arrival) where
-  -- it is answered by an SMB2 NEGOTIATE response, and the client goes on with MessageId 1; without a dialect of the share
-  -- it ends the connection (3.3.5.3.1)
+  -- it is answered by an SMB2 NEGOTIATE response, and the client goes on with MessageId 1; without a dialect of the
+  -- share it ends the connection (3.3.5.3.1)
   unfoldable pub first_step : ServerState S → Connection → Smb1Dialects → Step S
   first_step server connection dialects = option_map_or
       (λ answer. record {
         server = server;
         connection = record connection { payload_came = true; dialect = answer.dialect; window = first_window 1 };
-        outputs = reply_frame arrival.connection_id (joined_replies (reply_to_smb1 (negotiate_answer server.settings.guid (hello_of authenticator server) arrival.moment answer.dialect answer.dialect_revision) ∷ []));
+        outputs = reply_frame arrival.connection_id (joined_replies (reply_to_smb1 (negotiate_answer
+            server.settings.guid
+            (authenticator.hello server.sessions.authenticator)
+            arrival.moment
+            answer.dialect
+            answer.dialect_revision) ∷ []));
         stays_open = true;
         requests = record { before = server; context = first_context; request = None; after = server } ∷ [];
       })
       (answer_to_smb1 dialects)
       (refused_step server connection)
 
-  -- the requests of a chain, their replies in one frame
-  abbrev pub framed_chain : ChainState S → List (List ℕ) → Step S
-  framed_chain chain requests = record {
-    server = (all_performed authenticator arrival chain requests).server;
-    connection = (all_performed authenticator arrival chain requests).connection;
-    outputs = reply_frame arrival.connection_id (joined_replies (all_performed authenticator arrival chain requests).replies);
-    stays_open = true;
-    requests = requests_of_chain authenticator arrival chain requests;
-  }
-
-  -- a payload that is a chain: performed whole and answered, or refused whole, which ends the connection (3.3.5.2)
+  -- a payload that is a chain: performed whole and answered, the replies in one frame, or refused whole, which ends the
+  -- connection (3.3.5.2). Where a chain begins its MessageIds are no more in the window (3.3.1.1)
   unfoldable pub chain_step : ServerState S → Connection → List ℕ → Step S
-  chain_step server connection payload =
-      option_map_or (λ requests. framed_chain (chain_begun server connection requests) requests) (admitted connection payload) (refused_step server connection)
+  chain_step server connection payload = option_map_or
+      (λ (requests : List (List ℕ)).
+      let ids = message_ids connection.dialect requests in
+      let begun : ChainState S = record {
+        server = server;
+        connection = record connection { payload_came = true; window = without_ids connection.window ids };
+        context = first_context;
+        replies = [];
+      } in
+      let done = all_performed authenticator arrival begun requests in
+      record {
+        server = done.server;
+        connection = done.connection;
+        outputs = reply_frame arrival.connection_id (joined_replies done.replies);
+        stays_open = true;
+        requests = requests_of_chain authenticator arrival begun requests;
+      })
+      (admitted connection payload)
+      (refused_step server connection)
 
   -- one payload
   unfoldable pub payload_step : ServerState S → Connection → List ℕ → Step S
@@ -198,31 +200,29 @@ module _ {S : Type 0} (authenticator : Meaning S) (arrival : Arrival) where
 
 -- A PIECE OF A STREAM
 
--- two steps, one after the other
-abbrev pub after_step : {S : Type 0} → Step S → Step S → Step S
-after_step step next = record next { outputs = step.outputs ++ next.outputs; requests = step.requests ++ next.requests }
-
--- a step, and the others after it where the connection stays open
-abbrev pub and_then : {S : Type 0} → (ServerState S → Connection → Step S) → Step S → Step S
-and_then others step = if step.stays_open then after_step step (others step.server step.connection) else step
-
--- after the payloads of a piece: one of them ends the connection, or a fault in the unread bytes of its stream does
-abbrev pub closed_by : {S : Type 0} → ℕ → List ℕ → Step S → Step S
-closed_by connection_id received step =
-    let stays_open = step.stays_open && is_none (fault_of longest_payload (rest longest_payload received)) in
-    record step { outputs = if stays_open then step.outputs else step.outputs ++ end_of connection_id ∷ []; stays_open = stays_open }
-
 module _ {S : Type 0} (authenticator : Meaning S) (arrival : Arrival) where
   -- payloads in order, up to one that ends the connection
   abbrev pub payload_steps : ServerState S → Connection → List (List ℕ) → Step S
   payload_steps server connection [] = record { server = server; connection = connection; outputs = []; stays_open = true; requests = [] }
   payload_steps server connection (payload ∷ payloads) =
-      and_then (λ server' connection'. payload_steps server' connection' payloads) (payload_step authenticator arrival server connection payload)
+      let step = payload_step authenticator arrival server connection payload in
+      if step.stays_open
+      then (let others = payload_steps step.server step.connection payloads in
+      record others { outputs = step.outputs ++ others.outputs; requests = step.requests ++ others.requests })
+      else step
 
-  -- a piece: the payloads that it adds to the stream, in order
+  -- a piece: the payloads that it adds to the stream, in order. One of them ends the connection, or a fault in the
+  -- unread bytes of its stream does
   unfoldable pub piece_step : ServerState S → StreamState → List ℕ → Step S
   piece_step server stream piece =
-      closed_by arrival.connection_id (stream.received ++ piece) (payload_steps server stream.connection (added_payloads stream.received piece))
+      let received = stream.received ++ piece in
+      let added = drop (length (payloads longest_payload stream.received)) (payloads longest_payload received) in
+      let step = payload_steps server stream.connection added in
+      let stays_open = step.stays_open && is_none (fault_of longest_payload (rest longest_payload received)) in
+      record step {
+        outputs = if stays_open then step.outputs else step.outputs ++ end_of arrival.connection_id ∷ [];
+        stays_open = stays_open;
+      }
 
 -- AN EVENT
 
@@ -236,21 +236,26 @@ pub record EventStep (S : Type 0) : Type 0 where
 abbrev pub quiet_step : {S : Type 0} → ShareState S → EventStep S
 quiet_step s = record { state = s; outputs = []; requests = [] }
 
--- the share after a piece: a connection that stays open has received these bytes; else it has ended
-abbrev pub settled : {S : Type 0} → ShareState S → ℕ → List ℕ → Step S → EventStep S
-settled s connection received step = record {
-  state = if step.stays_open
-      then record s { server = step.server; streams = with_stream connection (record { received = received; connection = step.connection }) s.streams }
-      else ended (record s { server = step.server }) connection;
-  outputs = step.outputs;
-  requests = step.requests;
-}
-
--- a piece on a connection; on one that is not open it is passed over
+-- a piece on a connection: if that stays open it has received these bytes, else it has ended; on one that is not open a
+-- piece is passed over
 unfoldable pub bytes_step : {S : Type 0} → Meaning S → ShareState S → ℕ → ℕ → List ℕ → EventStep S
-bytes_step authenticator s connection moment piece =
-    option_map_or (λ stream. settled s connection (stream.received ++ piece) (piece_step authenticator (record { connection_id = connection; moment = moment }) s.server stream piece))
-    (stream_of connection s.streams) (quiet_step s)
+bytes_step authenticator s connection moment piece = option_map_or
+    (λ (stream : StreamState).
+    let arrival : Arrival = record { connection_id = connection; moment = moment } in
+    let step = piece_step authenticator arrival s.server stream piece in
+    record {
+      state = if step.stays_open
+          then record s {
+            server = step.server;
+            streams = set_value (is_at (nat_cmp connection)) s.streams
+                (record { received = stream.received ++ piece; connection = step.connection });
+          }
+          else ended (record s { server = step.server }) connection;
+      outputs = step.outputs;
+      requests = step.requests;
+    })
+    (stream_of connection s.streams)
+    (quiet_step s)
 
 -- one event that is not refused
 abbrev pub event_step : {S : Type 0} → Meaning S → ShareState S → EventText → EventStep S
@@ -264,15 +269,13 @@ event_step authenticator s (ends connection) = quiet_step (ended s connection)
 abbrev pub opening_refusal : {S : Type 0} → ShareState S → Option ServeFault
 opening_refusal s = if nat_le most_connections (length s.streams) || is_spent 64 s.next then Some TooManyConnections else None
 
--- an event on a number that was never opened is refused
-abbrev pub unknown_refusal : {S : Type 0} → ShareState S → ℕ → Option ServeFault
-unknown_refusal s connection = if nat_lt 0 connection && nat_lt connection s.next then None else Some BadEvent
-
--- why an event is refused: an opening has to bear the next number, and then there has to be room for it
+-- why an event is refused: an opening has to bear the next number, and then there has to be room for it; another event
+-- is on a number that was opened
 abbrev pub event_refusal : {S : Type 0} → ShareState S → EventText → Option ServeFault
 event_refusal s (opens connection) = if connection == s.next then opening_refusal s else Some BadEvent
-event_refusal s (brings connection moment piece) = unknown_refusal s connection
-event_refusal s (ends connection) = unknown_refusal s connection
+event_refusal s (brings connection moment piece) =
+    if nat_lt 0 connection && nat_lt connection s.next then None else Some BadEvent
+event_refusal s (ends connection) = if nat_lt 0 connection && nat_lt connection s.next then None else Some BadEvent
 
 -- where a run stops at a refused event: the event's place, from 0, and why
 pub record Stop : Type 0 where
@@ -285,18 +288,18 @@ pub record Ran (S : Type 0) : Type 0 where
   pub outputs : List Output
   pub stop : Option Stop
 
--- a stop as seen one event earlier
-abbrev pub later : Stop → Stop
-later stop = record stop { place = suc stop.place }
-
-abbrev pub then_ran : {S : Type 0} → EventStep S → Ran S → Ran S
-then_ran step ran = record { state = ran.state; outputs = step.outputs ++ ran.outputs; stop = option_map later ran.stop }
-
-abbrev pub refused_at_once : {S : Type 0} → ShareState S → ServeFault → Ran S
-refused_at_once s fault = record { state = s; outputs = []; stop = Some (record { place = 0; fault = fault }) }
-
--- a run of events in order, up to one that is refused, which changes nothing. Each connection's stream is kept whole.
+-- a run of events in order, up to one that is refused, which changes nothing; where a later run stops, the place is one
+-- more. Each connection's stream is kept whole.
 abbrev pub run : {S : Type 0} → Meaning S → ShareState S → List EventText → Ran S
 run authenticator s [] = record { state = s; outputs = []; stop = None }
 run authenticator s (event ∷ events) =
-    option_map_or (refused_at_once s) (event_refusal s event) (then_ran (event_step authenticator s event) (run authenticator (event_step authenticator s event).state events))
+    let step = event_step authenticator s event in
+    let others = run authenticator step.state events in
+    option_map_or
+    (λ fault. record { state = s; outputs = []; stop = Some (record { place = 0; fault = fault }) })
+    (event_refusal s event)
+    (record {
+      state = others.state;
+      outputs = step.outputs ++ others.outputs;
+      stop = option_map (λ (stop : Stop). record stop { place = suc stop.place }) others.stop;
+    })

@@ -1,6 +1,6 @@
 -- The state of a share ([MS-SMB2] 3.3.1), and what opens and ends a connection.
 use Rattle.std.specs.Prelude.{ℕ, ◌+◌, Bool, false, List, [], None, Option, is_some}
-use Rattle.std.specs.Map.{lookup, set_value, remove_entry}
+use Rattle.std.specs.Map.{lookup, remove_entry}
 use Rattle.std.specs.BTreeMap.{is_at, insert_entry}
 use Rattle.std.specs.Ordering.{nat_cmp}
 use Rattle.smb_session.specs.Window.{first_window}
@@ -8,7 +8,8 @@ use Rattle.smb_request.specs.Settings.{Settings}
 use Rattle.smb_request.specs.State.{ServerState, new_server, connection_added, connection_ended}
 use Rattle.smb_engine.specs.declared.connection.Connection.{Connection}
 
--- a connection with its stream: in the definition all bytes that were received, in the code those that are unread (3.3.1.7)
+-- a connection with its stream: in the definition all bytes that were received, in the code those that are unread
+-- (3.3.1.7)
 pub record StreamState : Type 0 where
   pub received : List ℕ
   pub connection : Connection
@@ -23,15 +24,9 @@ pub record ShareState (S : Type 0) : Type 0 where
 abbrev pub new_share : {S : Type 0} → Settings → S → ShareState S
 new_share settings authenticator = record { server = new_server settings authenticator; streams = []; next = 1 }
 
--- the stream of a connection's number, another in its place, and all but it
+-- the stream of a connection's number
 abbrev pub stream_of : ℕ → List (ℕ × StreamState) → Option StreamState
 stream_of connection streams = lookup (is_at (nat_cmp connection)) streams
-
-abbrev pub with_stream : ℕ → StreamState → List (ℕ × StreamState) → List (ℕ × StreamState)
-with_stream connection stream streams = set_value (is_at (nat_cmp connection)) streams stream
-
-abbrev pub without_stream : ℕ → List (ℕ × StreamState) → List (ℕ × StreamState)
-without_stream connection streams = remove_entry (is_at (nat_cmp connection)) streams
 
 -- whether a connection is open
 abbrev pub is_open : {S : Type 0} → ShareState S → ℕ → Bool
@@ -47,4 +42,7 @@ opened s = record s { server = connection_added s.server s.next; streams = inser
 
 -- the share without a connection: its sessions end with it (3.3.7.1)
 abbrev pub ended : {S : Type 0} → ShareState S → ℕ → ShareState S
-ended s connection = record s { server = connection_ended s.server connection; streams = without_stream connection s.streams }
+ended s connection = record s {
+  server = connection_ended s.server connection;
+  streams = remove_entry (is_at (nat_cmp connection)) s.streams;
+}

@@ -11,12 +11,13 @@ ghost use Rattle.std.specs.Bool.{OnTrue, OnFalse};
 ghost use Rattle.smb_wire.specs.Limits.{longest_response};
 ghost use Rattle.smb_head.specs.Replies.{joined_replies};
 ghost use Rattle.smb_request.specs.Negotiate.{negotiate_answer};
-ghost use Rattle.smb_request.specs.State.{hello_of};
+ghost use Rattle.smb_request.specs.Parts.{hello_of};
 ghost use Rattle.smb_request.specs.Smb1.{reply_to_smb1};
-ghost use Rattle.smb_engine.specs.Run.{is_negotiate_request, runs_of, message_ids, keeps_negotiate_rule, admitted, reply_to, one_performed, first_negotiate, first_step, chain_step, payload_step};
+ghost use Rattle.smb_engine.specs.Run.{message_ids, keeps_negotiate_rule, admitted, reply_to, one_performed, first_negotiate, first_step, chain_step, payload_step};
+ghost use Rattle.smb_engine.specs.Parts.{is_negotiate_request, runs_of, longest_reply};
 ghost use Rattle.smb_engine.specs.Held.{StoppedAfter};
 ghost use Rattle.smb_request.specs.Held.{is_performed};
-ghost use Rattle.smb_engine.specs.Output.{longest_reply, output_bytes, reply_frame};
+ghost use Rattle.smb_engine.specs.Output.{output_bytes, reply_frame};
 ghost use Rattle.smb_engine.specs.InPlace.{chain_state_behind, step_behind};
 
 use super::arrival::Arrival;
@@ -315,7 +316,7 @@ fn frame_smb1<A: Authenticator + Drop, T: Tree + Drop, O: Opens + Drop>(
 ) -> bool
     ensures ok { OnTrue result (out.new.items ≡ out.old.items
         ++ flat_map output_bytes (reply_frame arrival.connection_id (joined_replies (reply_to_smb1
-        (negotiate_answer server.now.settings.guid (hello_of A.meaning server.now) arrival.moment answer.dialect answer.dialect_revision) ∷ [])))) }
+        (negotiate_answer server.now.settings.guid (A.meaning.hello server.now.sessions.authenticator) arrival.moment answer.dialect answer.dialect_revision) ∷ [])))) }
     ensures len { OnTrue result (length out.new.items ≤ length out.old.items + (4 + longest_reply)) }
     ensures kept { OnFalse result (out.new.items ≡ out.old.items) }
 {

@@ -1,7 +1,8 @@
 //! The share over its connections.
 
-ghost use Rattle.std.specs.Prelude.{◌≡◌, ◌<◌, ◌+◌, ◌-◌, ◌^◌, ◌++◌, [], true, false, Some, None, OnOk, OnErr, IfOk, IfErr, IfSome, IfNone, length, slice_get, if◌then◌else◌};
+ghost use Rattle.std.specs.Prelude.{◌≡◌, ◌<◌, ◌+◌, ◌-◌, ◌^◌, ◌++◌, [], true, false, Some, None, OnOk, OnErr, IfOk, IfErr, IfSome, IfNone, length, map, slice_get, if◌then◌else◌};
 ghost use Rattle.std.specs.Bool.{OnTrue};
+ghost use Rattle.std.specs.Option.{option_map};
 ghost use Rattle.std.specs.List.{AllByRecursion, flat_map};
 ghost use Rattle.std.specs.Map.{remove_entry};
 ghost use Rattle.std.specs.BTreeMap.{is_at, insert_entry};
@@ -11,12 +12,13 @@ ghost use Rattle.smb_tree.specs.Content.{new_content, used_space};
 ghost use Rattle.smb_opens.specs.Readers.{LeavesFiles};
 ghost use Rattle.smb_request.specs.Settings.{settings_of, is_lawful};
 ghost use Rattle.smb_request.specs.State.{connection_added};
-ghost use Rattle.smb_engine.specs.Event.{brings, text_of, events_of, connection_at};
+ghost use Rattle.smb_engine.specs.Event.{brings, text_of, connection_of};
+ghost use Rattle.smb_engine.specs.Parts.{events_of, unknown_refusal, EventStopped};
 ghost use Rattle.smb_engine.specs.Output.{AreShort, output_bytes, outputs_of};
-ghost use Rattle.smb_engine.specs.Refusals.{MakingRefused, EventOutOfMemory, OpeningRefused, PieceStopped, run_behind, EventStopped, RunStopped};
+ghost use Rattle.smb_engine.specs.Refusals.{MakingRefused, EventOutOfMemory, OpeningRefused, PieceStopped, run_behind, RunStopped};
 ghost use Rattle.smb_engine.specs.Rest.{ends_of, IsAtRest};
 ghost use Rattle.smb_engine.specs.State.{StreamState, new_share, new_stream, stream_of, is_open, opened, ended};
-ghost use Rattle.smb_engine.specs.Run.{opening_refusal, bytes_step, unknown_refusal, event_refusal, event_step, run};
+ghost use Rattle.smb_engine.specs.Run.{opening_refusal, bytes_step, event_refusal, event_step, run};
 ghost use Rattle.smb_engine.specs.Stream.{unread};
 ghost use Rattle.smb_engine.specs.Good.{GoodState};
 
@@ -447,7 +449,7 @@ impl<A: Authenticator + Drop, T: Tree + Drop, O: Opens + Drop> Share<A, T, O> {
             ≡ run_behind (outputs_of answers.old.items) (run A.meaning self.old (events_of events.now))) }
         ensures err { IfErr result (λ e. RunStopped A.meaning self.old (events_of events.now) e.place e.fault self.new
             (outputs_of answers.old.items) (outputs_of answers.new.items)) }
-        ensures connection { IfErr result (λ e. connection_at (events_of events.now) e.place ≡ Some e.connection) }
+        ensures connection { IfErr result (λ e. option_map connection_of (slice_get (events_of events.now) e.place) ≡ Some e.connection) }
         ensures short { AreShort (outputs_of answers.old.items) → AreShort (outputs_of answers.new.items) }
     {
         let _ = &self.server;
@@ -479,10 +481,10 @@ impl<A: Authenticator + Drop, T: Tree + Drop, O: Opens + Drop> Share<A, T, O> {
     /// added has at most 8,389,888 bytes, fewer than 2^24.
     pub fn run(&mut self, events: &[Event], answers: &mut Vec<Answer>) -> Result<(), RunFault>
         ensures ok { OnOk result (record { state = self.new; outputs = outputs_of answers.new.items; stop = None }
-            ≡ run_behind (outputs_of answers.old.items) (run A.meaning self.old (events_of events.now))) }
-        ensures err { IfErr result (λ e. RunStopped A.meaning self.old (events_of events.now) e.place e.fault self.new
+            ≡ run_behind (outputs_of answers.old.items) (run A.meaning self.old (map text_of events.now))) }
+        ensures err { IfErr result (λ e. RunStopped A.meaning self.old (map text_of events.now) e.place e.fault self.new
             (outputs_of answers.old.items) (outputs_of answers.new.items)) }
-        ensures connection { IfErr result (λ e. connection_at (events_of events.now) e.place ≡ Some e.connection) }
+        ensures connection { IfErr result (λ e. option_map connection_of (slice_get (map text_of events.now) e.place) ≡ Some e.connection) }
         ensures short { AreShort (outputs_of answers.old.items) → AreShort (outputs_of answers.new.items) }
         ensures good { GoodState self.new }
     {

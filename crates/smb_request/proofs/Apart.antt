@@ -4,7 +4,7 @@ use Rattle.std.proofs.lemmas.Bool.Decides.{nat_tests}
 use Rattle.std.specs.Option.{option_map_or, option_and_then}
 use Rattle.smb_wire.specs.Limits.{most_at_once}
 use Rattle.smb_session.specs.Session.{SessionState}
-use Rattle.smb_session.specs.Setup.{setup_number}
+use Rattle.smb_session.specs.Laws.{setup_number}
 use Rattle.smb_body.specs.SessionSetup.{SessionSetupAsked}
 use Rattle.smb_session.specs.Table.{TableState, session_at, session_ended, knows_session}
 use Rattle.smb_access.specs.declared.open_row.OpenRow.{OpenRow}
@@ -18,15 +18,14 @@ use Rattle.smb_body.specs.Requests.{RequestValue, asks_negotiate, asks_session_s
 use Rattle.smb_request.specs.declared.context.Context.{Context}
 use Rattle.smb_request.specs.declared.context.ContextOpen.{ContextOpen}
 use Rattle.smb_request.specs.declared.context.ContextOpen.TheVariants.{Nothing, Named, Refused}
-use Rattle.smb_request.specs.Context.{open_named, number_named, named_on, open_for_next_related}
+use Rattle.smb_request.specs.Context.{open_named, named_on, open_for_next_related}
+use Rattle.smb_request.specs.Parts.{number_named, named_open, names_open, file_asked, close_response, asks_unlock, needs_session, is_unsupported, is_cancel_command, check_session_tree_and_open, dialect_after, lock_asks, hello_of}
 use Rattle.smb_wire.specs.declared.nt_status.NtStatus.{NtStatus}
-use Rattle.smb_request.specs.Needs.{needs_of, needs_session, is_unsupported, is_cancel_command}
-use Rattle.smb_request.specs.Files.{names_open}
+use Rattle.smb_request.specs.Needs.{needs_of}
 use Rattle.smb_request.specs.Negotiate.{negotiate_answer}
-use Rattle.smb_request.specs.Call.{body_of, named_open, call_of}
-use Rattle.smb_request.specs.Request.{open_refusal, check_session_tree_and_open, check_request, negotiated, dialect_after, acted, performed_by, performed}
+use Rattle.smb_request.specs.Call.{body_of, call_of}
+use Rattle.smb_request.specs.Request.{open_refusal, check_request, negotiated, acted, performed_by, performed}
 use Rattle.smb_request.specs.Held.{IsCallOf}
-use Rattle.smb_request.specs.State.{hello_of}
 use Rattle.smb_session.specs.Authenticator.{Meaning}
 use Rattle.smb_opens.specs.Close.{closed_all}
 use Rattle.smb_request.specs.Response.{CommandStep, Performed}
@@ -54,10 +53,10 @@ use Rattle.smb_opens.specs.Views.{open_view}
 use Rattle.smb_opens.proofs.Again.{opens_left}
 use Rattle.smb_opens.proofs.Closing.{opens_closed}
 use Rattle.smb_request.specs.Bytes.{file_read, file_written}
-use Rattle.smb_request.specs.Locks.{lock_asks, asks_unlock, file_locked, file_unlocked}
-use Rattle.smb_request.specs.Files.{file_asked, file_created, close_response, file_closed}
-use Rattle.smb_session.specs.Session.{with_tree, without_tree}
-use Rattle.smb_session.specs.Table.{logoff_refusal, tree_disconnect_refusal, tree_disconnected}
+use Rattle.smb_request.specs.Locks.{file_locked, file_unlocked}
+use Rattle.smb_request.specs.Files.{file_created, file_closed}
+use Rattle.smb_session.specs.Parts.{with_tree, without_tree, logoff_refusal, tree_disconnected}
+use Rattle.smb_session.specs.Table.{tree_disconnect_refusal}
 use Rattle.smb_session.specs.Sessions.{tree_connect_refusal}
 use Rattle.smb_body.specs.Replies.{answers_close, answers_lock}
 use Rattle.smb_request.specs.declared.call.Call.{Call}

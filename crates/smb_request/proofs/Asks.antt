@@ -3,7 +3,7 @@ use Rattle.std.proofs.Common.{◌≡◌, ℕ, ◌+◌, zero, suc, List, [], ◌�
 use Rattle.std.proofs.lemmas.List.{append_assoc}
 use Rattle.smb_locks.specs.declared.ask.LockAsk.{LockAsk}
 use Rattle.smb_body.specs.declared.lock_element.LockElement.{LockElement}
-use Rattle.smb_request.specs.Locks.{lock_ask, lock_asks}
+use Rattle.smb_request.specs.Parts.{lock_asks, lock_ask}
 
 drop_found : {X : Type 0} (xs : List X) (i : ℕ) (x : X) → slice_get xs i ≡ Some x → drop i xs ≡ x ∷ drop (i + 1) xs
 drop_found [] i x h = cc

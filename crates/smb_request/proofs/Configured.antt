@@ -22,7 +22,7 @@ use Rattle.smb_opens.specs.Found.{entry_asked}
 use Rattle.smb_opens.specs.Locks.{with_locks_of}
 use Rattle.smb_access.specs.Opens.{open_of, open_numbers, without_open, is_held_by}
 use Rattle.smb_opens.specs.State.{StoreState}
-use Rattle.smb_request.specs.Session.{closed_for}
+use Rattle.smb_request.specs.Parts.{closed_for}
 
 standing_kept : (tree : Content) (ask : FileAsked) (moment number : ℕ) → (standing_tree tree ask moment number).capacity ≡ tree.capacity
 standing_kept tree ask moment number =

@@ -19,7 +19,8 @@ use Rattle.smb_wire.specs.declared.nt_status.NtStatus.{NtStatus}
 use Rattle.smb_wire.specs.declared.nt_status.NtStatus.TheVariants.{Success, InvalidParameter, InvalidInfoClass, InfoLengthMismatch}
 use Rattle.smb_request.specs.QueryInfo.{information_queried}
 use Rattle.smb_request.specs.Response.{CommandStep, success, refused}
-use Rattle.smb_request.specs.SetInfo.{set_type_refusal, set_status, set_through, set_as_asked, class_set, information_set}
+use Rattle.smb_request.specs.SetInfo.{set_status, set_through, information_set}
+use Rattle.smb_request.specs.Parts.{set_type_refusal, set_as_asked, class_set}
 use Rattle.smb_request.specs.State.{ServerState, with_store}
 
 -- what a store has beside its tree is as it was

@@ -7,8 +7,9 @@ use Rattle.std.specs.Map.{lookup, remove_entry}
 use Rattle.std.specs.BTreeMap.{is_at}
 use Rattle.std.specs.Ordering.{nat_cmp}
 use Rattle.smb_session.specs.Numbers.{IsRising}
-use Rattle.smb_session.specs.Session.{SessionState, fresh_session}
-use Rattle.smb_session.specs.Table.{TableState, session_at, changed_at, session_changed, session_ended, begun, knows_session}
+use Rattle.smb_session.specs.Session.{SessionState}
+use Rattle.smb_session.specs.Parts.{fresh_session, begun}
+use Rattle.smb_session.specs.Table.{TableState, session_at, changed_at, session_changed, session_ended, knows_session}
 use Rattle.smb_access.specs.declared.open_row.OpenRow.{OpenRow}
 use Rattle.smb_access.specs.declared.open_row.Owner.TheVariants.{Session}
 use Rattle.smb_opens.specs.Close.{closed_all}

@@ -4,8 +4,9 @@ use Rattle.std.specs.List.{AllByRecursion}
 use Rattle.std.specs.Option.{option_map_or}
 use Rattle.smb_session.specs.Good.{GoodTable}
 use Rattle.smb_session.specs.Numbers.{IsRising}
-use Rattle.smb_session.specs.Session.{SessionState, fresh_session}
-use Rattle.smb_session.specs.Table.{TableState, begun, session_ended, session_changed}
+use Rattle.smb_session.specs.Session.{SessionState}
+use Rattle.smb_session.specs.Parts.{fresh_session, begun}
+use Rattle.smb_session.specs.Table.{TableState, session_ended, session_changed}
 use Rattle.smb_session.proofs.Entries.{all-changed, all-removed, keys-changed}
 use Rattle.smb_session.proofs.Numbers.{keys-removed}
 use Rattle.smb_session.proofs.Windows.{rising-filter, all-append, all-more}

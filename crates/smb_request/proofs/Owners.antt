@@ -10,9 +10,11 @@ use Rattle.std.specs.Ordering.{nat_cmp}
 use Rattle.smb_session.specs.declared.fault.SessionFault.TheVariants.{UnknownSession, NotAccepted}
 use Rattle.smb_session.specs.Authenticator.{Answered, continues, accepts, denies, Meaning}
 use Rattle.smb_session.specs.Numbers.{contains}
-use Rattle.smb_session.specs.Session.{SessionState, fresh_session, finished_by, with_tree, without_tree}
-use Rattle.smb_session.specs.Table.{TableState, session_at, changed_at, connected, begun, session_ended, session_changed, tree_connected, tree_disconnected, knows_session, knows_tree, read_only_of}
-use Rattle.smb_session.specs.Setup.{known_session_refusal, setup_refusal, setup_number, setup_table, previous_ended, table_answered, setup_result}
+use Rattle.smb_session.specs.Session.{SessionState}
+use Rattle.smb_session.specs.Parts.{fresh_session, finished_by, with_tree, without_tree, begun, known_session_refusal, tree_connected, tree_disconnected}
+use Rattle.smb_session.specs.Table.{TableState, session_at, changed_at, connected, session_ended, session_changed, knows_session, knows_tree, read_only_of}
+use Rattle.smb_session.specs.Setup.{setup_refusal, previous_ended, table_answered, setup_result}
+use Rattle.smb_session.specs.Laws.{setup_number, setup_table}
 use Rattle.smb_session.proofs.Numbers.{equal_back, contains-without}
 use Rattle.smb_session.specs.Sessions.{SessionsState, setup_step}
 use Rattle.smb_access.specs.declared.open_row.OpenRow.{OpenRow}
@@ -28,7 +30,8 @@ use Rattle.smb_opens.specs.Create.{access_granted, create_status}
 use Rattle.smb_opens.specs.Found.{entry_asked}
 use Rattle.smb_opens.specs.State.{StoreState}
 use Rattle.smb_opens.proofs.Readers.{reader_opens}
-use Rattle.smb_request.specs.Owners.{has_tree, only_reads, owns, is_owned, AreOwned}
+use Rattle.smb_request.specs.Owners.{AreOwned}
+use Rattle.smb_request.specs.Parts.{has_tree, only_reads, owns, is_owned}
 use Rattle.smb_request.specs.Held.{opens_left}
 use Rattle.smb_request.proofs.Numbered.{at_is, at_same}
 

@@ -20,8 +20,8 @@ use Rattle.smb_request.specs.Call.{body_of, call_of}
 use Rattle.smb_request.specs.Context.{named_on, open_for_next_related}
 use Rattle.smb_request.specs.Held.{is_performed, IsCallOf}
 use Rattle.smb_request.specs.InPlace.{AnswerHeld, answer_behind, PerformedHeld, performed_behind}
-use Rattle.smb_request.specs.Needs.{is_unsupported, is_cancel_command}
-use Rattle.smb_request.specs.Request.{dialect_after, performed_by, performed}
+use Rattle.smb_request.specs.Parts.{is_unsupported, is_cancel_command, dialect_after}
+use Rattle.smb_request.specs.Request.{performed_by, performed}
 use Rattle.smb_request.specs.Response.{Performed}
 use Rattle.smb_request.specs.State.{ServerState}
 

@@ -21,7 +21,8 @@ use Rattle.smb_session.specs.Negotiate.{best_of}
 use Rattle.smb_session.specs.Session.{SessionState}
 use Rattle.smb_session.specs.Sessions.{setup_step, tree_connect_refusal}
 use Rattle.smb_session.specs.Setup.{setup_refusal}
-use Rattle.smb_session.specs.Table.{TableState, session_at, knows_session, knows_tree, read_only_of, numbers_on, session_ended, logoff_refusal, tree_disconnect_refusal}
+use Rattle.smb_session.specs.Table.{TableState, session_at, knows_session, knows_tree, read_only_of, numbers_on, session_ended, tree_disconnect_refusal}
+use Rattle.smb_session.specs.Parts.{logoff_refusal}
 use Rattle.smb_access.specs.Access.{is_past_reading}
 use Rattle.smb_access.specs.Asked.{FileAsked}
 use Rattle.smb_access.specs.Effect.{entry_after}
@@ -53,18 +54,19 @@ use Rattle.smb_request.specs.declared.context.Context.{Context}
 use Rattle.smb_request.specs.Bytes.{file_read, file_written}
 use Rattle.smb_request.specs.Call.{body_of, call_of}
 use Rattle.smb_request.specs.Context.{named_on, open_for_next_related}
-use Rattle.smb_request.specs.Files.{file_asked, file_created, close_response, file_closed}
+use Rattle.smb_request.specs.Files.{file_created, file_closed}
+use Rattle.smb_request.specs.Parts.{file_asked, close_response, asks_unlock, needs_session, is_unsupported, is_cancel_command, has_tree, only_reads, owns, is_owned, check_session_tree_and_open, dialect_after, closed_for, setup_answered, without_connection, lock_asks, hello_of}
 use Rattle.smb_request.specs.Held.{IsCallOf, opens_left}
 use Rattle.smb_request.specs.Laws.{NumbersInOrder, AllMayOnlyRead, ChangesNoFile}
-use Rattle.smb_request.specs.Locks.{lock_asks, asks_unlock, file_locked, file_unlocked}
-use Rattle.smb_request.specs.Needs.{needs_of, needs_session, is_unsupported, is_cancel_command}
+use Rattle.smb_request.specs.Locks.{file_locked, file_unlocked}
+use Rattle.smb_request.specs.Needs.{needs_of}
 use Rattle.smb_request.specs.Negotiate.{negotiate_answer}
-use Rattle.smb_request.specs.Owners.{has_tree, only_reads, owns, is_owned, AreOwned}
-use Rattle.smb_request.specs.Request.{check_request, check_session_tree_and_open, negotiated, dialect_after, acted, performed_by, performed}
+use Rattle.smb_request.specs.Owners.{AreOwned}
+use Rattle.smb_request.specs.Request.{check_request, negotiated, acted, performed_by, performed}
 use Rattle.smb_request.specs.Response.{CommandStep, Performed, success, refused}
-use Rattle.smb_request.specs.Session.{closed_for, may_only_read, status_of_refusal, setup_answered, session_set_up, session_logged_off, tree_joined, tree_left}
+use Rattle.smb_request.specs.Session.{may_only_read, status_of_refusal, session_set_up, session_logged_off, tree_joined, tree_left}
 use Rattle.smb_request.specs.SetInfo.{set_status, set_through}
-use Rattle.smb_request.specs.State.{ServerState, hello_of, with_store, closed_with, without_connection, connection_ended}
+use Rattle.smb_request.specs.State.{ServerState, with_store, closed_with, connection_ended}
 use Rattle.smb_request.proofs.Apart.{acts_known, id_held}
 use Rattle.smb_request.proofs.Configured.{locks_opens}
 use Rattle.smb_request.proofs.Endings.{one_session, none_left}

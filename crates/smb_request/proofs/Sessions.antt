@@ -5,8 +5,10 @@ use Rattle.smb_wire.specs.declared.dialect.Dialect.{Dialect}
 use Rattle.smb_session.specs.declared.fault.SessionFault.{SessionFault}
 use Rattle.smb_session.specs.declared.fault.SessionFault.TheVariants.{NoDialect}
 use Rattle.smb_session.specs.Authenticator.{Answered, continues, accepts, denies, Meaning}
-use Rattle.smb_session.specs.Table.{TableState, begun, session_ended}
-use Rattle.smb_session.specs.Setup.{table_answered, previous_ended, setup_table}
+use Rattle.smb_session.specs.Table.{TableState, session_ended}
+use Rattle.smb_session.specs.Parts.{begun}
+use Rattle.smb_session.specs.Setup.{table_answered, previous_ended}
+use Rattle.smb_session.specs.Laws.{setup_table}
 use Rattle.smb_session.specs.Sessions.{SessionsState, setup_step}
 use Rattle.smb_head.specs.declared.header.Header.{Header}
 use Rattle.smb_head.specs.Replies.{joined_replies}

@@ -15,13 +15,14 @@ use Rattle.std.specs.Option.{option_eq, option_and_then}
 use Rattle.std.specs.Str.{bytes_eq}
 use Rattle.smb_session.specs.declared.fault.SessionFault.TheVariants.{UnknownSession}
 use Rattle.smb_session.specs.Authenticator.{Answered, continues, accepts, denies, Meaning}
-use Rattle.smb_session.specs.Session.{fresh_session, finished_by}
+use Rattle.smb_session.specs.Parts.{fresh_session, finished_by, begun, known_session_refusal, is_of_user}
 use Rattle.smb_session.specs.Sessions.{setup_step}
-use Rattle.smb_session.specs.Setup.{known_session_refusal, setup_refusal, setup_number, is_of_user, table_answered, setup_result}
-use Rattle.smb_session.specs.Table.{begun}
+use Rattle.smb_session.specs.Setup.{setup_refusal, table_answered, setup_result}
+use Rattle.smb_session.specs.Laws.{setup_number}
 use Rattle.smb_body.specs.SessionSetup.{SessionSetupAsked}
 use Rattle.smb_opens.specs.Close.{closed_all}
-use Rattle.smb_request.specs.Session.{closed_for, setup_answered, session_set_up}
+use Rattle.smb_request.specs.Session.{session_set_up}
+use Rattle.smb_request.specs.Parts.{closed_for, setup_answered}
 use Rattle.smb_opens.specs.State.{StoreState}
 use Rattle.smb_request.specs.declared.call.Call.{Call}
 use Rattle.smb_request.specs.declared.context.HeaderIds.{HeaderIds}

@@ -19,7 +19,8 @@ use Rattle.smb_request.specs.declared.response.Response.TheVariants.{Ready, Byte
 use Rattle.smb_request.specs.declared.response.NoReply.{NoReply}
 use Rattle.smb_request.specs.declared.response.NoReply.TheVariants.{NotPerformed, Performed}
 use Rattle.smb_request.specs.Negotiate.{negotiate_answer}
-use Rattle.smb_request.specs.State.{ServerState, hello_of}
+use Rattle.smb_request.specs.State.{ServerState}
+use Rattle.smb_request.specs.Parts.{hello_of}
 use Rattle.smb_request.specs.QueryDirectory.{directory_queried}
 use Rattle.smb_request.specs.Response.{CommandStep, with_body, success, refused}
 

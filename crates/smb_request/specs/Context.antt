@@ -1,5 +1,5 @@
 -- What one request of a chain hands on to the next ([MS-SMB2] 3.3.5.2.7.2).
-use Rattle.std.specs.Prelude.{ℕ, ◌-◌, ◌^◌, ◌==◌, ◌&&◌, Bool, true, false, if◌then◌else◌, Option, None, Some, unwrap_or}
+use Rattle.std.specs.Prelude.{ℕ, ◌-◌, ◌^◌, ◌==◌, ◌&&◌, Bool, if◌then◌else◌, Option, None, Some, unwrap_or}
 use Rattle.smb_wire.specs.declared.command.Command.{Command}
 use Rattle.smb_wire.specs.declared.command.Command.TheVariants.{Create}
 use Rattle.smb_wire.specs.declared.file_id.FileId.{FileId}
@@ -22,29 +22,15 @@ abbrev pub open_named : Option ContextOpen → FileId → ContextOpen
 open_named None id = Named id
 open_named (Some inherited) id = if is_all_ones id then inherited else Named id
 
--- the number of a named open; 0, which no open has, where none is named
-abbrev pub number_named : Option ContextOpen → ℕ
-number_named (Some (Named id)) = id.persistent
-number_named (Some Nothing) = 0
-number_named (Some (Refused status)) = 0
-number_named None = 0
-
--- a request other than CREATE hands on the open of its FileId, whatever its status; without a FileId, or with one of all
--- ones, the open that it inherited
+-- a request other than CREATE hands on the open of its FileId, whatever its status; without a FileId, or with one of
+-- all ones, the open that it inherited
 abbrev pub named_on : Option ContextOpen → Option FileId → ContextOpen
 named_on inherited None = unwrap_or inherited Nothing
 named_on inherited (Some id) = if is_all_ones id then unwrap_or inherited Nothing else Named id
 
--- a CREATE hands on the open that it made, which has the next number, or the status that refused it
-abbrev pub created_open : ℕ → NtStatus → ContextOpen
-created_open next Success = Named (record { persistent = next; volatile = next })
-created_open next status = Refused status
-
-abbrev pub is_create : Option Command → Bool
-is_create (Some Create) = true
-is_create other = false
-
--- the open that a request hands on, by its command, its FileId and its status, and by the number of the next open
+-- the open that a request hands on, by its command, its FileId and its status: a CREATE the open that it made, which
+-- has the next number, or the status that refused it
 abbrev pub open_for_next_related : Option ContextOpen → ℕ → Option Command → Option FileId → NtStatus → ContextOpen
-open_for_next_related inherited next command id status =
-    if is_create command then created_open next status else named_on inherited id
+open_for_next_related inherited next (Some Create) id Success = Named (record { persistent = next; volatile = next })
+open_for_next_related inherited next (Some Create) id status = Refused status
+open_for_next_related inherited next command id status = named_on inherited id

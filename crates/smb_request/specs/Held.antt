@@ -14,9 +14,7 @@ use Rattle.smb_request.specs.declared.response.Body.{Body}
 use Rattle.smb_request.specs.declared.response.Body.TheVariants.{Error, SessionSetup}
 use Rattle.smb_request.specs.declared.response.Response.{Response}
 use Rattle.smb_request.specs.declared.response.Response.TheVariants.{Ready}
-use Rattle.smb_request.specs.Call.{named_open}
-use Rattle.smb_request.specs.Context.{number_named}
-use Rattle.smb_request.specs.Needs.{is_unsupported}
+use Rattle.smb_request.specs.Parts.{named_open, number_named, is_unsupported}
 use Rattle.smb_wire.specs.declared.nt_status.NtStatus.{NtStatus}
 use Rattle.smb_session.specs.Table.{TableState}
 use Rattle.smb_access.specs.declared.open_row.OpenRow.{OpenRow}

@@ -1,5 +1,5 @@
 -- What follows from the definitions.
-use Rattle.std.specs.Prelude.{◌≡◌, ◌⊎◌, ℕ, ◌<◌, ◌==◌, Bool, false, ◌≢◌, List, [], filter, map, Option, None, Some}
+use Rattle.std.specs.Prelude.{◌≡◌, ◌⊎◌, ℕ, ◌<◌, ◌==◌, Bool, false, ◌≢◌, List, [], filter, map, Option, None, Some, if◌then◌else◌}
 use Rattle.std.specs.List.{AllByRecursion}
 use Rattle.smb_wire.specs.Commands.{known_command}
 use Rattle.smb_head.specs.Headers.{header_of}
@@ -9,7 +9,7 @@ use Rattle.smb_session.specs.Authenticator.{Meaning, accepts}
 use Rattle.smb_session.specs.Good.{GoodTable}
 use Rattle.smb_session.specs.Numbers.{IsRising}
 use Rattle.smb_session.specs.Session.{SessionState}
-use Rattle.smb_session.specs.Setup.{setup_number}
+use Rattle.smb_session.specs.Laws.{setup_number}
 use Rattle.smb_session.specs.Table.{TableState, session_at, read_only_of}
 use Rattle.smb_access.specs.declared.open_row.Owner.TheVariants.{Session}
 use Rattle.smb_opens.specs.Good.{GoodStore}
@@ -19,10 +19,12 @@ use Rattle.smb_access.specs.Opens.{is_held_by, open_numbers, AreAllBelow}
 use Rattle.smb_opens.specs.State.{StoreState}
 use Rattle.smb_wire.specs.declared.dialect.Dialect.{Dialect}
 use Rattle.smb_request.specs.declared.context.Context.{Context}
-use Rattle.smb_request.specs.Call.{request_ids, body_of}
+use Rattle.smb_request.specs.Call.{body_of}
 use Rattle.smb_request.specs.Owners.{AreOwned}
 use Rattle.smb_request.specs.Request.{performed}
 use Rattle.smb_request.specs.State.{ServerState, connection_added, connection_ended}
+use Rattle.smb_head.specs.Chains.{is_related}
+use Rattle.smb_request.specs.declared.context.HeaderIds.{HeaderIds}
 
 -- the sessions and the opens stand in rising number, and each number was given
 pub record NumbersInOrder (table : TableState) (store : StoreState) : Type 0 where
@@ -61,6 +63,13 @@ AnEndIsAlone {S} authenticator =
     session_at server.sessions.table number ≡ Some session → session.connection == connection ≡ false →
     IsAsItWas server (connection_ended server connection) number
 
+-- the session and the tree connect that a request acts under: its own, or of a related one those of the request before
+-- (3.3.5.2.7.2)
+abbrev pub request_ids : Context → List ℕ → HeaderIds
+request_ids context request =
+    if is_related request then context.ids
+    else record { session_id = (header_of request).session_id; tree_id = (header_of request).tree_id }
+
 -- a request is a SESSION_SETUP that lets a session's user in, and names this session as the previous one (3.3.5.5.3)
 pub record ReplacesSession {S : Type 0} (authenticator : Meaning S) (server : ServerState S) (context : Context) (request : List ℕ) (number : ℕ) (session : SessionState) : Type 0 where
   pub asked : SessionSetupAsked
@@ -75,7 +84,8 @@ pub record ReplacesSession {S : Type 0} (authenticator : Meaning S) (server : Se
   pub same_user : session.user ≡ Some user
   pub previous : asked.previous_session_id ≡ number
 
--- a request on a connection leaves each session of another one as it is; or it replaces that session, which then is over
+-- a request on a connection leaves each session of another one as it is; or it replaces that session, which then is
+-- over
 abbrev pub ARequestIsAlone : {S : Type 0} → Meaning S → Type 0
 ARequestIsAlone {S} authenticator =
     (connection moment : ℕ) (server : ServerState S) (dialect : Option Dialect) (context : Context) (request : List ℕ) (number : ℕ) (session : SessionState) →

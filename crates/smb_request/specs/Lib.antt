@@ -23,3 +23,4 @@ pub mod InPlace
 pub mod Bodies
 pub mod Refusals
 pub mod Laws
+pub mod Parts

@@ -9,18 +9,6 @@ use Rattle.smb_request.specs.declared.call.Call.{Call}
 use Rattle.smb_request.specs.State.{ServerState, with_store}
 use Rattle.smb_request.specs.Response.{CommandStep, success, by_status}
 
--- what the elements of a request ask (2.2.26.1)
-abbrev pub lock_ask : LockElement → LockAsk
-lock_ask element = record { offset = element.offset; length = element.length; flags = element.flags }
-
-abbrev pub lock_asks : List LockElement → List LockAsk
-lock_asks = map lock_ask
-
--- a request unlocks where its first element has UNLOCK (3.3.5.14)
-abbrev pub asks_unlock : List LockAsk → Bool
-asks_unlock [] = false
-asks_unlock (ask ∷ asks) = bit_and ask.flags.0 UNLOCK == UNLOCK
-
 -- a LOCK that locks (3.3.5.14.2): a refusal changes nothing
 unfoldable pub file_locked : {S : Type 0} → ServerState S → Call → List LockAsk → CommandStep S
 file_locked server call asks = by_status server call.ids
@@ -36,7 +24,11 @@ file_unlocked server call asks =
     let after = with_store server (unlocked_through server.store call.open_number asks) in
     by_status after call.ids (unlock_status server.store call.open_number asks) (record { server = after; response = success call.ids answers_lock })
 
--- LOCK (3.3.5.14) of the open of a number
-abbrev pub locks_changed : {S : Type 0} → ServerState S → Call → List LockAsk → CommandStep S
-locks_changed server call asks =
-    if asks_unlock asks then file_unlocked server call asks else file_locked server call asks
+-- LOCK (3.3.5.14) of the open of a number, by what its elements ask (2.2.26.1): it unlocks where the first has UNLOCK
+abbrev pub locks_changed : {S : Type 0} → ServerState S → Call → List LockElement → CommandStep S
+locks_changed server call elements =
+    let lock_ask : LockElement → LockAsk =
+    λ element. record { offset = element.offset; length = element.length; flags = element.flags } in
+    let asks = map lock_ask elements in
+    let unlocks : Bool = elim asks [ [] ↦ false | ask ∷ others ↦ bit_and ask.flags.0 UNLOCK == UNLOCK ] in
+    if unlocks then file_unlocked server call asks else file_locked server call asks

@@ -20,30 +20,22 @@ use Rattle.smb_request.specs.declared.query_directory.ListingRefusal.{ListingRef
 use Rattle.smb_request.specs.Response.{CommandStep, success, failure, refused}
 use Rattle.smb_request.specs.State.{ServerState, with_store}
 
--- what is asked of the directory (2.2.33)
-abbrev pub list_asked_by : QueryDirectoryAsked → ListAsked
-list_asked_by asked = record {
-  class = asked.file_information_class.0;
-  flags = asked.flags.0;
-  pattern = asked.file_name;
-  room = asked.output_buffer_length;
-}
-
--- why an open may not list: it is not of a directory, or it was not granted FILE_LIST_DIRECTORY, the bit that is
--- FILE_READ_DATA of a file (2.2.13.1.2)
-abbrev pub view_refusal : View → Option NtStatus
-view_refusal view =
-    if not (is_folder_kind view.kind) then Some InvalidParameter else
-    if not (has_any view.access.0 FILE_READ_DATA) then Some AccessDenied else None
-
--- why a query is refused before its class is looked at: room for more bytes than it may ask for, or as above
+-- why a query is refused before its class is looked at, the first that holds
 abbrev pub directory_refusal : ℕ → Option View → QueryDirectoryAsked → Option NtStatus
 directory_refusal most view asked =
+    -- room for more bytes than it may ask for
     if nat_lt most asked.output_buffer_length then Some InvalidParameter else
-    option_map_or view_refusal view (Some InvalidParameter)
+    option_map_or
+    (λ (it : View).
+    -- an open that is not of a directory
+    if not (is_folder_kind it.kind) then Some InvalidParameter else
+    -- one that was not granted FILE_LIST_DIRECTORY, the bit that is FILE_READ_DATA of a file (2.2.13.1.2)
+    if not (has_any it.access.0 FILE_READ_DATA) then Some AccessDenied else None)
+    view
+    (Some InvalidParameter)
 
--- what a refusal of the listing comes to: its status, and the open's scan where this query started it, though no name is
--- matched. (A rename alone is unreadable, and no definition refuses for being out of memory.)
+-- what a refusal of the listing comes to: its status, and the open's scan where this query started it, though no name
+-- is matched. (A rename alone is unreadable, and no definition refuses for being out of memory.)
 abbrev pub listing_refusal : InfoFault → Option ListingRefusal
 listing_refusal BadClass = Some (record { status = InvalidInfoClass; scan = None })
 listing_refusal BadPattern = Some (record { status = ObjectNameInvalid; scan = None })
@@ -53,30 +45,26 @@ listing_refusal NoMore = Some (record { status = NoMoreFiles; scan = None })
 listing_refusal Unreadable = None
 listing_refusal NoMemory = None
 
--- a listing that is not refused: the entries, and the open's scan goes on behind them
-abbrev pub directory_listed : {S : Type 0} → ServerState S → Call → ListAsked → CommandStep S
-directory_listed server call ask = record {
-  server = with_store server (scan_set server.store call.open_number (open_scan_after server.store call.open_number ask));
-  response = success call.ids (answers_query_directory (open_bytes_listed server.store call.open_number ask));
-}
-
--- one that is refused: but for the scan, all is as it was
-abbrev pub listing_refused : {S : Type 0} → ServerState S → Call → ListingRefusal → CommandStep S
-listing_refused server call refusal = record {
-  server = option_map_or (λ scan. with_store server (scan_set server.store call.open_number scan)) refusal.scan server;
-  response = failure call.ids refusal.status;
-}
-
--- what is listed, or why nothing is
-abbrev pub listed_as_asked : {S : Type 0} → ServerState S → Call → ListAsked → CommandStep S
-listed_as_asked server call ask = option_map_or
-    (listing_refused server call)
-    (option_and_then listing_refusal (open_list_fault server.store call.open_number ask))
-    (directory_listed server call ask)
-
--- QUERY_DIRECTORY (3.3.5.18) of the open of a number
+-- QUERY_DIRECTORY (3.3.5.18) of the open of a number: what is asked of the directory (2.2.33), and the entries, behind
+-- which the open's scan goes on; but for the scan, a listing that is refused changes nothing
 unfoldable pub directory_queried : {S : Type 0} → ServerState S → Call → QueryDirectoryAsked → CommandStep S
-directory_queried server call asked = option_map_or
+directory_queried server call asked =
+    let ask : ListAsked = record {
+      class = asked.file_information_class.0;
+      flags = asked.flags.0;
+      pattern = asked.file_name;
+      room = asked.output_buffer_length;
+    } in
+    option_map_or
     (λ status. refused server call.ids status)
     (directory_refusal (most_at_once call.dialect) (open_view server.store call.open_number) asked)
-    (listed_as_asked server call (list_asked_by asked))
+    (option_map_or
+    (λ (refusal : ListingRefusal). record {
+      server = option_map_or (λ scan. with_store server (scan_set server.store call.open_number scan)) refusal.scan server;
+      response = failure call.ids refusal.status;
+    })
+    (option_and_then listing_refusal (open_list_fault server.store call.open_number ask))
+    (record {
+      server = with_store server (scan_set server.store call.open_number (open_scan_after server.store call.open_number ask));
+      response = success call.ids (answers_query_directory (open_bytes_listed server.store call.open_number ask));
+    }))

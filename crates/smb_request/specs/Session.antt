@@ -1,22 +1,20 @@
 -- SESSION_SETUP, LOGOFF, TREE_CONNECT and TREE_DISCONNECT ([MS-SMB2] 3.3.5.5 to 3.3.5.8).
-use Rattle.std.specs.Prelude.{ℕ, Bool, false, List, Option, Some, None, option_and_then, unwrap_or}
+use Rattle.std.specs.Prelude.{ℕ, ◌+◌, Bool, false, List, [], ◌∷◌, ◌++◌, Option, Some, None, option_and_then, unwrap_or, if◌then◌else◌}
 use Rattle.std.specs.Option.{option_map_or}
-use Rattle.smb_body.specs.Replies.{ReplyValue, answers_error, answers_session_setup, answers_logoff, answers_tree_connect, answers_tree_disconnect}
+use Rattle.smb_body.specs.Replies.{answers_error, answers_session_setup, answers_logoff, answers_tree_connect, answers_tree_disconnect}
 use Rattle.smb_body.specs.SessionSetup.{SessionSetupAsked}
-use Rattle.smb_body.specs.declared.tree_connect.TreeConnectResponse.{TreeConnectResponse}
 use Rattle.smb_session.specs.Authenticator.{Meaning}
 use Rattle.smb_session.specs.Setup.{SetupResult, setup_refusal}
-use Rattle.smb_session.specs.Table.{read_only_of, session_ended, logoff_refusal, tree_connected, next_tree_of, tree_disconnect_refusal, tree_disconnected}
-use Rattle.smb_session.specs.Sessions.{SetupStep, setup_step, tree_connect_refusal}
+use Rattle.smb_session.specs.Numbers.{without_number}
+use Rattle.smb_session.specs.Table.{knows_session, session_at, read_only_of, session_ended, tree_disconnect_refusal, session_changed}
+use Rattle.smb_session.specs.Sessions.{setup_step, tree_connect_refusal}
 use Rattle.smb_session.specs.declared.fault.SessionFault.{SessionFault}
 use Rattle.smb_session.specs.declared.fault.SessionFault.TheVariants.{UnknownSession, UnknownTree, NoShare, NotAccepted, NoDialect, NoMemory}
 use Rattle.smb_session.specs.declared.setup.SetupStatus.{SetupStatus}
 use Rattle.smb_session.specs.declared.setup.SetupStatus.TheVariants.{Success, MoreProcessingRequired, LogonFailure}
 use Rattle.smb_access.specs.Access.{most_allowed}
-use Rattle.smb_access.specs.declared.open_row.Owner.{Owner}
 use Rattle.smb_access.specs.declared.open_row.Owner.TheVariants.{Session, Tree}
 use Rattle.smb_opens.specs.Close.{closed_all}
-use Rattle.smb_opens.specs.State.{StoreState}
 use Rattle.smb_wire.specs.declared.nt_status.NtStatus.{NtStatus}
 use Rattle.smb_wire.specs.declared.nt_status.NtStatus.TheVariants.{NotSupported, NetworkNameDeleted, BadNetworkName, RequestNotAccepted, UserSessionDeleted}
 use Rattle.smb_request.specs.declared.call.Call.{Call}
@@ -38,44 +36,45 @@ abbrev pub unless_refused : {S : Type 0} → ServerState S → HeaderIds → Opt
 unless_refused server ids refusal step =
     option_map_or (refused server ids) (option_and_then status_of_refusal refusal) step
 
--- what a SESSION_SETUP is answered: flags and a token where the client goes on or is in, else a failure; either tells the
--- session's number (2.2.6)
-abbrev pub setup_body : SetupResult → ReplyValue
-setup_body told = answers_session_setup (record { session_flags = record { 0 = told.flags }; security_buffer = told.token })
-
+-- what a SESSION_SETUP is answered: flags and a token where the client goes on or is in, else a failure; either tells
+-- the session's number (2.2.6)
 abbrev pub setup_response : HeaderIds → SetupResult → SetupStatus → ResponseState
-setup_response ids told Success = with_body ids NtStatus.Success (setup_body told)
-setup_response ids told MoreProcessingRequired = with_body ids NtStatus.MoreProcessingRequired (setup_body told)
+setup_response ids told Success = with_body ids NtStatus.Success
+    (answers_session_setup (record { session_flags = record { 0 = told.flags }; security_buffer = told.token }))
+setup_response ids told MoreProcessingRequired = with_body ids NtStatus.MoreProcessingRequired
+    (answers_session_setup (record { session_flags = record { 0 = told.flags }; security_buffer = told.token }))
 setup_response ids told LogonFailure = with_body ids NtStatus.LogonFailure answers_error
 
--- where a session ended, its opens are closed
-abbrev pub closed_for : StoreState → Option ℕ → StoreState
-closed_for store None = store
-closed_for store (Some session) = closed_all store (Session session)
-
--- SESSION_SETUP (3.3.5.5): the previous session ends with its opens
-abbrev pub setup_answered : {S : Type 0} → ServerState S → HeaderIds → SetupStep S → CommandStep S
-setup_answered server ids step = record {
-  server = record server { sessions = step.state; store = closed_for server.store step.told.ended };
-  response = setup_response (record ids { session_id = step.told.session }) step.told step.told.status;
-}
-
+-- SESSION_SETUP (3.3.5.5): the previous session, where one ended, ends with its opens
 unfoldable pub session_set_up : {S : Type 0} → Meaning S → ServerState S → Call → SessionSetupAsked → CommandStep S
-session_set_up authenticator server call asked = unless_refused server call.ids
-    (setup_refusal server.sessions.table call.connection call.ids.session_id asked.flags.0)
-    (setup_answered server call.ids
-    (setup_step authenticator server.sessions call.connection call.ids.session_id asked.previous_session_id asked.security_buffer))
-
--- the server's state with the opens of an owner closed
-abbrev pub with_closed : {S : Type 0} → ServerState S → Owner → ServerState S
-with_closed server owner = with_store server (closed_all server.store owner)
+session_set_up authenticator server call asked =
+    let ids = call.ids in
+    let step = setup_step
+    authenticator
+    server.sessions
+    call.connection
+    ids.session_id
+    asked.previous_session_id
+    asked.security_buffer in
+    unless_refused server ids
+    (setup_refusal server.sessions.table call.connection ids.session_id asked.flags.0)
+    (record {
+      server = record server {
+        sessions = step.state;
+        store = option_map_or (λ session. closed_all server.store (Session session)) step.told.ended server.store;
+      };
+      response = setup_response (record ids { session_id = step.told.session }) step.told step.told.status;
+    })
 
 -- LOGOFF (3.3.5.6): the session ends with its trees, and their opens
 unfoldable pub session_logged_off : {S : Type 0} → ServerState S → Call → CommandStep S
 session_logged_off server call = unless_refused server call.ids
-    (logoff_refusal server.sessions.table call.connection call.ids.session_id)
+    -- only a finished session of the connection is logged off
+    (if knows_session server.sessions.table call.connection call.ids.session_id then None else Some UnknownSession)
     (record {
-      server = with_closed (with_table server (session_ended server.sessions.table call.ids.session_id)) (Session call.ids.session_id);
+      server = with_store
+          (with_table server (session_ended server.sessions.table call.ids.session_id))
+          (closed_all server.store (Session call.ids.session_id));
       response = success call.ids answers_logoff;
     })
 
@@ -83,24 +82,27 @@ session_logged_off server call = unless_refused server call.ids
 abbrev pub may_only_read : {S : Type 0} → ServerState S → Call → Bool
 may_only_read server call = unwrap_or (read_only_of server.sessions.table call.connection call.ids.session_id) false
 
--- what a tree is: a disk, without flags and capabilities, and with all access that a session can be granted (2.2.10)
-abbrev pub tree_response : Bool → TreeConnectResponse
-tree_response read_only = record {
-  share_type = record { 0 = 1 };
-  share_flags = record { 0 = 0 };
-  capabilities = record { 0 = 0 };
-  maximal_access = record { 0 = most_allowed read_only false };
-}
-
--- TREE_CONNECT (3.3.5.7): the answer tells the new tree's number
+-- TREE_CONNECT (3.3.5.7): the answer tells the new tree's number, which is the session's next, and what it is: a disk,
+-- without flags and capabilities, and with all access that a session can be granted (2.2.10)
 unfoldable pub tree_joined : {S : Type 0} → ServerState S → Call → List ℕ → CommandStep S
 tree_joined server call path = unless_refused server call.ids
     (tree_connect_refusal server.sessions call.connection call.ids.session_id path)
     (record {
-      server = with_table server (tree_connected server.sessions.table call.ids.session_id);
+      server = with_table server (session_changed
+          (λ state. record state { trees = state.trees ++ state.next_tree ∷ []; next_tree = state.next_tree + 1 })
+          server.sessions.table
+          call.ids.session_id);
       response = with_body
-          (record call.ids { tree_id = next_tree_of server.sessions.table call.ids.session_id })
-          NtStatus.Success (answers_tree_connect (tree_response (may_only_read server call)));
+          (record call.ids {
+            tree_id = option_map_or (λ session. session.next_tree) (session_at server.sessions.table call.ids.session_id) 0;
+          })
+          NtStatus.Success
+          (answers_tree_connect (record {
+            share_type = record { 0 = 1 };
+            share_flags = record { 0 = 0 };
+            capabilities = record { 0 = 0 };
+            maximal_access = record { 0 = most_allowed (may_only_read server call) false };
+          }));
     })
 
 -- TREE_DISCONNECT (3.3.5.8): the tree is gone, with its opens
@@ -108,8 +110,11 @@ unfoldable pub tree_left : {S : Type 0} → ServerState S → Call → CommandSt
 tree_left server call = unless_refused server call.ids
     (tree_disconnect_refusal server.sessions.table call.connection call.ids.session_id call.ids.tree_id)
     (record {
-      server = with_closed
-          (with_table server (tree_disconnected server.sessions.table call.ids.session_id call.ids.tree_id))
-          (Tree call.ids.session_id call.ids.tree_id);
+      server = with_store
+          (with_table server (session_changed
+          (λ state. record state { trees = without_number state.trees call.ids.tree_id })
+          server.sessions.table
+          call.ids.session_id))
+          (closed_all server.store (Tree call.ids.session_id call.ids.tree_id));
       response = success call.ids answers_tree_disconnect;
     })

@@ -1,5 +1,5 @@
 -- SET_INFO ([MS-SMB2] 3.3.5.21).
-use Rattle.std.specs.Prelude.{ℕ, ◌==◌, ◌||◌, true, false, not, nat_lt, List, length, Option, Some, None, if◌then◌else◌}
+use Rattle.std.specs.Prelude.{ℕ, ◌==◌, ◌||◌, true, false, not, nat_lt, length, Some, None, if◌then◌else◌}
 use Rattle.std.specs.Option.{option_map_or}
 use Rattle.smb_body.specs.SetInfo.{SetInfoAsked}
 use Rattle.smb_body.specs.Replies.{answers_set_info}
@@ -31,39 +31,28 @@ set_through store open_number moment (asks_mark mark) = delete_set_through store
 set_through store open_number moment (asks_allocation size) = size_set_through store open_number size true moment
 set_through store open_number moment (asks_end size) = size_set_through store open_number size false moment
 
--- what is asked: a refusal changes nothing
-abbrev pub set_as_asked : {S : Type 0} → ServerState S → Call → SetAsked → CommandStep S
-set_as_asked server call ask = by_status server call.ids
-    (set_status server.store call.open_number ask)
-    (record {
+-- SET_INFO (3.3.5.21): the first row that holds, or what is asked; a refusal changes nothing
+unfoldable pub information_set : {S : Type 0} → ServerState S → Call → SetInfoAsked → CommandStep S
+information_set server call asked =
+    let info_type = asked.info_type.0 in
+    option_map_or
+    (refused server call.ids)
+    -- the share as a file system, a security descriptor, or quotas (3.3.5.21.2 to 3.3.5.21.4)
+    (if info_type == FILESYSTEM || info_type == SECURITY || info_type == QUOTA then Some NotSupported else
+    -- no InfoType (2.2.39)
+    if not (info_type == FILE) then Some InvalidParameter else None)
+    (option_map_or
+    (λ (class : SetInformationClass).
+    -- the buffer is shorter than the fixed part (3.3.5.21.1)
+    if nat_lt (length asked.buffer) (set_length class) then refused server call.ids InfoLengthMismatch else
+    -- a rename says no name ([MS-FSCC] 2.4.42)
+    if not (is_readable asked.buffer class) then refused server call.ids InvalidParameter else
+    -- the class as its buffer asks ([MS-FSCC] 2.4)
+    let ask = asked_of asked.buffer class in
+    by_status server call.ids (set_status server.store call.open_number ask) (record {
       server = with_store server (set_through server.store call.open_number call.moment ask);
       response = success call.ids answers_set_info;
-    })
-
--- a class that can be set, as its buffer asks ([MS-FSCC] 2.4)
-abbrev pub class_set : {S : Type 0} → ServerState S → Call → List ℕ → SetInformationClass → CommandStep S
-class_set server call buffer class =
-    -- the buffer is shorter than the fixed part (3.3.5.21.1)
-    if nat_lt (length buffer) (set_length class) then refused server call.ids InfoLengthMismatch else
-    -- a rename says no name ([MS-FSCC] 2.4.42)
-    if not (is_readable buffer class) then refused server call.ids InvalidParameter else
-    set_as_asked server call (asked_of buffer class)
-
--- why nothing is set of an InfoType, or None for that of a file or a directory
-abbrev pub set_type_refusal : ℕ → Option NtStatus
-set_type_refusal info_type =
-    -- the share as a file system, a security descriptor, or quotas (3.3.5.21.2 to 3.3.5.21.4)
-    if info_type == FILESYSTEM || info_type == SECURITY || info_type == QUOTA then Some NotSupported else
-    -- no InfoType (2.2.39)
-    if not (info_type == FILE) then Some InvalidParameter else None
-
--- SET_INFO (3.3.5.21)
-unfoldable pub information_set : {S : Type 0} → ServerState S → Call → SetInfoAsked → CommandStep S
-information_set server call asked = option_map_or
-    (refused server call.ids)
-    (set_type_refusal asked.info_type.0)
-    -- no class that can be set has the number (3.3.5.21.1)
-    (option_map_or
-    (class_set server call asked.buffer)
+    }))
     (set_class asked.file_info_class.0)
+    -- no class that can be set has the number (3.3.5.21.1)
     (refused server call.ids InvalidInfoClass))

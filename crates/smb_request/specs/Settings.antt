@@ -24,26 +24,14 @@ settings_of config = record {
 abbrev pub is_between : ℕ → ℕ → ℕ → Bool
 is_between least greatest n = nat_le least n && nat_le n greatest
 
--- the characters that no name has: " * / : < > ? \ |
-abbrev pub barred : List ℕ
-barred = 34 ∷ 42 ∷ 47 ∷ 58 ∷ 60 ∷ 62 ∷ 63 ∷ 92 ∷ 124 ∷ []
-
--- a character that a share's name may have
-abbrev pub is_share_character : ℕ → Bool
-is_share_character c = is_between 0x21 0x7E c && not (list_any (λ b. b == c) barred)
-
--- a share's name: 1 to 80 such characters
-abbrev pub is_share_name : List ℕ → Bool
-is_share_name share = is_between 1 80 (length share) && list_all is_share_character share
-
--- a label: up to 32 printable characters
-abbrev pub is_label : List ℕ → Bool
-is_label label = nat_le (length label) 32 && list_all (is_between 0x20 0x7E) label
-
--- a capacity: a multiple of 4,096 from 4,096 to 64 MiB
-abbrev pub is_capacity : ℕ → Bool
-is_capacity capacity = is_between 4096 67108864 capacity && (capacity % 4096 == 0)
-
 -- the rules of a configuration
 abbrev pub is_lawful : Settings → Bool
-is_lawful settings = is_share_name settings.share && is_label settings.label && is_capacity settings.capacity
+is_lawful settings =
+    -- the share's name has 1 to 80 characters, none of them " * / : < > ? \ |
+    (is_between 1 80 (length settings.share)
+    && list_all (λ c. is_between 0x21 0x7E c
+    && not (list_any (λ b. b == c) (34 ∷ 42 ∷ 47 ∷ 58 ∷ 60 ∷ 62 ∷ 63 ∷ 92 ∷ 124 ∷ []))) settings.share)
+    -- the label has up to 32 printable characters
+    && (nat_le (length settings.label) 32 && list_all (is_between 0x20 0x7E) settings.label)
+    -- the capacity is a multiple of 4,096 from 4,096 to 64 MiB
+    && (is_between 4096 67108864 settings.capacity && (settings.capacity % 4096 == 0))

@@ -1,6 +1,5 @@
 -- The state of a share ([MS-SMB2] 3.3.1).
 use Rattle.std.specs.Prelude.{ℕ, ◌==◌, not, List, [], ◌∷◌, filter}
-use Rattle.smb_session.specs.Authenticator.{Meaning}
 use Rattle.smb_session.specs.Numbers.{without_number}
 use Rattle.smb_session.specs.Table.{TableState, connected, numbers_on}
 use Rattle.smb_session.specs.Sessions.{SessionsState, new_sessions}
@@ -25,10 +24,6 @@ new_server settings authenticator = record {
   store = record { tree = new_content settings.created settings.capacity; opens = []; locks = []; next = 1 };
 }
 
--- the token that the authenticator offers first
-abbrev pub hello_of : {S : Type 0} → Meaning S → ServerState S → List ℕ
-hello_of authenticator server = authenticator.hello server.sessions.authenticator
-
 abbrev pub with_table : {S : Type 0} → ServerState S → TableState → ServerState S
 with_table server table = record server { sessions = record server.sessions { table = table } }
 
@@ -44,15 +39,14 @@ abbrev pub closed_with : StoreState → List ℕ → StoreState
 closed_with store [] = store
 closed_with store (session ∷ sessions) = closed_with (closed_all store (Session session)) sessions
 
--- a connection is gone, and its sessions with their trees (3.3.7.1)
-abbrev pub without_connection : TableState → ℕ → TableState
-without_connection table connection = record table {
-  connections = without_number table.connections connection;
-  sessions = filter (λ e. not (e.1.connection == connection)) table.sessions;
-}
-
--- and with them their opens, session by session in rising number
+-- a connection is gone, and its sessions with their trees (3.3.7.1), and with them their opens, session by session in
+-- rising number
 unfoldable pub connection_ended : {S : Type 0} → ServerState S → ℕ → ServerState S
-connection_ended server connection = record (with_table server (without_connection server.sessions.table connection)) {
-  store = closed_with server.store (numbers_on server.sessions.table.sessions connection);
-}
+connection_ended server connection =
+    let table = server.sessions.table in
+    record (with_table server (record table {
+      connections = without_number table.connections connection;
+      sessions = filter (λ e. not (e.1.connection == connection)) table.sessions;
+    })) {
+      store = closed_with server.store (numbers_on table.sessions connection);
+    }

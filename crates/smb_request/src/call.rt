@@ -7,7 +7,9 @@ ghost use Rattle.smb_head.specs.Chains.{is_related};
 ghost use Rattle.smb_head.specs.Headers.{header_of};
 ghost use Rattle.smb_wire.specs.Commands.{known_command};
 ghost use Rattle.smb_body.specs.Requests.{request_value, file_id_of};
-ghost use Rattle.smb_request.specs.Call.{request_ids, inherited_open, body_of, named_open, call_of};
+ghost use Rattle.smb_request.specs.Call.{body_of, call_of};
+ghost use Rattle.smb_request.specs.Laws.{request_ids};
+ghost use Rattle.smb_request.specs.Parts.{inherited_open, named_open};
 ghost use Rattle.smb_request.specs.Context.{named_on, open_for_next_related};
 
 use super::charge::charge_of;

@@ -1,7 +1,8 @@
 //! What a request is charged ([MS-SMB2] 3.3.5.2.3, 3.3.5.2.5).
 
 ghost use Rattle.std.specs.Prelude.{◌≡◌, ◌≤◌, ◌<◌};
-ghost use Rattle.smb_request.specs.Charge.{charge_of, due_of};
+ghost use Rattle.smb_request.specs.Charge.{charge_of};
+ghost use Rattle.smb_request.specs.Parts.{due_of};
 
 use smb_wire::Dialect;
 

@@ -5,7 +5,8 @@ ghost use Rattle.smb_access.specs.Opens.{open_of};
 ghost use Rattle.smb_body.specs.Create.{create_asked};
 ghost use Rattle.smb_access.specs.Asked.{asked};
 ghost use Rattle.smb_session.specs.Table.{knows_session, knows_tree};
-ghost use Rattle.smb_request.specs.Files.{file_asked, create_response, file_created, names_open, close_response, file_closed};
+ghost use Rattle.smb_request.specs.Files.{file_created, file_closed};
+ghost use Rattle.smb_request.specs.Parts.{file_asked, create_response, names_open, close_response};
 ghost use Rattle.smb_request.specs.Bodies.{response_step, result_step, IsReadyAfter};
 
 use super::call::Call;

@@ -2,7 +2,7 @@
 
 ghost use Rattle.std.specs.Prelude.{◌≡◌};
 ghost use Rattle.smb_request.specs.Information.{fault_status};
-ghost use Rattle.smb_request.specs.QueryInfo.{written_status};
+ghost use Rattle.smb_request.specs.Parts.{written_status};
 
 use super::query_directory::listing_refusal;
 use smb_info::{InfoFault, Truncation};

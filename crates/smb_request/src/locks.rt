@@ -3,7 +3,8 @@
 ghost use Rattle.std.specs.Prelude.{◌≡◌, take, IfOk, IfErr, IfSome};
 ghost use Rattle.smb_body.specs.LockLists.{locks_of};
 ghost use Rattle.smb_body.specs.Lock.{lock_asked};
-ghost use Rattle.smb_request.specs.Locks.{lock_ask, lock_asks, asks_unlock, file_locked, file_unlocked, locks_changed};
+ghost use Rattle.smb_request.specs.Locks.{file_locked, file_unlocked, locks_changed};
+ghost use Rattle.smb_request.specs.Parts.{lock_asks, lock_ask, asks_unlock};
 ghost use Rattle.smb_request.specs.Bodies.{result_step, IsReadyAfter};
 ghost use Rattle.smb_request.specs.declared.refusal.Refusal.TheVariants.{NoMemory};
 
@@ -87,7 +88,7 @@ impl<A: Authenticator + Drop, T: Tree + Drop, O: Opens + Drop> Server<A, T, O> {
         request: &LockRequest<'_>,
     ) -> Result<Response<'a>, Refusal>
         ensures ok { IfSome (result_step A.meaning self.new call result) (λ step. step
-            ≡ locks_changed self.old call (lock_asks (lock_asked request.now).locks)) }
+            ≡ locks_changed self.old call (lock_asked request.now).locks) }
         ensures put { IfOk result (IsReadyAfter self.old self.new call) }
         ensures err { IfErr result (λ refusal. refusal ≡ NoMemory → self.new ≡ self.old) }
         ensures known { self.new.sessions.table.connections ≡ self.old.sessions.table.connections }

@@ -2,7 +2,8 @@
 
 ghost use Rattle.std.specs.Prelude.{◌≡◌};
 ghost use Rattle.smb_body.specs.Requests.{request_value};
-ghost use Rattle.smb_request.specs.Needs.{needs_of, needs_session, needs_tree, is_unsupported, is_cancel_command};
+ghost use Rattle.smb_request.specs.Needs.{needs_of};
+ghost use Rattle.smb_request.specs.Parts.{needs_session, needs_tree, is_unsupported, is_cancel_command};
 
 use smb_body::Request;
 use smb_wire::Command;

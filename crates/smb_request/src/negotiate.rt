@@ -2,7 +2,8 @@
 
 ghost use Rattle.std.specs.Prelude.{◌≡◌};
 ghost use Rattle.smb_body.specs.Replies.{reply_value};
-ghost use Rattle.smb_request.specs.Negotiate.{capabilities_of, negotiate_answer};
+ghost use Rattle.smb_request.specs.Negotiate.{negotiate_answer};
+ghost use Rattle.smb_request.specs.Parts.{capabilities_of};
 
 use smb_body::{Capabilities, DialectRevision, Guid, NegotiateResponse, Reply, SecurityMode};
 use smb_wire::Dialect;

@@ -12,8 +12,9 @@ ghost use Rattle.smb_access.specs.Opens.{open_of};
 ghost use Rattle.smb_request.specs.Bodies.{result_step, is_listing, IsReadyAfter};
 ghost use Rattle.smb_request.specs.Held.{is_performed, IsCallOf};
 ghost use Rattle.smb_request.specs.InPlace.{answer_held, answer_behind, performed_behind};
-ghost use Rattle.smb_request.specs.Needs.{needs_of, needs_session, needs_tree};
-ghost use Rattle.smb_request.specs.Request.{negotiated, dialect_after, acted, open_refusal, check_session_tree_and_open, check_request, performed_by, performed};
+ghost use Rattle.smb_request.specs.Needs.{needs_of};
+ghost use Rattle.smb_request.specs.Parts.{needs_session, needs_tree, dialect_after, check_session_tree_and_open};
+ghost use Rattle.smb_request.specs.Request.{negotiated, acted, open_refusal, check_request, performed_by, performed};
 ghost use Rattle.smb_request.specs.declared.refusal.Refusal.TheVariants.{NoMemory};
 
 use super::call::{Call, body_of};

@@ -15,8 +15,8 @@ ghost use Rattle.smb_info.specs.Volumes.{volume_facts};
 ghost use Rattle.smb_opens.specs.Good.{GoodStore};
 ghost use Rattle.smb_request.specs.Settings.{settings_of, is_lawful};
 ghost use Rattle.smb_request.specs.Negotiate.{negotiate_answer};
-ghost use Rattle.smb_request.specs.QueryInfo.{volume_of};
-ghost use Rattle.smb_request.specs.State.{new_server, hello_of, connection_added, connection_ended};
+ghost use Rattle.smb_request.specs.Parts.{volume_of, hello_of};
+ghost use Rattle.smb_request.specs.State.{new_server, connection_added, connection_ended};
 ghost use Rattle.smb_request.specs.Owners.{AreOwned};
 
 use super::config::Config;
@@ -148,8 +148,8 @@ impl<A: Authenticator + Drop, T: Tree + Drop, O: Opens + Drop> Server<A, T, O> {
         dialect: Option<Dialect>,
         dialect_revision: u16,
     ) -> Reply<'_>
-        ensures response { reply_value result ≡ negotiate_answer self.now.settings.guid (hello_of A.meaning self.now) moment dialect dialect_revision }
-        ensures short { length (hello_of A.meaning self.now) ≤ longest_token }
+        ensures response { reply_value result ≡ negotiate_answer self.now.settings.guid (A.meaning.hello self.now.sessions.authenticator) moment dialect dialect_revision }
+        ensures short { length (A.meaning.hello self.now.sessions.authenticator) ≤ longest_token }
     {
         negotiate::response(
             self.config.guid,
@@ -219,7 +219,7 @@ impl<A: Authenticator + Drop, T: Tree + Drop, O: Opens + Drop> Server<A, T, O> {
         out: &mut Vec<u8>,
     ) -> Result<(), AllocError>
         ensures ok { OnOk result (out.new.items
-            ≡ out.old.items ++ reply_spelling (negotiate_answer self.now.settings.guid (hello_of A.meaning self.now) moment answer.dialect answer.dialect_revision)) }
+            ≡ out.old.items ++ reply_spelling (negotiate_answer self.now.settings.guid (A.meaning.hello self.now.sessions.authenticator) moment answer.dialect answer.dialect_revision)) }
         ensures len { OnOk result (length out.new.items ≤ length out.old.items + longest_body) }
         ensures err { OnErr result (out.new.items ≡ out.old.items) }
         ensures kept { take (length out.old.items) out.new.items ≡ out.old.items }

@@ -24,11 +24,13 @@ use Rattle.smb_body.specs.declared.close.CloseFlags.{CloseFlags}
 use Rattle.smb_session.specs.Authenticator.{Meaning, Answered, continues, accepts, denies}
 use Rattle.smb_session.specs.Negotiate.{best_of}
 use Rattle.smb_session.specs.Numbers.{contains}
-use Rattle.smb_session.specs.Session.{SessionState, fresh_session, finished_by, with_tree, without_tree}
+use Rattle.smb_session.specs.Session.{SessionState}
+use Rattle.smb_session.specs.Parts.{fresh_session, finished_by, with_tree, without_tree, begun, logoff_refusal, has_all_sessions}
 use Rattle.smb_session.specs.Sessions.{setup_step, tree_connect_refusal}
-use Rattle.smb_session.specs.Setup.{setup_refusal, setup_table, setup_number, has_all_sessions, previous_ended, table_answered}
+use Rattle.smb_session.specs.Setup.{setup_refusal, previous_ended, table_answered}
+use Rattle.smb_session.specs.Laws.{setup_table, setup_number}
 use Rattle.smb_session.specs.declared.fault.SessionFault.TheVariants.{NotAccepted}
-use Rattle.smb_session.specs.Table.{TableState, begun, knows_session, knows_tree, read_only_of, session_ended, session_changed, logoff_refusal, tree_disconnect_refusal}
+use Rattle.smb_session.specs.Table.{TableState, knows_session, knows_tree, read_only_of, session_ended, session_changed, tree_disconnect_refusal}
 use Rattle.smb_session.proofs.Entries.{all-changed, all-removed}
 use Rattle.smb_access.specs.Asked.{FileAsked}
 use Rattle.smb_access.specs.Effect.{entry_after}
@@ -60,18 +62,18 @@ use Rattle.smb_request.specs.declared.context.Context.{Context}
 use Rattle.smb_request.specs.Bytes.{file_read, file_written}
 use Rattle.smb_request.specs.Call.{body_of, call_of}
 use Rattle.smb_request.specs.Context.{named_on, open_for_next_related}
-use Rattle.smb_request.specs.Files.{file_asked, file_created, close_response, file_closed}
+use Rattle.smb_request.specs.Files.{file_created, file_closed}
+use Rattle.smb_request.specs.Parts.{file_asked, close_response, asks_unlock, is_unsupported, is_cancel_command, only_reads, check_session_tree_and_open, dialect_after, closed_for, setup_answered, lock_asks, hello_of}
 use Rattle.smb_request.specs.Held.{IsCallOf, opens_left}
 use Rattle.smb_request.specs.Laws.{NumbersInOrder}
-use Rattle.smb_request.specs.Locks.{lock_asks, asks_unlock, file_locked, file_unlocked}
-use Rattle.smb_request.specs.Needs.{is_unsupported, is_cancel_command}
+use Rattle.smb_request.specs.Locks.{file_locked, file_unlocked}
 use Rattle.smb_request.specs.Negotiate.{negotiate_answer}
-use Rattle.smb_request.specs.Owners.{only_reads, AreOwned}
-use Rattle.smb_request.specs.Request.{check_request, check_session_tree_and_open, negotiated, dialect_after, acted, performed_by, performed}
+use Rattle.smb_request.specs.Owners.{AreOwned}
+use Rattle.smb_request.specs.Request.{check_request, negotiated, acted, performed_by, performed}
 use Rattle.smb_request.specs.Response.{CommandStep, Performed, success, refused}
-use Rattle.smb_request.specs.Session.{closed_for, may_only_read, status_of_refusal, setup_answered, session_set_up, session_logged_off, tree_joined, tree_left}
+use Rattle.smb_request.specs.Session.{may_only_read, status_of_refusal, session_set_up, session_logged_off, tree_joined, tree_left}
 use Rattle.smb_request.specs.SetInfo.{set_status, set_through}
-use Rattle.smb_request.specs.State.{ServerState, hello_of, with_store}
+use Rattle.smb_request.specs.State.{ServerState, with_store}
 use Rattle.smb_request.proofs.Apart.{acts_known, id_held}
 use Rattle.smb_request.proofs.Configured.{created_kept, closed_kept, all_kept, ended_kept, locks_kept, locks_opens, written_kept}
 use Rattle.smb_request.proofs.Handed.{request_passed}

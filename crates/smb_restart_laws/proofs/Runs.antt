@@ -6,8 +6,10 @@ use Rattle.smb_session.specs.Authenticator.{Meaning}
 use Rattle.smb_engine.specs.declared.fault.ServeFault.{ServeFault}
 use Rattle.smb_engine.specs.Event.{ends}
 use Rattle.smb_engine.specs.Rest.{ends_of}
-use Rattle.smb_engine.specs.Run.{Ran, Stop, later, run, event_step, unknown_refusal, refused_at_once, then_ran}
-use Rattle.smb_engine.specs.State.{StreamState, ShareState, ended, without_stream}
+use Rattle.smb_engine.specs.Run.{Ran, Stop, run, event_step}
+use Rattle.smb_engine.specs.Happenings.{later, refused_at_once, then_ran}
+use Rattle.smb_engine.specs.Parts.{unknown_refusal, without_stream}
+use Rattle.smb_engine.specs.State.{StreamState, ShareState, ended}
 use Rattle.smb_restart_laws.specs.Ends.{EndsAll}
 
 module _ {S : Type 0} (m : Meaning S) where

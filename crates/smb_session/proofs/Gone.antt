@@ -9,10 +9,11 @@ use Rattle.std.specs.Prelude.{slice_get}
 use Rattle.smb_session.specs.Authenticator.{Answered, continues, accepts, denies}
 use Rattle.smb_session.specs.Good.{GoodTable}
 use Rattle.smb_session.specs.Numbers.{contains, IsRising}
-use Rattle.smb_session.specs.Session.{SessionState, fresh_session, finished_by}
-use Rattle.smb_session.specs.Setup.{setup_number, setup_table, table_answered, previous_ended}
-use Rattle.smb_session.specs.Table.{TableState, connected, begun, session_ended, session_changed, knows_session, numbers_on, end_connection_step}
-use Rattle.smb_session.specs.Laws.{IsGone}
+use Rattle.smb_session.specs.Session.{SessionState}
+use Rattle.smb_session.specs.Parts.{fresh_session, finished_by, begun}
+use Rattle.smb_session.specs.Setup.{table_answered, previous_ended}
+use Rattle.smb_session.specs.Laws.{setup_number, setup_table, IsGone}
+use Rattle.smb_session.specs.Table.{TableState, connected, session_ended, session_changed, knows_session, numbers_on, end_connection_step}
 use Rattle.smb_session.proofs.Entries.{at-eq, all-removed, all-changed}
 
 -- no entry has this number

@@ -8,9 +8,9 @@ use Rattle.std.specs.BTreeMap.{is_at, insert_entry}
 use Rattle.std.specs.Ordering.{nat_cmp}
 use Rattle.smb_wire.specs.Counters.{is_spent}
 use Rattle.smb_session.specs.Numbers.{contains, without_number}
-use Rattle.smb_session.specs.Session.{SessionState, fresh_session, finished_by, with_tree, without_tree, has_all_trees}
-use Rattle.smb_session.specs.Table.{TableState, changed_at, numbers_on, session_at, connected, begun, session_ended, knows_session, end_connection_step}
-use Rattle.smb_session.specs.Setup.{has_all_sessions}
+use Rattle.smb_session.specs.Session.{SessionState}
+use Rattle.smb_session.specs.Parts.{fresh_session, finished_by, with_tree, without_tree, has_all_trees, begun, has_all_sessions}
+use Rattle.smb_session.specs.Table.{TableState, changed_at, numbers_on, session_at, connected, session_ended, knows_session, end_connection_step}
 use Rattle.smb_session.specs.Good.{GoodSession}
 use Rattle.smb_session.specs.Held.{table_of, IsHeld, index_without, withdrawn}
 use Rattle.smb_session.proofs.Windows.{all-more, all-filter, all-append, rising-filter, rising-append, length-filter-le}

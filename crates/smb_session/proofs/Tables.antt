@@ -8,7 +8,8 @@ use Rattle.std.specs.Map.{lookup, remove_entry}
 use Rattle.std.specs.BTreeMap.{is_at, insert_entry}
 use Rattle.std.specs.Ordering.{nat_cmp}
 use Rattle.smb_session.specs.Numbers.{contains, IsRising, without_number}
-use Rattle.smb_session.specs.Session.{SessionState, fresh_session}
+use Rattle.smb_session.specs.Session.{SessionState}
+use Rattle.smb_session.specs.Parts.{fresh_session}
 use Rattle.smb_session.specs.Table.{changed_at, numbers_on}
 use Rattle.smb_session.specs.Good.{GoodSession}
 use Rattle.smb_session.specs.Held.{IsHeld}

@@ -1,13 +1,32 @@
 -- What follows from the definitions of sessions and of windows.
-use Rattle.std.specs.Prelude.{◌≡◌, ℕ, ◌<◌, ◌==◌, true, false, List}
+use Rattle.std.specs.Prelude.{◌≡◌, ℕ, ◌<◌, ◌==◌, true, false, List, ◌+◌, [], ◌∷◌, ◌++◌, None, if◌then◌else◌}
 use Rattle.std.specs.List.{AllByRecursion}
 use Rattle.smb_session.specs.Authenticator.{Answered}
 use Rattle.smb_session.specs.Good.{GoodTable}
 use Rattle.smb_session.specs.Numbers.{contains}
 use Rattle.smb_session.specs.Session.{SessionState}
-use Rattle.smb_session.specs.Setup.{setup_number, setup_table, table_answered}
-use Rattle.smb_session.specs.Table.{TableState, connected, begun, session_ended, session_changed, knows_session, end_connection_step}
+use Rattle.smb_session.specs.Setup.{table_answered}
+use Rattle.smb_session.specs.Table.{TableState, connected, session_ended, session_changed, knows_session, end_connection_step}
 use Rattle.smb_session.specs.Window.{Numbers, may_use, without_ids, with_more, GoodWindow}
+
+-- the session that is set up: SessionId 0 asks for a new one
+abbrev pub setup_number : TableState → ℕ → ℕ
+setup_number table session = if session == 0 then table.next else session
+
+-- the table as the authenticator is asked: a new session has begun, with no user yet and no tree, and its first tree
+-- will be 1 (3.3.5.5.1)
+abbrev pub setup_table : TableState → ℕ → ℕ → TableState
+setup_table table connection session =
+    let fresh : SessionState = record {
+      connection = connection;
+      user = None;
+      read_only = false;
+      trees = [];
+      next_tree = 1;
+    } in
+    if session == 0
+    then record table { sessions = table.sessions ++ (table.next, fresh) ∷ []; next = table.next + 1 }
+    else table
 
 -- a number that was given to a session, and is none's now
 pub record IsGone (table : TableState) (session : ℕ) : Type 0 where
@@ -22,13 +41,13 @@ WhatEndedIsGone = (table : TableState) (session : ℕ) → GoodTable table → s
 abbrev pub WhatIsGoneIsUnknown : Type 0
 WhatIsGoneIsUnknown = (table : TableState) (connection session : ℕ) → IsGone table session → knows_session table connection session ≡ false
 
--- a session's number that is gone stays gone when a connection comes, a session begins, ends or changes, a connection ends, or
--- an authenticator's answer is performed; no number is given to two sessions
+-- a session's number that is gone stays gone when a connection comes, a session begins, ends or changes, a connection
+-- ends, or an authenticator's answer is performed; no number is given to two sessions
 abbrev pub WhatIsGoneStaysGone : Type 0
 WhatIsGoneStaysGone =
     (table : TableState) (session : ℕ) → IsGone table session →
     ((connection : ℕ) → IsGone (connected table connection) session)
-    × ((connection : ℕ) → IsGone (begun table connection) session)
+    × ((connection : ℕ) → IsGone (setup_table table connection 0) session)
     × ((other : ℕ) → IsGone (session_ended table other) session)
     × ((change : SessionState → SessionState) (other : ℕ) → IsGone (session_changed change table other) session)
     × ((connection : ℕ) → IsGone (end_connection_step table connection).table session)

@@ -14,3 +14,4 @@ pub mod Setup
 pub mod Done
 pub mod Sessions
 pub mod Laws
+pub mod Parts

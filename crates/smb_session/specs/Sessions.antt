@@ -1,13 +1,16 @@
 -- The sessions over an authenticator, and each call on them ([MS-SMB2] 3.3.5.4 to 3.3.5.8).
-use Rattle.std.specs.Prelude.{ℕ, ◌≡◌, not, List, Option, None, Some, if◌then◌else◌, true}
+use Rattle.std.specs.Prelude.{ℕ, ◌≡◌, ◌+◌, ◌==◌, ◌||◌, not, nat_le, List, [], ◌∷◌, ◌++◌, length, Option, None, Some, if◌then◌else◌, true, false}
 use Rattle.std.specs.Option.{option_map_or}
+use Rattle.smb_wire.specs.Limits.{most_tree_connects}
+use Rattle.smb_wire.specs.Counters.{is_spent}
+use Rattle.smb_wire.specs.Names.{is_same_name}
 use Rattle.smb_session.specs.declared.fault.SessionFault.{SessionFault}
 use Rattle.smb_session.specs.declared.fault.SessionFault.TheVariants.{UnknownSession, UnknownTree, NoShare, NotAccepted, NoDialect, NoMemory}
 use Rattle.smb_session.specs.Authenticator.{Meaning}
 use Rattle.smb_session.specs.Table.{TableState, session_at, knows_session, no_sessions}
-use Rattle.smb_session.specs.Session.{has_all_trees}
-use Rattle.smb_session.specs.Path.{leads_to}
-use Rattle.smb_session.specs.Setup.{SetupResult, setup_number, setup_table, table_answered, setup_result}
+use Rattle.smb_session.specs.Session.{SessionState}
+use Rattle.smb_session.specs.Path.{path_parts, share_in}
+use Rattle.smb_session.specs.Setup.{SetupResult, table_answered, setup_result}
 
 -- the authenticator's state, the share's name in units, and the table of sessions
 pub record SessionsState (S : Type 0) : Type 0 where
@@ -25,27 +28,43 @@ pub record SetupStep (S : Type 0) : Type 0 where
   pub told : SetupResult
 
 module _ {S : Type 0} (authenticator : Meaning S) where
-  -- the authenticator is asked once about a session that stands, and its answer performed and told (3.3.5.5.3)
-  abbrev pub asked_step : SessionsState S → ℕ → ℕ → List ℕ → SetupStep S
-  asked_step s session previous token = record {
-    state = record s {
-      authenticator = authenticator.next s.authenticator session token;
-      table = table_answered s.table session previous (authenticator.answer s.authenticator session token);
-    };
-    told = setup_result s.table session previous (authenticator.answer s.authenticator session token);
-  }
-
-  -- a SESSION_SETUP that is not refused
+  -- a SESSION_SETUP that is not refused: the authenticator is asked once about the session, and its answer performed
+  -- and told (3.3.5.5.3)
   abbrev pub setup_step : SessionsState S → ℕ → ℕ → ℕ → List ℕ → SetupStep S
   setup_step s connection session previous token =
-      asked_step (record s { table = setup_table s.table connection session }) (setup_number s.table session) previous token
+      -- SessionId 0 asks for a new session, which begins with no user yet and no tree; its first tree will be 1
+      -- (3.3.5.5.1)
+      let fresh : SessionState = record {
+        connection = connection;
+        user = None;
+        read_only = false;
+        trees = [];
+        next_tree = 1;
+      } in
+      let number = if session == 0 then s.table.next else session in
+      let table = if session == 0
+      then record s.table { sessions = s.table.sessions ++ (s.table.next, fresh) ∷ []; next = s.table.next + 1 }
+      else s.table in
+      let answer = authenticator.answer s.authenticator number token in
+      record {
+        state = record s {
+          authenticator = authenticator.next s.authenticator number token;
+          table = table_answered table number previous answer;
+        };
+        told = setup_result table number previous answer;
+      }
 
--- TREE_CONNECT: the session, the share that the path names, and then room for a tree (3.3.5.7)
+-- TREE_CONNECT: the session, the share that the path names, and then room for a tree: a session has at most 16, and
+-- numbers that are not spent (3.3.5.7)
 abbrev pub tree_connect_refusal : {S : Type 0} → SessionsState S → ℕ → ℕ → List ℕ → Option SessionFault
 tree_connect_refusal s connection session path =
     if not (knows_session s.table connection session) then Some UnknownSession else
-    if not (leads_to s.share path) then Some NoShare else
-    if option_map_or has_all_trees (session_at s.table session) true then Some NotAccepted else None
+    if not (option_map_or (λ named. is_same_name named s.share) (share_in (path_parts path)) false) then Some NoShare else
+    if option_map_or
+    (λ (state : SessionState). nat_le most_tree_connects (length state.trees) || is_spent 32 state.next_tree)
+    (session_at s.table session)
+    true
+    then Some NotAccepted else None
 
 -- a refusal is the one that the definition gives; want of memory comes only where it gives none
 abbrev pub IsRefused : Option SessionFault → SessionFault → Type 0

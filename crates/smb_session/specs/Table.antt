@@ -1,5 +1,5 @@
 -- The table of sessions, with their trees ([MS-SMB2] 3.3.1.5, 3.3.1.8, 3.3.1.9).
-use Rattle.std.specs.Prelude.{ℕ, ◌+◌, Bool, false, ◌&&◌, ◌==◌, not, List, [], ◌∷◌, ◌++◌, Option, None, Some, is_some, if◌then◌else◌, slice_get}
+use Rattle.std.specs.Prelude.{ℕ, Bool, false, ◌&&◌, ◌==◌, not, List, [], ◌∷◌, Option, None, Some, is_some, if◌then◌else◌, slice_get}
 use Rattle.std.specs.Option.{option_map, option_map_or}
 use Rattle.std.specs.Map.{lookup, remove_entry}
 use Rattle.std.specs.BTreeMap.{is_at}
@@ -7,7 +7,7 @@ use Rattle.std.specs.Ordering.{nat_cmp}
 use Rattle.smb_session.specs.declared.fault.SessionFault.{SessionFault}
 use Rattle.smb_session.specs.declared.fault.SessionFault.TheVariants.{UnknownSession, UnknownTree}
 use Rattle.smb_session.specs.Numbers.{contains, with_number, without_number}
-use Rattle.smb_session.specs.Session.{SessionState, fresh_session, with_tree, without_tree}
+use Rattle.smb_session.specs.Session.{SessionState}
 
 -- the connections that are known and the sessions by their numbers, both in rising order, and the next session's number
 pub record TableState : Type 0 where
@@ -33,11 +33,6 @@ numbers_on (e ∷ sessions) connection =
 abbrev pub connected : TableState → ℕ → TableState
 connected table connection =
     if contains table.connections connection then table else record table { connections = with_number table.connections connection }
-
--- a session more, which has begun on a connection and has the next number
-abbrev pub begun : TableState → ℕ → TableState
-begun table connection =
-    record table { sessions = table.sessions ++ (table.next, fresh_session connection) ∷ []; next = table.next + 1 }
 
 -- a session and its trees are gone
 abbrev pub session_ended : TableState → ℕ → TableState
@@ -72,34 +67,19 @@ abbrev pub knows : TableState → ℕ → ℕ → Option ℕ → Bool
 knows table connection session None = knows_session table connection session
 knows table connection session (Some tree) = knows_session table connection session && knows_tree table session tree
 
--- LOGOFF: only a finished session of the connection is logged off (3.3.5.6)
-abbrev pub logoff_refusal : TableState → ℕ → ℕ → Option SessionFault
-logoff_refusal table connection session = if knows_session table connection session then None else Some UnknownSession
-
 -- TREE_DISCONNECT: the session, then the tree (3.3.5.8)
 abbrev pub tree_disconnect_refusal : TableState → ℕ → ℕ → ℕ → Option SessionFault
 tree_disconnect_refusal table connection session tree =
     if not (knows_session table connection session) then Some UnknownSession else
     if knows_tree table session tree then None else Some UnknownTree
 
--- and then the tree is gone
-abbrev pub tree_disconnected : TableState → ℕ → ℕ → TableState
-tree_disconnected table session tree = session_changed (without_tree tree) table session
-
--- TREE_CONNECT: the tree that a session is given, which is its next one (3.3.5.7)
-abbrev pub next_tree_of : TableState → ℕ → ℕ
-next_tree_of table session = option_map_or (λ state. state.next_tree) (session_at table session) 0
-
--- and the table with it
-abbrev pub tree_connected : TableState → ℕ → TableState
-tree_connected = session_changed with_tree
-
 -- what an end of a connection leaves, and the session that it tells
 pub record EndStep : Type 0 where
   pub table : TableState
   pub told : Option ℕ
 
--- the end of a connection: its least session ends and is told; where it has none, the connection is known no longer (3.3.7.1)
+-- the end of a connection: its least session ends and is told; where it has none, the connection is known no longer
+-- (3.3.7.1)
 abbrev pub end_connection_step : TableState → ℕ → EndStep
 end_connection_step table connection = option_map_or
     (λ session. record { table = session_ended table session; told = Some session })

@@ -6,7 +6,8 @@ ghost use Rattle.std.specs.Option.{option_map};
 ghost use Rattle.smb_wire.specs.Pairs.{units_in};
 ghost use Rattle.smb_wire.specs.Units.{units_of};
 ghost use Rattle.smb_wire.specs.Paths.{is_separator};
-ghost use Rattle.smb_session.specs.Path.{path_parts, share_in, leads_to};
+ghost use Rattle.smb_session.specs.Path.{path_parts, share_in};
+ghost use Rattle.smb_session.specs.Parts.{leads_to};
 
 use smb_wire::{Units, same_name};
 

@@ -4,7 +4,7 @@ ghost use Rattle.std.specs.Prelude.{◌≡◌, ◌<◌, ◌≤◌, ◌+◌, ◌+
 ghost use Rattle.std.specs.Option.{option_eq};
 ghost use Rattle.std.specs.Str.{bytes_eq};
 ghost use Rattle.smb_session.specs.Numbers.{contains, without_number};
-ghost use Rattle.smb_session.specs.Session.{fresh_session, finished_by, with_tree, without_tree, has_all_trees};
+ghost use Rattle.smb_session.specs.Parts.{fresh_session, finished_by, with_tree, without_tree, has_all_trees};
 
 use arrayvec::ArrayVec;
 use smb_wire::limits::MOST_TREE_CONNECTS;

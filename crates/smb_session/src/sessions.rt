@@ -1,15 +1,16 @@
 //! The sessions over an authenticator.
 
-ghost use Rattle.std.specs.Prelude.{◌≡◌, ◌≤◌, true, false, Some, None, OnOk, OnErr, IfOk, IfErr, length, if◌then◌else◌};
+ghost use Rattle.std.specs.Prelude.{◌≡◌, ◌≤◌, ◌+◌, ◌++◌, ◌∷◌, [], true, false, Some, None, OnOk, OnErr, IfOk, IfErr, length, if◌then◌else◌};
 ghost use Rattle.std.specs.Option.{option_map_or};
 ghost use Rattle.smb_wire.specs.Limits.{longest_token};
 ghost use Rattle.smb_wire.specs.Pairs.{units_in};
 ghost use Rattle.smb_wire.specs.Units.{units_of};
 ghost use Rattle.smb_session.specs.Negotiate.{best_of};
-ghost use Rattle.smb_session.specs.Session.{has_all_trees};
-ghost use Rattle.smb_session.specs.Table.{session_at, connected, begun, session_ended, knows, read_only_of, logoff_refusal, tree_disconnect_refusal, tree_disconnected, next_tree_of, tree_connected, end_connection_step};
-ghost use Rattle.smb_session.specs.Setup.{has_all_sessions, setup_refusal};
-ghost use Rattle.smb_session.specs.Sessions.{new_sessions, asked_step, setup_step, tree_connect_refusal, IsRefused};
+ghost use Rattle.smb_session.specs.Parts.{has_all_trees, begun, has_all_sessions, asked_step};
+ghost use Rattle.smb_session.specs.Numbers.{without_number};
+ghost use Rattle.smb_session.specs.Table.{session_changed, knows_session, session_at, connected, session_ended, knows, read_only_of, tree_disconnect_refusal, end_connection_step};
+ghost use Rattle.smb_session.specs.Setup.{setup_refusal};
+ghost use Rattle.smb_session.specs.Sessions.{new_sessions, setup_step, tree_connect_refusal, IsRefused};
 ghost use Rattle.smb_session.specs.Done.{setup_result_of};
 ghost use Rattle.smb_session.specs.Good.{GoodTable};
 
@@ -216,9 +217,9 @@ impl<A: Authenticator + Drop> Sessions<A> {
     /// [`SessionFault::UnknownSession`], which changes nothing, where it is not a finished session of the
     /// connection.
     pub fn logoff(&mut self, connection: u64, session: u64) -> Result<(), SessionFault>
-        ensures unrefused { OnOk result (logoff_refusal self.old.table connection session ≡ None) }
+        ensures unrefused { OnOk result ((if knows_session self.old.table connection session then None else Some SessionFault.UnknownSession) ≡ None) }
         ensures state { OnOk result (self.new ≡ record self.old { table = session_ended self.old.table session }) }
-        ensures err { IfErr result (λ fault. logoff_refusal self.old.table connection session ≡ Some fault) }
+        ensures err { IfErr result (λ fault. (if knows_session self.old.table connection session then None else Some SessionFault.UnknownSession) ≡ Some fault) }
         ensures kept { OnErr result (self.new ≡ self.old) }
     {
         let known = self.table.knows(connection, session, None);
@@ -243,8 +244,11 @@ impl<A: Authenticator + Drop> Sessions<A> {
         path: Units<'_>,
     ) -> Result<u32, SessionFault>
         ensures unrefused { OnOk result (tree_connect_refusal self.old connection session (units_of path.entry) ≡ None) }
-        ensures number { IfOk result (λ tree. tree ≡ next_tree_of self.old.table session) }
-        ensures state { OnOk result (self.new ≡ record self.old { table = tree_connected self.old.table session }) }
+        ensures number { IfOk result (λ tree. tree ≡ option_map_or (λ state. state.next_tree) (session_at self.old.table session) 0) }
+        ensures state { OnOk result (self.new ≡ record self.old {
+          table = session_changed
+              (λ state. record state { trees = state.trees ++ state.next_tree ∷ []; next_tree = state.next_tree + 1 }) self.old.table session;
+        }) }
         ensures err { IfErr result (λ fault. tree_connect_refusal self.old connection session (units_of path.entry) ≡ Some fault) }
         ensures kept { OnErr result (self.new ≡ self.old) }
     {
@@ -272,7 +276,10 @@ impl<A: Authenticator + Drop> Sessions<A> {
         tree: u32,
     ) -> Result<(), SessionFault>
         ensures unrefused { OnOk result (tree_disconnect_refusal self.old.table connection session tree ≡ None) }
-        ensures state { OnOk result (self.new ≡ record self.old { table = tree_disconnected self.old.table session tree }) }
+        ensures state { OnOk result (self.new ≡ record self.old {
+          table = session_changed
+              (λ state. record state { trees = without_number state.trees tree }) self.old.table session;
+        }) }
         ensures err { IfErr result (λ fault. tree_disconnect_refusal self.old.table connection session tree ≡ Some fault) }
         ensures kept { OnErr result (self.new ≡ self.old) }
     {

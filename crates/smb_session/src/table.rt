@@ -6,9 +6,9 @@ ghost use Rattle.std.specs.BTreeMap.{insert_entry, is_at};
 ghost use Rattle.std.specs.Map.{lookup, remove_entry};
 ghost use Rattle.std.specs.Ordering.{nat_cmp};
 ghost use Rattle.smb_session.specs.Numbers.{without_number};
-ghost use Rattle.smb_session.specs.Session.{fresh_session, finished_by, with_tree, without_tree, has_all_trees};
-ghost use Rattle.smb_session.specs.Table.{no_sessions, session_at, connected, begun, session_ended, session_changed, changed_at, knows, read_only_of, tree_disconnected, next_tree_of, tree_connected, end_connection_step};
-ghost use Rattle.smb_session.specs.Setup.{has_all_sessions, is_of_user, known_session_refusal, setup_refusal, previous_ended, accepted};
+ghost use Rattle.smb_session.specs.Parts.{fresh_session, finished_by, with_tree, without_tree, has_all_trees, begun, next_tree_of, has_all_sessions, is_of_user, known_session_refusal, accepted, tree_disconnected, tree_connected};
+ghost use Rattle.smb_session.specs.Table.{no_sessions, session_at, connected, session_ended, session_changed, changed_at, knows, read_only_of, end_connection_step};
+ghost use Rattle.smb_session.specs.Setup.{setup_refusal, previous_ended};
 ghost use Rattle.smb_session.specs.Good.{GoodTable};
 ghost use Rattle.smb_session.specs.Held.{index_without, withdrawn};
 

@@ -3,7 +3,7 @@ use Rattle.smb_body.specs.Replies.{reply_spelling}
 use Rattle.smb_head.specs.Replies.{joined_replies}
 use Rattle.smb_head.specs.Placed.{replies_written}
 use Rattle.smb_request.specs.Negotiate.{negotiate_answer}
-use Rattle.smb_request.specs.State.{hello_of}
+use Rattle.smb_request.specs.Parts.{hello_of}
 use Rattle.smb_engine.proofs.chain.frame_smb1.Goals as goal
 
 pub returns-clause-ok : goal.returns-clause-ok

@@ -1,6 +1,6 @@
 use Rattle.std.proofs.Common.{sym, ap, ◌∙◌, eqb}
 use Rattle.std.proofs.lemmas.Bool.{eq-eqb, ne_eqb}
-use Rattle.smb_engine.specs.Run.{is_negotiate_request}
+use Rattle.smb_engine.specs.Parts.{is_negotiate_request}
 use Rattle.smb_engine.proofs.Lists.{any_found, any_passed}
 use Rattle.smb_engine.proofs.chain.holds_negotiate.Goals as goal
 

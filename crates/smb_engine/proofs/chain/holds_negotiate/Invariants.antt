@@ -1,6 +1,6 @@
 use Rattle.std.proofs.Common.{◌≡◌, drop}
 use Rattle.std.specs.List.{list_any}
-use Rattle.smb_engine.specs.Run.{is_negotiate_request}
+use Rattle.smb_engine.specs.Parts.{is_negotiate_request}
 use Rattle.smb_engine.proofs.chain.holds_negotiate.Given as goal
 
 abbrev pub invariant-loop-i : goal.invariant-loop-i

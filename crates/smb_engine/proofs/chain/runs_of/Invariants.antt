@@ -1,5 +1,5 @@
 use Rattle.std.proofs.Common.{◌≡◌, ◌≤◌, ◌++◌, drop, length}
-use Rattle.smb_engine.specs.Run.{runs_of}
+use Rattle.smb_engine.specs.Parts.{runs_of}
 use Rattle.smb_engine.proofs.chain.runs_of.Given as goal
 
 abbrev pub invariant-loop-i : goal.invariant-loop-i

@@ -1,5 +1,5 @@
 use Rattle.std.proofs.Common.{sym}
-use Rattle.smb_session.specs.Session.{with_tree}
+use Rattle.smb_session.specs.Parts.{with_tree}
 use Rattle.smb_session.proofs.Entries.{set-changed}
 use Rattle.smb_session.proofs.table.add_tree.Goals as goal
 

@@ -1,5 +1,5 @@
 use Rattle.std.proofs.Common.{sym}
-use Rattle.smb_session.specs.Session.{without_tree}
+use Rattle.smb_session.specs.Parts.{without_tree}
 use Rattle.smb_session.proofs.Entries.{set-changed, changed-none}
 use Rattle.smb_session.proofs.table.drop_tree.Goals as goal
 

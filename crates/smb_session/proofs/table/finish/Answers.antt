@@ -1,5 +1,5 @@
 use Rattle.std.proofs.Common.{sym}
-use Rattle.smb_session.specs.Session.{finished_by}
+use Rattle.smb_session.specs.Parts.{finished_by}
 use Rattle.smb_session.proofs.Entries.{set-changed, changed-none}
 use Rattle.smb_session.proofs.table.finish.Goals as goal
 

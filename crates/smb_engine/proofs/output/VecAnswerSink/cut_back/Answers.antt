@@ -1,7 +1,8 @@
 use Rattle.std.proofs.Common.{map, sym, ap, ◌∙◌}
 use Rattle.std.proofs.lemmas.List.{take-map}
 use Rattle.smb_engine.specs.Sink.{whole}
-use Rattle.smb_engine.specs.Output.{output_of, outputs_of}
+use Rattle.smb_engine.specs.Output.{outputs_of}
+use Rattle.smb_engine.specs.Parts.{output_of}
 use Rattle.smb_engine.proofs.output.VecAnswerSink.cut_back.Goals as goal
 
 pub returns : goal.returns

@@ -1,5 +1,5 @@
 use Rattle.std.proofs.Common.{◌≡◌}
-use Rattle.smb_engine.specs.Event.{events_of}
+use Rattle.smb_engine.specs.Parts.{events_of}
 use Rattle.smb_engine.specs.Output.{AreShort, outputs_of}
 use Rattle.smb_engine.proofs.Runs.{RunSoFar}
 use Rattle.smb_engine.proofs.share.Share.run_events.Given as goal

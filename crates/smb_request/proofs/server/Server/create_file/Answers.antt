@@ -9,7 +9,8 @@ use Rattle.smb_access.specs.Parts.{opened_by}
 use Rattle.smb_access.specs.Faults.{IsRefusal}
 use Rattle.smb_opens.specs.Create.{access_granted, create_status}
 use Rattle.smb_opens.specs.Found.{entry_asked}
-use Rattle.smb_request.specs.Files.{file_asked, file_created}
+use Rattle.smb_request.specs.Files.{file_created}
+use Rattle.smb_request.specs.Parts.{file_asked}
 use Rattle.smb_request.specs.Session.{may_only_read}
 use Rattle.smb_request.specs.State.{ServerState}
 use Rattle.smb_request.proofs.Refused.{store_failed}

@@ -9,7 +9,7 @@ use Rattle.smb_request.specs.Context.{open_for_next_related}
 use Rattle.smb_request.specs.State.{ServerState}
 use Rattle.smb_request.specs.Call.{body_of, call_of}
 use Rattle.smb_request.specs.InPlace.{answer_held}
-use Rattle.smb_request.specs.Needs.{is_cancel_command}
+use Rattle.smb_request.specs.Parts.{is_cancel_command}
 use Rattle.smb_request.proofs.Performed.{call_read, performed_put}
 use Rattle.smb_request.proofs.server.Server.perform.Goals as goal
 

@@ -1,5 +1,5 @@
 use Rattle.std.proofs.Common.{◌≡◌, [], ◌∷◌, ◌++◌, ap, ◌∙◌}
-use Rattle.smb_session.specs.Session.{fresh_session}
+use Rattle.smb_session.specs.Parts.{fresh_session}
 use Rattle.smb_session.specs.Table.{numbers_on}
 use Rattle.smb_session.specs.Held.{withdrawn}
 use Rattle.smb_session.proofs.Entries.{insert-last}

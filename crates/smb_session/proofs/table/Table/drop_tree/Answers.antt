@@ -1,5 +1,5 @@
 use Rattle.std.proofs.Common.{refl}
-use Rattle.smb_session.specs.Session.{without_tree}
+use Rattle.smb_session.specs.Parts.{without_tree}
 use Rattle.smb_session.proofs.Steps.{held_any, without_good}
 use Rattle.smb_session.proofs.table.Table.drop_tree.Goals as goal
 

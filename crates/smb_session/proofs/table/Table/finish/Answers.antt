@@ -1,5 +1,5 @@
 use Rattle.std.proofs.Common.{refl}
-use Rattle.smb_session.specs.Session.{finished_by}
+use Rattle.smb_session.specs.Parts.{finished_by}
 use Rattle.smb_session.proofs.Steps.{held_any, finish_good}
 use Rattle.smb_session.proofs.table.Table.finish.Goals as goal
 
