@@ -6,7 +6,8 @@ use Rattle.smb_wire.specs.Fields.{Field, AllFit, joined, width_of}
 use Rattle.smb_wire.specs.Pairs.{units_in, unit_bytes, AreUnits}
 use Rattle.smb_wire.proofs.Pairing.{length-units_in, length-unit_bytes, units_read}
 use Rattle.smb_wire.proofs.FieldTables.{cut_out, length-joined}
-use Rattle.smb_body.specs.Buffers.{slice, is_within, Holds, HoldsText}
+use Rattle.smb_body.specs.Buffers.{is_within, Holds, HoldsText}
+use Rattle.smb_body.specs.Readings.{slice}
 
 pub length-cut : (size place : ℕ) (bytes : List ℕ) → place + size ≤ length bytes → length (take size (drop place bytes)) ≡ size
 length-cut size place bytes h = length-take-le size (drop place bytes) (omega (arith, length-drop place bytes))

@@ -2,7 +2,8 @@
 use Rattle.std.proofs.Common.{◌≡◌, ℕ, ◌≤◌, List, [], ◌++◌, true, length, arith, rules, append-nil}
 use Rattle.smb_wire.specs.Fields.{number_in, joined}
 use Rattle.smb_body.specs.Buffers.{body}
-use Rattle.smb_body.specs.Close.{close_fields, SaysClose, is_close, close_of, FitsClose}
+use Rattle.smb_body.specs.Close.{close_fields, FitsClose}
+use Rattle.smb_body.specs.Readings.{SaysClose, is_close, close_of}
 use Rattle.smb_body.specs.declared.close.CloseRequest.{CloseRequest}
 use Rattle.smb_body.proofs.Telling.{IsTold, fixed_part, fixed_length, fixed_size, stand_in_body}
 

@@ -10,8 +10,9 @@ use Rattle.smb_wire.proofs.Pairing.{length-unit_bytes}
 use Rattle.smb_wire.specs.declared.create_action.CreateAction.{CreateAction}
 use Rattle.smb_wire.specs.declared.create_action.CreateAction.TheVariants.{Superseded, Opened, Created, Overwritten}
 use Rattle.smb_wire.specs.CreateActions.{action_code}
-use Rattle.smb_body.specs.Buffers.{body, slice, is_within, has_fixed_part, Holds, HoldsText}
-use Rattle.smb_body.specs.Create.{CreateAsked, create_fields, SaysCreate, is_create, create_of, create_laid, create_spelling, FitsCreate, contexts_place, contexts_gap, name_end}
+use Rattle.smb_body.specs.Buffers.{body, is_within, has_fixed_part, Holds, HoldsText}
+use Rattle.smb_body.specs.Readings.{slice, is_create, create_of}
+use Rattle.smb_body.specs.Create.{CreateAsked, create_fields, SaysCreate, create_laid, create_spelling, FitsCreate, contexts_place, contexts_gap, name_end}
 use Rattle.smb_body.proofs.Buffering.{length-slice, holds_slice, holds_text, length-units, holds_between, text_between}
 use Rattle.smb_body.proofs.Telling.{IsTold, fixed_part, fixed_length, fixed_size, both, stand_in_body}
 

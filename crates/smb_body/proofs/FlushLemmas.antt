@@ -2,7 +2,8 @@
 use Rattle.std.proofs.Common.{◌≡◌, ℕ, ◌≤◌, List, [], ◌++◌, true, length, arith, rules, append-nil}
 use Rattle.smb_wire.specs.Fields.{number_in, joined}
 use Rattle.smb_body.specs.Buffers.{body}
-use Rattle.smb_body.specs.Flush.{flush_fields, SaysFlush, is_flush, flush_of, FitsFlush}
+use Rattle.smb_body.specs.Flush.{flush_fields, FitsFlush}
+use Rattle.smb_body.specs.Readings.{SaysFlush, is_flush, flush_of}
 use Rattle.smb_body.specs.declared.flush.FlushRequest.{FlushRequest}
 use Rattle.smb_body.proofs.Telling.{IsTold, fixed_part, fixed_length, fixed_size, stand_in_body}
 

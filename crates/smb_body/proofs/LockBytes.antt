@@ -1,6 +1,6 @@
 -- Elements of a LOCK, and the bytes that they spell.
 use Rattle.std.proofs.Common.{◌≡◌, ℕ, zero, suc, ◌+◌, ◌*◌, ◌/◌, ◌^◌, ◌<◌, ◌≤◌, List, [], ◌∷◌, ◌++◌, length, get_or, take, drop, map, refl, ap, subst, arith, rules, ◌∙◌, length-append, length-drop, take-append-drop, append-nil}
-use Rattle.std.proofs.lemmas.List.{length-take, length-take-le, get_or-drop, take_at, drop_at, take_all, length-map, drop-drop}
+use Rattle.std.proofs.lemmas.List.{length-take, length-take-le, get_or-drop, take_at, drop_at, take_all, length-map, drop-drop, drop-take, take-take}
 use Rattle.std.specs.Simd.{first_chunks}
 use Rattle.std.specs.List.{flat_map}
 use Rattle.smb_wire.specs.Number.{IsBytes, spelling}
@@ -8,7 +8,8 @@ use Rattle.smb_wire.specs.Fields.{number_in, AllStand, joined}
 use Rattle.smb_wire.proofs.Numbers.{spelling_of_number, number_below}
 use Rattle.smb_wire.proofs.FieldTables.{length-joined, stand_behind}
 use Rattle.smb_body.specs.Locks.{IsElement, AllElements, lock_fields, SaysElements, lock_bytes, AllLocksFit}
-use Rattle.smb_body.specs.LockLists.{lock_at, locks_in, EachElementIsRead}
+use Rattle.smb_body.specs.LockLists.{lock_at, EachElementIsRead}
+use Rattle.smb_body.specs.Readings.{locks_in}
 use Rattle.smb_body.specs.declared.lock_element.LockElement.{LockElement}
 
 tail_elements : (p : List ℕ) (ps : List (List ℕ)) → AllElements (p ∷ ps) → AllElements ps
@@ -129,6 +130,20 @@ pub elements_only : (bytes : List ℕ) (locks : List LockElement) → SaysElemen
 elements_only bytes locks s =
     let count : length bytes / 24 ≡ length locks = omega (arith, said_length bytes locks s) in
     rw count (chunks_only bytes locks s)
+
+-- cut from a front that has them, the elements are the same
+chunks_cut : (n : ℕ) (bytes : List ℕ) → first_chunks 24 n (take (24 * n) bytes) ≡ first_chunks 24 n bytes
+chunks_cut zero bytes = refl
+chunks_cut (suc n) bytes =
+    let whole : 24 * suc n ≡ 24 + 24 * n = omega arith in
+    let one : take 24 (take (24 + 24 * n) bytes) ≡ take 24 bytes = take-take 24 (24 + 24 * n) bytes (omega arith) in
+    let rest : drop 24 (take (24 + 24 * n) bytes) ≡ take (24 * n) (drop 24 bytes) = drop-take 24 (24 * n) bytes in
+    rw (whole, one, rest, chunks_cut n (drop 24 bytes)) refl
+
+pub locks_cut : (n : ℕ) (bytes : List ℕ) → 24 * n ≤ length bytes → locks_in (take (24 * n) bytes) ≡ map lock_at (first_chunks 24 n bytes)
+locks_cut n bytes h =
+    let count : length (take (24 * n) bytes) / 24 ≡ n = omega (arith, length-take-le (24 * n) bytes h) in
+    rw (count, chunks_cut n bytes) refl
 
 -- the bytes of elements say these elements
 pub elements_written : (locks : List LockElement) → AllLocksFit locks → SaysElements (lock_bytes locks) locks

@@ -8,7 +8,8 @@ use Rattle.smb_wire.specs.Pairs.{units_in, unit_bytes}
 use Rattle.smb_wire.proofs.FieldTables.{length-joined}
 use Rattle.smb_wire.proofs.Pairing.{length-units_in, length-unit_bytes, units_read}
 use Rattle.smb_body.specs.Buffers.{body}
-use Rattle.smb_body.specs.Negotiate.{NegotiateAsked, negotiate_fields, SaysNegotiate, is_negotiate, negotiate_of, negotiate_spelling, FitsNegotiate}
+use Rattle.smb_body.specs.Negotiate.{NegotiateAsked, negotiate_fields, SaysNegotiate, negotiate_spelling, FitsNegotiate}
+use Rattle.smb_body.specs.Readings.{is_negotiate, negotiate_of}
 use Rattle.smb_body.proofs.Behind.{body_behind}
 use Rattle.smb_body.proofs.Buffering.{length-cut}
 use Rattle.smb_body.proofs.Telling.{IsTold, fixed_part, stand_in_body}

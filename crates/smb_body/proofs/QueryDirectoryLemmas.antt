@@ -3,8 +3,9 @@ use Rattle.std.proofs.Common.{◌≡◌, ℕ, ◌*◌, ◌%◌, ◌≤◌, List,
 use Rattle.std.proofs.lemmas.Bool.{eqb-true}
 use Rattle.smb_wire.specs.Fields.{number_in}
 use Rattle.smb_wire.specs.Pairs.{units_in, unit_bytes}
-use Rattle.smb_body.specs.Buffers.{body, slice, is_within, has_fixed_part}
-use Rattle.smb_body.specs.QueryDirectory.{QueryDirectoryAsked, query_directory_fields, SaysQueryDirectory, is_query_directory, query_directory_of, query_directory_laid, query_directory_spelling, FitsQueryDirectory}
+use Rattle.smb_body.specs.Buffers.{body, is_within, has_fixed_part}
+use Rattle.smb_body.specs.Readings.{slice, is_query_directory, query_directory_of}
+use Rattle.smb_body.specs.QueryDirectory.{QueryDirectoryAsked, query_directory_fields, SaysQueryDirectory, query_directory_laid, query_directory_spelling, FitsQueryDirectory}
 use Rattle.smb_body.proofs.Buffering.{length-slice, holds_text, length-units, text_behind}
 use Rattle.smb_body.proofs.Telling.{IsTold, fixed_part, fixed_length, fixed_size, both, stand_in_body}
 

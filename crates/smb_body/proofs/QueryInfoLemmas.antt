@@ -2,7 +2,8 @@
 use Rattle.std.proofs.Common.{◌≡◌, ℕ, ◌≤◌, List, [], ◌++◌, true, length, arith, rules, append-nil}
 use Rattle.smb_wire.specs.Fields.{number_in, joined}
 use Rattle.smb_body.specs.Buffers.{body}
-use Rattle.smb_body.specs.QueryInfo.{query_info_fields, SaysQueryInfo, is_query_info, query_info_of, FitsQueryInfo}
+use Rattle.smb_body.specs.QueryInfo.{query_info_fields, FitsQueryInfo}
+use Rattle.smb_body.specs.Readings.{SaysQueryInfo, is_query_info, query_info_of}
 use Rattle.smb_body.specs.declared.query_info.QueryInfoRequest.{QueryInfoRequest}
 use Rattle.smb_body.proofs.Telling.{IsTold, fixed_part, fixed_length, fixed_size, stand_in_body}
 

@@ -3,8 +3,7 @@ use Rattle.std.proofs.Common.{◌≡◌, ℕ, ◌/◌, List, [], ◌∷◌, ◌+
 use Rattle.std.specs.Int.{w32, to_le_bytes}
 use Rattle.smb_wire.specs.Number.{spelling}
 use Rattle.smb_wire.specs.Fields.{joined}
-use Rattle.smb_body.specs.Read.{read_response_fields}
-use Rattle.smb_body.specs.Replies.{reply_spelling, answers_read}
+use Rattle.smb_body.specs.Replies.{reply_spelling, answers_read, reply_fields}
 
 pub spelling_4 : (n : ℕ) → to_le_bytes w32 n ≡ spelling 4 n
 unfolding spelling
@@ -17,4 +16,4 @@ pub read_head : (old new buffer : List ℕ) (long : ℕ) → length buffer ≡ l
     new ≡ old ++ (17 ∷ 0 ∷ 80 ∷ 0 ∷ (spelling 4 long ++ (0 ∷ 0 ∷ 0 ∷ 0 ∷ 0 ∷ 0 ∷ 0 ∷ 0 ∷ []))) →
     new ++ buffer ≡ old ++ reply_spelling (answers_read buffer)
 unfolding spelling
-read_head old new buffer long e n = rw (n, sym e) (append_assoc old (joined (read_response_fields buffer)) buffer)
+read_head old new buffer long e n = rw (n, sym e) (append_assoc old (joined (reply_fields (answers_read buffer))) buffer)

@@ -2,7 +2,8 @@
 use Rattle.std.proofs.Common.{◌≡◌, ℕ, ◌≤◌, List, [], ◌++◌, true, length, arith, rules, append-nil}
 use Rattle.smb_wire.specs.Fields.{number_in, joined}
 use Rattle.smb_body.specs.Buffers.{body}
-use Rattle.smb_body.specs.Read.{read_fields, SaysRead, is_read, read_of, FitsRead}
+use Rattle.smb_body.specs.Read.{read_fields, FitsRead}
+use Rattle.smb_body.specs.Readings.{SaysRead, is_read, read_of}
 use Rattle.smb_body.specs.declared.read.ReadRequest.{ReadRequest}
 use Rattle.smb_body.proofs.Telling.{IsTold, fixed_part, fixed_length, fixed_size, stand_in_body}
 

@@ -2,7 +2,8 @@
 use Rattle.std.proofs.Common.{◌≡◌, ℕ, ◌≤◌, List, [], ◌++◌, true, length, arith, rules, append-nil}
 use Rattle.smb_wire.specs.Fields.{number_in, joined}
 use Rattle.smb_body.specs.Buffers.{body}
-use Rattle.smb_body.specs.Reserved.{reserved_fields, SaysReserved, is_reserved, reserved_of, FitsReserved}
+use Rattle.smb_body.specs.Reserved.{reserved_fields, FitsReserved}
+use Rattle.smb_body.specs.Readings.{SaysReserved, is_reserved, reserved_of}
 use Rattle.smb_body.specs.declared.reserved.ReservedRequest.{ReservedRequest}
 use Rattle.smb_body.proofs.Telling.{IsTold, fixed_part, fixed_length, fixed_size, stand_in_body}
 

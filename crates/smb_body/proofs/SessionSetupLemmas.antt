@@ -1,8 +1,9 @@
 -- SESSION_SETUP's request: what tells it, and that what was written is read.
 use Rattle.std.proofs.Common.{◌≡◌, ℕ, ◌≤◌, List, ◌++◌, true, length, refl, arith, rules}
 use Rattle.smb_wire.specs.Fields.{number_in}
-use Rattle.smb_body.specs.Buffers.{body, slice, is_within, has_fixed_part}
-use Rattle.smb_body.specs.SessionSetup.{SessionSetupAsked, session_setup_fields, SaysSessionSetup, is_session_setup, session_setup_of, session_setup_laid, session_setup_spelling, FitsSessionSetup}
+use Rattle.smb_body.specs.Buffers.{body, is_within, has_fixed_part}
+use Rattle.smb_body.specs.Readings.{slice, is_session_setup, session_setup_of}
+use Rattle.smb_body.specs.SessionSetup.{SessionSetupAsked, session_setup_fields, SaysSessionSetup, session_setup_laid, session_setup_spelling, FitsSessionSetup}
 use Rattle.smb_body.proofs.Buffering.{length-slice, holds_slice, holds_behind}
 use Rattle.smb_body.proofs.Telling.{IsTold, fixed_part, fixed_length, fixed_size, both, stand_in_body}
 

@@ -10,7 +10,8 @@ use Rattle.std.specs.List.{onto_first, position, position_or_len}
 use Rattle.std.specs.Cmp.Lexicographic.{pointwise, bytes_decides}
 use Rattle.smb_wire.specs.Fields.{number_in}
 use Rattle.smb_body.proofs.Telling.{both}
-use Rattle.smb_body.specs.Smb1.{IsText, AreTexts, SaysSmb1, listed, texts_of, texts_in, dialect_list, list_bytes, smb1_head, is_smb1, smb1_of}
+use Rattle.smb_body.specs.Smb1.{IsText, AreTexts, SaysSmb1, listed, texts_of, dialect_list, smb1_of}
+use Rattle.smb_body.specs.Readings.{texts_in, list_bytes, smb1_head, is_smb1}
 use Rattle.smb_body.specs.declared.smb1.Smb1Dialects.{Smb1Dialects}
 
 -- a number is found where it stands

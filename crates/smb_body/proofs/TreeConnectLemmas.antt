@@ -3,8 +3,9 @@ use Rattle.std.proofs.Common.{◌≡◌, ℕ, ◌*◌, ◌%◌, ◌≤◌, List,
 use Rattle.std.proofs.lemmas.Bool.{eqb-true}
 use Rattle.smb_wire.specs.Fields.{number_in}
 use Rattle.smb_wire.specs.Pairs.{units_in, unit_bytes}
-use Rattle.smb_body.specs.Buffers.{body, slice, is_within, has_fixed_part}
-use Rattle.smb_body.specs.TreeConnect.{TreeConnectAsked, tree_connect_fields, SaysTreeConnect, is_tree_connect, tree_connect_of, tree_connect_laid, tree_connect_spelling, FitsTreeConnect}
+use Rattle.smb_body.specs.Buffers.{body, is_within, has_fixed_part}
+use Rattle.smb_body.specs.Readings.{slice, is_tree_connect, tree_connect_of}
+use Rattle.smb_body.specs.TreeConnect.{TreeConnectAsked, tree_connect_fields, SaysTreeConnect, tree_connect_laid, tree_connect_spelling, FitsTreeConnect}
 use Rattle.smb_body.proofs.Buffering.{length-slice, holds_text, length-units, text_behind}
 use Rattle.smb_body.proofs.Telling.{IsTold, fixed_part, fixed_length, fixed_size, both, stand_in_body}
 

@@ -1,8 +1,9 @@
 -- WRITE's request: what tells it, and that what was written is read.
 use Rattle.std.proofs.Common.{◌≡◌, ℕ, ◌≤◌, List, ◌++◌, true, length, refl, arith, rules}
 use Rattle.smb_wire.specs.Fields.{number_in}
-use Rattle.smb_body.specs.Buffers.{body, slice, is_within, has_fixed_part}
-use Rattle.smb_body.specs.Write.{WriteAsked, write_fields, SaysWrite, is_write, write_of, write_laid, write_spelling, FitsWrite}
+use Rattle.smb_body.specs.Buffers.{body, is_within, has_fixed_part}
+use Rattle.smb_body.specs.Readings.{slice, is_write, write_of}
+use Rattle.smb_body.specs.Write.{WriteAsked, write_fields, SaysWrite, write_laid, write_spelling, FitsWrite}
 use Rattle.smb_body.proofs.Buffering.{length-slice, holds_slice, holds_behind}
 use Rattle.smb_body.proofs.Telling.{IsTold, fixed_part, fixed_length, fixed_size, both, stand_in_body}
 

@@ -8,10 +8,6 @@ use Rattle.smb_wire.specs.declared.file_id.FileId.{FileId}
 abbrev pub body : List ℕ → List ℕ
 body request = drop 64 request
 
--- where a fixed part of so many bytes ends, counted from the header's first byte, as offsets of buffers are
-abbrev pub behind : ℕ → ℕ
-behind size = 64 + size
-
 -- the body has its fixed part, with the StructureSize of its command
 abbrev pub has_fixed_part : ℕ → ℕ → List ℕ → Bool
 has_fixed_part size structure_size request =
@@ -21,20 +17,17 @@ has_fixed_part size structure_size request =
 abbrev pub file_id_at : ℕ → List ℕ → FileId
 file_id_at place bytes = record { persistent = number_in 8 place bytes; volatile = number_in 8 (place + 8) bytes }
 
--- the bytes that an offset and a length name; offsets of buffers count from the header's first byte
-abbrev pub slice : ℕ → ℕ → List ℕ → List ℕ
-slice offset size request = take size (drop offset request)
-
--- a checked buffer, if it has bytes, begins at `start` or later and ends within the request
+-- a checked buffer, if it has bytes, begins at `start` or later and ends within the request. Offsets count from the
+-- header's first byte, and a fixed part of n bytes ends at 64 + n
 abbrev pub is_within : ℕ → ℕ → ℕ → List ℕ → Bool
 is_within start offset size request = nat_eq size 0 || (nat_le start offset && nat_le (offset + size) (length request))
 
 -- these bytes are a checked buffer of the request
 pub record Holds (start offset : ℕ) (request bytes : List ℕ) : Type 0 where
   pub within : is_within start offset (length bytes) request ≡ true
-  pub bytes_at : slice offset (length bytes) request ≡ bytes
+  pub bytes_at : take (length bytes) (drop offset request) ≡ bytes
 
 -- these units are the text of a checked buffer of the request, two bytes a unit
 pub record HoldsText (start offset : ℕ) (request units : List ℕ) : Type 0 where
   pub within : is_within start offset (2 * length units) request ≡ true
-  pub units_at : units_in (slice offset (2 * length units) request) ≡ units
+  pub units_at : units_in (take (2 * length units) (drop offset request)) ≡ units

@@ -1,6 +1,6 @@
 -- CLOSE ([MS-SMB2] 2.2.15, 2.2.16).
-use Rattle.std.specs.Prelude.{ℕ, List, [], ◌∷◌, Bool}
-use Rattle.smb_wire.specs.Fields.{Field, num, number_in, AllStand, AllFit}
+use Rattle.std.specs.Prelude.{ℕ, List, [], ◌∷◌, Option, Some, None, if◌then◌else◌}
+use Rattle.smb_wire.specs.Fields.{Field, num, number_in, AllFit}
 use Rattle.smb_body.specs.Buffers.{body, has_fixed_part, file_id_at}
 use Rattle.smb_body.specs.declared.close.CloseRequest.{CloseRequest}
 use Rattle.smb_body.specs.declared.close.CloseResponse.{CloseResponse}
@@ -15,21 +15,16 @@ close_fields r =
     ∷ num 16 8 r.file_id.volatile  -- FileId.Volatile
     ∷ []
 
--- a request says this: its fields stand at their places
-pub record SaysClose (request : List ℕ) (r : CloseRequest) : Type 0 where
-  pub fields : AllStand (body request) (close_fields r)
-
--- whether a request says anything
-abbrev pub is_close : List ℕ → Bool
-is_close = has_fixed_part 24 24
-
--- what a request says, if it says anything
-abbrev pub close_of : List ℕ → CloseRequest
-close_of request = record {
-  flags = record { 0 = number_in 2 2 (body request) };
-  reserved = number_in 4 4 (body request);
-  file_id = file_id_at 8 (body request);
-}
+-- what a request says; None where it says nothing
+abbrev pub close_in : List ℕ → Option CloseRequest
+close_in request =
+    if has_fixed_part 24 24 request
+    then Some (record {
+      flags = record { 0 = number_in 2 2 (body request) };
+      reserved = number_in 4 4 (body request);
+      file_id = file_id_at 8 (body request);
+    })
+    else None
 
 -- each number fits its field
 pub record FitsClose (r : CloseRequest) : Type 0 where

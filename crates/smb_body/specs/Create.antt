@@ -1,11 +1,11 @@
 -- CREATE ([MS-SMB2] 2.2.13, 2.2.14).
-use Rattle.std.specs.Prelude.{ℕ, ◌+◌, ◌-◌, ◌*◌, ◌%◌, List, [], ◌∷◌, ◌++◌, length, replicate, Bool, nat_eq, nat_lt, ◌&&◌, ◌||◌}
+use Rattle.std.specs.Prelude.{ℕ, ◌+◌, ◌-◌, ◌*◌, ◌%◌, List, [], ◌∷◌, ◌++◌, length, drop, replicate, nat_eq, ◌&&◌, Option, Some, None, if◌then◌else◌, take}
 use Rattle.std.specs.Int.{next_multiple_of}
 use Rattle.smb_wire.specs.Fields.{Field, num, number_in, AllStand, AllFit, joined}
 use Rattle.smb_wire.specs.Pairs.{units_in, unit_bytes, AreUnits}
 use Rattle.smb_wire.specs.Units.{units_of}
 use Rattle.smb_wire.specs.CreateActions.{action_code}
-use Rattle.smb_body.specs.Buffers.{body, behind, has_fixed_part, slice, is_within, Holds, HoldsText}
+use Rattle.smb_body.specs.Buffers.{body, has_fixed_part, is_within, Holds, HoldsText}
 use Rattle.smb_wire.specs.declared.attributes.FileAttributes.{FileAttributes}
 use Rattle.smb_wire.specs.declared.access.Access.{Access}
 use Rattle.smb_wire.specs.declared.access.ShareAccess.{ShareAccess}
@@ -77,35 +77,33 @@ create_fields a =
 -- a request says this: its fields stand at their places, and each buffer is what its offset and length name
 pub record SaysCreate (request : List ℕ) (a : CreateAsked) : Type 0 where
   pub fields : AllStand (body request) (create_fields a)
-  pub name : HoldsText (behind 56) a.name_offset request a.name
-  pub create_contexts : Holds (behind 56) a.create_contexts_offset request a.create_contexts
+  pub name : HoldsText (64 + 56) a.name_offset request a.name
+  pub create_contexts : Holds (64 + 56) a.create_contexts_offset request a.create_contexts
 
--- whether a request says anything
-abbrev pub is_create : List ℕ → Bool
-is_create request =
-    has_fixed_part 56 57 request
+-- what a request says; None where it says nothing
+abbrev pub create_in : List ℕ → Option CreateAsked
+create_in request =
+    if has_fixed_part 56 57 request
     && nat_eq (number_in 2 46 (body request) % 2) 0
-    && is_within (behind 56) (number_in 2 44 (body request)) (number_in 2 46 (body request)) request
-    && is_within (behind 56) (number_in 4 48 (body request)) (number_in 4 52 (body request)) request
-
--- what a request says, if it says anything
-abbrev pub create_of : List ℕ → CreateAsked
-create_of request = record {
-  security_flags = record { 0 = number_in 1 2 (body request) };
-  requested_oplock_level = record { 0 = number_in 1 3 (body request) };
-  impersonation_level = record { 0 = number_in 4 4 (body request) };
-  smb_create_flags = record { 0 = number_in 8 8 (body request) };
-  reserved = number_in 8 16 (body request);
-  desired_access = record { 0 = number_in 4 24 (body request) };
-  file_attributes = record { 0 = number_in 4 28 (body request) };
-  share_access = record { 0 = number_in 4 32 (body request) };
-  create_disposition = record { 0 = number_in 4 36 (body request) };
-  create_options = record { 0 = number_in 4 40 (body request) };
-  name_offset = number_in 2 44 (body request);
-  name = units_in (slice (number_in 2 44 (body request)) (number_in 2 46 (body request)) request);
-  create_contexts_offset = number_in 4 48 (body request);
-  create_contexts = slice (number_in 4 48 (body request)) (number_in 4 52 (body request)) request;
-}
+    && is_within (64 + 56) (number_in 2 44 (body request)) (number_in 2 46 (body request)) request
+    && is_within (64 + 56) (number_in 4 48 (body request)) (number_in 4 52 (body request)) request
+    then Some (record {
+      security_flags = record { 0 = number_in 1 2 (body request) };
+      requested_oplock_level = record { 0 = number_in 1 3 (body request) };
+      impersonation_level = record { 0 = number_in 4 4 (body request) };
+      smb_create_flags = record { 0 = number_in 8 8 (body request) };
+      reserved = number_in 8 16 (body request);
+      desired_access = record { 0 = number_in 4 24 (body request) };
+      file_attributes = record { 0 = number_in 4 28 (body request) };
+      share_access = record { 0 = number_in 4 32 (body request) };
+      create_disposition = record { 0 = number_in 4 36 (body request) };
+      create_options = record { 0 = number_in 4 40 (body request) };
+      name_offset = number_in 2 44 (body request);
+      name = units_in (take (number_in 2 46 (body request)) (drop (number_in 2 44 (body request)) request));
+      create_contexts_offset = number_in 4 48 (body request);
+      create_contexts = take (number_in 4 52 (body request)) (drop (number_in 4 48 (body request)) request);
+    })
+    else None
 
 -- where contexts stand behind the name's end, if there are any: at the next multiple of 8 from the header
 abbrev pub contexts_place : ℕ → List ℕ → ℕ
@@ -119,11 +117,12 @@ contexts_gap end (byte ∷ bytes) = replicate (next_multiple_of end 8 - end) 0
 
 -- where the name ends that a writer puts
 abbrev pub name_end : CreateAsked → ℕ
-name_end a = behind 56 + 2 * length a.name
+name_end a = 64 + 56 + 2 * length a.name
 
 -- the same but for layout: the offsets as a writer sets them
 abbrev pub create_laid : CreateAsked → CreateAsked
-create_laid a = record a { name_offset = behind 56; create_contexts_offset = contexts_place (name_end a) a.create_contexts }
+create_laid a =
+    record a { name_offset = 64 + 56; create_contexts_offset = contexts_place (name_end a) a.create_contexts }
 
 -- the one spelling of a request
 unfoldable pub create_spelling : CreateAsked → List ℕ
@@ -135,10 +134,6 @@ create_spelling a =
 pub record FitsCreate (a : CreateAsked) : Type 0 where
   pub fields : AllFit (create_fields (create_laid a))
   pub units : AreUnits a.name
-
--- a length passes its field
-abbrev pub is_create_too_long : CreateAsked → Bool
-is_create_too_long a = nat_lt 32767 (length a.name) || nat_lt 4294967295 (length a.create_contexts)
 
 -- the fixed part of a response ([MS-SMB2] 2.2.14)
 abbrev pub create_response_fields : CreateResponse → List Field

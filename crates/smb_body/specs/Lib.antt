@@ -16,8 +16,7 @@ pub mod Lock
 pub mod QueryDirectory
 pub mod QueryInfo
 pub mod SetInfo
-pub mod Query
-pub mod Error
 pub mod Requests
 pub mod Replies
 pub mod Smb1
+pub mod Readings

@@ -1,9 +1,10 @@
 -- LOCK's request ([MS-SMB2] 2.2.26).
-use Rattle.std.specs.Prelude.{ℕ, ◌+◌, ◌*◌, ◌<◌, List, [], ◌∷◌, ◌++◌, length, take, drop, Bool, nat_le, nat_lt, ◌&&◌}
+use Rattle.std.specs.Prelude.{ℕ, ◌+◌, ◌*◌, ◌<◌, List, [], ◌∷◌, ◌++◌, length, take, drop, map, nat_le, nat_lt, ◌&&◌, Option, Some, None, if◌then◌else◌}
+use Rattle.std.specs.Simd.{first_chunks}
 use Rattle.smb_wire.specs.Fields.{Field, num, number_in, AllStand, AllFit, joined}
 use Rattle.smb_body.specs.Buffers.{body, has_fixed_part, file_id_at}
 use Rattle.smb_body.specs.Locks.{SaysElements, lock_bytes, AllLocksFit}
-use Rattle.smb_body.specs.LockLists.{locks_in, locks_of}
+use Rattle.smb_body.specs.LockLists.{lock_at, locks_of}
 use Rattle.smb_wire.specs.declared.file_id.FileId.{FileId}
 use Rattle.smb_body.specs.declared.lock_element.LockElement.{LockElement}
 use Rattle.smb_body.specs.declared.lock.LockSequence.{LockSequence}
@@ -35,20 +36,18 @@ pub record SaysLock (request : List ℕ) (a : LockAsked) : Type 0 where
   pub some : 0 < length a.locks
   pub locks : SaysElements (take (24 * length a.locks) (drop 24 (body request))) a.locks
 
--- whether a request says anything
-abbrev pub is_lock : List ℕ → Bool
-is_lock request =
-    has_fixed_part 24 48 request
+-- what a request says; None where it says nothing
+abbrev pub lock_in : List ℕ → Option LockAsked
+lock_in request =
+    if has_fixed_part 24 48 request
     && nat_lt 0 (number_in 2 2 (body request))
     && nat_le (24 + 24 * number_in 2 2 (body request)) (length (body request))
-
--- what a request says, if it says anything
-abbrev pub lock_of : List ℕ → LockAsked
-lock_of request = record {
-  lock_sequence = record { 0 = number_in 4 4 (body request) };
-  file_id = file_id_at 8 (body request);
-  locks = locks_in (take (24 * number_in 2 2 (body request)) (drop 24 (body request)));
-}
+    then Some (record {
+      lock_sequence = record { 0 = number_in 4 4 (body request) };
+      file_id = file_id_at 8 (body request);
+      locks = map lock_at (first_chunks 24 (number_in 2 2 (body request)) (drop 24 (body request)));
+    })
+    else None
 
 -- the one spelling of a request
 unfoldable pub lock_spelling : LockAsked → List ℕ
@@ -58,7 +57,3 @@ lock_spelling a = joined (lock_request_fields a) ++ lock_bytes a.locks
 pub record FitsLock (a : LockAsked) : Type 0 where
   pub fields : AllFit (lock_request_fields a)
   pub locks : AllLocksFit a.locks
-
--- a length passes its field
-abbrev pub is_lock_too_long : LockAsked → Bool
-is_lock_too_long a = nat_lt 65535 (length a.locks)

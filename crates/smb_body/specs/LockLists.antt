@@ -1,6 +1,5 @@
 -- Elements of a LOCK as functions, and a list of them ([MS-SMB2] 2.2.26.1).
-use Rattle.std.specs.Prelude.{◌≡◌, ◌↔◌, ℕ, ◌/◌, List, length, map}
-use Rattle.std.specs.Simd.{first_chunks}
+use Rattle.std.specs.Prelude.{◌≡◌, ◌↔◌, ℕ, List, length, map}
 use Rattle.smb_wire.specs.Fields.{number_in, AllStand}
 use Rattle.smb_body.specs.Locks.{lock_fields}
 use Rattle.smb_body.specs.declared.lock_element.LockElement.{LockElement}
@@ -19,10 +18,6 @@ lock_at bytes = record {
 abbrev pub EachElementIsRead : Type 0
 EachElementIsRead =
     (bytes : List ℕ) (e : LockElement) → length bytes ≡ 24 → AllStand bytes (lock_fields e) ↔ (lock_at bytes ≡ e)
-
--- the elements that bytes say, 24 bytes each; bytes left over say none
-abbrev pub locks_in : List ℕ → List LockElement
-locks_in bytes = map lock_at (first_chunks 24 (length bytes / 24) bytes)
 
 -- the elements of a list
 abbrev pub locks_of : LockList → List LockElement

@@ -1,5 +1,5 @@
 -- NEGOTIATE ([MS-SMB2] 2.2.3, 2.2.4).
-use Rattle.std.specs.Prelude.{◌≡◌, ℕ, ◌+◌, ◌*◌, ◌<◌, List, [], ◌∷◌, ◌++◌, length, take, drop, Bool, nat_le, nat_lt, ◌&&◌}
+use Rattle.std.specs.Prelude.{◌≡◌, ℕ, ◌+◌, ◌*◌, ◌<◌, List, [], ◌∷◌, ◌++◌, length, take, drop, nat_le, nat_lt, ◌&&◌, Option, Some, None, if◌then◌else◌}
 use Rattle.smb_wire.specs.Fields.{Field, num, raw, number_in, AllStand, AllFit, joined}
 use Rattle.smb_wire.specs.Pairs.{units_in, unit_bytes, AreUnits}
 use Rattle.smb_body.specs.Buffers.{body, has_fixed_part}
@@ -49,23 +49,21 @@ pub record SaysNegotiate (request : List ℕ) (a : NegotiateAsked) : Type 0 wher
   pub some : 0 < length a.dialects
   pub dialects : units_in (take (2 * length a.dialects) (drop 36 (body request))) ≡ a.dialects
 
--- whether a request says anything
-abbrev pub is_negotiate : List ℕ → Bool
-is_negotiate request =
-    has_fixed_part 36 36 request
+-- what a request says; None where it says nothing
+abbrev pub negotiate_in : List ℕ → Option NegotiateAsked
+negotiate_in request =
+    if has_fixed_part 36 36 request
     && nat_lt 0 (number_in 2 2 (body request))
     && nat_le (36 + 2 * number_in 2 2 (body request)) (length (body request))
-
--- what a request says, if it says anything
-abbrev pub negotiate_of : List ℕ → NegotiateAsked
-negotiate_of request = record {
-  security_mode = record { 0 = number_in 2 4 (body request) };
-  reserved = number_in 2 6 (body request);
-  capabilities = record { 0 = number_in 4 8 (body request) };
-  client_guid = record { 0 = take 16 (drop 12 (body request)) };
-  client_start_time = number_in 8 28 (body request);
-  dialects = units_in (take (2 * number_in 2 2 (body request)) (drop 36 (body request)));
-}
+    then Some (record {
+      security_mode = record { 0 = number_in 2 4 (body request) };
+      reserved = number_in 2 6 (body request);
+      capabilities = record { 0 = number_in 4 8 (body request) };
+      client_guid = record { 0 = take 16 (drop 12 (body request)) };
+      client_start_time = number_in 8 28 (body request);
+      dialects = units_in (take (2 * number_in 2 2 (body request)) (drop 36 (body request)));
+    })
+    else None
 
 -- the one spelling of a request
 unfoldable pub negotiate_spelling : NegotiateAsked → List ℕ
@@ -75,10 +73,6 @@ negotiate_spelling a = joined (negotiate_fields a) ++ unit_bytes a.dialects
 pub record FitsNegotiate (a : NegotiateAsked) : Type 0 where
   pub fields : AllFit (negotiate_fields a)
   pub dialects : AreUnits a.dialects
-
--- a length passes its field
-abbrev pub is_negotiate_too_long : NegotiateAsked → Bool
-is_negotiate_too_long a = nat_lt 65535 (length a.dialects)
 
 -- what a response answers
 pub record NegotiateAnswered : Type 0 where
@@ -126,7 +120,3 @@ negotiate_response_fields a =
     ∷ num 58 2 (length a.security_buffer)  -- SecurityBufferLength
     ∷ num 60 4 0  -- Reserved2
     ∷ []
-
--- the length of a response's buffer passes its field
-abbrev pub is_negotiate_response_too_long : NegotiateAnswered → Bool
-is_negotiate_response_too_long a = nat_lt 65535 (length a.security_buffer)

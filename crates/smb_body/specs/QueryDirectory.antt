@@ -1,9 +1,9 @@
 -- QUERY_DIRECTORY's request ([MS-SMB2] 2.2.33).
-use Rattle.std.specs.Prelude.{ℕ, ◌*◌, ◌%◌, List, [], ◌∷◌, ◌++◌, length, Bool, nat_eq, nat_lt, ◌&&◌}
+use Rattle.std.specs.Prelude.{ℕ, ◌*◌, ◌%◌, List, [], ◌∷◌, ◌++◌, length, drop, take, nat_eq, ◌&&◌, Option, Some, None, if◌then◌else◌, ◌+◌}
 use Rattle.smb_wire.specs.Fields.{Field, num, number_in, AllStand, AllFit, joined}
 use Rattle.smb_wire.specs.Pairs.{units_in, unit_bytes, AreUnits}
 use Rattle.smb_wire.specs.Units.{units_of}
-use Rattle.smb_body.specs.Buffers.{body, behind, has_fixed_part, file_id_at, slice, is_within, HoldsText}
+use Rattle.smb_body.specs.Buffers.{body, has_fixed_part, file_id_at, is_within, HoldsText}
 use Rattle.smb_body.specs.declared.types.InformationClass.{InformationClass}
 use Rattle.smb_wire.specs.declared.query_directory_flags.QueryDirectoryFlags.{QueryDirectoryFlags}
 use Rattle.smb_wire.specs.declared.file_id.FileId.{FileId}
@@ -48,30 +48,28 @@ query_directory_fields a =
 -- a request says this: its fields stand at their places, and its buffer is what an offset and a length name
 pub record SaysQueryDirectory (request : List ℕ) (a : QueryDirectoryAsked) : Type 0 where
   pub fields : AllStand (body request) (query_directory_fields a)
-  pub file_name : HoldsText (behind 32) a.file_name_offset request a.file_name
+  pub file_name : HoldsText (64 + 32) a.file_name_offset request a.file_name
 
--- whether a request says anything
-abbrev pub is_query_directory : List ℕ → Bool
-is_query_directory request =
-    has_fixed_part 32 33 request
+-- what a request says; None where it says nothing
+abbrev pub query_directory_in : List ℕ → Option QueryDirectoryAsked
+query_directory_in request =
+    if has_fixed_part 32 33 request
     && nat_eq (number_in 2 26 (body request) % 2) 0
-    && is_within (behind 32) (number_in 2 24 (body request)) (number_in 2 26 (body request)) request
-
--- what a request says, if it says anything
-abbrev pub query_directory_of : List ℕ → QueryDirectoryAsked
-query_directory_of request = record {
-  file_information_class = record { 0 = number_in 1 2 (body request) };
-  flags = record { 0 = number_in 1 3 (body request) };
-  file_index = number_in 4 4 (body request);
-  file_id = file_id_at 8 (body request);
-  file_name_offset = number_in 2 24 (body request);
-  file_name = units_in (slice (number_in 2 24 (body request)) (number_in 2 26 (body request)) request);
-  output_buffer_length = number_in 4 28 (body request);
-}
+    && is_within (64 + 32) (number_in 2 24 (body request)) (number_in 2 26 (body request)) request
+    then Some (record {
+      file_information_class = record { 0 = number_in 1 2 (body request) };
+      flags = record { 0 = number_in 1 3 (body request) };
+      file_index = number_in 4 4 (body request);
+      file_id = file_id_at 8 (body request);
+      file_name_offset = number_in 2 24 (body request);
+      file_name = units_in (take (number_in 2 26 (body request)) (drop (number_in 2 24 (body request)) request));
+      output_buffer_length = number_in 4 28 (body request);
+    })
+    else None
 
 -- the same but for layout: the offset as a writer sets it, straight behind the fixed part
 abbrev pub query_directory_laid : QueryDirectoryAsked → QueryDirectoryAsked
-query_directory_laid a = record a { file_name_offset = behind 32 }
+query_directory_laid a = record a { file_name_offset = 64 + 32 }
 
 -- the one spelling of a request
 unfoldable pub query_directory_spelling : QueryDirectoryAsked → List ℕ
@@ -81,7 +79,3 @@ query_directory_spelling a = joined (query_directory_fields (query_directory_lai
 pub record FitsQueryDirectory (a : QueryDirectoryAsked) : Type 0 where
   pub fields : AllFit (query_directory_fields (query_directory_laid a))
   pub units : AreUnits a.file_name
-
--- a length passes its field
-abbrev pub is_query_directory_too_long : QueryDirectoryAsked → Bool
-is_query_directory_too_long a = nat_lt 32767 (length a.file_name)

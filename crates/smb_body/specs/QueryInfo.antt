@@ -1,6 +1,6 @@
 -- QUERY_INFO's request ([MS-SMB2] 2.2.37).
-use Rattle.std.specs.Prelude.{ℕ, List, [], ◌∷◌, Bool}
-use Rattle.smb_wire.specs.Fields.{Field, num, number_in, AllStand, AllFit}
+use Rattle.std.specs.Prelude.{ℕ, List, [], ◌∷◌, Option, Some, None, if◌then◌else◌}
+use Rattle.smb_wire.specs.Fields.{Field, num, number_in, AllFit}
 use Rattle.smb_body.specs.Buffers.{body, has_fixed_part, file_id_at}
 use Rattle.smb_body.specs.declared.query_info.QueryInfoRequest.{QueryInfoRequest}
 
@@ -20,27 +20,22 @@ query_info_fields r =
     ∷ num 32 8 r.file_id.volatile  -- FileId.Volatile
     ∷ []
 
--- a request says this: its fields stand at their places
-pub record SaysQueryInfo (request : List ℕ) (r : QueryInfoRequest) : Type 0 where
-  pub fields : AllStand (body request) (query_info_fields r)
-
--- whether a request says anything
-abbrev pub is_query_info : List ℕ → Bool
-is_query_info = has_fixed_part 40 41
-
--- what a request says, if it says anything
-abbrev pub query_info_of : List ℕ → QueryInfoRequest
-query_info_of request = record {
-  info_type = record { 0 = number_in 1 2 (body request) };
-  file_info_class = record { 0 = number_in 1 3 (body request) };
-  output_buffer_length = number_in 4 4 (body request);
-  input_buffer_offset = number_in 2 8 (body request);
-  reserved = number_in 2 10 (body request);
-  input_buffer_length = number_in 4 12 (body request);
-  additional_information = record { 0 = number_in 4 16 (body request) };
-  flags = record { 0 = number_in 4 20 (body request) };
-  file_id = file_id_at 24 (body request);
-}
+-- what a request says; None where it says nothing
+abbrev pub query_info_in : List ℕ → Option QueryInfoRequest
+query_info_in request =
+    if has_fixed_part 40 41 request
+    then Some (record {
+      info_type = record { 0 = number_in 1 2 (body request) };
+      file_info_class = record { 0 = number_in 1 3 (body request) };
+      output_buffer_length = number_in 4 4 (body request);
+      input_buffer_offset = number_in 2 8 (body request);
+      reserved = number_in 2 10 (body request);
+      input_buffer_length = number_in 4 12 (body request);
+      additional_information = record { 0 = number_in 4 16 (body request) };
+      flags = record { 0 = number_in 4 20 (body request) };
+      file_id = file_id_at 24 (body request);
+    })
+    else None
 
 -- each number fits its field
 pub record FitsQueryInfo (r : QueryInfoRequest) : Type 0 where

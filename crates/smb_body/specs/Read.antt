@@ -1,6 +1,6 @@
 -- READ ([MS-SMB2] 2.2.19, 2.2.20).
-use Rattle.std.specs.Prelude.{ℕ, List, [], ◌∷◌, length, Bool, nat_lt}
-use Rattle.smb_wire.specs.Fields.{Field, num, number_in, AllStand, AllFit}
+use Rattle.std.specs.Prelude.{ℕ, List, [], ◌∷◌, Option, Some, None, if◌then◌else◌}
+use Rattle.smb_wire.specs.Fields.{Field, num, number_in, AllFit}
 use Rattle.smb_body.specs.Buffers.{body, has_fixed_part, file_id_at}
 use Rattle.smb_body.specs.declared.read.ReadRequest.{ReadRequest}
 
@@ -21,44 +21,24 @@ read_fields r =
     ∷ num 46 2 r.read_channel_info_length  -- ReadChannelInfoLength
     ∷ []
 
--- a request says this: its fields stand at their places
-pub record SaysRead (request : List ℕ) (r : ReadRequest) : Type 0 where
-  pub fields : AllStand (body request) (read_fields r)
-
--- whether a request says anything
-abbrev pub is_read : List ℕ → Bool
-is_read = has_fixed_part 48 49
-
--- what a request says, if it says anything
-abbrev pub read_of : List ℕ → ReadRequest
-read_of request = record {
-  padding = number_in 1 2 (body request);
-  flags = record { 0 = number_in 1 3 (body request) };
-  length = number_in 4 4 (body request);
-  offset = number_in 8 8 (body request);
-  file_id = file_id_at 16 (body request);
-  minimum_count = number_in 4 32 (body request);
-  channel = record { 0 = number_in 4 36 (body request) };
-  remaining_bytes = number_in 4 40 (body request);
-  read_channel_info_offset = number_in 2 44 (body request);
-  read_channel_info_length = number_in 2 46 (body request);
-}
+-- what a request says; None where it says nothing
+abbrev pub read_in : List ℕ → Option ReadRequest
+read_in request =
+    if has_fixed_part 48 49 request
+    then Some (record {
+      padding = number_in 1 2 (body request);
+      flags = record { 0 = number_in 1 3 (body request) };
+      length = number_in 4 4 (body request);
+      offset = number_in 8 8 (body request);
+      file_id = file_id_at 16 (body request);
+      minimum_count = number_in 4 32 (body request);
+      channel = record { 0 = number_in 4 36 (body request) };
+      remaining_bytes = number_in 4 40 (body request);
+      read_channel_info_offset = number_in 2 44 (body request);
+      read_channel_info_length = number_in 2 46 (body request);
+    })
+    else None
 
 -- each number fits its field
 pub record FitsRead (r : ReadRequest) : Type 0 where
   pub fields : AllFit (read_fields r)
-
--- the fixed part of a response ([MS-SMB2] 2.2.20)
-abbrev pub read_response_fields : List ℕ → List Field
-read_response_fields buffer =
-    num 0 2 17  -- StructureSize
-    ∷ num 2 1 80  -- DataOffset
-    ∷ num 3 1 0  -- Reserved
-    ∷ num 4 4 (length buffer)  -- DataLength
-    ∷ num 8 4 0  -- DataRemaining
-    ∷ num 12 4 0  -- Reserved2
-    ∷ []
-
--- the length of a response's buffer passes its field
-abbrev pub is_read_response_too_long : List ℕ → Bool
-is_read_response_too_long buffer = nat_lt 4294967295 (length buffer)

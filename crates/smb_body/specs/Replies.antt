@@ -1,17 +1,10 @@
 -- Replies of all commands ([MS-SMB2] 2.2).
-use Rattle.std.specs.Prelude.{◌≡◌, ℕ, ◌+◌, ◌-◌, List, [], ◌++◌, length, drop, Bool, false, Option, None, Some}
-use Rattle.smb_wire.specs.Fields.{Field, number_in, joined, width_of}
-use Rattle.smb_body.specs.Error.{error_response_fields}
-use Rattle.smb_body.specs.Negotiate.{NegotiateAnswered, negotiate_answered, negotiate_response_fields, is_negotiate_response_too_long}
-use Rattle.smb_body.specs.SessionSetup.{SessionSetupAnswered, session_setup_answered, session_setup_response_fields, is_session_setup_response_too_long}
-use Rattle.smb_body.specs.Reserved.{reserved_response_fields}
-use Rattle.smb_body.specs.TreeConnect.{tree_connect_response_fields}
+use Rattle.std.specs.Prelude.{◌≡◌, ℕ, ◌+◌, ◌-◌, List, [], ◌∷◌, ◌++◌, length, drop, Bool, false, nat_lt, Option, None, Some}
+use Rattle.smb_wire.specs.Fields.{Field, num, number_in, joined, width_of}
+use Rattle.smb_body.specs.Negotiate.{NegotiateAnswered, negotiate_answered, negotiate_response_fields}
+use Rattle.smb_body.specs.SessionSetup.{SessionSetupAnswered, session_setup_answered}
 use Rattle.smb_body.specs.Create.{create_response_fields}
 use Rattle.smb_body.specs.Close.{close_response_fields}
-use Rattle.smb_body.specs.Read.{read_response_fields, is_read_response_too_long}
-use Rattle.smb_body.specs.Write.{write_response_fields}
-use Rattle.smb_body.specs.Query.{query_response_fields, is_query_response_too_long}
-use Rattle.smb_body.specs.SetInfo.{set_info_response_fields}
 use Rattle.smb_body.specs.declared.tree_connect.TreeConnectResponse.{TreeConnectResponse}
 use Rattle.smb_body.specs.declared.create.CreateResponse.{CreateResponse}
 use Rattle.smb_body.specs.declared.close.CloseResponse.{CloseResponse}
@@ -57,24 +50,66 @@ reply_value (QueryDirectory r) = answers_query_directory r.output_buffer.now
 reply_value (QueryInfo r) = answers_query_info r.output_buffer.now
 reply_value SetInfo = answers_set_info
 
--- the fixed part of a body
+-- the fixed part of a body ([MS-SMB2] 2.2.2, 2.2.6, 2.2.10, 2.2.20, 2.2.22, 2.2.34, 2.2.38, 2.2.40), the last one that of
+-- LOGOFF, TREE_DISCONNECT, FLUSH, LOCK and ECHO (2.2.8, 2.2.12, 2.2.18, 2.2.27, 2.2.29)
 abbrev pub reply_fields : ReplyValue → List Field
-reply_fields answers_error = error_response_fields
+reply_fields answers_error =
+    num 0 2 9  -- StructureSize
+    ∷ num 2 1 0  -- ErrorContextCount
+    ∷ num 3 1 0  -- Reserved
+    ∷ num 4 4 0  -- ByteCount
+    ∷ num 8 1 0  -- ErrorData
+    ∷ []
 reply_fields (answers_negotiate a) = negotiate_response_fields a
-reply_fields (answers_session_setup a) = session_setup_response_fields a
-reply_fields answers_logoff = reserved_response_fields
-reply_fields (answers_tree_connect a) = tree_connect_response_fields a
-reply_fields answers_tree_disconnect = reserved_response_fields
-reply_fields (answers_create a) = create_response_fields a
-reply_fields (answers_close a) = close_response_fields a
-reply_fields answers_flush = reserved_response_fields
-reply_fields (answers_read a) = read_response_fields a
-reply_fields (answers_write a) = write_response_fields a
-reply_fields answers_lock = reserved_response_fields
-reply_fields answers_echo = reserved_response_fields
-reply_fields (answers_query_directory a) = query_response_fields a
-reply_fields (answers_query_info a) = query_response_fields a
-reply_fields answers_set_info = set_info_response_fields
+reply_fields (answers_session_setup a) =
+    num 0 2 9  -- StructureSize
+    ∷ num 2 2 a.session_flags.0  -- SessionFlags
+    ∷ num 4 2 72  -- SecurityBufferOffset
+    ∷ num 6 2 (length a.security_buffer)  -- SecurityBufferLength
+    ∷ []
+reply_fields (answers_tree_connect r) =
+    num 0 2 16  -- StructureSize
+    ∷ num 2 1 r.share_type.0  -- ShareType
+    ∷ num 3 1 0  -- Reserved
+    ∷ num 4 4 r.share_flags.0  -- ShareFlags
+    ∷ num 8 4 r.capabilities.0  -- Capabilities
+    ∷ num 12 4 r.maximal_access.0  -- MaximalAccess
+    ∷ []
+reply_fields (answers_create r) = create_response_fields r
+reply_fields (answers_close r) = close_response_fields r
+reply_fields (answers_read buffer) =
+    num 0 2 17  -- StructureSize
+    ∷ num 2 1 80  -- DataOffset
+    ∷ num 3 1 0  -- Reserved
+    ∷ num 4 4 (length buffer)  -- DataLength
+    ∷ num 8 4 0  -- DataRemaining
+    ∷ num 12 4 0  -- Reserved2
+    ∷ []
+reply_fields (answers_write r) =
+    num 0 2 17  -- StructureSize
+    ∷ num 2 2 0  -- Reserved
+    ∷ num 4 4 r.count  -- Count
+    ∷ num 8 4 0  -- Remaining
+    ∷ num 12 2 0  -- WriteChannelInfoOffset
+    ∷ num 14 2 0  -- WriteChannelInfoLength
+    ∷ []
+reply_fields (answers_query_directory buffer) =
+    num 0 2 9  -- StructureSize
+    ∷ num 2 2 72  -- OutputBufferOffset
+    ∷ num 4 4 (length buffer)  -- OutputBufferLength
+    ∷ []
+reply_fields (answers_query_info buffer) =
+    num 0 2 9  -- StructureSize
+    ∷ num 2 2 72  -- OutputBufferOffset
+    ∷ num 4 4 (length buffer)  -- OutputBufferLength
+    ∷ []
+reply_fields answers_set_info =
+    num 0 2 2  -- StructureSize
+    ∷ []
+reply_fields _ =
+    num 0 2 4  -- StructureSize
+    ∷ num 2 2 0  -- Reserved
+    ∷ []
 
 -- the buffer behind the fixed part
 abbrev pub reply_buffer : ReplyValue → List ℕ
@@ -110,9 +145,9 @@ reply_length v = width_of (reply_fields v) + length (reply_buffer v)
 
 -- the length of the buffer passes its field
 abbrev pub is_reply_too_long : ReplyValue → Bool
-is_reply_too_long (answers_negotiate a) = is_negotiate_response_too_long a
-is_reply_too_long (answers_session_setup a) = is_session_setup_response_too_long a
-is_reply_too_long (answers_read a) = is_read_response_too_long a
-is_reply_too_long (answers_query_directory a) = is_query_response_too_long a
-is_reply_too_long (answers_query_info a) = is_query_response_too_long a
+is_reply_too_long (answers_negotiate a) = nat_lt 65535 (length a.security_buffer)
+is_reply_too_long (answers_session_setup a) = nat_lt 65535 (length a.security_buffer)
+is_reply_too_long (answers_read buffer) = nat_lt 4294967295 (length buffer)
+is_reply_too_long (answers_query_directory buffer) = nat_lt 4294967295 (length buffer)
+is_reply_too_long (answers_query_info buffer) = nat_lt 4294967295 (length buffer)
 is_reply_too_long _ = false

@@ -1,19 +1,21 @@
 -- Requests of all commands ([MS-SMB2] 2.2).
-use Rattle.std.specs.Prelude.{◌≡◌, ℕ, ◌<◌, List, ◌++◌, length, Bool, false, nat_eq, Option, Some, None, if◌then◌else◌, ◌↔◌}
-use Rattle.smb_wire.specs.Fields.{joined}
-use Rattle.smb_body.specs.Negotiate.{NegotiateAsked, negotiate_asked, SaysNegotiate, is_negotiate, negotiate_of, negotiate_spelling, FitsNegotiate, is_negotiate_too_long}
-use Rattle.smb_body.specs.SessionSetup.{SessionSetupAsked, session_setup_asked, SaysSessionSetup, is_session_setup, session_setup_of, session_setup_laid, session_setup_spelling, FitsSessionSetup, is_session_setup_too_long}
-use Rattle.smb_body.specs.Reserved.{reserved_fields, SaysReserved, is_reserved, reserved_of, FitsReserved}
-use Rattle.smb_body.specs.TreeConnect.{TreeConnectAsked, tree_connect_asked, SaysTreeConnect, is_tree_connect, tree_connect_of, tree_connect_laid, tree_connect_spelling, FitsTreeConnect, is_tree_connect_too_long}
-use Rattle.smb_body.specs.Create.{CreateAsked, create_asked, SaysCreate, is_create, create_of, create_laid, create_spelling, FitsCreate, is_create_too_long}
-use Rattle.smb_body.specs.Close.{close_fields, SaysClose, is_close, close_of, FitsClose}
-use Rattle.smb_body.specs.Flush.{flush_fields, SaysFlush, is_flush, flush_of, FitsFlush}
-use Rattle.smb_body.specs.Read.{read_fields, SaysRead, is_read, read_of, FitsRead}
-use Rattle.smb_body.specs.Write.{WriteAsked, write_asked, SaysWrite, is_write, write_of, write_laid, write_spelling, FitsWrite, is_write_too_long}
-use Rattle.smb_body.specs.Lock.{LockAsked, lock_asked, SaysLock, is_lock, lock_of, lock_spelling, FitsLock, is_lock_too_long}
-use Rattle.smb_body.specs.QueryDirectory.{QueryDirectoryAsked, query_directory_asked, SaysQueryDirectory, is_query_directory, query_directory_of, query_directory_laid, query_directory_spelling, FitsQueryDirectory, is_query_directory_too_long}
-use Rattle.smb_body.specs.QueryInfo.{query_info_fields, SaysQueryInfo, is_query_info, query_info_of, FitsQueryInfo}
-use Rattle.smb_body.specs.SetInfo.{SetInfoAsked, set_info_asked, SaysSetInfo, is_set_info, set_info_of, set_info_laid, set_info_spelling, FitsSetInfo, is_set_info_too_long}
+use Rattle.std.specs.Prelude.{◌≡◌, ℕ, ◌<◌, List, ◌++◌, length, Bool, false, nat_eq, nat_lt, ◌||◌, Option, Some, None, if◌then◌else◌, ◌↔◌}
+use Rattle.std.specs.Option.{option_map}
+use Rattle.smb_wire.specs.Fields.{AllStand, joined}
+use Rattle.smb_body.specs.Buffers.{body}
+use Rattle.smb_body.specs.Negotiate.{NegotiateAsked, negotiate_asked, SaysNegotiate, negotiate_in, negotiate_spelling, FitsNegotiate}
+use Rattle.smb_body.specs.SessionSetup.{SessionSetupAsked, session_setup_asked, SaysSessionSetup, session_setup_in, session_setup_laid, session_setup_spelling, FitsSessionSetup}
+use Rattle.smb_body.specs.Reserved.{reserved_fields, reserved_in, FitsReserved}
+use Rattle.smb_body.specs.TreeConnect.{TreeConnectAsked, tree_connect_asked, SaysTreeConnect, tree_connect_in, tree_connect_laid, tree_connect_spelling, FitsTreeConnect}
+use Rattle.smb_body.specs.Create.{CreateAsked, create_asked, SaysCreate, create_in, create_laid, create_spelling, FitsCreate}
+use Rattle.smb_body.specs.Close.{close_fields, close_in, FitsClose}
+use Rattle.smb_body.specs.Flush.{flush_fields, flush_in, FitsFlush}
+use Rattle.smb_body.specs.Read.{read_fields, read_in, FitsRead}
+use Rattle.smb_body.specs.Write.{WriteAsked, write_asked, SaysWrite, write_in, write_laid, write_spelling, FitsWrite}
+use Rattle.smb_body.specs.Lock.{LockAsked, lock_asked, SaysLock, lock_in, lock_spelling, FitsLock}
+use Rattle.smb_body.specs.QueryDirectory.{QueryDirectoryAsked, query_directory_asked, SaysQueryDirectory, query_directory_in, query_directory_laid, query_directory_spelling, FitsQueryDirectory}
+use Rattle.smb_body.specs.QueryInfo.{query_info_fields, query_info_in, FitsQueryInfo}
+use Rattle.smb_body.specs.SetInfo.{SetInfoAsked, set_info_asked, SaysSetInfo, set_info_in, set_info_laid, set_info_spelling, FitsSetInfo}
 use Rattle.smb_wire.specs.declared.file_id.FileId.{FileId}
 use Rattle.smb_body.specs.declared.reserved.ReservedRequest.{ReservedRequest}
 use Rattle.smb_body.specs.declared.close.CloseRequest.{CloseRequest}
@@ -113,19 +115,19 @@ payload_of _ = 0
 abbrev pub SaysBody : List ℕ → RequestValue → Type 0
 SaysBody request (asks_negotiate a) = SaysNegotiate request a
 SaysBody request (asks_session_setup a) = SaysSessionSetup request a
-SaysBody request (asks_logoff a) = SaysReserved request a
+SaysBody request (asks_logoff a) = AllStand (body request) (reserved_fields a)
 SaysBody request (asks_tree_connect a) = SaysTreeConnect request a
-SaysBody request (asks_tree_disconnect a) = SaysReserved request a
+SaysBody request (asks_tree_disconnect a) = AllStand (body request) (reserved_fields a)
 SaysBody request (asks_create a) = SaysCreate request a
-SaysBody request (asks_close a) = SaysClose request a
-SaysBody request (asks_flush a) = SaysFlush request a
-SaysBody request (asks_read a) = SaysRead request a
+SaysBody request (asks_close a) = AllStand (body request) (close_fields a)
+SaysBody request (asks_flush a) = AllStand (body request) (flush_fields a)
+SaysBody request (asks_read a) = AllStand (body request) (read_fields a)
 SaysBody request (asks_write a) = SaysWrite request a
 SaysBody request (asks_lock a) = SaysLock request a
-SaysBody request (asks_cancel a) = SaysReserved request a
-SaysBody request (asks_echo a) = SaysReserved request a
+SaysBody request (asks_cancel a) = AllStand (body request) (reserved_fields a)
+SaysBody request (asks_echo a) = AllStand (body request) (reserved_fields a)
 SaysBody request (asks_query_directory a) = SaysQueryDirectory request a
-SaysBody request (asks_query_info a) = SaysQueryInfo request a
+SaysBody request (asks_query_info a) = AllStand (body request) (query_info_fields a)
 SaysBody request (asks_set_info a) = SaysSetInfo request a
 
 -- a request of this command says this
@@ -133,29 +135,25 @@ pub record SaysRequest (command : ℕ) (request : List ℕ) (v : RequestValue) :
   pub kind : command_of v ≡ command
   pub says : SaysBody request v
 
--- a value where a test holds
-abbrev pub value_if : Bool → RequestValue → Option RequestValue
-value_if readable v = if readable then Some v else None
-
 -- what a request of a command says; IOCTL, CHANGE_NOTIFY, OPLOCK_BREAK and numbers without a command say nothing
 unfoldable pub request_of : ℕ → List ℕ → Option RequestValue
 request_of command request =
-    if nat_eq command 0 then value_if (is_negotiate request) (asks_negotiate (negotiate_of request)) else
-    if nat_eq command 1 then value_if (is_session_setup request) (asks_session_setup (session_setup_of request)) else
-    if nat_eq command 2 then value_if (is_reserved request) (asks_logoff (reserved_of request)) else
-    if nat_eq command 3 then value_if (is_tree_connect request) (asks_tree_connect (tree_connect_of request)) else
-    if nat_eq command 4 then value_if (is_reserved request) (asks_tree_disconnect (reserved_of request)) else
-    if nat_eq command 5 then value_if (is_create request) (asks_create (create_of request)) else
-    if nat_eq command 6 then value_if (is_close request) (asks_close (close_of request)) else
-    if nat_eq command 7 then value_if (is_flush request) (asks_flush (flush_of request)) else
-    if nat_eq command 8 then value_if (is_read request) (asks_read (read_of request)) else
-    if nat_eq command 9 then value_if (is_write request) (asks_write (write_of request)) else
-    if nat_eq command 10 then value_if (is_lock request) (asks_lock (lock_of request)) else
-    if nat_eq command 12 then value_if (is_reserved request) (asks_cancel (reserved_of request)) else
-    if nat_eq command 13 then value_if (is_reserved request) (asks_echo (reserved_of request)) else
-    if nat_eq command 14 then value_if (is_query_directory request) (asks_query_directory (query_directory_of request)) else
-    if nat_eq command 16 then value_if (is_query_info request) (asks_query_info (query_info_of request)) else
-    if nat_eq command 17 then value_if (is_set_info request) (asks_set_info (set_info_of request)) else
+    if nat_eq command 0 then option_map asks_negotiate (negotiate_in request) else
+    if nat_eq command 1 then option_map asks_session_setup (session_setup_in request) else
+    if nat_eq command 2 then option_map asks_logoff (reserved_in request) else
+    if nat_eq command 3 then option_map asks_tree_connect (tree_connect_in request) else
+    if nat_eq command 4 then option_map asks_tree_disconnect (reserved_in request) else
+    if nat_eq command 5 then option_map asks_create (create_in request) else
+    if nat_eq command 6 then option_map asks_close (close_in request) else
+    if nat_eq command 7 then option_map asks_flush (flush_in request) else
+    if nat_eq command 8 then option_map asks_read (read_in request) else
+    if nat_eq command 9 then option_map asks_write (write_in request) else
+    if nat_eq command 10 then option_map asks_lock (lock_in request) else
+    if nat_eq command 12 then option_map asks_cancel (reserved_in request) else
+    if nat_eq command 13 then option_map asks_echo (reserved_in request) else
+    if nat_eq command 14 then option_map asks_query_directory (query_directory_in request) else
+    if nat_eq command 16 then option_map asks_query_info (query_info_in request) else
+    if nat_eq command 17 then option_map asks_set_info (set_info_in request) else
     None
 
 -- the same but for layout: the offsets of checked buffers as a writer sets them
@@ -219,16 +217,17 @@ FitsRequest (asks_query_directory a) = FitsQueryDirectory a
 FitsRequest (asks_query_info a) = FitsQueryInfo a
 FitsRequest (asks_set_info a) = FitsSetInfo a
 
--- a length or a count passes its field
+-- a length or a count passes its field, of two bytes, or of four in a WRITE, a SET_INFO and the contexts of a CREATE; of
+-- a text the field counts bytes, two for each unit
 abbrev pub is_too_long : RequestValue → Bool
-is_too_long (asks_negotiate a) = is_negotiate_too_long a
-is_too_long (asks_session_setup a) = is_session_setup_too_long a
-is_too_long (asks_tree_connect a) = is_tree_connect_too_long a
-is_too_long (asks_create a) = is_create_too_long a
-is_too_long (asks_write a) = is_write_too_long a
-is_too_long (asks_lock a) = is_lock_too_long a
-is_too_long (asks_query_directory a) = is_query_directory_too_long a
-is_too_long (asks_set_info a) = is_set_info_too_long a
+is_too_long (asks_negotiate a) = nat_lt 65535 (length a.dialects)
+is_too_long (asks_session_setup a) = nat_lt 65535 (length a.security_buffer)
+is_too_long (asks_tree_connect a) = nat_lt 32767 (length a.path)
+is_too_long (asks_create a) = nat_lt 32767 (length a.name) || nat_lt 4294967295 (length a.create_contexts)
+is_too_long (asks_write a) = nat_lt 4294967295 (length a.buffer)
+is_too_long (asks_lock a) = nat_lt 65535 (length a.locks)
+is_too_long (asks_query_directory a) = nat_lt 32767 (length a.file_name)
+is_too_long (asks_set_info a) = nat_lt 4294967295 (length a.buffer)
 is_too_long _ = false
 
 -- a list that may not be empty is not: the dialects of a NEGOTIATE, the elements of a LOCK

@@ -1,7 +1,7 @@
 -- SESSION_SETUP ([MS-SMB2] 2.2.5, 2.2.6).
-use Rattle.std.specs.Prelude.{ℕ, List, [], ◌∷◌, ◌++◌, length, Bool, nat_lt, ◌&&◌}
+use Rattle.std.specs.Prelude.{ℕ, List, [], ◌∷◌, ◌++◌, length, drop, take, ◌&&◌, Option, Some, None, if◌then◌else◌, ◌+◌}
 use Rattle.smb_wire.specs.Fields.{Field, num, number_in, AllStand, AllFit, joined}
-use Rattle.smb_body.specs.Buffers.{body, behind, has_fixed_part, slice, is_within, Holds}
+use Rattle.smb_body.specs.Buffers.{body, has_fixed_part, is_within, Holds}
 use Rattle.smb_body.specs.declared.session_setup.SessionSetupFlags.{SessionSetupFlags}
 use Rattle.smb_body.specs.declared.session_setup.SessionSecurityMode.{SessionSecurityMode}
 use Rattle.smb_body.specs.declared.types.Capabilities.{Capabilities}
@@ -48,29 +48,27 @@ session_setup_fields a =
 -- a request says this: its fields stand at their places, and its buffer is what an offset and a length name
 pub record SaysSessionSetup (request : List ℕ) (a : SessionSetupAsked) : Type 0 where
   pub fields : AllStand (body request) (session_setup_fields a)
-  pub security_buffer : Holds (behind 24) a.security_buffer_offset request a.security_buffer
+  pub security_buffer : Holds (64 + 24) a.security_buffer_offset request a.security_buffer
 
--- whether a request says anything
-abbrev pub is_session_setup : List ℕ → Bool
-is_session_setup request =
-    has_fixed_part 24 25 request
-    && is_within (behind 24) (number_in 2 12 (body request)) (number_in 2 14 (body request)) request
-
--- what a request says, if it says anything
-abbrev pub session_setup_of : List ℕ → SessionSetupAsked
-session_setup_of request = record {
-  flags = record { 0 = number_in 1 2 (body request) };
-  security_mode = record { 0 = number_in 1 3 (body request) };
-  capabilities = record { 0 = number_in 4 4 (body request) };
-  channel = record { 0 = number_in 4 8 (body request) };
-  security_buffer_offset = number_in 2 12 (body request);
-  security_buffer = slice (number_in 2 12 (body request)) (number_in 2 14 (body request)) request;
-  previous_session_id = number_in 8 16 (body request);
-}
+-- what a request says; None where it says nothing
+abbrev pub session_setup_in : List ℕ → Option SessionSetupAsked
+session_setup_in request =
+    if has_fixed_part 24 25 request
+    && is_within (64 + 24) (number_in 2 12 (body request)) (number_in 2 14 (body request)) request
+    then Some (record {
+      flags = record { 0 = number_in 1 2 (body request) };
+      security_mode = record { 0 = number_in 1 3 (body request) };
+      capabilities = record { 0 = number_in 4 4 (body request) };
+      channel = record { 0 = number_in 4 8 (body request) };
+      security_buffer_offset = number_in 2 12 (body request);
+      security_buffer = take (number_in 2 14 (body request)) (drop (number_in 2 12 (body request)) request);
+      previous_session_id = number_in 8 16 (body request);
+    })
+    else None
 
 -- the same but for layout: the offset as a writer sets it, straight behind the fixed part
 abbrev pub session_setup_laid : SessionSetupAsked → SessionSetupAsked
-session_setup_laid a = record a { security_buffer_offset = behind 24 }
+session_setup_laid a = record a { security_buffer_offset = 64 + 24 }
 
 -- the one spelling of a request
 unfoldable pub session_setup_spelling : SessionSetupAsked → List ℕ
@@ -79,10 +77,6 @@ session_setup_spelling a = joined (session_setup_fields (session_setup_laid a)) 
 -- each number fits its field
 pub record FitsSessionSetup (a : SessionSetupAsked) : Type 0 where
   pub fields : AllFit (session_setup_fields (session_setup_laid a))
-
--- a length passes its field
-abbrev pub is_session_setup_too_long : SessionSetupAsked → Bool
-is_session_setup_too_long a = nat_lt 65535 (length a.security_buffer)
 
 -- what a response answers
 pub record SessionSetupAnswered : Type 0 where
@@ -95,16 +89,3 @@ session_setup_answered r = record {
   session_flags = r.session_flags;
   security_buffer = r.security_buffer.now;
 }
-
--- the fixed part of a response ([MS-SMB2] 2.2.6)
-abbrev pub session_setup_response_fields : SessionSetupAnswered → List Field
-session_setup_response_fields a =
-    num 0 2 9  -- StructureSize
-    ∷ num 2 2 a.session_flags.0  -- SessionFlags
-    ∷ num 4 2 72  -- SecurityBufferOffset
-    ∷ num 6 2 (length a.security_buffer)  -- SecurityBufferLength
-    ∷ []
-
--- the length of a response's buffer passes its field
-abbrev pub is_session_setup_response_too_long : SessionSetupAnswered → Bool
-is_session_setup_response_too_long a = nat_lt 65535 (length a.security_buffer)

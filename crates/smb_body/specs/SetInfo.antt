@@ -1,7 +1,7 @@
 -- SET_INFO ([MS-SMB2] 2.2.39, 2.2.40).
-use Rattle.std.specs.Prelude.{ℕ, List, [], ◌∷◌, ◌++◌, length, Bool, nat_lt, ◌&&◌}
+use Rattle.std.specs.Prelude.{ℕ, List, [], ◌∷◌, ◌++◌, length, drop, take, ◌&&◌, Option, Some, None, if◌then◌else◌, ◌+◌}
 use Rattle.smb_wire.specs.Fields.{Field, num, number_in, AllStand, AllFit, joined}
-use Rattle.smb_body.specs.Buffers.{body, behind, has_fixed_part, file_id_at, slice, is_within, Holds}
+use Rattle.smb_body.specs.Buffers.{body, has_fixed_part, file_id_at, is_within, Holds}
 use Rattle.smb_body.specs.declared.types.InfoType.{InfoType}
 use Rattle.smb_body.specs.declared.types.InformationClass.{InformationClass}
 use Rattle.smb_body.specs.declared.types.AdditionalInformation.{AdditionalInformation}
@@ -47,29 +47,27 @@ set_info_fields a =
 -- a request says this: its fields stand at their places, and its buffer is what an offset and a length name
 pub record SaysSetInfo (request : List ℕ) (a : SetInfoAsked) : Type 0 where
   pub fields : AllStand (body request) (set_info_fields a)
-  pub buffer : Holds (behind 32) a.buffer_offset request a.buffer
+  pub buffer : Holds (64 + 32) a.buffer_offset request a.buffer
 
--- whether a request says anything
-abbrev pub is_set_info : List ℕ → Bool
-is_set_info request =
-    has_fixed_part 32 33 request
-    && is_within (behind 32) (number_in 2 8 (body request)) (number_in 4 4 (body request)) request
-
--- what a request says, if it says anything
-abbrev pub set_info_of : List ℕ → SetInfoAsked
-set_info_of request = record {
-  info_type = record { 0 = number_in 1 2 (body request) };
-  file_info_class = record { 0 = number_in 1 3 (body request) };
-  buffer = slice (number_in 2 8 (body request)) (number_in 4 4 (body request)) request;
-  buffer_offset = number_in 2 8 (body request);
-  reserved = number_in 2 10 (body request);
-  additional_information = record { 0 = number_in 4 12 (body request) };
-  file_id = file_id_at 16 (body request);
-}
+-- what a request says; None where it says nothing
+abbrev pub set_info_in : List ℕ → Option SetInfoAsked
+set_info_in request =
+    if has_fixed_part 32 33 request
+    && is_within (64 + 32) (number_in 2 8 (body request)) (number_in 4 4 (body request)) request
+    then Some (record {
+      info_type = record { 0 = number_in 1 2 (body request) };
+      file_info_class = record { 0 = number_in 1 3 (body request) };
+      buffer = take (number_in 4 4 (body request)) (drop (number_in 2 8 (body request)) request);
+      buffer_offset = number_in 2 8 (body request);
+      reserved = number_in 2 10 (body request);
+      additional_information = record { 0 = number_in 4 12 (body request) };
+      file_id = file_id_at 16 (body request);
+    })
+    else None
 
 -- the same but for layout: the offset as a writer sets it, straight behind the fixed part
 abbrev pub set_info_laid : SetInfoAsked → SetInfoAsked
-set_info_laid a = record a { buffer_offset = behind 32 }
+set_info_laid a = record a { buffer_offset = 64 + 32 }
 
 -- the one spelling of a request
 unfoldable pub set_info_spelling : SetInfoAsked → List ℕ
@@ -78,13 +76,3 @@ set_info_spelling a = joined (set_info_fields (set_info_laid a)) ++ a.buffer
 -- each number fits its field
 pub record FitsSetInfo (a : SetInfoAsked) : Type 0 where
   pub fields : AllFit (set_info_fields (set_info_laid a))
-
--- a length passes its field
-abbrev pub is_set_info_too_long : SetInfoAsked → Bool
-is_set_info_too_long a = nat_lt 4294967295 (length a.buffer)
-
--- the response ([MS-SMB2] 2.2.40)
-abbrev pub set_info_response_fields : List Field
-set_info_response_fields =
-    num 0 2 2  -- StructureSize
-    ∷ []

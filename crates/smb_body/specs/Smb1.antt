@@ -1,5 +1,5 @@
 -- SMB_COM_NEGOTIATE, by which a client of several protocols begins ([MS-SMB2] 3.3.5.3.1, [MS-CIFS] 2.2.4.52.1).
-use Rattle.std.specs.Prelude.{◌≡◌, ℕ, ◌+◌, ◌<◌, ◌≤◌, ◌≢◌, List, [], ◌∷◌, ◌++◌, length, take, drop, slice_index, Bool, nat_eq, nat_le, ◌&&◌, Option, Some, None, if◌then◌else◌, codes, ◌↔◌}
+use Rattle.std.specs.Prelude.{◌≡◌, ℕ, ◌+◌, ◌<◌, ◌≤◌, ◌≢◌, List, [], ◌∷◌, ◌++◌, length, take, drop, slice_index, nat_eq, nat_le, ◌&&◌, Option, Some, None, if◌then◌else◌, codes, ◌↔◌}
 use Rattle.std.specs.Option.{option_map}
 use Rattle.std.specs.List.{list_any, onto_first}
 use Rattle.std.specs.Cmp.Lexicographic.{pointwise}
@@ -20,21 +20,13 @@ abbrev pub AreTexts : List (List ℕ) → Type 0
 AreTexts [] = Unit {0}
 AreTexts (text ∷ texts) = IsText text × AreTexts texts
 
--- 0xFF, the letters SMB and the command 0x72
-abbrev pub smb1_head : List ℕ
-smb1_head = 255 ∷ 83 ∷ 77 ∷ 66 ∷ 114 ∷ []
-
--- the bytes of the list
-abbrev pub list_bytes : List ℕ → List ℕ
-list_bytes payload = take (number_in 2 33 payload) (drop 35 payload)
-
--- a payload is an SMB_COM_NEGOTIATE with these dialects: WordCount stands at 32 and is 0, ByteCount stands at 33,
--- and so many bytes behind it are the list; the 27 bytes behind the head and all bytes behind the list are free
+-- a payload is an SMB_COM_NEGOTIATE with these dialects: 0xFF, the letters SMB and the command 0x72 stand first,
+-- WordCount at 32 is 0, and as many bytes as ByteCount at 33 says are the list behind it; all other bytes are free
 pub record SaysSmb1 (payload : List ℕ) (texts : List (List ℕ)) : Type 0 where
-  pub head : take 5 payload ≡ smb1_head
+  pub head : take 5 payload ≡ 255 ∷ 83 ∷ 77 ∷ 66 ∷ 114 ∷ []
   pub word_count : number_in 1 32 payload ≡ 0
   pub room : 35 + number_in 2 33 payload ≤ length payload
-  pub list : list_bytes payload ≡ dialect_list texts
+  pub list : take (number_in 2 33 payload) (drop 35 payload) ≡ dialect_list texts
   pub each : AreTexts texts
 
 -- whether the two dialects that count are among some
@@ -53,22 +45,16 @@ texts_of (byte ∷ bytes) =
       (if nat_eq byte 0 then option_map (λ texts. [] ∷ texts) after.0 else option_map (onto_first byte) after.1),
     )
 
--- the texts of a list; none where bytes are no list
-abbrev pub texts_in : List ℕ → Option (List (List ℕ))
-texts_in bytes = (texts_of bytes).0
-
--- whether the parts round the list are right
-abbrev pub is_smb1 : List ℕ → Bool
-is_smb1 payload =
-    nat_le 35 (length payload)
-    && pointwise nat_eq (take 5 payload) smb1_head
-    && nat_eq (number_in 1 32 payload) 0
-    && nat_le (35 + number_in 2 33 payload) (length payload)
-
--- which of the two dialects an SMB_COM_NEGOTIATE lists; none where a payload is not one
+-- which of the two dialects an SMB_COM_NEGOTIATE lists, and None where a payload is not one: 0xFF, the letters SMB and
+-- the command 0x72 stand first, WordCount at 32 is 0, and as many bytes as ByteCount at 33 says are a list of texts
 unfoldable pub smb1_of : List ℕ → Option Smb1Dialects
 smb1_of payload =
-    if is_smb1 payload then option_map listed (texts_in (list_bytes payload)) else None
+    if nat_le 35 (length payload)
+    && pointwise nat_eq (take 5 payload) (255 ∷ 83 ∷ 77 ∷ 66 ∷ 114 ∷ [])
+    && nat_eq (number_in 1 32 payload) 0
+    && nat_le (35 + number_in 2 33 payload) (length payload)
+    then option_map listed (texts_of (take (number_in 2 33 payload) (drop 35 payload))).0
+    else None
 
 -- a payload says some dialects exactly where `smb1_of` tells which of the two are among them
 abbrev pub Smb1IsTold : Type 0

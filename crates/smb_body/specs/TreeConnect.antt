@@ -1,11 +1,10 @@
 -- TREE_CONNECT ([MS-SMB2] 2.2.9, 2.2.10).
-use Rattle.std.specs.Prelude.{ℕ, ◌*◌, ◌%◌, List, [], ◌∷◌, ◌++◌, length, Bool, nat_eq, nat_lt, ◌&&◌}
+use Rattle.std.specs.Prelude.{ℕ, ◌*◌, ◌%◌, List, [], ◌∷◌, ◌++◌, length, drop, take, nat_eq, ◌&&◌, Option, Some, None, if◌then◌else◌, ◌+◌}
 use Rattle.smb_wire.specs.Fields.{Field, num, number_in, AllStand, AllFit, joined}
 use Rattle.smb_wire.specs.Pairs.{units_in, unit_bytes, AreUnits}
 use Rattle.smb_wire.specs.Units.{units_of}
-use Rattle.smb_body.specs.Buffers.{body, behind, has_fixed_part, slice, is_within, HoldsText}
+use Rattle.smb_body.specs.Buffers.{body, has_fixed_part, is_within, HoldsText}
 use Rattle.smb_body.specs.declared.tree_connect.TreeConnectRequest.{TreeConnectRequest}
-use Rattle.smb_body.specs.declared.tree_connect.TreeConnectResponse.{TreeConnectResponse}
 
 -- what a request asks
 pub record TreeConnectAsked : Type 0 where
@@ -33,26 +32,24 @@ tree_connect_fields a =
 -- a request says this: its fields stand at their places, and its buffer is what an offset and a length name
 pub record SaysTreeConnect (request : List ℕ) (a : TreeConnectAsked) : Type 0 where
   pub fields : AllStand (body request) (tree_connect_fields a)
-  pub path : HoldsText (behind 8) a.path_offset request a.path
+  pub path : HoldsText (64 + 8) a.path_offset request a.path
 
--- whether a request says anything
-abbrev pub is_tree_connect : List ℕ → Bool
-is_tree_connect request =
-    has_fixed_part 8 9 request
+-- what a request says; None where it says nothing
+abbrev pub tree_connect_in : List ℕ → Option TreeConnectAsked
+tree_connect_in request =
+    if has_fixed_part 8 9 request
     && nat_eq (number_in 2 6 (body request) % 2) 0
-    && is_within (behind 8) (number_in 2 4 (body request)) (number_in 2 6 (body request)) request
-
--- what a request says, if it says anything
-abbrev pub tree_connect_of : List ℕ → TreeConnectAsked
-tree_connect_of request = record {
-  reserved = number_in 2 2 (body request);
-  path_offset = number_in 2 4 (body request);
-  path = units_in (slice (number_in 2 4 (body request)) (number_in 2 6 (body request)) request);
-}
+    && is_within (64 + 8) (number_in 2 4 (body request)) (number_in 2 6 (body request)) request
+    then Some (record {
+      reserved = number_in 2 2 (body request);
+      path_offset = number_in 2 4 (body request);
+      path = units_in (take (number_in 2 6 (body request)) (drop (number_in 2 4 (body request)) request));
+    })
+    else None
 
 -- the same but for layout: the offset as a writer sets it, straight behind the fixed part
 abbrev pub tree_connect_laid : TreeConnectAsked → TreeConnectAsked
-tree_connect_laid a = record a { path_offset = behind 8 }
+tree_connect_laid a = record a { path_offset = 64 + 8 }
 
 -- the one spelling of a request
 unfoldable pub tree_connect_spelling : TreeConnectAsked → List ℕ
@@ -62,18 +59,3 @@ tree_connect_spelling a = joined (tree_connect_fields (tree_connect_laid a)) ++ 
 pub record FitsTreeConnect (a : TreeConnectAsked) : Type 0 where
   pub fields : AllFit (tree_connect_fields (tree_connect_laid a))
   pub units : AreUnits a.path
-
--- a length passes its field
-abbrev pub is_tree_connect_too_long : TreeConnectAsked → Bool
-is_tree_connect_too_long a = nat_lt 32767 (length a.path)
-
--- the fixed part of a response ([MS-SMB2] 2.2.10)
-abbrev pub tree_connect_response_fields : TreeConnectResponse → List Field
-tree_connect_response_fields r =
-    num 0 2 16  -- StructureSize
-    ∷ num 2 1 r.share_type.0  -- ShareType
-    ∷ num 3 1 0  -- Reserved
-    ∷ num 4 4 r.share_flags.0  -- ShareFlags
-    ∷ num 8 4 r.capabilities.0  -- Capabilities
-    ∷ num 12 4 r.maximal_access.0  -- MaximalAccess
-    ∷ []

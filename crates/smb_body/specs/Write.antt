@@ -1,12 +1,11 @@
 -- WRITE ([MS-SMB2] 2.2.21, 2.2.22).
-use Rattle.std.specs.Prelude.{ℕ, List, [], ◌∷◌, ◌++◌, length, Bool, nat_lt, ◌&&◌}
+use Rattle.std.specs.Prelude.{ℕ, List, [], ◌∷◌, ◌++◌, length, drop, take, ◌&&◌, Option, Some, None, if◌then◌else◌, ◌+◌}
 use Rattle.smb_wire.specs.Fields.{Field, num, number_in, AllStand, AllFit, joined}
-use Rattle.smb_body.specs.Buffers.{body, behind, has_fixed_part, file_id_at, slice, is_within, Holds}
+use Rattle.smb_body.specs.Buffers.{body, has_fixed_part, file_id_at, is_within, Holds}
 use Rattle.smb_wire.specs.declared.file_id.FileId.{FileId}
 use Rattle.smb_body.specs.declared.types.Channel.{Channel}
 use Rattle.smb_body.specs.declared.write.WriteFlags.{WriteFlags}
 use Rattle.smb_body.specs.declared.write.WriteRequest.{WriteRequest}
-use Rattle.smb_body.specs.declared.write.WriteResponse.{WriteResponse}
 
 -- what a request asks
 pub record WriteAsked : Type 0 where
@@ -53,31 +52,29 @@ write_fields a =
 -- a request says this: its fields stand at their places, and its buffer is what an offset and a length name
 pub record SaysWrite (request : List ℕ) (a : WriteAsked) : Type 0 where
   pub fields : AllStand (body request) (write_fields a)
-  pub buffer : Holds (behind 48) a.data_offset request a.buffer
+  pub buffer : Holds (64 + 48) a.data_offset request a.buffer
 
--- whether a request says anything
-abbrev pub is_write : List ℕ → Bool
-is_write request =
-    has_fixed_part 48 49 request
-    && is_within (behind 48) (number_in 2 2 (body request)) (number_in 4 4 (body request)) request
-
--- what a request says, if it says anything
-abbrev pub write_of : List ℕ → WriteAsked
-write_of request = record {
-  data_offset = number_in 2 2 (body request);
-  buffer = slice (number_in 2 2 (body request)) (number_in 4 4 (body request)) request;
-  offset = number_in 8 8 (body request);
-  file_id = file_id_at 16 (body request);
-  channel = record { 0 = number_in 4 32 (body request) };
-  remaining_bytes = number_in 4 36 (body request);
-  write_channel_info_offset = number_in 2 40 (body request);
-  write_channel_info_length = number_in 2 42 (body request);
-  flags = record { 0 = number_in 4 44 (body request) };
-}
+-- what a request says; None where it says nothing
+abbrev pub write_in : List ℕ → Option WriteAsked
+write_in request =
+    if has_fixed_part 48 49 request
+    && is_within (64 + 48) (number_in 2 2 (body request)) (number_in 4 4 (body request)) request
+    then Some (record {
+      data_offset = number_in 2 2 (body request);
+      buffer = take (number_in 4 4 (body request)) (drop (number_in 2 2 (body request)) request);
+      offset = number_in 8 8 (body request);
+      file_id = file_id_at 16 (body request);
+      channel = record { 0 = number_in 4 32 (body request) };
+      remaining_bytes = number_in 4 36 (body request);
+      write_channel_info_offset = number_in 2 40 (body request);
+      write_channel_info_length = number_in 2 42 (body request);
+      flags = record { 0 = number_in 4 44 (body request) };
+    })
+    else None
 
 -- the same but for layout: the offset as a writer sets it, straight behind the fixed part
 abbrev pub write_laid : WriteAsked → WriteAsked
-write_laid a = record a { data_offset = behind 48 }
+write_laid a = record a { data_offset = 64 + 48 }
 
 -- the one spelling of a request
 unfoldable pub write_spelling : WriteAsked → List ℕ
@@ -86,18 +83,3 @@ write_spelling a = joined (write_fields (write_laid a)) ++ a.buffer
 -- each number fits its field
 pub record FitsWrite (a : WriteAsked) : Type 0 where
   pub fields : AllFit (write_fields (write_laid a))
-
--- a length passes its field
-abbrev pub is_write_too_long : WriteAsked → Bool
-is_write_too_long a = nat_lt 4294967295 (length a.buffer)
-
--- the fixed part of a response ([MS-SMB2] 2.2.22)
-abbrev pub write_response_fields : WriteResponse → List Field
-write_response_fields r =
-    num 0 2 17  -- StructureSize
-    ∷ num 2 2 0  -- Reserved
-    ∷ num 4 4 r.count  -- Count
-    ∷ num 8 4 0  -- Remaining
-    ∷ num 12 2 0  -- WriteChannelInfoOffset
-    ∷ num 14 2 0  -- WriteChannelInfoLength
-    ∷ []

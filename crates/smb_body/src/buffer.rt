@@ -3,7 +3,8 @@
 ghost use Rattle.std.specs.Prelude.{◌≡◌, ◌+◌, ◌*◌, ◌%◌, ◌≤◌, nat_eq, ◌&&◌, length, take, drop, is_some, IfSome};
 ghost use Rattle.smb_wire.specs.Units.{units_of};
 ghost use Rattle.smb_wire.specs.Pairs.{units_in};
-ghost use Rattle.smb_body.specs.Buffers.{body, file_id_at, slice, is_within};
+ghost use Rattle.smb_body.specs.Buffers.{body, file_id_at, is_within};
+ghost use Rattle.smb_body.specs.Readings.{slice};
 
 use super::types::Guid;
 use smb_wire::{FileId, Units, u64_in};

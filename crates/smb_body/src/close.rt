@@ -2,7 +2,8 @@
 
 ghost use Rattle.std.specs.Prelude.{◌≡◌, length, take, is_some, IfSome, OnOk};
 ghost use Rattle.smb_wire.specs.Fields.{AllFit, appended};
-ghost use Rattle.smb_body.specs.Close.{close_fields, is_close, close_of, FitsClose, close_response_fields};
+ghost use Rattle.smb_body.specs.Close.{close_fields, FitsClose, close_response_fields};
+ghost use Rattle.smb_body.specs.Readings.{is_close, close_of};
 
 use super::buffer::{body, file_id_in};
 use smb_wire::{FileAttributes, FileId, WireFault, put_u16, put_u32, put_u64, u16_in, u32_in};

@@ -4,7 +4,8 @@ ghost use Rattle.std.specs.Prelude.{◌≡◌, ◌++◌, ◌≤◌, ◌<◌, ◌
 ghost use Rattle.smb_wire.specs.Fields.{AllFit, appended};
 ghost use Rattle.smb_wire.specs.Pairs.{AreUnits};
 ghost use Rattle.smb_body.specs.Refusals.{body_refusal};
-ghost use Rattle.smb_body.specs.Create.{create_asked, create_fields, is_create, create_of, create_laid, create_spelling, FitsCreate, is_create_too_long, contexts_place, contexts_gap, name_end, create_response_fields};
+ghost use Rattle.smb_body.specs.Create.{create_asked, create_fields, create_laid, create_spelling, FitsCreate, contexts_place, contexts_gap, name_end, create_response_fields};
+ghost use Rattle.smb_body.specs.Readings.{is_create_too_long, is_create, create_of};
 
 use super::buffer::{body, buffer, text};
 use super::fault::BodyFault;

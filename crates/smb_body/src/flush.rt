@@ -2,7 +2,8 @@
 
 ghost use Rattle.std.specs.Prelude.{◌≡◌, length, take, is_some, IfSome, OnOk};
 ghost use Rattle.smb_wire.specs.Fields.{appended};
-ghost use Rattle.smb_body.specs.Flush.{flush_fields, is_flush, flush_of, FitsFlush};
+ghost use Rattle.smb_body.specs.Flush.{flush_fields, FitsFlush};
+ghost use Rattle.smb_body.specs.Readings.{is_flush, flush_of};
 
 use super::buffer::{body, file_id_in};
 use smb_wire::{FileId, WireFault, put_u16, put_u32, put_u64, u16_in, u32_in};

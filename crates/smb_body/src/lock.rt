@@ -3,7 +3,8 @@
 ghost use Rattle.std.specs.Prelude.{◌≡◌, ◌++◌, ◌≤◌, length, take, is_some, IfSome, OnOk, IfErr, false};
 ghost use Rattle.smb_wire.specs.Fields.{appended};
 ghost use Rattle.smb_body.specs.Refusals.{body_refusal};
-ghost use Rattle.smb_body.specs.Lock.{lock_asked, lock_request_fields, is_lock, lock_of, lock_spelling, FitsLock, is_lock_too_long};
+ghost use Rattle.smb_body.specs.Lock.{lock_asked, lock_request_fields, lock_spelling, FitsLock};
+ghost use Rattle.smb_body.specs.Readings.{is_lock_too_long, is_lock, lock_of};
 
 use super::buffer::{body, file_id_in};
 use super::fault::BodyFault;

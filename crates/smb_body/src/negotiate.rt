@@ -3,7 +3,8 @@
 ghost use Rattle.std.specs.Prelude.{◌≡◌, ◌++◌, ◌≤◌, length, take, is_some, IfSome, IfErr, OnOk, false};
 ghost use Rattle.smb_wire.specs.Fields.{AllFit, appended, joined};
 ghost use Rattle.smb_body.specs.Refusals.{body_refusal};
-ghost use Rattle.smb_body.specs.Negotiate.{negotiate_asked, negotiate_fields, is_negotiate, negotiate_of, negotiate_spelling, FitsNegotiate, is_negotiate_too_long, negotiate_answered, negotiate_response_fields, is_negotiate_response_too_long};
+ghost use Rattle.smb_body.specs.Negotiate.{negotiate_asked, negotiate_fields, negotiate_spelling, FitsNegotiate, negotiate_answered, negotiate_response_fields};
+ghost use Rattle.smb_body.specs.Readings.{is_negotiate_too_long, is_negotiate_response_too_long, is_negotiate, negotiate_of};
 
 use super::buffer::{body, guid_in};
 use super::dialects::Dialects;

@@ -3,8 +3,8 @@
 ghost use Rattle.std.specs.Prelude.{◌≡◌, ◌++◌, ◌≤◌, ◌<◌, ◌+◌, ◌^◌, List, ℕ, length, take, drop, replicate, OnOk, OnErr, IfOk, IfErr, false};
 ghost use Rattle.smb_wire.specs.Fields.{AllFit, appended, joined};
 ghost use Rattle.smb_body.specs.Refusals.{body_refusal};
-ghost use Rattle.smb_body.specs.Replies.{reply_spelling, answers_query_directory};
-ghost use Rattle.smb_body.specs.Query.{query_response_fields, is_query_response_too_long};
+ghost use Rattle.smb_body.specs.Replies.{reply_spelling, answers_query_directory, answers_query_info, reply_fields};
+ghost use Rattle.smb_body.specs.Readings.{is_query_response_too_long};
 
 use super::fault::BodyFault;
 use smb_wire::{WireFault, put_bytes, put_u16, put_u32};
@@ -20,7 +20,7 @@ pub struct QueryResponse<'a> {
 fn put_response_fixed(response: &QueryResponse<'_>, out: &mut Vec<u8>) -> Result<(), WireFault>
     requires { length response.now.output_buffer.now ≤ 4294967295 }
     ensures ok { OnOk result (out.new.items ≡
-        appended out.old.items (query_response_fields response.now.output_buffer.now)) }
+        appended out.old.items (reply_fields (answers_query_info response.now.output_buffer.now))) }
     ensures kept { take (length out.old.items) out.new.items ≡ out.old.items }
 {
     put_u16(out, 9)?;
@@ -35,9 +35,9 @@ pub(crate) fn put_query_response(
     out: &mut Vec<u8>,
 ) -> Result<(), BodyFault>
     ensures ok { OnOk result (out.new.items ≡
-        out.old.items ++ (joined (query_response_fields response.entry.output_buffer.now)
+        out.old.items ++ (joined (reply_fields (answers_query_info response.entry.output_buffer.now))
         ++ response.entry.output_buffer.now)) }
-    ensures fits { OnOk result (AllFit (query_response_fields response.entry.output_buffer.now)) }
+    ensures fits { OnOk result (AllFit (reply_fields (answers_query_info response.entry.output_buffer.now))) }
     ensures short { OnOk result
         (is_query_response_too_long response.entry.output_buffer.now ≡ false) }
     ensures fault { IfErr result (λ fault. fault ≡

@@ -3,7 +3,8 @@
 ghost use Rattle.std.specs.Prelude.{◌≡◌, ◌++◌, ◌≤◌, length, take, is_some, IfSome, OnOk, IfErr, false};
 ghost use Rattle.smb_wire.specs.Fields.{appended};
 ghost use Rattle.smb_body.specs.Refusals.{body_refusal};
-ghost use Rattle.smb_body.specs.QueryDirectory.{query_directory_asked, query_directory_fields, is_query_directory, query_directory_of, query_directory_laid, query_directory_spelling, FitsQueryDirectory, is_query_directory_too_long};
+ghost use Rattle.smb_body.specs.QueryDirectory.{query_directory_asked, query_directory_fields, query_directory_laid, query_directory_spelling, FitsQueryDirectory};
+ghost use Rattle.smb_body.specs.Readings.{is_query_directory_too_long, is_query_directory, query_directory_of};
 
 use super::buffer::{body, file_id_in, text};
 use super::fault::BodyFault;

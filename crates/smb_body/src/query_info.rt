@@ -2,7 +2,8 @@
 
 ghost use Rattle.std.specs.Prelude.{◌≡◌, length, take, is_some, IfSome, OnOk};
 ghost use Rattle.smb_wire.specs.Fields.{appended};
-ghost use Rattle.smb_body.specs.QueryInfo.{query_info_fields, is_query_info, query_info_of, FitsQueryInfo};
+ghost use Rattle.smb_body.specs.QueryInfo.{query_info_fields, FitsQueryInfo};
+ghost use Rattle.smb_body.specs.Readings.{is_query_info, query_info_of};
 
 use super::buffer::{body, file_id_in};
 use super::types::{AdditionalInformation, InfoType, InformationClass};

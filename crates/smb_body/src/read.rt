@@ -3,8 +3,9 @@
 ghost use Rattle.std.specs.Prelude.{ℕ, List, ◌+◌, OnErr, ◌≡◌, length, take, is_some, IfSome, OnOk, ◌++◌, ◌≤◌, IfErr, false};
 ghost use Rattle.smb_wire.specs.Fields.{AllFit, appended, joined};
 ghost use Rattle.smb_body.specs.Refusals.{body_refusal};
-ghost use Rattle.smb_body.specs.Read.{read_fields, is_read, read_of, FitsRead, read_response_fields, is_read_response_too_long};
-ghost use Rattle.smb_body.specs.Replies.{reply_spelling, answers_read};
+ghost use Rattle.smb_body.specs.Read.{read_fields, FitsRead};
+ghost use Rattle.smb_body.specs.Readings.{is_read_response_too_long, is_read, read_of};
+ghost use Rattle.smb_body.specs.Replies.{reply_spelling, answers_read, reply_fields};
 
 use super::buffer::{body, file_id_in};
 use super::fault::BodyFault;
@@ -87,7 +88,7 @@ pub struct ReadResponse<'a> {
 fn put_response_fixed(response: &ReadResponse<'_>, out: &mut Vec<u8>) -> Result<(), WireFault>
     requires { length response.now.buffer.now ≤ 4294967295 }
     ensures ok { OnOk result (out.new.items ≡
-        appended out.old.items (read_response_fields response.now.buffer.now)) }
+        appended out.old.items (reply_fields (answers_read response.now.buffer.now))) }
     ensures kept { take (length out.old.items) out.new.items ≡ out.old.items }
 {
     put_u16(out, 17)?;
@@ -105,9 +106,9 @@ pub(crate) fn put_read_response(
     out: &mut Vec<u8>,
 ) -> Result<(), BodyFault>
     ensures ok { OnOk result (out.new.items ≡
-        out.old.items ++ (joined (read_response_fields response.entry.buffer.now)
+        out.old.items ++ (joined (reply_fields (answers_read response.entry.buffer.now))
         ++ response.entry.buffer.now)) }
-    ensures fits { OnOk result (AllFit (read_response_fields response.entry.buffer.now)) }
+    ensures fits { OnOk result (AllFit (reply_fields (answers_read response.entry.buffer.now))) }
     ensures short { OnOk result (is_read_response_too_long response.entry.buffer.now ≡ false) }
     ensures fault { IfErr result (λ fault. fault ≡
         body_refusal (is_read_response_too_long response.entry.buffer.now)) }

@@ -3,7 +3,9 @@
 
 ghost use Rattle.std.specs.Prelude.{◌≡◌, length, take, is_some, IfSome, OnOk};
 ghost use Rattle.smb_wire.specs.Fields.{appended};
-ghost use Rattle.smb_body.specs.Reserved.{reserved_fields, is_reserved, reserved_of, FitsReserved, reserved_response_fields};
+ghost use Rattle.smb_body.specs.Reserved.{reserved_fields, FitsReserved};
+ghost use Rattle.smb_body.specs.Readings.{is_reserved, reserved_of};
+ghost use Rattle.smb_body.specs.Replies.{answers_logoff, reply_fields};
 
 use super::buffer::body;
 use smb_wire::{WireFault, put_u16, u16_in};
@@ -42,7 +44,7 @@ pub(crate) fn put_reserved(request: ReservedRequest, out: &mut Vec<u8>) -> Resul
 /// Adds the body of the response of LOGOFF, TREE_DISCONNECT, FLUSH, LOCK or ECHO. After an error some of
 /// it stands there.
 pub(crate) fn put_reserved_response(out: &mut Vec<u8>) -> Result<(), WireFault>
-    ensures ok { OnOk result (out.new.items ≡ appended out.old.items reserved_response_fields) }
+    ensures ok { OnOk result (out.new.items ≡ appended out.old.items (reply_fields answers_logoff)) }
     ensures kept { take (length out.old.items) out.new.items ≡ out.old.items }
 {
     put_u16(out, 4)?;

@@ -3,7 +3,9 @@
 ghost use Rattle.std.specs.Prelude.{◌≡◌, ◌++◌, ◌≤◌, length, take, is_some, IfSome, OnOk, IfErr, false};
 ghost use Rattle.smb_wire.specs.Fields.{AllFit, appended, joined};
 ghost use Rattle.smb_body.specs.Refusals.{body_refusal};
-ghost use Rattle.smb_body.specs.SessionSetup.{session_setup_asked, session_setup_fields, is_session_setup, session_setup_of, session_setup_laid, session_setup_spelling, FitsSessionSetup, is_session_setup_too_long, session_setup_answered, session_setup_response_fields, is_session_setup_response_too_long};
+ghost use Rattle.smb_body.specs.SessionSetup.{session_setup_asked, session_setup_fields, session_setup_laid, session_setup_spelling, FitsSessionSetup, session_setup_answered};
+ghost use Rattle.smb_body.specs.Readings.{is_session_setup_too_long, is_session_setup_response_too_long, is_session_setup, session_setup_of};
+ghost use Rattle.smb_body.specs.Replies.{answers_session_setup, reply_fields};
 
 use super::buffer::{body, buffer};
 use super::fault::BodyFault;
@@ -128,7 +130,7 @@ fn put_response_fixed(
 ) -> Result<(), WireFault>
     requires { length response.now.security_buffer.now ≤ 65535 }
     ensures ok { OnOk result (out.new.items ≡
-        appended out.old.items (session_setup_response_fields (session_setup_answered response.now))) }
+        appended out.old.items (reply_fields (answers_session_setup (session_setup_answered response.now)))) }
     ensures kept { take (length out.old.items) out.new.items ≡ out.old.items }
 {
     put_u16(out, 9)?;
@@ -144,10 +146,10 @@ pub(crate) fn put_session_setup_response(
     out: &mut Vec<u8>,
 ) -> Result<(), BodyFault>
     ensures ok { OnOk result (out.new.items ≡
-        out.old.items ++ (joined (session_setup_response_fields (session_setup_answered response.entry))
+        out.old.items ++ (joined (reply_fields (answers_session_setup (session_setup_answered response.entry)))
         ++ response.entry.security_buffer.now)) }
     ensures fits { OnOk result
-        (AllFit (session_setup_response_fields (session_setup_answered response.entry))) }
+        (AllFit (reply_fields (answers_session_setup (session_setup_answered response.entry)))) }
     ensures short { OnOk result
         (is_session_setup_response_too_long (session_setup_answered response.entry) ≡ false) }
     ensures fault { IfErr result (λ fault. fault ≡

@@ -3,7 +3,9 @@
 ghost use Rattle.std.specs.Prelude.{◌≡◌, ◌++◌, ◌≤◌, length, take, is_some, IfSome, OnOk, IfErr, false};
 ghost use Rattle.smb_wire.specs.Fields.{appended};
 ghost use Rattle.smb_body.specs.Refusals.{body_refusal};
-ghost use Rattle.smb_body.specs.SetInfo.{set_info_asked, set_info_fields, is_set_info, set_info_of, set_info_laid, set_info_spelling, FitsSetInfo, is_set_info_too_long, set_info_response_fields};
+ghost use Rattle.smb_body.specs.SetInfo.{set_info_asked, set_info_fields, set_info_laid, set_info_spelling, FitsSetInfo};
+ghost use Rattle.smb_body.specs.Readings.{is_set_info_too_long, is_set_info, set_info_of};
+ghost use Rattle.smb_body.specs.Replies.{answers_set_info, reply_fields};
 
 use super::buffer::{body, buffer, file_id_in};
 use super::fault::BodyFault;
@@ -90,7 +92,7 @@ pub(crate) fn put_set_info(request: SetInfoRequest<'_>, out: &mut Vec<u8>) -> Re
 
 /// Adds the body of a response ([MS-SMB2] 2.2.40).
 pub(crate) fn put_set_info_response(out: &mut Vec<u8>) -> Result<(), WireFault>
-    ensures ok { OnOk result (out.new.items ≡ appended out.old.items set_info_response_fields) }
+    ensures ok { OnOk result (out.new.items ≡ appended out.old.items (reply_fields answers_set_info)) }
     ensures kept { take (length out.old.items) out.new.items ≡ out.old.items }
 {
     put_u16(out, 2)?;

@@ -3,7 +3,8 @@
 ghost use Rattle.std.specs.Prelude.{◌≡◌, ◌<◌, ◌∷◌, ◌++◌, ◌||◌, nat_eq, codes, length, is_some, None, IfSome, IfNone, position, ◌==◌};
 ghost use Rattle.std.specs.Option.{option_map};
 ghost use Rattle.std.specs.Cmp.Lexicographic.{pointwise};
-ghost use Rattle.smb_body.specs.Smb1.{IsText, listed, texts_in, is_smb1, list_bytes, smb1_of, Smb1IsTold, Smb1SaysOneList};
+ghost use Rattle.smb_body.specs.Smb1.{IsText, listed, smb1_of, Smb1IsTold, Smb1SaysOneList};
+ghost use Rattle.smb_body.specs.Readings.{texts_in, is_smb1, list_bytes};
 
 use smb_wire::{u8_in, u16_in};
 

@@ -3,7 +3,9 @@
 ghost use Rattle.std.specs.Prelude.{◌≡◌, ◌++◌, ◌≤◌, length, take, is_some, IfSome, OnOk, IfErr, false};
 ghost use Rattle.smb_wire.specs.Fields.{AllFit, appended};
 ghost use Rattle.smb_body.specs.Refusals.{body_refusal};
-ghost use Rattle.smb_body.specs.TreeConnect.{tree_connect_asked, tree_connect_fields, is_tree_connect, tree_connect_of, tree_connect_laid, tree_connect_spelling, FitsTreeConnect, is_tree_connect_too_long, tree_connect_response_fields};
+ghost use Rattle.smb_body.specs.TreeConnect.{tree_connect_asked, tree_connect_fields, tree_connect_laid, tree_connect_spelling, FitsTreeConnect};
+ghost use Rattle.smb_body.specs.Readings.{is_tree_connect_too_long, is_tree_connect, tree_connect_of};
+ghost use Rattle.smb_body.specs.Replies.{answers_tree_connect, reply_fields};
 
 use super::buffer::{body, text};
 use super::fault::BodyFault;
@@ -99,8 +101,8 @@ pub(crate) fn put_tree_connect_response(
     out: &mut Vec<u8>,
 ) -> Result<(), WireFault>
     ensures ok { OnOk result (out.new.items ≡
-        appended out.old.items (tree_connect_response_fields response)) }
-    ensures fits { OnOk result (AllFit (tree_connect_response_fields response)) }
+        appended out.old.items (reply_fields (answers_tree_connect response))) }
+    ensures fits { OnOk result (AllFit (reply_fields (answers_tree_connect response))) }
     ensures kept { take (length out.old.items) out.new.items ≡ out.old.items }
 {
     put_u16(out, 16)?;

@@ -3,7 +3,9 @@
 ghost use Rattle.std.specs.Prelude.{◌≡◌, ◌++◌, ◌≤◌, length, take, is_some, IfSome, OnOk, IfErr, false};
 ghost use Rattle.smb_wire.specs.Fields.{AllFit, appended};
 ghost use Rattle.smb_body.specs.Refusals.{body_refusal};
-ghost use Rattle.smb_body.specs.Write.{write_asked, write_fields, is_write, write_of, write_laid, write_spelling, FitsWrite, is_write_too_long, write_response_fields};
+ghost use Rattle.smb_body.specs.Write.{write_asked, write_fields, write_laid, write_spelling, FitsWrite};
+ghost use Rattle.smb_body.specs.Readings.{is_write_too_long, is_write, write_of};
+ghost use Rattle.smb_body.specs.Replies.{answers_write, reply_fields};
 
 use super::buffer::{body, buffer, file_id_in};
 use super::fault::BodyFault;
@@ -103,8 +105,8 @@ pub(crate) fn put_write_response(
     out: &mut Vec<u8>,
 ) -> Result<(), WireFault>
     ensures ok { OnOk result (out.new.items ≡
-        appended out.old.items (write_response_fields response)) }
-    ensures fits { OnOk result (AllFit (write_response_fields response)) }
+        appended out.old.items (reply_fields (answers_write response))) }
+    ensures fits { OnOk result (AllFit (reply_fields (answers_write response))) }
     ensures kept { take (length out.old.items) out.new.items ≡ out.old.items }
 {
     put_u16(out, 17)?;

@@ -9,7 +9,8 @@ use Rattle.smb_head.specs.Chains.{IsRequest, chain_of}
 use Rattle.smb_head.proofs.Chaining.{chain_is}
 use Rattle.smb_session.specs.Window.{may_use}
 use Rattle.std.proofs.lemmas.Bool.{and_parts, leb-true}
-use Rattle.smb_body.specs.Smb1.{smb1_of, is_smb1}
+use Rattle.smb_body.specs.Smb1.{smb1_of}
+use Rattle.smb_body.specs.Readings.{is_smb1}
 use Rattle.smb_wire.specs.declared.dialect.Dialect.{Dialect}
 use Rattle.smb_body.specs.declared.smb1.Smb1Dialects.{Smb1Dialects}
 use Rattle.smb_request.specs.declared.smb1.Smb1Answer.{Smb1Answer}

@@ -228,7 +228,7 @@ module _ {S : Type 0} (m : Meaning S) where
   run_stops start now new front outputs outputs' events event place BadConfig i h q p e s t = absurd s
 
   pub opened-unread : (s : ShareState S) → s ≡ unread s → opened s ≡ unread (opened s)
-  unfolding rest
+  unfolding rest payloads
   opened-unread s h = rw (unread-insert s.next new_stream s.streams) (ap (λ t. record { server = connection_added s.server s.next; streams = insert_entry nat_cmp t.streams s.next new_stream; next = s.next + 1 }) h)
 
   open_refused : (s : ShareState S) (n : ℕ) (o : Option ServeFault) → n ≡ s.next → opening_refusal s ≡ o → event_refusal s (opens n) ≡ o

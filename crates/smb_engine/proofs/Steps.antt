@@ -5,7 +5,8 @@ use Rattle.std.proofs.lemmas.List.{append-nil, take-take, length-take}
 use Rattle.std.proofs.lemmas.Grind.{flat_map-append}
 use Rattle.std.proofs.Math.Seq.{take-append_seam}
 use Rattle.smb_wire.specs.Limits.{longest_payload}
-use Rattle.smb_frame.specs.Reading.{first, after, payloads, rest}
+use Rattle.smb_frame.specs.Reading.{first, payloads, rest}
+use Rattle.smb_frame.specs.Parts.{after}
 use Rattle.smb_frame.proofs.Frames.{first_is}
 use Rattle.smb_frame.proofs.Streams.{payloads-none, payloads-some, rest-none, rest-some}
 use Rattle.smb_engine.specs.declared.arrival.Arrival.{Arrival}

@@ -6,7 +6,8 @@ use Rattle.std.proofs.lemmas.Option.{cond_some}
 use Rattle.std.proofs.lemmas.List.{drop-drop, take_at, drop_at, take-append-drop, length-take-le, take-append-le, drop-append-le}
 use Rattle.smb_wire.specs.Number.{IsBytes, spelling}
 use Rattle.smb_frame.specs.Framed.{frame}
-use Rattle.smb_frame.specs.Reading.{size, first, after}
+use Rattle.smb_frame.specs.Reading.{first}
+use Rattle.smb_frame.specs.Parts.{after, size}
 
 -- the frame that stands first is within the bytes
 pub first_is : (limit : ℕ) (bytes payload : List ℕ) → first limit bytes ≡ Some payload → length payload + 4 ≤ length bytes
@@ -86,6 +87,10 @@ first-of_frame limit payload more fits h =
     let long : leb (length payload) (length (payload ++ more)) ≡ true = le-leb _ _ (omega (arith, length-append payload more)) in
     let within : leb (length payload) limit ≡ true = le-leb _ _ h in
     rw (n, long, within, take_at payload more (length payload) refl) refl
+
+pub length-frame : (payload : List ℕ) → length (frame payload) ≡ length payload + 4
+unfolding spelling
+length-frame payload = omega arith
 
 pub after-of_frame : (payload more : List ℕ) → after payload (frame payload ++ more) ≡ more
 unfolding spelling

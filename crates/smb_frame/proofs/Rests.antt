@@ -1,14 +1,16 @@
--- The rest of a stream, and its kind.
+-- The rest of a stream, and its fault.
 use Rattle.std.proofs.Common.{◌≡◌, ℕ, ◌/◌, ◌%◌, ◌^◌, ◌<◌, ◌≤◌, ◌-◌, true, false, eqb, ltb, List, [], ◌∷◌, ◌++◌, length, Some, None, refl, ap, arith, length-append}
-use Rattle.std.specs.Prelude.{replicate, ◌≢◌, if◌then◌else◌}
+use Rattle.std.specs.Prelude.{replicate, reverse, ◌≢◌, if◌then◌else◌, Option}
 use Rattle.std.proofs.Common.{inl, inr}
 use Rattle.std.proofs.lemmas.Grind.{common_steps}
 use Rattle.std.proofs.lemmas.List.{length-replicate}
 use Rattle.std.proofs.lemmas.Bool.{eqb-true, eqb-false, ltb-true, ltb-false, le-ltb, lt-ltb, eq-eqb, ne_eqb, lt-leb, le-leb, cases_Bool, false_from_ne_true}
 use Rattle.smb_wire.specs.Number.{IsBytes, spelling}
 use Rattle.smb_frame.specs.declared.fault.FrameFault.{FrameFault}
-use Rattle.smb_frame.specs.Framed.{frame, network_order, BreaksFirstByte, BreaksLimit, IsOpen, RestKind, still_open, wrong_first_byte, too_long, IsRest}
-use Rattle.smb_frame.specs.Reading.{size, first, kind_of, fault_of}
+use Rattle.smb_frame.specs.declared.fault.FrameFault.TheVariants.{FirstByte, TooLong, PayloadTooLong, NoMemory}
+use Rattle.smb_frame.specs.Framed.{frame, BreaksFirstByte, BreaksLimit, IsOpen, IsRest}
+use Rattle.smb_frame.specs.Reading.{first, fault_of}
+use Rattle.smb_frame.specs.Parts.{size}
 
 -- what is faulty stays faulty, and there is no frame in it
 pub fault_more : (limit : ℕ) (held piece : List ℕ) (fault : FrameFault) → fault_of limit held ≡ Some fault →
@@ -125,7 +127,7 @@ wrong_first : (k : ℕ) (more : List ℕ) → eqb k 0 ≡ false → BreaksFirstB
 wrong_first k more e = record { byte = k; more = more; whole = refl; wrong = eqb-false k 0 e }
 
 -- three bytes are the spelling of the length that they say
-long_whole : (k a b c : ℕ) (bytes : List ℕ) → IsBytes (k ∷ a ∷ b ∷ c ∷ bytes) → k ≡ 0 → k ∷ a ∷ b ∷ c ∷ bytes ≡ 0 ∷ (network_order 3 (size a b c) ++ bytes)
+long_whole : (k a b c : ℕ) (bytes : List ℕ) → IsBytes (k ∷ a ∷ b ∷ c ∷ bytes) → k ≡ 0 → k ∷ a ∷ b ∷ c ∷ bytes ≡ 0 ∷ (reverse (spelling 3 (size a b c)) ++ bytes)
 unfolding spelling
 long_whole k a b c bytes fits ek =
     let ea : size a b c / 256 / 256 % 256 ≡ a = omega (arith, fits 1, fits 2, fits 3) in
@@ -139,7 +141,7 @@ lacking limit k a b c bytes ek within none = grind (arith, common_steps, eq-eqb 
 
 -- the kind of bytes with no whole frame in front, from the tests of their length
 long_kind : (limit k a b c : ℕ) (bytes : List ℕ) → IsBytes (k ∷ a ∷ b ∷ c ∷ bytes) → k ≡ 0 → first limit (k ∷ a ∷ b ∷ c ∷ bytes) ≡ None →
-    IsRest limit (k ∷ a ∷ b ∷ c ∷ bytes) (if ltb limit (size a b c) then too_long else still_open)
+    IsRest limit (k ∷ a ∷ b ∷ c ∷ bytes) (if ltb limit (size a b c) then Some TooLong else None)
 long_kind limit k a b c bytes fits ek none = elim (cases_Bool (ltb limit (size a b c))) [
   | inl e ↦ rw e (record {
     size = size a b c;
@@ -151,7 +153,7 @@ long_kind limit k a b c bytes fits ek none = elim (cases_Bool (ltb limit (size a
   | inr e ↦ rw e (open_long limit k a b c bytes fits ek (ltb-false limit (size a b c) e) (lacking limit k a b c bytes ek (ltb-false limit (size a b c) e) none))
 ]
 
-pub rest_kind : (limit : ℕ) (rest : List ℕ) → IsBytes rest → first limit rest ≡ None → IsRest limit rest (kind_of limit rest)
+pub rest_kind : (limit : ℕ) (rest : List ℕ) → IsBytes rest → first limit rest ≡ None → IsRest limit rest (fault_of limit rest)
 rest_kind limit [] fits none = record {
   payload = [];
   still = 0 ∷ 0 ∷ 0 ∷ 0 ∷ [];
@@ -178,18 +180,18 @@ rest_kind limit (k ∷ a ∷ b ∷ c ∷ bytes) fits none = elim (cases_Bool (eq
   | inr e ↦ rw e (wrong_first k (a ∷ b ∷ c ∷ bytes) e)
 ]
 
--- a rest of a kind begins with no whole frame, and `kind_of` gives the kind
-pub record HasKind (limit : ℕ) (rest : List ℕ) (kind : RestKind) : Type 0 where
+-- a rest with a fault begins with no whole frame, and `fault_of` gives the fault
+pub record HasKind (limit : ℕ) (rest : List ℕ) (fault : Option FrameFault) : Type 0 where
   pub none : first limit rest ≡ None
-  pub kind_is : kind_of limit rest ≡ kind
+  pub kind_is : fault_of limit rest ≡ fault
 
-wrong_kind : (limit byte : ℕ) (more : List ℕ) → byte ≢ 0 → HasKind limit (byte ∷ more) wrong_first_byte
+wrong_kind : (limit byte : ℕ) (more : List ℕ) → byte ≢ 0 → HasKind limit (byte ∷ more) (Some FirstByte)
 wrong_kind limit byte [] wrong = record { none = refl; kind_is = rw (ne_eqb byte 0 wrong) refl }
 wrong_kind limit byte (a ∷ []) wrong = record { none = refl; kind_is = rw (ne_eqb byte 0 wrong) refl }
 wrong_kind limit byte (a ∷ b ∷ []) wrong = record { none = refl; kind_is = rw (ne_eqb byte 0 wrong) refl }
 wrong_kind limit byte (a ∷ b ∷ c ∷ more) wrong = record { none = rw (ne_eqb byte 0 wrong) refl; kind_is = rw (ne_eqb byte 0 wrong) refl }
 
-over_kind : (limit n : ℕ) (more : List ℕ) → n < 2 ^ 24 → limit < n → HasKind limit (0 ∷ (network_order 3 n ++ more)) too_long
+over_kind : (limit n : ℕ) (more : List ℕ) → n < 2 ^ 24 → limit < n → HasKind limit (0 ∷ (reverse (spelling 3 n) ++ more)) (Some TooLong)
 unfolding spelling
 over_kind limit n more fits over = record {
   none = rw (size_is n fits, lt-leb n limit over) refl;
@@ -206,7 +208,7 @@ some_still [] h = absurd (h refl)
 some_still (x ∷ still) h = omega arith
 
 -- an open rest of four bytes or more
-open_kind_long : (limit k a b c : ℕ) (bytes : List ℕ) → IsOpen limit (k ∷ a ∷ b ∷ c ∷ bytes) → HasKind limit (k ∷ a ∷ b ∷ c ∷ bytes) still_open
+open_kind_long : (limit k a b c : ℕ) (bytes : List ℕ) → IsOpen limit (k ∷ a ∷ b ∷ c ∷ bytes) → HasKind limit (k ∷ a ∷ b ∷ c ∷ bytes) None
 unfolding spelling
 open_kind_long limit k a b c bytes o =
     let whole = o.whole in
@@ -229,14 +231,16 @@ open_kind_long limit k a b c bytes o =
       kind_is = rw (eq-eqb k 0 zero_is, le-ltb limit (size a b c) within) refl;
     }
 
-open_kind : (limit : ℕ) (rest : List ℕ) → IsOpen limit rest → HasKind limit rest still_open
+open_kind : (limit : ℕ) (rest : List ℕ) → IsOpen limit rest → HasKind limit rest None
 open_kind limit [] o = record { none = refl; kind_is = refl }
 open_kind limit (k ∷ []) o = record { none = refl; kind_is = rw (first_of_open k [] o.still o.payload o.whole) refl }
 open_kind limit (k ∷ a ∷ []) o = record { none = refl; kind_is = rw (first_of_open k (a ∷ []) o.still o.payload o.whole) refl }
 open_kind limit (k ∷ a ∷ b ∷ []) o = record { none = refl; kind_is = rw (first_of_open k (a ∷ b ∷ []) o.still o.payload o.whole) refl }
 open_kind limit (k ∷ a ∷ b ∷ c ∷ bytes) o = open_kind_long limit k a b c bytes o
 
-pub kind_of_rest : (limit : ℕ) (rest : List ℕ) (kind : RestKind) → IsRest limit rest kind → HasKind limit rest kind
-kind_of_rest limit rest wrong_first_byte h = rw h.whole (wrong_kind limit h.byte h.more h.wrong)
-kind_of_rest limit rest too_long h = rw h.whole (over_kind limit h.size h.more h.fits h.over)
-kind_of_rest limit rest still_open h = open_kind limit rest h
+pub kind_of_rest : (limit : ℕ) (rest : List ℕ) (fault : Option FrameFault) → IsRest limit rest fault → HasKind limit rest fault
+kind_of_rest limit rest None h = open_kind limit rest h
+kind_of_rest limit rest (Some FirstByte) h = rw h.whole (wrong_kind limit h.byte h.more h.wrong)
+kind_of_rest limit rest (Some TooLong) h = rw h.whole (over_kind limit h.size h.more h.fits h.over)
+kind_of_rest limit rest (Some PayloadTooLong) h = absurd h
+kind_of_rest limit rest (Some NoMemory) h = absurd h

@@ -1,3 +1,4 @@
 pub mod Framed
 pub mod Reading
 pub mod Unread
+pub mod Parts

@@ -1,51 +1,32 @@
 -- The one reading of a stream (`Framed`), as functions that later definitions compute with.
 use Rattle.std.specs.Prelude.{◌≡◌, ℕ, zero, suc, ◌+◌, ◌*◌, ◌≤◌, ◌&&◌, ◌==◌, List, [], ◌∷◌, ◌++◌, length, take, drop, Option, None, Some, nat_le, nat_lt, if◌then◌else◌}
 use Rattle.std.specs.Option.{option_map_or}
+use Rattle.std.specs.List.{flat_map}
 use Rattle.smb_wire.specs.Number.{IsBytes}
 use Rattle.smb_frame.specs.declared.fault.FrameFault.{FrameFault}
 use Rattle.smb_frame.specs.declared.fault.FrameFault.TheVariants.{FirstByte, TooLong}
-use Rattle.smb_frame.specs.Framed.{RestKind, still_open, wrong_first_byte, too_long, Framed}
-
--- the length that three bytes say in network order
-abbrev pub size : ℕ → ℕ → ℕ → ℕ
-size high middle low = 65536 * high + 256 * middle + low
+use Rattle.smb_frame.specs.Framed.{frame, Framed}
 
 -- the payload of the frame that stands first, where a whole one does
 abbrev pub first : ℕ → List ℕ → Option (List ℕ)
 first limit (kind ∷ high ∷ middle ∷ low ∷ bytes) =
-    if (kind == 0) && (nat_le (size high middle low) limit && nat_le (size high middle low) (length bytes))
-    then Some (take (size high middle low) bytes) else None
+    let size = 65536 * high + 256 * middle + low in
+    if (kind == 0) && (nat_le size limit && nat_le size (length bytes)) then Some (take size bytes) else None
 first limit bytes = None
 
--- the kind of a rest, by its first four bytes as far as they are there
-abbrev pub kind_of : ℕ → List ℕ → RestKind
-kind_of limit [] = still_open
-kind_of limit (kind ∷ high ∷ middle ∷ low ∷ bytes) =
-    if kind == 0 then (if nat_lt limit (size high middle low) then too_long else still_open) else wrong_first_byte
-kind_of limit (kind ∷ bytes) = if kind == 0 then still_open else wrong_first_byte
-
--- the fault that is reported of a rest of this kind
-abbrev pub reported : RestKind → Option FrameFault
-reported still_open = None
-reported wrong_first_byte = Some FirstByte
-reported too_long = Some TooLong
-
--- what is wrong with the frame that stands first, as far as it goes
+-- what is wrong with the frame that stands first, by its first four bytes as far as they are there
 abbrev pub fault_of : ℕ → List ℕ → Option FrameFault
-fault_of limit rest = reported (kind_of limit rest)
+fault_of limit [] = None
+fault_of limit (kind ∷ high ∷ middle ∷ low ∷ bytes) =
+    let size = 65536 * high + 256 * middle + low in
+    if kind == 0 then (if nat_lt limit size then Some TooLong else None) else Some FirstByte
+fault_of limit (kind ∷ bytes) = if kind == 0 then None else Some FirstByte
 
--- the bytes after the frame of this payload, which stands first
-abbrev pub after : List ℕ → List ℕ → List ℕ
-after payload bytes = drop (length payload + 4) bytes
-
--- the payloads of the first n frames at most, and the bytes after these
+-- the payloads of the first n frames at most, each frame 4 bytes longer than its payload
 abbrev pub payloads_in : ℕ → ℕ → List ℕ → List (List ℕ)
 payloads_in limit zero bytes = []
-payloads_in limit (suc n) bytes = option_map_or (λ payload. payload ∷ payloads_in limit n (after payload bytes)) (first limit bytes) []
-
-abbrev pub rest_in : ℕ → ℕ → List ℕ → List ℕ
-rest_in limit zero bytes = bytes
-rest_in limit (suc n) bytes = option_map_or (λ payload. rest_in limit n (after payload bytes)) (first limit bytes) bytes
+payloads_in limit (suc n) bytes =
+    option_map_or (λ payload. payload ∷ payloads_in limit n (drop (length payload + 4) bytes)) (first limit bytes) []
 
 -- the payloads of a stream's whole frames. (There are fewer frames than bytes.)
 unfoldable pub payloads : ℕ → List ℕ → List (List ℕ)
@@ -53,15 +34,15 @@ payloads limit stream = payloads_in limit (length stream) stream
 
 -- what follows a stream's whole frames
 unfoldable pub rest : ℕ → List ℕ → List ℕ
-rest limit stream = rest_in limit (length stream) stream
+rest limit stream = drop (length (flat_map frame (payloads limit stream))) stream
 
--- each stream is framed in one way: into these payloads, this rest and its kind
+-- each stream is framed in one way: into these payloads, this rest and its fault
 abbrev pub EachStreamHasOneReading : Type 0
 EachStreamHasOneReading =
     (limit : ℕ) (stream : List ℕ) → IsBytes stream →
-    Framed limit stream (payloads limit stream) (rest limit stream) (kind_of limit (rest limit stream))
-    × ((those : List (List ℕ)) (left : List ℕ) (kind : RestKind) → Framed limit stream those left kind →
-    (those ≡ payloads limit stream) × (left ≡ rest limit stream) × (kind ≡ kind_of limit (rest limit stream)))
+    Framed limit stream (payloads limit stream) (rest limit stream) (fault_of limit (rest limit stream))
+    × ((those : List (List ℕ)) (left : List ℕ) (fault : Option FrameFault) → Framed limit stream those left fault →
+    (those ≡ payloads limit stream) × (left ≡ rest limit stream) × (fault ≡ fault_of limit (rest limit stream)))
 
 -- reading the rest followed by a piece gives exactly the payloads that the piece adds, and the new rest
 abbrev pub RestIsEnough : Type 0

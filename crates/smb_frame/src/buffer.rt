@@ -1,8 +1,9 @@
 //! The bytes of one stream that are held.
 
-ghost use Rattle.std.specs.Prelude.{◌≡◌, ◌↔◌, ◌+◌, ◌≤◌, ℕ, IsTrue, List, [], length, OnOk, OnErr, IfErr, IsSome, IfSome};
+ghost use Rattle.std.specs.Prelude.{◌≡◌, ◌↔◌, ◌+◌, ◌≤◌, ℕ, IsTrue, List, [], length, drop, OnOk, OnErr, IfErr, IsSome, IfSome};
 ghost use Rattle.std.specs.Option.{option_map};
-ghost use Rattle.smb_frame.specs.Reading.{size, first, fault_of, after, EachStreamHasOneReading, RestIsEnough, FaultIsForGood, OpenRestIsShort};
+ghost use Rattle.smb_frame.specs.Reading.{first, fault_of, EachStreamHasOneReading, RestIsEnough, FaultIsForGood, OpenRestIsShort};
+ghost use Rattle.smb_frame.specs.Parts.{size};
 ghost use Rattle.smb_frame.specs.Unread.{without_done, with_piece};
 
 use super::fault::FrameFault;
@@ -150,7 +151,10 @@ impl FrameBuffer {
     pub fn done(&mut self)
         requires { IsSome (first self.old.limit self.old.bytes) }
         ensures { (payload : List ℕ) → first self.old.limit self.old.bytes ≡ Some payload →
-            self.new ≡ record self.old { done = self.old.done + (length payload + 4); bytes = after payload self.old.bytes } }
+            self.new ≡ record self.old {
+              done = self.old.done + (length payload + 4);
+              bytes = drop (length payload + 4) self.old.bytes;
+            } }
     {
         if let Some(payload) = self.next() {
             let length = payload.len();

@@ -1,7 +1,8 @@
 //! A payload as a frame.
 
-ghost use Rattle.std.specs.Prelude.{◌≡◌, ◌≤◌, ◌+◌, ◌∷◌, List, ℕ, ◌++◌, ◌<◌, ◌^◌, OnOk, OnErr, IfOk, IfErr, length, take, drop, replicate};
-ghost use Rattle.smb_frame.specs.Framed.{frame, network_order};
+ghost use Rattle.std.specs.Prelude.{◌≡◌, ◌≤◌, ◌+◌, ◌∷◌, List, ℕ, ◌++◌, ◌<◌, ◌^◌, OnOk, OnErr, IfOk, IfErr, length, take, drop, replicate, reverse};
+ghost use Rattle.smb_wire.specs.Number.{spelling};
+ghost use Rattle.smb_frame.specs.Framed.{frame};
 ghost use Rattle.smb_frame.specs.Unread.{FrameRefused};
 
 use super::fault::FrameFault;
@@ -50,7 +51,7 @@ pub fn put_frame(payload: &[u8], out: &mut Vec<u8>) -> Result<(), FrameFault>
 #[tactic(auto, unfolding(smb_wire::specs::Number::spelling))]
 fn frame_head(length: usize) -> [u8; 4]
     requires { length < 2 ^ 24 }
-    ensures { result ≡ 0 ∷ network_order 3 length }
+    ensures { result ≡ 0 ∷ reverse (spelling 3 length) }
 {
     let [_, high, middle, low] = (length as u32).to_be_bytes();
     [0, high, middle, low]

@@ -10,7 +10,8 @@ use Rattle.smb_wire.specs.Fields.{Field, num, raw, AllStand}
 use Rattle.smb_head.specs.declared.header.Header.{Header}
 use Rattle.smb_head.specs.declared.fault.HeadFault.{HeadFault}
 use Rattle.smb_head.specs.Headers.{fields, SpellsHeader, header_of}
-use Rattle.smb_head.specs.Chains.{is_related, next_of, IsRequest, BeginsUnrelated, AreLinked, Chained, is_next_right, request_fault, followed_by, requests_in, chain_of}
+use Rattle.smb_head.specs.Chains.{is_related, IsRequest, BeginsUnrelated, AreLinked, Chained, request_fault, requests_in, chain_of}
+use Rattle.smb_head.specs.Parts.{next_of, is_next_right, followed_by}
 use Rattle.smb_head.proofs.Readings.{Begins, spells_header_of, spells_only, spells_begins}
 use Rattle.smb_head.proofs.Faultless.{IsRight, right, no_fault, leads_on}
 use Rattle.smb_head.proofs.Walks.{in_fault, in_last, in_more}

@@ -5,7 +5,8 @@ use Rattle.std.specs.Option.{option_or}
 use Rattle.std.proofs.lemmas.Bool.{eqb-true, leb-true, not-false, and_parts, ne_eqb}
 use Rattle.smb_head.specs.declared.fault.HeadFault.{HeadFault}
 use Rattle.smb_head.specs.Headers.{header_fault}
-use Rattle.smb_head.specs.Chains.{is_from_server, is_related, next_of, is_next_right, request_fault}
+use Rattle.smb_head.specs.Chains.{is_related, request_fault}
+use Rattle.smb_head.specs.Parts.{is_from_server, next_of, is_next_right}
 use Rattle.smb_head.proofs.Readings.{passed, Begins, begins, faultless}
 
 pub record IsRight (first : Bool) (bytes : List ℕ) : Type 0 where

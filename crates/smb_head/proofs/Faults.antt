@@ -9,7 +9,8 @@ use Rattle.std.proofs.lemmas.List.{take-append-drop, take_at, drop_at}
 use Rattle.smb_head.specs.declared.header.Header.{Header}
 use Rattle.smb_head.specs.declared.fault.HeadFault.{HeadFault}
 use Rattle.smb_head.specs.declared.fault.HeadFault.TheVariants.{TooMany}
-use Rattle.smb_head.specs.Chains.{next_of, IsRequest, BeginsUnrelated, AreFollowed, Faulty, request_fault, followed_by, requests_in, chain_of, chain_fault}
+use Rattle.smb_head.specs.Chains.{IsRequest, BeginsUnrelated, AreFollowed, Faulty, request_fault, requests_in, chain_of, chain_fault}
+use Rattle.smb_head.specs.Parts.{next_of, followed_by}
 use Rattle.smb_head.proofs.Faultless.{right, no_fault, leads_on}
 use Rattle.smb_head.proofs.Walks.{in_fault, in_last, in_more}
 use Rattle.smb_head.proofs.Chaining.{no_true, header_front, long_request, front_of, more_right}

@@ -8,7 +8,8 @@ use Rattle.smb_wire.proofs.Numbers.{length-spelling}
 use Rattle.smb_wire.proofs.FieldTables.{appended-joined}
 use Rattle.smb_head.specs.declared.header.Header.{Header}
 use Rattle.smb_head.specs.Headers.{protocol_id}
-use Rattle.smb_head.specs.Replies.{Reply, reply_bytes, rounded_up, padded, padded_length, joined_replies, last_place, so_far}
+use Rattle.smb_head.specs.Replies.{Reply, reply_bytes, rounded_up, joined_replies, last_place, so_far}
+use Rattle.smb_head.specs.Parts.{padded, padded_length}
 
 -- a header and a body put behind a front
 pub put_is : (old one two : List ℕ) (table : List Field) (body : List ℕ) → one ≡ appended old table → two ≡ one ++ body →

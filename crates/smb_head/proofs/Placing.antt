@@ -2,7 +2,8 @@
 use Rattle.std.proofs.Common.{◌≡◌, ℕ, ◌+◌, ◌-◌, ◌<◌, ◌≤◌, List, [], ◌∷◌, ◌++◌, length, take, drop, replicate, refl, sym, ◌∙◌, ap, arith, length-append, append_assoc}
 use Rattle.std.proofs.Math.Seq.{drop-append-add}
 use Rattle.std.proofs.lemmas.List.{take_at, drop_at, length-take, take-take, take-append-le, drop-drop, replicate-append-replicate}
-use Rattle.smb_head.specs.Replies.{Reply, Held, reply_bytes, rounded_up, padded, joined_replies, last_place, so_far}
+use Rattle.smb_head.specs.Replies.{Reply, Held, reply_bytes, rounded_up, joined_replies, last_place, so_far}
+use Rattle.smb_head.specs.Parts.{padded}
 use Rattle.smb_head.specs.Placed.{placed, replies_written, with_open_reply}
 use Rattle.smb_head.proofs.Joining.{patched, patched_behind, length-padded, push_more, push_first, last_after, holds_none}
 

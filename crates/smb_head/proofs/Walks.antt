@@ -7,7 +7,8 @@ use Rattle.std.proofs.lemmas.Bool.{ne_eqb}
 use Rattle.std.proofs.lemmas.List.{take_more_set, map-append}
 use Rattle.smb_head.specs.declared.fault.HeadFault.{HeadFault}
 use Rattle.smb_head.specs.declared.fault.HeadFault.TheVariants.{TooMany}
-use Rattle.smb_head.specs.Chains.{next_of, request_fault, followed_by, requests_in, chain_of, chain_fault}
+use Rattle.smb_head.specs.Chains.{request_fault, requests_in, chain_of, chain_fault}
+use Rattle.smb_head.specs.Parts.{next_of, followed_by}
 
 -- one request's part of a reading
 pub in_fault : (n : ℕ) (first : Bool) (bytes : List ℕ) (fault : HeadFault) → request_fault first bytes ≡ Some fault →

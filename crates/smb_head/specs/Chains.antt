@@ -2,28 +2,20 @@
 use Rattle.std.specs.Prelude.{◌≡◌, ℕ, zero, suc, ◌+◌, ◌%◌, ◌≤◌, Bool, true, false, ◌&&◌, ◌||◌, ◌==◌, not, List, [], ◌∷◌, ◌++◌, length, take, drop, Option, None, Some, is_some, Result, Ok, Err, nat_le, if◌then◌else◌, bit_and}
 use Rattle.std.specs.List.{concat, AllByRecursion}
 use Rattle.std.specs.Option.{option_or, option_map_or}
-use Rattle.std.specs.Result.{result_ok, result_err}
+use Rattle.std.specs.Result.{result_ok, result_err, result_map_both}
 use Rattle.smb_wire.specs.Limits.{most_requests}
 use Rattle.smb_head.specs.declared.fault.HeadFault.{HeadFault}
 use Rattle.smb_head.specs.declared.fault.HeadFault.TheVariants.{Next, TooMany, FromServer, RelatedFirst}
 use Rattle.smb_head.specs.Headers.{SpellsHeader, header_of, header_fault}
 
--- SERVER_TO_REDIR is set in the header that the bytes begin with, as in a reply
-abbrev pub is_from_server : List ℕ → Bool
-is_from_server bytes = bit_and (header_of bytes).flags.0 1 == 1
-
 -- RELATED_OPERATIONS is set: the request acts on what the one before it acted on
 abbrev pub is_related : List ℕ → Bool
 is_related bytes = bit_and (header_of bytes).flags.0 4 == 4
 
--- NextCommand
-abbrev pub next_of : List ℕ → ℕ
-next_of bytes = (header_of bytes).next_command
-
--- a request begins with a header, so it has 64 bytes or more, and the header is not that of a reply
+-- a request begins with a header, so it has 64 bytes or more, and SERVER_TO_REDIR, which a reply has, is not set there
 pub record IsRequest (request : List ℕ) : Type 0 where
   pub header : SpellsHeader request (header_of request)
-  pub to_server : is_from_server request ≡ false
+  pub to_server : (bit_and (header_of request).flags.0 1 == 1) ≡ false
 
 -- the first of some requests is not related to one before it
 abbrev pub BeginsUnrelated : List (List ℕ) → Type 0
@@ -33,8 +25,9 @@ BeginsUnrelated (request ∷ requests) = is_related request ≡ false
 -- there is a last request, and its NextCommand is 0; that of each other is the request's length, a multiple of 8
 abbrev pub AreLinked : List (List ℕ) → Type 0
 AreLinked [] = ⊥
-AreLinked (last ∷ []) = next_of last ≡ 0
-AreLinked (request ∷ next ∷ requests) = (next_of request ≡ length request) × (length request % 8 ≡ 0) × AreLinked (next ∷ requests)
+AreLinked (last ∷ []) = (header_of last).next_command ≡ 0
+AreLinked (request ∷ next ∷ requests) =
+    ((header_of request).next_command ≡ length request) × (length request % 8 ≡ 0) × AreLinked (next ∷ requests)
 
 -- the payload is these requests one after the other, 1 to 16
 pub record Chained (payload : List ℕ) (requests : List (List ℕ)) : Type 0 where
@@ -44,19 +37,16 @@ pub record Chained (payload : List ℕ) (requests : List (List ℕ)) : Type 0 wh
   pub unrelated : BeginsUnrelated requests
   pub linked : AreLinked requests
 
--- a NextCommand is right in a header that begins so many bytes before the payload's end: it is 0, or the
--- distance of a next header, a multiple of 8 and at least 64, which leaves at least 64 bytes there
-abbrev pub is_next_right : ℕ → ℕ → Bool
-is_next_right next left = (next == 0) || ((next % 8 == 0) && (nat_le 64 next && nat_le (next + 64) left))
-
--- what is wrong with the request that stands first in the rest of a payload, the first of these; `first` says
--- that no request stands before it
+-- what is wrong with the request that stands first in the rest of a payload, the first of these; `first` says that no
+-- request stands before it. A right NextCommand is 0, or a multiple of 8, at least 64, that leaves at least 64 bytes
 abbrev pub request_fault : Bool → List ℕ → Option HeadFault
 request_fault first rest =
+    let next = (header_of rest).next_command in
+    let is_right = (next == 0) || ((next % 8 == 0) && (nat_le 64 next && nat_le (next + 64) (length rest))) in
     option_or (header_fault rest) (
-    if is_from_server rest then Some FromServer else
+    if bit_and (header_of rest).flags.0 1 == 1 then Some FromServer else  -- SERVER_TO_REDIR
     if first && is_related rest then Some RelatedFirst else
-    if not (is_next_right (next_of rest) (length rest)) then Some Next else
+    if not is_right then Some Next else
     None)
 
 -- each of some requests before `rest` is followed by 64 bytes or more, and its NextCommand leads there: it is
@@ -64,7 +54,8 @@ request_fault first rest =
 abbrev pub AreFollowed : List (List ℕ) → List ℕ → Type 0
 AreFollowed [] rest = Unit {0}
 AreFollowed (request ∷ requests) rest =
-    (next_of request ≡ length request) × (length request % 8 ≡ 0) × (64 ≤ length (concat requests ++ rest)) × AreFollowed requests rest
+    ((header_of request).next_command ≡ length request) × (length request % 8 ≡ 0)
+    × (64 ≤ length (concat requests ++ rest)) × AreFollowed requests rest
 
 -- what is wrong with the request that stands first in the rest, behind so many others: that it is the 17th,
 -- whatever it is, or its own fault
@@ -83,18 +74,14 @@ pub record Faulty (payload : List ℕ) (fault : HeadFault) : Type 0 where
   pub followed : AreFollowed before rest
   pub wrong : fault_behind (length before) rest ≡ Some fault
 
--- some requests, and then those that were read behind them, or their fault
-abbrev pub followed_by : List (List ℕ) → Result (List (List ℕ)) HeadFault → Result (List (List ℕ)) HeadFault
-followed_by requests (Ok others) = Ok (requests ++ others)
-followed_by requests (Err fault) = Err fault
-
 -- the requests of the rest of a payload, n at most, or the first fault there
 unfoldable pub requests_in : ℕ → Bool → List ℕ → Result (List (List ℕ)) HeadFault
 requests_in zero first rest = Err TooMany
 requests_in (suc n) first rest =
+    let next = (header_of rest).next_command in
     option_map_or (λ fault. Err fault) (request_fault first rest) (
-    if next_of rest == 0 then Ok (rest ∷ []) else
-    followed_by (take (next_of rest) rest ∷ []) (requests_in n false (drop (next_of rest) rest)))
+    if next == 0 then Ok (rest ∷ []) else
+    result_map_both (λ others. take next rest ∷ others) (λ fault. fault) (requests_in n false (drop next rest)))
 
 -- the requests of a payload; none where it is no chain
 unfoldable pub chain_of : List ℕ → Option (List (List ℕ))

@@ -3,3 +3,4 @@ pub mod Headers
 pub mod Chains
 pub mod Replies
 pub mod Placed
+pub mod Parts

@@ -17,26 +17,20 @@ reply_bytes next reply = joined (fields (record reply.header { next_command = ne
 abbrev pub rounded_up : ℕ → ℕ
 rounded_up n = (n + 7) / 8 * 8
 
--- bytes padded with zeros to a multiple of 8
-abbrev pub padded : List ℕ → List ℕ
-padded bytes = bytes ++ replicate (rounded_up (length bytes) - length bytes) 0
-
--- a reply's length when it is padded
-abbrev pub padded_length : Reply → ℕ
-padded_length reply = rounded_up (length (reply_bytes 0 reply))
-
--- replies one after the other: each but the last is padded, and its NextCommand is its padded length; that
--- of the last is 0
+-- replies one after the other: each but the last is padded with zeros to a multiple of 8, and its NextCommand is its
+-- padded length; that of the last is 0
 unfoldable pub joined_replies : List Reply → List ℕ
 joined_replies [] = []
 joined_replies (last ∷ []) = reply_bytes 0 last
-joined_replies (reply ∷ next ∷ replies) = padded (reply_bytes (padded_length reply) reply) ++ joined_replies (next ∷ replies)
+joined_replies (reply ∷ next ∷ replies) =
+    let bytes = reply_bytes (rounded_up (length (reply_bytes 0 reply))) reply in
+    (bytes ++ replicate (rounded_up (length bytes) - length bytes) 0) ++ joined_replies (next ∷ replies)
 
 -- where the last reply begins
 unfoldable pub last_place : List Reply → ℕ
 last_place [] = 0
 last_place (last ∷ []) = 0
-last_place (reply ∷ next ∷ replies) = padded_length reply + last_place (next ∷ replies)
+last_place (reply ∷ next ∷ replies) = rounded_up (length (reply_bytes 0 reply)) + last_place (next ∷ replies)
 
 -- what a chain of replies holds: the bytes so far, and where the last reply begins
 pub record Held : Type 0 where

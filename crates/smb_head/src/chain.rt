@@ -3,7 +3,8 @@
 ghost use Rattle.std.specs.Prelude.{◌≡◌, ◌≤◌, OnErr, IfOk, IfErr, IfSome, length, slice_get};
 ghost use Rattle.std.specs.Option.{option_map};
 ghost use Rattle.smb_head.specs.Headers.{header_of};
-ghost use Rattle.smb_head.specs.Chains.{chain_fault, chain_of, is_next_right, request_fault, EachChainHasOneReading, EachFaultIsTheFirst, EachPayloadIsEither};
+ghost use Rattle.smb_head.specs.Chains.{chain_fault, chain_of, request_fault, EachChainHasOneReading, EachFaultIsTheFirst, EachPayloadIsEither};
+ghost use Rattle.smb_head.specs.Parts.{is_next_right};
 
 use super::fault::{ChainFault, HeadFault};
 use super::header::{Header, HeaderFlags, NO_HEADER, read_header};

@@ -3,7 +3,8 @@ use Rattle.std.proofs.Common.{◌≡◌, ℕ, zero, suc, ◌+◌, Bool, true, fa
 use Rattle.std.specs.Prelude.{slice_get}
 use Rattle.std.proofs.lemmas.List.{append-nil, drop_more, drop_all}
 use Rattle.std.proofs.lemmas.Option.{slice_get_within, get_or_from_slice_get}
-use Rattle.smb_frame.specs.Reading.{first, after, payloads, rest}
+use Rattle.smb_frame.specs.Reading.{first, payloads, rest}
+use Rattle.smb_frame.specs.Parts.{after}
 use Rattle.smb_frame.proofs.Streams.{payloads-none, payloads-some, rest-none, rest-some}
 use Rattle.smb_wire.specs.Limits.{longest_payload}
 use Rattle.smb_replay.specs.Show.{ListingText, good_lines, last_line, then_lines, payload_lines, rest_lines, lines_from, show_of, request_line, request_lines}

@@ -1,6 +1,7 @@
 use Rattle.std.proofs.Common.{◌≡◌, length}
 use Rattle.std.specs.Option.{option_map}
-use Rattle.smb_body.specs.Smb1.{listed, texts_in}
+use Rattle.smb_body.specs.Smb1.{listed}
+use Rattle.smb_body.specs.Readings.{texts_in}
 use Rattle.smb_body.proofs.Smb1Lists.{listed_after}
 use Rattle.smb_body.proofs.smb1.read_list.Given as goal
 

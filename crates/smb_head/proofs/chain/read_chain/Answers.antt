@@ -2,7 +2,7 @@ use Rattle.std.proofs.Common.{◌≡◌, eqb, length, refl, sym, ap, ◌∙◌, 
 use Rattle.std.specs.Prelude.{◌≢◌}
 use Rattle.smb_head.specs.declared.header.Header.{Header}
 use Rattle.smb_head.specs.Headers.{header_of}
-use Rattle.smb_head.specs.Chains.{next_of}
+use Rattle.smb_head.specs.Parts.{next_of}
 use Rattle.smb_head.proofs.Chaining.{header_of_front}
 use Rattle.std.proofs.lemmas.Result.{err_from_is_err_and}
 use Rattle.smb_head.proofs.Faultless.{right, leads_on}
