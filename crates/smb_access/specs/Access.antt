@@ -23,7 +23,7 @@ reader_access = 0x1200A9
 abbrev pub is_past_reading : Access → Bool
 is_past_reading access = not (bit_and access.0 reader_access == access.0)
 
--- all that MAXIMUM_ALLOWED stands for: what a session can have that may only read; else what the entry allows: a
+-- the rights that MAXIMUM_ALLOWED asks for: what a session can have that may only read; else what the entry allows: a
 -- read-only file every right but FILE_WRITE_DATA and FILE_APPEND_DATA, another entry every right
 abbrev pub most_allowed : Bool → Bool → ℕ
 most_allowed read_only on_read_only =

@@ -35,7 +35,7 @@ is_writing_attributes access = has_any access.0 FILE_WRITE_ATTRIBUTES
 abbrev pub is_bad_access : ℕ → Bool
 is_bad_access access = access == 0 || not (bit_and access 0xF21F01FF == access)
 
--- the rights that a bit stands for, where it is set
+-- the rights that a generic right is mapped to, where its bit is set ([MS-SMB2] 2.2.13.1)
 abbrev pub rights_for : ℕ → ℕ → ℕ → ℕ
 rights_for access bit rights = if has_any access bit then rights else 0
 
@@ -96,11 +96,11 @@ overwritten_basic ask moment basic = record {
 abbrev pub overwritten_tree : Content → FileAsked → ℕ → ℕ → Content
 overwritten_tree tree ask moment number = record tree { rows = changed (overwritten ask moment) tree.rows number }
 
--- the tree after what is asked of an entry that stands
+-- the tree after a CREATE that opens or overwrites an existing entry
 abbrev pub standing_tree : Content → FileAsked → ℕ → ℕ → Content
 standing_tree tree ask moment number = if overwrites_by ask.disposition then overwritten_tree tree ask moment number else tree
 
--- what is done to an entry that stands ([MS-SMB2] 2.2.14)
+-- the CreateAction of a CREATE of an existing entry ([MS-SMB2] 2.2.14)
 abbrev pub action_on : ℕ → CreateAction
 action_on disposition =
     if supersedes_by disposition then Superseded else if overwrites_by disposition then Overwritten else Opened
@@ -134,7 +134,7 @@ has_number number row = row.number == number
 abbrev pub is_on_entry : ℕ → OpenRow → Bool
 is_on_entry entry row = row.entry == entry
 
--- each open's entry stands
+-- the entry of each open is a row of the tree
 abbrev pub ArePresent : List Row → List OpenRow → Type 0
 ArePresent rows = AllByRecursion (λ row. is_some (numbered rows row.entry) ≡ true)
 

@@ -15,7 +15,7 @@ text_of (Opened connection) = opens connection
 text_of (Bytes connection moment piece) = brings connection moment piece.items
 text_of (Ended connection) = ends connection
 
--- the connection of an event, and that of the one at a place
+-- the connection of an event
 abbrev pub connection_of : EventText → ℕ
 connection_of (opens connection) = connection
 connection_of (brings connection moment piece) = connection

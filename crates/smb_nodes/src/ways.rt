@@ -12,7 +12,6 @@ use super::whole_names::most_levels;
 use slab::Slab;
 use smb_wire::limits::MOST_COMPONENTS;
 
-// The most components of a path.
 // The slot of the folder in which the node in a slot stands.
 pub fn folder_of(nodes: &Slab<Node>, slot: usize) -> usize
     ensures { result ≡ up_in (heap_of nodes.now slot) }
