@@ -3,7 +3,7 @@
 
     python3 tools/memory.py [PROGRAM]
 
-The program is that which `rt ci` built, crates/smb_refusals/out/smb_refusals. It plays the events of
+The program is that which `rt ci` built, crates/smb_rows/out/smb_rows. With the word `refusals` it plays the events of
 tools/memory_events.py, and tools/refuse_allocation.c refuses its first allocation, then its second, and so on until a
 run makes fewer. Memory has to run out in the event that asks for it, and in no other. The events before it are
 answered as in the run without a refusal, those behind it as by a new share to which came what tools/memory_cuts.py
@@ -60,7 +60,7 @@ def played(listed, words, number=0):
     with tempfile.NamedTemporaryFile() as sizes:
         system = {'LD_PRELOAD': LIBRARY, 'REFUSE': str(number), 'ALLOCATIONS': sizes.name}
         text = ''.join(it.line() for it in listed)
-        done = subprocess.run([PROGRAM, *words], input=text.encode(), capture_output=True, timeout=PATIENCE, env=system)
+        done = subprocess.run([PROGRAM, 'refusals', *words], input=text.encode(), capture_output=True, timeout=PATIENCE, env=system)
         found = Played(done.returncode, done.stderr.decode())
         for line in done.stdout.decode().splitlines():
             found.add(line)
@@ -304,7 +304,7 @@ def main():
     return 1 if failed else 0
 
 
-PROGRAM = sys.argv[1] if len(sys.argv) > 1 else os.path.join(TOP, 'crates', 'smb_refusals', 'out', 'smb_refusals')
+PROGRAM = sys.argv[1] if len(sys.argv) > 1 else os.path.join(TOP, 'crates', 'smb_rows', 'out', 'smb_rows')
 
 if __name__ == '__main__':
     with tempfile.TemporaryDirectory() as built:

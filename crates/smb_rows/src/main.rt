@@ -3,16 +3,24 @@
 //! that the program serves and over the plain ones, and else what is wrong with it; then the status is 1.
 //!
 //! docs/TESTING.md says how a row is written. With the word `plain` it replays a text of events over the plain pair, as smbshare
-//! does over its own.
+//! does over its own. With the word `refusals` it plays events on a share that goes on where memory runs out (refusals.rt).
 #![tactic(auto)]
 
 mod book;
 mod differ;
+mod fault;
+mod one_by_one;
+mod refusals;
 mod row;
+mod served;
+mod steps;
+mod unopened;
 mod words;
 
 use book::Book;
 use differ::tell;
+use fault::PlayFault;
+use refusals::play_events;
 use row::{Kind, Row};
 use smb_config::BUILT_IN;
 use smb_replay::{replay_ntlm_text, replay_plain_text, replay_text, show_text};
@@ -149,13 +157,28 @@ fn replay_input(rt: &HostRuntime) -> Result<ExitCode, AllocError> {
     Ok(ExitCode::from(status))
 }
 
-/// Does what the words of the command line say: with a word it replays, with none it plays rows.
+/// Plays events on a share that goes on where memory runs out, and gives the exit status.
+fn refuse(rt: &HostRuntime, words: &[String]) -> ExitCode {
+    match play_events(rt, words) {
+        Ok(()) => ExitCode::SUCCESS,
+        Err(fault) => told(rt, fault),
+    }
+}
+
+/// Prints a fault on standard error, and gives its exit status.
+fn told(rt: &HostRuntime, fault: PlayFault) -> ExitCode {
+    let _ = eprintln!(rt; "{fault}");
+    ExitCode::from(fault.status())
+}
+
+/// Does what the words of the command line say: with none it plays rows.
 fn run(rt: &HostRuntime) -> Result<ExitCode, AllocError> {
     let words: Vec<String> = match std::env::args(rt) {
         Ok(words) => words.collect(rt.alloc())?,
         Err(_) => return Err(AllocError),
     };
     match words.as_slice() {
+        [_, word, ways @ ..] if word.as_str() == "refusals" => Ok(refuse(rt, ways)),
         [_, word] if word.as_str() == "plain" => replay_input(rt),
         _ => play_input(rt),
     }
@@ -164,6 +187,6 @@ fn run(rt: &HostRuntime) -> Result<ExitCode, AllocError> {
 fn main(rt: HostRuntime) -> ExitCode {
     match run(&rt) {
         Ok(status) => status,
-        Err(_) => ExitCode::from(3),
+        Err(error) => told(&rt, PlayFault::from(error)),
     }
 }

@@ -12,23 +12,15 @@
 //!
 //! What the program itself takes memory for, it takes before the first of these lines, or behind the last. Where none
 //! is there for that, it ends with `no memory` and the status 3.
-#![tactic(auto)]
 
-mod fault;
-mod one_by_one;
-mod served;
-mod steps;
-mod unopened;
-
-use fault::PlayFault;
-use one_by_one::play;
-use served::play_served;
+use crate::fault::PlayFault;
+use crate::one_by_one::play;
+use crate::served::play_served;
 use smb_config::{BUILT_IN, Configuration};
 use smb_engine::{Authenticator, Event, Opens, Share, Tree};
 use smb_replay::{CommandFault, new_plain_share, new_share, read_events, read_input};
 use std::alloc::Global;
 use std::io::{BufWriter, Write};
-use std::process::ExitCode;
 
 /// What the words of the command line say.
 #[derive(Clone, Copy)]
@@ -40,15 +32,11 @@ struct Way {
 }
 
 /// What the words of the command line say.
-fn read_way(rt: &HostRuntime) -> Result<Way, CommandFault> {
-    let Ok(words) = std::env::args(rt) else {
-        return Err(CommandFault::NoMemory);
-    };
-    let words: Vec<String> = words.collect(rt.alloc())?;
-    Ok(Way {
+fn way_of(words: &[String]) -> Way {
+    Way {
         is_plain: words.iter().any(|word| word.as_str() == "plain"),
         is_served: words.iter().any(|word| word.as_str() == "served"),
-    })
+    }
 }
 
 /// The events of standard input.
@@ -77,10 +65,10 @@ fn configuration(alloc: Global) -> Result<Configuration, CommandFault> {
     Ok(Configuration::read(alloc, BUILT_IN)?)
 }
 
-/// Plays the events of standard input.
-fn run(rt: &HostRuntime) -> Result<(), PlayFault> {
+/// Plays the events of standard input, in the way that these words say.
+pub(crate) fn play_events(rt: &HostRuntime, words: &[String]) -> Result<(), PlayFault> {
     let alloc = rt.alloc();
-    let way = read_way(rt)?;
+    let way = way_of(words);
     let events = events(rt)?;
     let configuration = configuration(alloc)?;
     let Ok(output) = BufWriter::new(alloc, rt.stdout()) else {
@@ -96,15 +84,5 @@ fn run(rt: &HostRuntime) -> Result<(), PlayFault> {
         )
     } else {
         play_on(alloc, way, new_share(alloc, configuration)?, events, output)
-    }
-}
-
-fn main(rt: HostRuntime) -> ExitCode {
-    match run(&rt) {
-        Ok(()) => ExitCode::SUCCESS,
-        Err(fault) => {
-            let _ = eprintln!(rt; "{fault}");
-            ExitCode::from(fault.status())
-        }
     }
 }
