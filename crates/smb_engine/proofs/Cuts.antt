@@ -80,7 +80,7 @@ module _ {S : Type 0} (m : Meaning S) (n moment : ℕ) where
       let others = all before.server before.connection ys in
       rw (e, ih (rw e at h)) (step-assoc p before others)
 
-  steps-on : (server : ServerState S) (connection : Connection) (xs ys : List (List ℕ)) → (all server connection xs).stays_open ≡ true →
+  pub steps-on : (server : ServerState S) (connection : Connection) (xs ys : List (List ℕ)) → (all server connection xs).stays_open ≡ true →
       all server connection (xs ++ ys) ≡ after_step (all server connection xs) (all (all server connection xs).server (all server connection xs).connection ys)
   steps-on server connection [] ys h = refl
   steps-on server connection (x ∷ xs) ys h =
@@ -94,7 +94,7 @@ module _ {S : Type 0} (m : Meaning S) (n moment : ℕ) where
   over_at p xs ys false e ih h = rw e refl
   over_at p xs ys true e ih h = rw e (ap (after_step p) (ih (rw e at h)))
 
-  steps-over : (server : ServerState S) (connection : Connection) (xs ys : List (List ℕ)) → (all server connection xs).stays_open ≡ false → all server connection (xs ++ ys) ≡ all server connection xs
+  pub steps-over : (server : ServerState S) (connection : Connection) (xs ys : List (List ℕ)) → (all server connection xs).stays_open ≡ false → all server connection (xs ++ ys) ≡ all server connection xs
   steps-over server connection [] ys h = cc
   steps-over server connection (x ∷ xs) ys h =
       let p = payload_step m (arrived n moment) server connection x in

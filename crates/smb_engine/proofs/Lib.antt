@@ -29,3 +29,4 @@ pub mod Scripts
 pub mod HeldCalls
 pub mod MemoryCalls
 pub mod TakenBytes
+pub mod SoFar

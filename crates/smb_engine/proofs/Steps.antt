@@ -19,6 +19,7 @@ use Rattle.smb_engine.specs.Run.{Step, payload_step, payload_steps}
 use Rattle.smb_engine.specs.Parts.{and_then, after_step}
 use Rattle.smb_engine.specs.Refusals.{server_after}
 use Rattle.smb_engine.specs.InPlace.{StepPlaced, step_behind}
+use Rattle.smb_engine.specs.SoFar.{StepsSoFar}
 use Rattle.smb_engine.proofs.Chains.{payload_whole, after-past, after-front}
 use Rattle.smb_engine.proofs.Short.{both_short}
 
@@ -52,21 +53,7 @@ module _ {S : Type 0} (m : Meaning S) (hears : Output → List Heard) (arrival :
   abbrev one : ServerState S → Connection → List ℕ → Step S
   one server connection payload = payload_step m arrival server connection payload
 
-  -- what is left to do of some held bytes, behind what was done, is what there was to do at first
-  pub record StepsSoFar (server₀ : ServerState S) (connection₀ : Connection) (heard₀ : List Heard) (held₀ : List ℕ)
-      (server : ServerState S) (connection : Connection) (heard : List Heard) (held : List ℕ) (done : ℕ) : Type 0 where
-    pub says : step_behind hears heard (payload_steps m arrival server connection (payloads longest_payload held))
-        ≡ step_behind hears heard₀ (payload_steps m arrival server₀ connection₀ (payloads longest_payload held₀))
-    pub left : rest longest_payload held ≡ rest longest_payload held₀
-    pub stops : (k : ℕ) → server_after server (payload_steps m arrival server connection (payloads longest_payload held)).requests k
-        ≡ server_after server₀ (payload_steps m arrival server₀ connection₀ (payloads longest_payload held₀)).requests (done + k)
-    pub count : done + length held ≤ length held₀
-    pub number_of : done + length (payload_steps m arrival server connection (payloads longest_payload held)).requests
-        ≡ length (payload_steps m arrival server₀ connection₀ (payloads longest_payload held₀)).requests
-    pub short : AreShort (payload_steps m arrival server connection (payloads longest_payload held)).outputs
-        → AreShort (payload_steps m arrival server₀ connection₀ (payloads longest_payload held₀)).outputs
-
-  pub steps_none : (server : ServerState S) (connection : Connection) (heard : List Heard) (held : List ℕ) → StepsSoFar server connection heard held server connection heard held 0
+  pub steps_none : (server : ServerState S) (connection : Connection) (heard : List Heard) (held : List ℕ) → StepsSoFar m hears arrival server connection heard held server connection heard held 0
   steps_none server connection heard held = record {
     says = refl;
     left = refl;
@@ -91,10 +78,10 @@ module _ {S : Type 0} (m : Meaning S) (hears : Output → List Heard) (arrival :
 
   pub steps_more : (server₀ : ServerState S) (connection₀ : Connection) (heard₀ : List Heard) (held₀ : List ℕ) (server : ServerState S) (connection : Connection) (heard : List Heard) (held : List ℕ) (done : ℕ)
       (server' : ServerState S) (connection' : Connection) (heard' : List Heard) (held' payload : List ℕ) (n : ℕ) →
-      StepsSoFar server₀ connection₀ heard₀ held₀ server connection heard held done → first longest_payload held ≡ Some payload →
+      StepsSoFar m hears arrival server₀ connection₀ heard₀ held₀ server connection heard held done → first longest_payload held ≡ Some payload →
       record { server = server'; connection = connection'; stays_open = true; out = heard' } ≡ step_behind hears heard (payload_step m arrival server connection payload) →
       n ≡ length (payload_step m arrival server connection payload).requests → held' ≡ after payload held → n ≤ length payload → AreShort (payload_step m arrival server connection payload).outputs →
-      StepsSoFar server₀ connection₀ heard₀ held₀ server' connection' heard' held' (done + n)
+      StepsSoFar m hears arrival server₀ connection₀ heard₀ held₀ server' connection' heard' held' (done + n)
   steps_more server₀ connection₀ heard₀ held₀ server connection heard held done server' connection' heard' held' payload n h f e c p b short =
       let step = one server connection payload in
       let next = all step.server step.connection (after payload held) in
@@ -121,7 +108,7 @@ module _ {S : Type 0} (m : Meaning S) (hears : Output → List Heard) (arrival :
   -- a payload that ends the connection
   pub steps_over : (server₀ : ServerState S) (connection₀ : Connection) (heard₀ : List Heard) (held₀ : List ℕ) (server : ServerState S) (connection : Connection) (heard : List Heard) (held : List ℕ) (done : ℕ)
       (server' : ServerState S) (connection' : Connection) (heard' : List Heard) (payload : List ℕ) →
-      StepsSoFar server₀ connection₀ heard₀ held₀ server connection heard held done → first longest_payload held ≡ Some payload →
+      StepsSoFar m hears arrival server₀ connection₀ heard₀ held₀ server connection heard held done → first longest_payload held ≡ Some payload →
       record { server = server'; connection = connection'; stays_open = false; out = heard' } ≡ step_behind hears heard (payload_step m arrival server connection payload) →
       record { server = server'; connection = connection'; stays_open = false; out = heard' } ≡ step_behind hears heard₀ (payload_steps m arrival server₀ connection₀ (payloads longest_payload held₀))
   steps_over server₀ connection₀ heard₀ held₀ server connection heard held done server' connection' heard' payload h f e =
@@ -130,7 +117,7 @@ module _ {S : Type 0} (m : Meaning S) (hears : Output → List Heard) (arrival :
       e ∙ ap (step_behind hears heard) (sym over) ∙ h.says
 
   pub steps_over_short : (server₀ : ServerState S) (connection₀ : Connection) (heard₀ : List Heard) (held₀ : List ℕ) (server : ServerState S) (connection : Connection) (heard : List Heard) (held : List ℕ) (done : ℕ) (payload : List ℕ) →
-      StepsSoFar server₀ connection₀ heard₀ held₀ server connection heard held done → first longest_payload held ≡ Some payload →
+      StepsSoFar m hears arrival server₀ connection₀ heard₀ held₀ server connection heard held done → first longest_payload held ≡ Some payload →
       (payload_step m arrival server connection payload).stays_open ≡ false → AreShort (payload_step m arrival server connection payload).outputs →
       AreShort (payload_steps m arrival server₀ connection₀ (payloads longest_payload held₀)).outputs
   steps_over_short server₀ connection₀ heard₀ held₀ server connection heard held done payload h f ends short =
@@ -147,7 +134,7 @@ module _ {S : Type 0} (m : Meaning S) (hears : Output → List Heard) (arrival :
 
   -- no whole frame is left
   pub steps_all : (server₀ : ServerState S) (connection₀ : Connection) (heard₀ : List Heard) (held₀ : List ℕ) (server : ServerState S) (connection : Connection) (heard : List Heard) (held : List ℕ) (done : ℕ) →
-      StepsSoFar server₀ connection₀ heard₀ held₀ server connection heard held done → first longest_payload held ≡ None →
+      StepsSoFar m hears arrival server₀ connection₀ heard₀ held₀ server connection heard held done → first longest_payload held ≡ None →
       record { server = server; connection = connection; stays_open = true; out = heard } ≡ step_behind hears heard₀ (payload_steps m arrival server₀ connection₀ (payloads longest_payload held₀))
   steps_all server₀ connection₀ heard₀ held₀ server connection heard held done h f =
       let P : List Heard → StepPlaced S Heard = λ t. record { server = server; connection = connection; stays_open = true; out = t } in
@@ -155,17 +142,17 @@ module _ {S : Type 0} (m : Meaning S) (hears : Output → List Heard) (arrival :
       ∙ ap (λ ps. step_behind hears heard (payload_steps m arrival server connection ps)) (sym (payloads-none longest_payload held f)) ∙ h.says
 
   pub steps_all_short : (server₀ : ServerState S) (connection₀ : Connection) (heard₀ : List Heard) (held₀ : List ℕ) (server : ServerState S) (connection : Connection) (heard : List Heard) (held : List ℕ) (done : ℕ) →
-      StepsSoFar server₀ connection₀ heard₀ held₀ server connection heard held done → first longest_payload held ≡ None →
+      StepsSoFar m hears arrival server₀ connection₀ heard₀ held₀ server connection heard held done → first longest_payload held ≡ None →
       AreShort (payload_steps m arrival server₀ connection₀ (payloads longest_payload held₀)).outputs
   steps_all_short server₀ connection₀ heard₀ held₀ server connection heard held done h f = h.short (rw (payloads-none longest_payload held f) tt)
 
   pub held_all : (server₀ : ServerState S) (connection₀ : Connection) (heard₀ : List Heard) (held₀ : List ℕ) (server : ServerState S) (connection : Connection) (heard : List Heard) (held : List ℕ) (done : ℕ) →
-      StepsSoFar server₀ connection₀ heard₀ held₀ server connection heard held done → first longest_payload held ≡ None → held ≡ rest longest_payload held₀
+      StepsSoFar m hears arrival server₀ connection₀ heard₀ held₀ server connection heard held done → first longest_payload held ≡ None → held ≡ rest longest_payload held₀
   held_all server₀ connection₀ heard₀ held₀ server connection heard held done h f = sym (rest-none longest_payload held f) ∙ h.left
 
   -- memory ran out after the requests done so far
   pub steps_stopped : (server₀ : ServerState S) (connection₀ : Connection) (heard₀ : List Heard) (held₀ : List ℕ) (server : ServerState S) (connection : Connection) (heard : List Heard) (held : List ℕ) (done : ℕ) →
-      StepsSoFar server₀ connection₀ heard₀ held₀ server connection heard held done → server ≡ server_after server₀ (payload_steps m arrival server₀ connection₀ (payloads longest_payload held₀)).requests done
+      StepsSoFar m hears arrival server₀ connection₀ heard₀ held₀ server connection heard held done → server ≡ server_after server₀ (payload_steps m arrival server₀ connection₀ (payloads longest_payload held₀)).requests done
   steps_stopped server₀ connection₀ heard₀ held₀ server connection heard held done h =
       let e : done + 0 ≡ done = omega arith in
       h.stops 0 ∙ ap (server_after server₀ (all server₀ connection₀ held₀).requests) e
@@ -173,14 +160,14 @@ module _ {S : Type 0} (m : Meaning S) (hears : Output → List Heard) (arrival :
   -- memory ran out after k requests of the payload that stands first
   pub steps_stopped_in : (server₀ : ServerState S) (connection₀ : Connection) (heard₀ : List Heard) (held₀ : List ℕ) (server : ServerState S) (connection : Connection) (heard : List Heard) (held : List ℕ) (done : ℕ)
       (server' : ServerState S) (payload : List ℕ) (k : ℕ) →
-      StepsSoFar server₀ connection₀ heard₀ held₀ server connection heard held done → first longest_payload held ≡ Some payload →
+      StepsSoFar m hears arrival server₀ connection₀ heard₀ held₀ server connection heard held done → first longest_payload held ≡ Some payload →
       k ≤ length (payload_step m arrival server connection payload).requests → server' ≡ server_after server (payload_step m arrival server connection payload).requests k →
       server' ≡ server_after server₀ (payload_steps m arrival server₀ connection₀ (payloads longest_payload held₀)).requests (done + k)
   steps_stopped_in server₀ connection₀ heard₀ held₀ server connection heard held done server' payload k h f b e =
       e ∙ and_then-in server (others_of held payload) (one server connection payload) k b ∙ ap (λ t. server_after server t.requests k) (sym (steps-some server connection held payload f)) ∙ h.stops k
 
   pub steps_within : (server₀ : ServerState S) (connection₀ : Connection) (heard₀ : List Heard) (held₀ : List ℕ) (server : ServerState S) (connection : Connection) (heard : List Heard) (held : List ℕ) (done k : ℕ) (payload : List ℕ) →
-      StepsSoFar server₀ connection₀ heard₀ held₀ server connection heard held done → first longest_payload held ≡ Some payload → k ≤ length (payload_step m arrival server connection payload).requests →
+      StepsSoFar m hears arrival server₀ connection₀ heard₀ held₀ server connection heard held done → first longest_payload held ≡ Some payload → k ≤ length (payload_step m arrival server connection payload).requests →
       done + k ≤ length (payload_steps m arrival server₀ connection₀ (payloads longest_payload held₀)).requests
   steps_within server₀ connection₀ heard₀ held₀ server connection heard held done k payload h f b =
       let more = and_then-within server (others_of held payload) (one server connection payload) in
@@ -188,7 +175,7 @@ module _ {S : Type 0} (m : Meaning S) (hears : Output → List Heard) (arrival :
       omega (arith, h.number_of, more, same, b)
 
   pub steps_done : (server₀ : ServerState S) (connection₀ : Connection) (heard₀ : List Heard) (held₀ : List ℕ) (server : ServerState S) (connection : Connection) (heard : List Heard) (held : List ℕ) (done : ℕ) →
-      StepsSoFar server₀ connection₀ heard₀ held₀ server connection heard held done →
+      StepsSoFar m hears arrival server₀ connection₀ heard₀ held₀ server connection heard held done →
       done ≤ length (payload_steps m arrival server₀ connection₀ (payloads longest_payload held₀)).requests
   steps_done server₀ connection₀ heard₀ held₀ server connection heard held done h = omega (arith, h.number_of)
 

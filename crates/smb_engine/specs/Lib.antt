@@ -11,6 +11,7 @@ pub mod Rest
 pub mod Sink
 pub mod Held
 pub mod InPlace
+pub mod SoFar
 pub mod Record
 pub mod Clock
 pub mod Peers

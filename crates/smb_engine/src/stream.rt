@@ -1,12 +1,13 @@
 //! A piece of a connection's stream, payload by payload.
 
-ghost use Rattle.std.specs.Prelude.{◌≡◌, ◌≤◌, ◌++◌, ◌&&◌, None, OnOk, OnErr, IfOk, IfErr, IfSome, IsTrue, is_none, is_some, length, take};
+ghost use Rattle.std.specs.Prelude.{◌≡◌, ◌≤◌, ◌++◌, ◌&&◌, None, OnOk, OnErr, IfOk, IfErr, IfSome, is_none, is_some, length, take, drop};
 ghost use Rattle.std.specs.List.{flat_map};
 ghost use Rattle.smb_wire.specs.Limits.{longest_payload};
-ghost use Rattle.smb_frame.specs.Reading.{first, fault_of, payloads, rest};
+ghost use Rattle.smb_frame.specs.Reading.{first, fault_of, payloads};
 ghost use Rattle.smb_engine.specs.Run.{payload_step, payload_steps, piece_step};
 ghost use Rattle.smb_engine.specs.Held.{Waits, IsPieceHeld, StoppedAfter};
 ghost use Rattle.smb_engine.specs.InPlace.{step_behind};
+ghost use Rattle.smb_engine.specs.SoFar.{AreTaken};
 ghost use Rattle.smb_engine.specs.Output.{AreShort};
 
 use super::arrival::Arrival;
@@ -14,11 +15,12 @@ use super::chain::perform_payload;
 use super::connection::{Connection, ConnectionStream};
 use super::fault::CutShort;
 use super::output::Sink;
-use smb_frame::FrameBuffer;
+use smb_frame::{FrameBuffer, first_payload};
 use smb_opens::Opens;
 use smb_request::Server;
 use smb_session::Authenticator;
 use smb_tree::Tree;
+use smb_wire::limits::LONGEST_PAYLOAD;
 
 /// Performs a payload, puts out the frame of its replies, where there are any, and tells the number of its requests;
 /// None where it ends the connection. Of a chain at most so many requests are performed; an error tells how many, and
@@ -72,20 +74,13 @@ fn take_payloads<A: Authenticator + Drop, T: Tree + Drop, O: Opens + Drop, K: Si
     out: &mut K,
 ) -> Result<(bool, usize), CutShort>
     requires { buffer.old.limit ≡ longest_payload }
-    ensures ok { IfOk result (λ r.
-        record { server = server.new; connection = connection.new; stays_open = r.0; out = K.content out.new }
-        ≡ step_behind K.hears (K.content out.old)
-        (payload_steps A.meaning arrival server.old connection.old (payloads longest_payload buffer.old.bytes))) }
-    ensures rest { IfOk result (λ r. IsTrue r.0 → (buffer.new.bytes ≡ rest longest_payload buffer.old.bytes)
-        × (first longest_payload buffer.new.bytes ≡ None)) }
-    ensures done { IfOk result (λ r. StoppedAfter server.old
-        (payload_steps A.meaning arrival server.old connection.old (payloads longest_payload buffer.old.bytes))
-        r.1 server.new) }
+    ensures taken { IfOk result (λ r. AreTaken A.meaning K.hears arrival
+        server.old connection.old (K.content out.old) buffer.old.bytes
+        server.new connection.new (K.content out.new) buffer.new.bytes r.0 r.1) }
     ensures err { IfErr result (λ ran_out. StoppedAfter server.old
         (payload_steps A.meaning arrival server.old connection.old (payloads longest_payload buffer.old.bytes))
         ran_out.done server.new) }
-    ensures short { OnOk result (AreShort
-        (payload_steps A.meaning arrival server.old connection.old (payloads longest_payload buffer.old.bytes)).outputs) }
+    ensures few { IfErr result (λ ran_out. ran_out.done ≤ length buffer.old.bytes) }
     ensures kept { take (length (K.content out.old)) (K.content out.new) ≡ K.content out.old }
     ensures limit { buffer.new.limit ≡ longest_payload }
     ensures known { server.new.sessions.table.connections ≡ server.old.sessions.table.connections }
@@ -112,6 +107,178 @@ fn take_payloads<A: Authenticator + Drop, T: Tree + Drop, O: Opens + Drop, K: Si
         return Err(CutShort { done });
     }
     Ok((true, done))
+}
+
+/// Performs the payloads of the whole frames in some bytes of a stream, in order, each from where it is, and puts out their
+/// replies, as [`take_payloads`] does. Ok tells how many bytes the frames have, besides.
+fn take_frames<A: Authenticator + Drop, T: Tree + Drop, O: Opens + Drop, K: Sink>(
+    server: &mut Server<A, T, O>,
+    arrival: Arrival,
+    bytes: &[u8],
+    connection: &mut Connection,
+    most: usize,
+    out: &mut K,
+) -> Result<(bool, usize, usize), CutShort>
+    ensures taken { IfOk result (λ r. AreTaken A.meaning K.hears arrival
+        server.old connection.old (K.content out.old) bytes.now
+        server.new connection.new (K.content out.new) (drop r.2 bytes.now) r.0 r.1) }
+    ensures used { IfOk result (λ r. r.2 ≤ length bytes.now) }
+    ensures err { IfErr result (λ ran_out. StoppedAfter server.old
+        (payload_steps A.meaning arrival server.old connection.old (payloads longest_payload bytes.now))
+        ran_out.done server.new) }
+    ensures few { IfErr result (λ ran_out. ran_out.done ≤ length bytes.now) }
+    ensures kept { take (length (K.content out.old)) (K.content out.new) ≡ K.content out.old }
+    ensures known { server.new.sessions.table.connections ≡ server.old.sessions.table.connections }
+{
+    let mut done = 0;
+    let mut used = 0;
+    while let Some(payload) = first_payload(LONGEST_PAYLOAD, &bytes[used..]) {
+        if done >= most {
+            return Err(CutShort { done });
+        }
+        match put_payload(server, arrival, connection, payload, most - done, out) {
+            Err(ran_out) => {
+                let done = done + ran_out.done;
+                return Err(CutShort { done });
+            }
+            Ok(None) => return Ok((false, done, used)),
+            Ok(Some(count)) => {
+                done += count;
+                used += payload.len() + 4;
+            }
+        }
+    }
+    if done >= most {
+        return Err(CutShort { done });
+    }
+    Ok((true, done, used))
+}
+
+/// Holds more bytes of a stream, behind those that are held, and takes the whole frames, as [`take_payloads`] does.
+fn take_held<A: Authenticator + Drop, T: Tree + Drop, O: Opens + Drop, K: Sink>(
+    server: &mut Server<A, T, O>,
+    arrival: Arrival,
+    buffer: &mut FrameBuffer,
+    connection: &mut Connection,
+    bytes: &[u8],
+    most: usize,
+    out: &mut K,
+) -> Result<(bool, usize), CutShort>
+    requires limit { buffer.old.limit ≡ longest_payload }
+    requires sound { fault_of longest_payload buffer.old.bytes ≡ None }
+    ensures taken { IfOk result (λ r. AreTaken A.meaning K.hears arrival
+        server.old connection.old (K.content out.old) (buffer.old.bytes ++ bytes.now)
+        server.new connection.new (K.content out.new) buffer.new.bytes r.0 r.1) }
+    ensures err { IfErr result (λ ran_out. StoppedAfter server.old
+        (payload_steps A.meaning arrival server.old connection.old (payloads longest_payload (buffer.old.bytes ++ bytes.now)))
+        ran_out.done server.new) }
+    ensures few { IfErr result (λ ran_out. ran_out.done ≤ length (buffer.old.bytes ++ bytes.now)) }
+    ensures kept { take (length (K.content out.old)) (K.content out.new) ≡ K.content out.old }
+    ensures limit { buffer.new.limit ≡ longest_payload }
+    ensures known { server.new.sessions.table.connections ≡ server.old.sessions.table.connections }
+{
+    match buffer.push(bytes) {
+        Ok(()) => take_payloads(server, arrival, buffer, connection, most, out),
+        Err(_) => Err(CutShort { done: 0 }),
+    }
+}
+
+/// Takes the bytes of a piece behind the end of the frame that was held. Where no byte is held, whole frames are performed
+/// from where they are, and what is behind them is held; each byte of it is copied once.
+fn take_back<A: Authenticator + Drop, T: Tree + Drop, O: Opens + Drop, K: Sink>(
+    server: &mut Server<A, T, O>,
+    arrival: Arrival,
+    buffer: &mut FrameBuffer,
+    connection: &mut Connection,
+    back: &[u8],
+    most: usize,
+    out: &mut K,
+) -> Result<(bool, usize), CutShort>
+    requires limit { buffer.old.limit ≡ longest_payload }
+    requires sound { fault_of longest_payload buffer.old.bytes ≡ None }
+    ensures taken { IfOk result (λ r. AreTaken A.meaning K.hears arrival
+        server.old connection.old (K.content out.old) (buffer.old.bytes ++ back.now)
+        server.new connection.new (K.content out.new) buffer.new.bytes r.0 r.1) }
+    ensures err { IfErr result (λ ran_out. StoppedAfter server.old
+        (payload_steps A.meaning arrival server.old connection.old (payloads longest_payload (buffer.old.bytes ++ back.now)))
+        ran_out.done server.new) }
+    ensures few { IfErr result (λ ran_out. ran_out.done ≤ length (buffer.old.bytes ++ back.now)) }
+    ensures kept { take (length (K.content out.old)) (K.content out.new) ≡ K.content out.old }
+    ensures limit { buffer.new.limit ≡ longest_payload }
+    ensures known { server.new.sessions.table.connections ≡ server.old.sessions.table.connections }
+{
+    if !buffer.is_empty() {
+        return take_held(server, arrival, buffer, connection, back, most, out);
+    }
+    let (open_still, done, used) = match take_frames(server, arrival, back, connection, most, out) {
+        Ok(taken) => taken,
+        Err(ran_out) => return Err(ran_out),
+    };
+    if !open_still {
+        return Ok((false, done));
+    }
+    let most = most.saturating_sub(done);
+    match take_held(
+        server,
+        arrival,
+        buffer,
+        connection,
+        &back[used..],
+        most,
+        out,
+    ) {
+        Ok((open_still, more)) => Ok((open_still, done + more)),
+        Err(ran_out) => {
+            let done = done + ran_out.done;
+            Err(CutShort { done })
+        }
+    }
+}
+
+/// Takes a piece in two parts: what the frame that is held lacks, and what is behind it. So no byte that is held is moved.
+fn take_parts<A: Authenticator + Drop, T: Tree + Drop, O: Opens + Drop, K: Sink>(
+    server: &mut Server<A, T, O>,
+    arrival: Arrival,
+    buffer: &mut FrameBuffer,
+    connection: &mut Connection,
+    piece: &[u8],
+    most: usize,
+    out: &mut K,
+) -> Result<(bool, usize), CutShort>
+    requires limit { buffer.old.limit ≡ longest_payload }
+    requires partial { first longest_payload buffer.old.bytes ≡ None }
+    requires sound { fault_of longest_payload buffer.old.bytes ≡ None }
+    ensures taken { IfOk result (λ r. AreTaken A.meaning K.hears arrival
+        server.old connection.old (K.content out.old) (buffer.old.bytes ++ piece.now)
+        server.new connection.new (K.content out.new) buffer.new.bytes r.0 r.1) }
+    ensures err { IfErr result (λ ran_out. StoppedAfter server.old
+        (payload_steps A.meaning arrival server.old connection.old (payloads longest_payload (buffer.old.bytes ++ piece.now)))
+        ran_out.done server.new) }
+    ensures few { IfErr result (λ ran_out. ran_out.done ≤ length (buffer.old.bytes ++ piece.now)) }
+    ensures kept { take (length (K.content out.old)) (K.content out.new) ≡ K.content out.old }
+    ensures limit { buffer.new.limit ≡ longest_payload }
+    ensures known { server.new.sessions.table.connections ≡ server.old.sessions.table.connections }
+{
+    let count = buffer.lacking().min(piece.len());
+    let front = &piece[..count];
+    let back = &piece[count..];
+    let (open_still, done) = match take_held(
+        server, arrival, buffer, connection, front, most, out,
+    ) {
+        Ok(taken) => taken,
+        Err(ran_out) => return Err(ran_out),
+    };
+    if !open_still {
+        return Ok((false, done));
+    }
+    let most = most.saturating_sub(done);
+    match take_back(server, arrival, buffer, connection, back, most, out) {
+        Ok((open_still, more)) => Ok((open_still, done + more)),
+        Err(ran_out) => {
+            let done = done + ran_out.done;
+            Err(CutShort { done })
+        }
+    }
 }
 
 /// Whether a connection stays open: no payload ended it, and nothing is wrong with what is unread.
@@ -146,15 +313,12 @@ pub(crate) fn take_piece<A: Authenticator + Drop, T: Tree + Drop, O: Opens + Dro
     ensures known { server.new.sessions.table.connections ≡ server.old.sessions.table.connections }
 {
     let before = out.mark();
-    match stream.buffer.push(piece) {
-        Ok(()) => {}
-        Err(_) => return Err(CutShort { done: 0 }),
-    }
-    let (open_still, done) = match take_payloads(
+    let (open_still, done) = match take_parts(
         server,
         arrival,
         &mut stream.buffer,
         &mut stream.connection,
+        piece,
         most,
         out,
     ) {

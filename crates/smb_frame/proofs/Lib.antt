@@ -3,3 +3,4 @@ pub mod Rests
 pub mod Streams
 pub mod Bounds
 pub mod Heads
+pub mod Lacking

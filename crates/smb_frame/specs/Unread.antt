@@ -1,5 +1,5 @@
 -- What a buffer holds of a stream, and how it changes.
-use Rattle.std.specs.Prelude.{ℕ, ◌^◌, ◌<◌, ◌≤◌, List, ◌++◌, length, is_none, if◌then◌else◌}
+use Rattle.std.specs.Prelude.{ℕ, ◌+◌, ◌-◌, ◌*◌, ◌^◌, ◌<◌, ◌≤◌, List, ◌∷◌, ◌++◌, length, is_none, if◌then◌else◌}
 use Rattle.smb_frame.specs.declared.fault.FrameFault.{FrameFault}
 use Rattle.smb_frame.specs.declared.fault.FrameFault.TheVariants.{FirstByte, TooLong, PayloadTooLong, NoMemory}
 use Rattle.smb_frame.specs.Reading.{fault_of}
@@ -19,6 +19,11 @@ without_done held = record held { done = 0 }
 abbrev pub with_piece : Unread → List ℕ → Unread
 with_piece held piece =
     if is_none (fault_of held.limit held.bytes) then record (without_done held) { bytes = held.bytes ++ piece } else without_done held
+
+-- how many bytes the frame that stands first lacks, once its first four bytes say its length; before that 0
+abbrev pub lacking : List ℕ → ℕ
+lacking (kind ∷ high ∷ middle ∷ low ∷ bytes) = 65536 * high + 256 * middle + low - length bytes
+lacking bytes = 0
 
 -- when a payload gets no frame: it is 2 ^ 24 bytes long or longer, or the vector could not grow
 abbrev pub FrameRefused : List ℕ → FrameFault → Type 0

@@ -4,7 +4,7 @@ ghost use Rattle.std.specs.Prelude.{◌≡◌, ◌↔◌, ◌+◌, ◌≤◌, �
 ghost use Rattle.std.specs.Option.{option_map};
 ghost use Rattle.smb_frame.specs.Reading.{first, fault_of, EachStreamHasOneReading, RestIsEnough, FaultIsForGood, OpenRestIsShort};
 ghost use Rattle.smb_frame.specs.Parts.{size};
-ghost use Rattle.smb_frame.specs.Unread.{without_done, with_piece};
+ghost use Rattle.smb_frame.specs.Unread.{without_done, with_piece, lacking};
 
 use super::fault::FrameFault;
 use std::alloc::Global;
@@ -40,8 +40,8 @@ fn payload_length(high: u8, middle: u8, low: u8) -> usize
     65_536 * high as usize + 256 * middle as usize + low as usize
 }
 
-/// The payload of the frame that stands first, where a whole one does.
-fn first_payload(limit: u32, bytes: &[u8]) -> Option<&[u8]>
+/// The payload of the frame that stands first in some bytes of a stream, where it is whole and at most `limit` bytes long.
+pub fn first_payload(limit: u32, bytes: &[u8]) -> Option<&[u8]>
     ensures first { option_map (λ payload. payload.now) result ≡ first limit bytes.now }
     ensures long { IfSome result (λ payload. length payload.now + 4 ≤ length bytes.now) }
 {
@@ -110,6 +110,19 @@ impl FrameBuffer {
         }
         self.bytes.extend_from_slice(piece)?;
         Ok(())
+    }
+
+    /// How many bytes the frame that stands first lacks, once its first four bytes are there; before that 0. Where they
+    /// come by themselves no unread byte is moved at the next [`push`](FrameBuffer::push).
+    pub fn lacking(&self) -> usize
+        ensures { result ≡ lacking self.now.bytes }
+    {
+        match &self.bytes[self.start..] {
+            [_, high, middle, low, after @ ..] => {
+                payload_length(*high, *middle, *low).saturating_sub(after.len())
+            }
+            _ => 0,
+        }
     }
 
     /// Moves the unread bytes to the front, in place of frames that are done. One move of the unread

@@ -14,6 +14,6 @@ mod buffer;
 mod fault;
 mod put;
 
-pub use buffer::{FrameBuffer, laws_of_frames};
+pub use buffer::{FrameBuffer, first_payload, laws_of_frames};
 pub use fault::FrameFault;
 pub use put::{close_frame, open_frame, put_frame};

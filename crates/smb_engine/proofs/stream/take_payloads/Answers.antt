@@ -1,4 +1,5 @@
-use Rattle.std.proofs.Common.{sym, ap, ◌∙◌, rules}
+use Rattle.std.proofs.Common.{sym, ap, ◌∙◌, rules, arith}
+use Rattle.std.proofs.lemmas.Bool.{false≢true}
 use Rattle.smb_engine.proofs.Chains.{count_few, within_few}
 use Rattle.smb_engine.proofs.Steps.{steps_more, steps_over, steps_over_short, steps_refused, steps_all, steps_all_short, held_all, steps_stopped, steps_stopped_in, steps_within, steps_done, front_kept, kept_more, at_limit}
 use Rattle.smb_engine.proofs.stream.take_payloads.Goals as goal
@@ -23,29 +24,9 @@ returns-in-Err-clause-err g c =
       state = steps_stopped_in g.A.Authenticator.meaning g.K.Sink.hears _ _ _ _ _ _ _ _ _ _ _ _ _ c.loop-payload.invariant.so_far f c.in-Err.ensures.err.within c.in-Err.ensures.err.state;
     }
 
-pub returns-in-Ok-None-clause-ok : goal.returns-in-Ok-None-clause-ok
-returns-in-Ok-None-clause-ok g c =
-    steps_over g.A.Authenticator.meaning g.K.Sink.hears _ _ _ _ _ _ _ _ _ _ _ _ _ _ c.loop-payload.invariant.so_far
-    (at_limit c.loop-payload.buffer.limit c.loop-payload.buffer.bytes _ c.loop-payload.invariant.limit c.in-Some.ensures.first)
-    (rw c.in-Ok-None.field-0-is at c.in-Ok-None.ensures.ok)
-
-pub returns-in-Ok-None-clause-done : goal.returns-in-Ok-None-clause-done
-returns-in-Ok-None-clause-done g c = record {
-  within = steps_done g.A.Authenticator.meaning g.K.Sink.hears _ _ _ _ _ _ _ _ _ _ c.loop-payload.invariant.so_far;
-  state = (steps_refused g.A.Authenticator.meaning g.K.Sink.hears _ _ _ _ _ _ _ _ (rw c.in-Ok-None.field-0-is at c.in-Ok-None.ensures.ok)).0
-      ∙ steps_stopped g.A.Authenticator.meaning g.K.Sink.hears _ _ _ _ _ _ _ _ _ _ c.loop-payload.invariant.so_far;
-}
-
 pub returns-in-Ok-None-clause-kept : goal.returns-in-Ok-None-clause-kept
 returns-in-Ok-None-clause-kept g c =
     kept_more _ _ _ c.loop-payload.invariant.kept (front_kept _ _ _ (ap (λ p. p.out) c.in-Ok-None.ensures.ok))
-
-pub returns-in-Ok-None-clause-short : goal.returns-in-Ok-None-clause-short
-returns-in-Ok-None-clause-short g c =
-    let e = rw c.in-Ok-None.field-0-is at c.in-Ok-None.ensures.ok in
-    steps_over_short g.A.Authenticator.meaning g.K.Sink.hears _ _ _ _ _ _ _ _ _ _ _ c.loop-payload.invariant.so_far
-    (at_limit c.loop-payload.buffer.limit c.loop-payload.buffer.bytes _ c.loop-payload.invariant.limit c.in-Some.ensures.first)
-    (sym (ap (λ p. p.stays_open) e)) c.in-Ok-None.ensures.short
 
 pub loop-payload-preserved : goal.loop-payload-preserved
 loop-payload-preserved g c =
@@ -62,26 +43,6 @@ loop-payload-preserved g c =
       limit = ap (λ b. b.limit) (c.done.ensures _ (sym c.in-Some.ensures.first)) ∙ c.loop-payload.invariant.limit;
     }
 
-pub returns-clause-ok : goal.returns-clause-ok
-returns-clause-ok g c =
-    steps_all g.A.Authenticator.meaning g.K.Sink.hears _ _ _ _ _ _ _ _ _ _ c.loop-payload.invariant.so_far (at_limit c.loop-payload.buffer.limit c.loop-payload.buffer.bytes _ c.loop-payload.invariant.limit c.in_default.ensures.first)
-
-pub returns-clause-short : goal.returns-clause-short
-returns-clause-short g c =
-    steps_all_short g.A.Authenticator.meaning g.K.Sink.hears _ _ _ _ _ _ _ _ _ _ c.loop-payload.invariant.so_far (at_limit c.loop-payload.buffer.limit c.loop-payload.buffer.bytes _ c.loop-payload.invariant.limit c.in_default.ensures.first)
-
-pub returns-clause-rest : goal.returns-clause-rest
-returns-clause-rest g c = λ t. (
-  held_all g.A.Authenticator.meaning g.K.Sink.hears _ _ _ _ _ _ _ _ _ _ c.loop-payload.invariant.so_far (at_limit c.loop-payload.buffer.limit c.loop-payload.buffer.bytes _ c.loop-payload.invariant.limit c.in_default.ensures.first),
-  at_limit c.loop-payload.buffer.limit c.loop-payload.buffer.bytes _ c.loop-payload.invariant.limit c.in_default.ensures.first,
-)
-
-pub returns-clause-done : goal.returns-clause-done
-returns-clause-done g c = record {
-  within = steps_done g.A.Authenticator.meaning g.K.Sink.hears _ _ _ _ _ _ _ _ _ _ c.loop-payload.invariant.so_far;
-  state = steps_stopped g.A.Authenticator.meaning g.K.Sink.hears _ _ _ _ _ _ _ _ _ _ c.loop-payload.invariant.so_far;
-}
-
 pub overflow_add-done : goal.overflow_add-done
 overflow_add-done g c =
     let few = within_few g.A.Authenticator.meaning _ _ _ _ _ c.in-Err.ensures.err.within in
@@ -93,3 +54,41 @@ overflow_add-done-in-Ok-Some g c =
     let few = count_few g.A.Authenticator.meaning _ _ _ _ _ (rw c.in-Ok-Some.field-0-is at c.in-Ok-Some.ensures.count) in
     let count = c.loop-payload.invariant.so_far.count in
     search rules
+
+pub returns-in-Ok-None-clause-taken : goal.returns-in-Ok-None-clause-taken
+returns-in-Ok-None-clause-taken g c =
+    let e = rw c.in-Ok-None.field-0-is at c.in-Ok-None.ensures.ok in
+    let f = at_limit c.loop-payload.buffer.limit c.loop-payload.buffer.bytes _ c.loop-payload.invariant.limit c.in-Some.ensures.first in
+    record {
+      all = λ t. absurd (false≢true t);
+      partial = λ t. absurd (false≢true t);
+      over = λ _. record {
+        says = steps_over g.A.Authenticator.meaning g.K.Sink.hears _ _ _ _ _ _ _ _ _ _ _ _ _ _ c.loop-payload.invariant.so_far f e;
+        short = steps_over_short g.A.Authenticator.meaning g.K.Sink.hears _ _ _ _ _ _ _ _ _ _ _ c.loop-payload.invariant.so_far f (sym (ap (λ p. p.stays_open) e)) c.in-Ok-None.ensures.short;
+      };
+      stopped = record {
+        within = steps_done g.A.Authenticator.meaning g.K.Sink.hears _ _ _ _ _ _ _ _ _ _ c.loop-payload.invariant.so_far;
+        state = (steps_refused g.A.Authenticator.meaning g.K.Sink.hears _ _ _ _ _ _ _ _ e).0
+            ∙ steps_stopped g.A.Authenticator.meaning g.K.Sink.hears _ _ _ _ _ _ _ _ _ _ c.loop-payload.invariant.so_far;
+      };
+      few = let count = c.loop-payload.invariant.so_far.count in omega (arith, count);
+    }
+
+pub returns-clause-taken : goal.returns-clause-taken
+returns-clause-taken g c = record {
+  all = λ t. c.loop-payload.invariant.so_far;
+  partial = λ t. at_limit c.loop-payload.buffer.limit c.loop-payload.buffer.bytes _ c.loop-payload.invariant.limit c.in_default.ensures.first;
+  over = λ f. absurd (false≢true (sym f));
+  stopped = record {
+    within = steps_done g.A.Authenticator.meaning g.K.Sink.hears _ _ _ _ _ _ _ _ _ _ c.loop-payload.invariant.so_far;
+    state = steps_stopped g.A.Authenticator.meaning g.K.Sink.hears _ _ _ _ _ _ _ _ _ _ c.loop-payload.invariant.so_far;
+  };
+  few = let count = c.loop-payload.invariant.so_far.count in omega (arith, count);
+}
+
+pub returns-in-Err-clause-few : goal.returns-in-Err-clause-few
+returns-in-Err-clause-few g c =
+    let few = within_few g.A.Authenticator.meaning _ _ _ _ _ c.in-Err.ensures.err.within in
+    let count = c.loop-payload.invariant.so_far.count in
+    let long = c.in-Some.ensures.long in
+    omega (arith, few, count, long)

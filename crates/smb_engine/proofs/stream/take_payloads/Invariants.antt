@@ -1,6 +1,6 @@
 use Rattle.std.proofs.Common.{◌≡◌, length, take}
 use Rattle.smb_wire.specs.Limits.{longest_payload}
-use Rattle.smb_engine.proofs.Steps.{StepsSoFar}
+use Rattle.smb_engine.specs.SoFar.{StepsSoFar}
 use Rattle.smb_engine.proofs.stream.take_payloads.Given as goal
 
 abbrev pub invariant-loop-payload : goal.invariant-loop-payload

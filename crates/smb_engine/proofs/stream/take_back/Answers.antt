@@ -1,0 +1,17 @@
+use Rattle.std.proofs.Common.{ap, ◌++◌, take, ◌-◌, drop, length}
+use Rattle.smb_engine.proofs.SoFar.{none_held, tail_is, taken_then, stopped_then}
+use Rattle.smb_engine.proofs.stream.take_back.Goals as goal
+
+pub returns-in-Ok-take_held-clause-taken : goal.returns-in-Ok-take_held-clause-taken
+returns-in-Ok-take_held-clause-taken g c =
+    let e = none_held c.args.buffer.now.bytes (c.is_empty.ensures.0 c.if-not-is_empty.false) in
+    let one = c.in-Ok.ensures.taken.all c.if-not-open_still.false in
+    let two = rw (e, tail_is c.args.back.now c.in-Ok.taken.2) at c.in-Ok-take_held.ensures.taken in
+    rw e (taken_then g.A.Authenticator.meaning g.K.Sink.hears _ _ _ _ _ _ _ _ _ _ _ _ _ _ _ _ one two)
+
+pub returns-in-Err-take_held-clause-err : goal.returns-in-Err-take_held-clause-err
+returns-in-Err-take_held-clause-err g c =
+    let e = none_held c.args.buffer.now.bytes (c.is_empty.ensures.0 c.if-not-is_empty.false) in
+    let one = c.in-Ok.ensures.taken.all c.if-not-open_still.false in
+    let two = rw (e, tail_is c.args.back.now c.in-Ok.taken.2) at c.in-Err-take_held.ensures.err in
+    rw e (stopped_then g.A.Authenticator.meaning g.K.Sink.hears _ _ _ _ _ _ _ _ _ _ _ _ one two)
