@@ -6,8 +6,8 @@ use lib.Arith.{bin_ind}
 use lib.Bits.{and_step, or_step}
 use Rattle.smb_wire.specs.Access.{has_any, GENERIC_ALL, GENERIC_EXECUTE, GENERIC_WRITE, GENERIC_READ, MAXIMUM_ALLOWED, FILE_ALL_ACCESS, FILE_GENERIC_EXECUTE, FILE_GENERIC_WRITE, FILE_GENERIC_READ, FILE_SHARE_ALL}
 use Rattle.smb_access.specs.Access.{most_allowed, granted}
-use Rattle.smb_access.specs.Parts.{rights_for}
-use Rattle.smb_access.specs.Asked.{FileAsked, share_asked}
+use Rattle.smb_access.specs.Parts.{rights_for, share_asked}
+use Rattle.smb_access.specs.Asked.{FileAsked}
 
 -- of two masks joined the bits within another one are those of each
 and_or : (m a b : ℕ) → bit_and (bit_or a b) m ≡ bit_or (bit_and a m) (bit_and b m)

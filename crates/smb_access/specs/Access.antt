@@ -15,19 +15,17 @@ is_deleting access = has_any access.0 DELETE
 abbrev pub is_writing : Access → Bool
 is_writing access = has_any access.0 FILE_WRITE_DATA || has_any access.0 FILE_APPEND_DATA
 
--- the rights that a session can be granted that may only read: FILE_GENERIC_READ and FILE_GENERIC_EXECUTE together
-abbrev pub reader_access : ℕ
-reader_access = 0x1200A9
-
--- there is a right that a session does not have that may only read
+-- there is a right that a session does not have that may only read: one besides FILE_GENERIC_READ and
+-- FILE_GENERIC_EXECUTE
 abbrev pub is_past_reading : Access → Bool
-is_past_reading access = not (bit_and access.0 reader_access == access.0)
+is_past_reading access = not (bit_and access.0 0x1200A9 == access.0)
 
--- the rights that MAXIMUM_ALLOWED asks for: what a session can have that may only read; else what the entry allows: a
--- read-only file every right but FILE_WRITE_DATA and FILE_APPEND_DATA, another entry every right
+-- the rights that MAXIMUM_ALLOWED asks for: where a session may only read, FILE_GENERIC_READ and FILE_GENERIC_EXECUTE;
+-- else what the entry allows: a read-only file every right but FILE_WRITE_DATA and FILE_APPEND_DATA, another entry every
+-- right
 abbrev pub most_allowed : Bool → Bool → ℕ
 most_allowed read_only on_read_only =
-    if read_only then reader_access else if on_read_only then 0x1F01F9 else FILE_ALL_ACCESS
+    if read_only then 0x1200A9 else if on_read_only then 0x1F01F9 else FILE_ALL_ACCESS
 
 -- the access that is granted to a session that may only read or to another one, on a read-only file or on another
 -- entry: the rights asked for, those that the generic bits stand for, and with MAXIMUM_ALLOWED all that is allowed; these

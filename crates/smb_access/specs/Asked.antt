@@ -1,8 +1,7 @@
 -- What a CREATE request asks ([MS-SMB2] 2.2.13).
-use Rattle.std.specs.Prelude.{ℕ, Bool, List, if◌then◌else◌, bit_and, bit_or}
+use Rattle.std.specs.Prelude.{ℕ, Bool, List, if◌then◌else◌, bit_or}
 use Rattle.smb_wire.specs.Units.{units_of}
-use Rattle.smb_wire.specs.Access.{has_any, FILE_SHARE_ALL}
-use Rattle.smb_wire.specs.declared.access.ShareAccess.{ShareAccess}
+use Rattle.smb_wire.specs.Access.{has_any}
 use Rattle.smb_wire.specs.CreateOptions.{FILE_DIRECTORY_FILE}
 use Rattle.smb_wire.specs.Attributes.{FILE_ATTRIBUTE_ARCHIVE}
 use Rattle.smb_tree.specs.declared.entry.Kind.{Kind}
@@ -34,10 +33,6 @@ asked ask = record {
   tree = ask.tree;
   read_only = ask.read_only;
 }
-
--- what the open is to share: of the mask three bits count ([MS-SMB2] 2.2.13)
-abbrev pub share_asked : FileAsked → ShareAccess
-share_asked ask = record { 0 = bit_and ask.share FILE_SHARE_ALL }
 
 -- what an entry becomes that is added: a folder where FILE_DIRECTORY_FILE is set
 abbrev pub kind_asked : FileAsked → Kind

@@ -1,5 +1,4 @@
 pub mod Numbers
-pub mod Scans
 pub mod Opens
 pub mod Plain
 pub mod Access

@@ -1,13 +1,13 @@
 -- For the proofs; nothing here need be believed.
 -- Steps of a CREATE, of a CLOSE and of what opens show, each with a name.
-use Rattle.std.specs.Prelude.{ℕ, Bool, not, ◌==◌, ◌||◌, if◌then◌else◌, bit_and, ◌&&◌, true, List, false, Option, Some, ◌<◌, ◌≡◌, is_some}
+use Rattle.std.specs.Prelude.{ℕ, Bool, not, ◌==◌, ◌||◌, if◌then◌else◌, bit_and, ◌&&◌, true, List, false, Option, None, Some, ◌<◌, ◌≡◌, is_some}
 use Rattle.smb_wire.specs.declared.access.Access.{Access}
-use Rattle.smb_wire.specs.Access.{has_any, FILE_WRITE_ATTRIBUTES}
+use Rattle.smb_wire.specs.Access.{has_any, FILE_WRITE_ATTRIBUTES, FILE_SHARE_ALL}
 use Rattle.smb_access.specs.Access.{is_past_reading}
 use Rattle.smb_wire.specs.Dispositions.{overwrites_by, must_be_new_by, supersedes_by}
 use Rattle.smb_wire.specs.CreateOptions.{FILE_DIRECTORY_FILE, FILE_NON_DIRECTORY_FILE, FILE_DELETE_ON_CLOSE, FILE_OPEN_BY_FILE_ID}
 use Rattle.smb_wire.specs.Attributes.{FILE_ATTRIBUTE_READONLY}
-use Rattle.smb_access.specs.Asked.{FileAsked, share_asked, attributes_asked}
+use Rattle.smb_access.specs.Asked.{FileAsked, attributes_asked}
 use Rattle.smb_tree.specs.Children.{has_children}
 use Rattle.smb_tree.specs.Content.{Row, Content, with_mark, removed, changed, numbered}
 use Rattle.smb_access.specs.declared.open_row.OpenRow.{OpenRow}
@@ -16,7 +16,8 @@ use Rattle.smb_access.specs.Close.{has_mark, is_deletable}
 use Rattle.smb_tree.specs.declared.entry.Basic.{Basic}
 use Rattle.smb_tree.specs.declared.entry.Kind.TheVariants.{File}
 use Rattle.smb_tree.specs.Entries.{kept_attributes, Entry}
-use Rattle.smb_access.specs.Scans.{no_scan}
+use Rattle.smb_access.specs.declared.scan.Scan.{Scan}
+use Rattle.smb_access.specs.declared.scan.ScanLast.TheVariants.{Start}
 use Rattle.smb_wire.specs.declared.create_action.CreateAction.{CreateAction}
 use Rattle.smb_wire.specs.declared.create_action.CreateAction.TheVariants.{Superseded, Opened, Overwritten}
 use Rattle.smb_access.specs.Effect.{overwritten}
@@ -26,6 +27,18 @@ use Rattle.smb_access.specs.Sharing.{is_conflict}
 use Rattle.std.specs.Option.{option_map, option_map_or, option_and_then}
 use Rattle.smb_access.specs.declared.view.View.{View}
 use Rattle.smb_access.specs.Views.{view_of}
+
+-- the rights that a session can be granted that may only read: FILE_GENERIC_READ and FILE_GENERIC_EXECUTE together
+abbrev pub reader_access : ℕ
+reader_access = 0x1200A9
+
+-- no query was made yet
+abbrev pub no_scan : Scan
+no_scan = record { pattern = None; last = Start }
+
+-- what the open is to share: of the mask three bits count ([MS-SMB2] 2.2.13)
+abbrev pub share_asked : FileAsked → ShareAccess
+share_asked ask = record { 0 = bit_and ask.share FILE_SHARE_ALL }
 
 -- an entry's times and attributes may be set
 abbrev pub is_writing_attributes : Access → Bool

@@ -1,7 +1,7 @@
 -- Whether two opens of one entry may exist together ([MS-SMB2] 2.2.13, [MS-FSA] 2.1.5.1.2).
-use Rattle.std.specs.Prelude.{ℕ, Bool, not, ◌==◌, ◌||◌, ◌&&◌, List, bit_or, if◌then◌else◌}
+use Rattle.std.specs.Prelude.{ℕ, Bool, not, ◌==◌, ◌||◌, ◌&&◌, List, bit_and, bit_or, if◌then◌else◌}
 use Rattle.std.specs.List.{list_any}
-use Rattle.smb_wire.specs.Access.{has_any, FILE_SHARE_READ, FILE_SHARE_WRITE, FILE_SHARE_DELETE, FILE_WRITE_DATA}
+use Rattle.smb_wire.specs.Access.{has_any, FILE_SHARE_READ, FILE_SHARE_WRITE, FILE_SHARE_DELETE, FILE_SHARE_ALL, FILE_WRITE_DATA}
 use Rattle.smb_wire.specs.declared.access.Access.{Access}
 use Rattle.smb_wire.specs.declared.access.ShareAccess.{ShareAccess}
 use Rattle.smb_access.specs.declared.open_row.OpenRow.{OpenRow}
@@ -9,7 +9,7 @@ use Rattle.smb_access.specs.declared.use_kind.SharingUse.{SharingUse}
 use Rattle.smb_access.specs.declared.use_kind.SharingUse.TheVariants.{Reads, Writes, Deletes, SharesNoRead, SharesNoWrite, SharesNoDelete}
 use Rattle.smb_access.specs.Access.{is_reading, is_writing, is_deleting}
 use Rattle.smb_wire.specs.Dispositions.{overwrites_by}
-use Rattle.smb_access.specs.Asked.{FileAsked, share_asked}
+use Rattle.smb_access.specs.Asked.{FileAsked}
 
 -- the access is one that sharing speaks of: reading, writing or deleting
 abbrev pub is_shared_access : Access → Bool
@@ -46,7 +46,9 @@ abbrev pub has_use : List OpenRow → ℕ → SharingUse → Bool
 has_use opens entry kind = list_any (λ row. row.entry == entry && uses kind row) opens
 
 -- what a request does to an entry and shares of it: one that overwrites is a writer, whatever it is granted
--- ([MS-FSA] 2.1.5.1.2)
+-- ([MS-FSA] 2.1.5.1.2); of the bits of ShareAccess three count ([MS-SMB2] 2.2.13)
 abbrev pub use_asked : FileAsked → Access → Access × ShareAccess
-use_asked ask access =
-    (if overwrites_by ask.disposition then record { 0 = bit_or access.0 FILE_WRITE_DATA } else access, share_asked ask)
+use_asked ask access = (
+  if overwrites_by ask.disposition then record { 0 = bit_or access.0 FILE_WRITE_DATA } else access,
+  record { 0 = bit_and ask.share FILE_SHARE_ALL },
+)

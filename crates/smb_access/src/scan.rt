@@ -1,7 +1,6 @@
 //! Scans of a directory ([MS-FSA] 2.1.5.6.3).
 
 ghost use Rattle.std.specs.Prelude.{◌≡◌};
-ghost use Rattle.smb_access.specs.Scans.{no_scan};
 
 use smb_wire::FoldedName;
 use std::fmt;
@@ -31,7 +30,7 @@ pub struct Scan {
 impl Scan {
     /// That of an open through which no query was made yet.
     pub fn none() -> Scan
-        ensures { result ≡ no_scan }
+        ensures { result ≡ record { pattern = None; last = ScanLast.Start } }
     {
         Scan {
             pattern: None,

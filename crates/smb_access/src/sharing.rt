@@ -2,9 +2,9 @@
 
 ghost use Rattle.std.specs.Prelude.{◌≡◌};
 ghost use Rattle.smb_wire.specs.Dispositions.{disposition_code};
-ghost use Rattle.smb_access.specs.Asked.{asked, share_asked};
+ghost use Rattle.smb_access.specs.Asked.{asked};
 ghost use Rattle.smb_access.specs.Sharing.{use_asked, is_shared_access};
-ghost use Rattle.smb_access.specs.Parts.{has_conflict};
+ghost use Rattle.smb_access.specs.Parts.{has_conflict, share_asked};
 ghost use Rattle.smb_access.specs.Uses.{is_kept_out_by_some, keeps_out_some};
 ghost use Rattle.smb_access.specs.Looked.{target_conflicts};
 

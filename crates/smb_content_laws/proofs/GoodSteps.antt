@@ -31,19 +31,18 @@ use Rattle.smb_access.specs.Opens.{open_of, with_scan}
 use Rattle.smb_access.specs.StatusRows.{StatusRow, first_status}
 use Rattle.smb_access.proofs.Trees.{reached_folder}
 use Rattle.smb_entry.specs.declared.ask.BasicAsk.{BasicAsk}
-use Rattle.smb_entry.specs.Parts.{has_no_room, keeps_from_writing, write_rows, written_tree, delete_set, entry_set, resized_file, leaves_size, has_entries, has_no_space, delete_rows, size_rows, basic_rows, is_not_replaced, rename_rows, renamed_tree}
-use Rattle.smb_entry.specs.Rename.{path_named, path_numbered}
-use Rattle.smb_entry.specs.SetInfo.{changed_in}
+use Rattle.smb_entry.specs.Parts.{has_no_room, keeps_from_writing, write_rows, written_tree, delete_set, entry_set, resized_file, leaves_size, has_entries, has_no_space, delete_rows, size_rows, basic_rows, is_not_replaced, rename_rows, renamed_tree, changed_in, path_numbered}
+use Rattle.smb_entry.specs.Rename.{path_named}
 use Rattle.smb_entry.specs.Ways.{way_between, name_rows, way_rows, count_replaced}
 use Rattle.smb_entry.proofs.Under.{path_found}
 use Rattle.smb_opens.specs.Bytes.{write_status, written_to}
 use Rattle.smb_opens.specs.Close.{closed}
-use Rattle.smb_opens.specs.Parts.{closed_open, created_by, has_all_opens, has_all_entries}
-use Rattle.smb_opens.specs.Create.{conflicts, create_rows, create_status}
+use Rattle.smb_opens.specs.Parts.{closed_open, created_by, has_all_opens, has_all_entries, conflicts, with_locks_of}
+use Rattle.smb_opens.specs.Create.{create_rows, create_status}
 use Rattle.smb_opens.specs.Effect.{created}
 use Rattle.smb_opens.specs.Found.{entry_asked}
 use Rattle.smb_opens.specs.Good.{UnmarkedTree, GoodStore, IsKept}
-use Rattle.smb_opens.specs.Locks.{lock_status, locked_through, with_locks_of}
+use Rattle.smb_opens.specs.Locks.{lock_status, locked_through}
 use Rattle.smb_opens.specs.Renames.{rename_status, renamed_through}
 use Rattle.smb_opens.specs.SetInfo.{delete_status, size_status, basic_status, delete_set_through, size_set_through, basic_set_through}
 use Rattle.smb_opens.specs.State.{StoreState}

@@ -17,15 +17,13 @@ use Rattle.smb_access.specs.Effect.{entry_after}
 use Rattle.smb_access.specs.Parts.{opened_by}
 use Rattle.smb_access.specs.Opens.{open_of, without_open, open_numbers, is_held_by}
 use Rattle.smb_access.proofs.Rows.{all_more}
-use Rattle.smb_entry.specs.Parts.{written_tree, delete_set, size_set, entry_set, renamed_tree}
-use Rattle.smb_entry.specs.SetInfo.{changed_in}
+use Rattle.smb_entry.specs.Parts.{written_tree, delete_set, size_set, entry_set, renamed_tree, changed_in}
 use Rattle.smb_opens.specs.Close.{closed}
-use Rattle.smb_opens.specs.Parts.{closed_open, closed_each, has_all_opens}
+use Rattle.smb_opens.specs.Parts.{closed_open, closed_each, has_all_opens, with_locks_of}
 use Rattle.smb_opens.specs.Create.{access_granted, create_status}
 use Rattle.smb_opens.specs.Effect.{created}
 use Rattle.smb_opens.specs.Found.{entry_asked}
 use Rattle.smb_opens.specs.Good.{GoodStore}
-use Rattle.smb_opens.specs.Locks.{with_locks_of}
 use Rattle.smb_opens.specs.State.{StoreState}
 use Rattle.smb_opens.specs.Steps.{StoreStep, creates, writes, locks, unlocks, sets_delete, sets_size, sets_basic, renames, sets_scan, closes, closes_all, stepped, stepped_all}
 use Rattle.smb_opens.specs.Views.{open_view}

@@ -19,8 +19,8 @@ use Rattle.smb_access.specs.Parts.{is_writing_attributes}
 use Rattle.smb_access.specs.Asked.{FileAsked}
 use Rattle.smb_access.specs.StatusRows.{StatusRow, first_status}
 use Rattle.smb_entry.specs.declared.ask.BasicAsk.{BasicAsk}
-use Rattle.smb_entry.specs.Parts.{keeps_from_reading, keeps_from_writing, has_no_room, may_not_write, bytes_there, read_rows, write_rows, has_entries, has_no_space, delete_rows, size_rows, basic_rows, shows_read_only_file, has_bad_time}
-use Rattle.smb_entry.specs.Locks.{lock_status_by, locks_shown}
+use Rattle.smb_entry.specs.Parts.{keeps_from_reading, keeps_from_writing, has_no_room, may_not_write, bytes_there, read_rows, write_rows, has_entries, has_no_space, delete_rows, size_rows, basic_rows, shows_read_only_file, has_bad_time, locks_shown}
+use Rattle.smb_entry.specs.Locks.{lock_status_by}
 use Rattle.smb_opens.specs.Bytes.{read_status, write_status}
 use Rattle.smb_opens.specs.Create.{create_rows, create_status}
 use Rattle.smb_opens.specs.Found.{entry_asked}

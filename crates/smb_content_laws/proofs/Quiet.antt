@@ -17,17 +17,15 @@ use Rattle.smb_access.specs.declared.open_row.OpenRow.{OpenRow}
 use Rattle.smb_access.specs.declared.view.View.{View}
 use Rattle.smb_access.specs.Asked.{FileAsked, kind_asked, attributes_asked}
 use Rattle.smb_opens.specs.Bytes.{file_bytes}
-use Rattle.smb_entry.specs.Parts.{written_file, written_tree, delete_set, size_set, entry_set, dated, renamed_tree}
+use Rattle.smb_entry.specs.Parts.{written_file, written_tree, delete_set, size_set, entry_set, dated, renamed_tree, changed_in}
 use Rattle.smb_access.specs.Close.{is_deletable}
 use Rattle.smb_access.specs.Parts.{tree_marked, is_due, overwritten_tree, is_on_entry}
 use Rattle.smb_opens.specs.Close.{closed}
-use Rattle.smb_opens.specs.Parts.{closed_open, closed_each}
+use Rattle.smb_opens.specs.Parts.{closed_open, closed_each, with_locks_of}
 use Rattle.smb_access.specs.Effect.{overwritten, tree_after}
 use Rattle.smb_opens.specs.Found.{entry_asked}
 use Rattle.smb_access.specs.Found.{path_asked}
-use Rattle.smb_opens.specs.Locks.{with_locks_of}
 use Rattle.smb_access.specs.Opens.{open_of, without_open, open_numbers, is_held_by}
-use Rattle.smb_entry.specs.SetInfo.{changed_in}
 use Rattle.smb_opens.specs.State.{StoreState}
 use Rattle.smb_opens.specs.Steps.{StoreStep, creates, writes, locks, unlocks, sets_delete, sets_size, sets_basic, renames, sets_scan, closes, closes_all, stepped, stepped_all, is_change_of, NoneChanges}
 use Rattle.smb_opens.specs.Views.{open_view}

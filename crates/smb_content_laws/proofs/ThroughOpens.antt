@@ -25,13 +25,13 @@ use Rattle.smb_access.specs.declared.open_row.OpenRow.{OpenRow}
 use Rattle.smb_access.specs.declared.view.View.{View}
 use Rattle.smb_access.specs.Opens.{open_of}
 use Rattle.smb_access.specs.StatusRows.{first_status}
-use Rattle.smb_entry.specs.Parts.{keeps_from_reading, keeps_from_writing, read_rows, write_rows, has_no_room}
-use Rattle.smb_entry.specs.Locks.{lock_fault_status, lock_status_by, locks_shown}
+use Rattle.smb_entry.specs.Parts.{keeps_from_reading, keeps_from_writing, read_rows, write_rows, has_no_room, locks_shown}
+use Rattle.smb_entry.specs.Locks.{lock_fault_status, lock_status_by}
 use Rattle.smb_opens.specs.Bytes.{read_status, write_status}
 use Rattle.smb_opens.specs.Close.{closed}
-use Rattle.smb_opens.specs.Parts.{closed_open}
+use Rattle.smb_opens.specs.Parts.{closed_open, with_locks_of}
 use Rattle.smb_opens.specs.Good.{GoodStore}
-use Rattle.smb_opens.specs.Locks.{lock_status, unlock_status, with_locks_of, locked_through, unlocked_through}
+use Rattle.smb_opens.specs.Locks.{lock_status, unlock_status, locked_through, unlocked_through}
 use Rattle.smb_opens.specs.State.{StoreState}
 use Rattle.smb_opens.specs.Views.{open_view}
 use Rattle.smb_opens.proofs.Barred.{own_locks, kept_out, writers_out}

@@ -13,7 +13,7 @@ use Rattle.smb_tree.specs.Entries.{Entry}
 use Rattle.smb_access.specs.declared.open_row.OpenRow.{OpenRow}
 use Rattle.smb_access.specs.Asked.{FileAsked}
 use Rattle.smb_access.specs.Opens.{open_of}
-use Rattle.smb_entry.specs.Bytes.{written_basic}
+use Rattle.smb_entry.specs.Parts.{written_basic}
 use Rattle.smb_opens.specs.Bytes.{read_status, file_bytes, written_to}
 use Rattle.smb_opens.specs.Effect.{created, create_result}
 use Rattle.smb_opens.specs.Found.{entry_asked}

@@ -11,7 +11,7 @@ use Rattle.smb_locks.specs.declared.ask.LockAsk.{LockAsk}
 use Rattle.smb_access.specs.declared.open_row.OpenRow.{OpenRow}
 use Rattle.smb_access.specs.Asked.{FileAsked}
 use Rattle.smb_access.specs.Opens.{open_of}
-use Rattle.smb_access.specs.Scans.{no_scan}
+use Rattle.smb_access.specs.declared.scan.ScanLast.TheVariants.{Start}
 use Rattle.smb_entry.specs.declared.ask.BasicAsk.{BasicAsk}
 use Rattle.smb_opens.specs.Bytes.{read_status, file_bytes, write_status, written_to}
 use Rattle.smb_opens.specs.Close.{closed}
@@ -38,7 +38,7 @@ example_open = record {
   access = record { 0 = FILE_ALL_ACCESS };
   share = record { 0 = FILE_SHARE_ALL };
   delete_on_close = false;
-  scan = no_scan;
+  scan = record { pattern = None; last = Start };
 }
 
 -- the store with them, and with no lock

@@ -18,8 +18,7 @@ use Rattle.smb_access.specs.Found.{is_reached, is_pending}
 use Rattle.smb_access.specs.Parts.{is_marked}
 use Rattle.smb_access.specs.Looked.{target_of, is_marked_target}
 use Rattle.smb_access.specs.Opens.{open_on_entry, has_open}
-use Rattle.smb_entry.specs.Rename.{is_beneath}
-use Rattle.smb_entry.specs.Parts.{dated_basic, dated, renamed_tree}
+use Rattle.smb_entry.specs.Parts.{dated_basic, dated, renamed_tree, is_beneath}
 use Rattle.smb_entry.specs.Ways.{way_between}
 use Rattle.smb_access.proofs.Closing.{first_open}
 use Rattle.smb_entry.proofs.Settings.{changed_alike}

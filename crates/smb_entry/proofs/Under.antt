@@ -14,7 +14,7 @@ use Rattle.smb_tree.specs.Moves.{is_within, is_row_within}
 use Rattle.smb_tree.proofs.Apart.{numbered-from_at, at-from_numbered, number-from_numbered}
 use Rattle.smb_tree.proofs.Heads.{within_or_not, within-append, within_rest, length_within, within_itself, within_parent, not_around, parent_beneath}
 use Rattle.smb_tree.proofs.Keys.{same_path-eq, same_path-of_eq, same_path-itself}
-use Rattle.smb_entry.specs.Rename.{is_beneath, path_numbered}
+use Rattle.smb_entry.specs.Parts.{is_beneath, path_numbered}
 
 -- paths of different lengths differ
 apart_by_length : (p q : Path) → length p < length q → is_same_path p q ≡ false

@@ -17,8 +17,7 @@ use Rattle.smb_tree.proofs.Apart.{apart_changed, numbered-changed}
 use Rattle.smb_tree.proofs.Changes.{bytes_found}
 use Rattle.smb_tree.proofs.Parts.{length-written, length-resized}
 use Rattle.smb_tree.proofs.Spaces.{space_changed}
-use Rattle.smb_entry.specs.Bytes.{written_basic}
-use Rattle.smb_entry.specs.Parts.{written_file, written_tree}
+use Rattle.smb_entry.specs.Parts.{written_file, written_tree, written_basic}
 use Rattle.smb_tree.specs.Good.{GoodContent}
 use Rattle.smb_access.proofs.Changes.{Keeps, all_changed, folder_changed, below_changed, number-at-changed, length-changed}
 use Rattle.smb_access.proofs.Overwrites.{changed-changed, changed-same}

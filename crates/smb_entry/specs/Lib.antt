@@ -1,4 +1,3 @@
-pub mod Bytes
 pub mod Locks
 pub mod SetInfo
 pub mod Rename

@@ -1,13 +1,10 @@
 -- The status of a LOCK, by what an open shows ([MS-SMB2] 3.3.5.14).
-use Rattle.std.specs.Prelude.{List, [], Option, None, Some, unwrap_or, option_and_then, if◌then◌else◌}
-use Rattle.std.specs.Option.{option_map_or}
+use Rattle.std.specs.Prelude.{Option, None, Some, unwrap_or, option_and_then, if◌then◌else◌}
 use Rattle.smb_wire.specs.declared.nt_status.NtStatus.{NtStatus}
 use Rattle.smb_wire.specs.declared.nt_status.NtStatus.TheVariants.{Success, InvalidParameter, InvalidDeviceRequest, LockNotGranted, RangeNotLocked, InvalidLockRange, FileClosed}
 use Rattle.smb_tree.specs.Entries.{is_folder_kind}
 use Rattle.smb_locks.specs.declared.fault.LockFault.{LockFault}
 use Rattle.smb_locks.specs.declared.fault.LockFault.TheVariants.{BadFlags, BadRange, Full, NotGranted, NotLocked, NoMemory}
-use Rattle.smb_locks.specs.declared.lock.Lock.{Lock}
-use Rattle.smb_locks.specs.Table.{Table, locks_on}
 use Rattle.smb_access.specs.declared.view.View.{View}
 
 -- the status by which an element of a LOCK is refused, or all of it for its flags ([MS-SMB2] 3.3.5.14.1, 3.3.5.14.2); no
@@ -27,7 +24,3 @@ lock_status_by None fault = FileClosed
 lock_status_by (Some view) fault =
     if is_folder_kind view.kind then InvalidDeviceRequest
     else unwrap_or (option_and_then lock_fault_status fault) Success
-
--- the locks of the file of an open that shows this
-abbrev pub locks_shown : Table → Option View → List Lock
-locks_shown locks view = option_map_or (λ (v : View). locks_on locks v.entry) view []

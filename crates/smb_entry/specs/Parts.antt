@@ -11,22 +11,41 @@ use Rattle.smb_locks.specs.Table.{Table, locks_on}
 use Rattle.smb_access.specs.declared.view.View.{View}
 use Rattle.smb_access.specs.Access.{is_reading, is_writing, is_deleting}
 use Rattle.smb_access.specs.StatusRows.{StatusRow}
-use Rattle.smb_entry.specs.Bytes.{written_basic}
 use Rattle.std.specs.Option.{option_map_or}
 use Rattle.smb_wire.specs.Attributes.{FILE_ATTRIBUTE_READONLY, FILE_ATTRIBUTE_DIRECTORY}
 use Rattle.smb_tree.specs.declared.entry.Basic.{Basic}
 use Rattle.smb_tree.specs.Children.{has_children}
 use Rattle.smb_entry.specs.declared.ask.BasicAsk.{BasicAsk}
 use Rattle.smb_access.specs.Parts.{is_writing_attributes}
-use Rattle.smb_entry.specs.SetInfo.{is_bad_time, time_set, changed_in}
+use Rattle.smb_entry.specs.SetInfo.{is_bad_time, time_set}
 use Rattle.std.specs.List.{list_any}
 use Rattle.smb_wire.specs.Paths.{is_separator, path_fault}
 use Rattle.smb_tree.specs.Faults.{would_be_too_deep}
-use Rattle.smb_tree.specs.Moves.{moved}
+use Rattle.smb_tree.specs.Moves.{moved, is_within}
+use Rattle.smb_locks.specs.declared.lock.Lock.{Lock}
 use Rattle.smb_access.specs.declared.open_row.OpenRow.{OpenRow}
 use Rattle.smb_access.specs.Found.{is_read_only_file, is_pending, is_reached}
 use Rattle.smb_access.specs.Opens.{has_open}
-use Rattle.smb_entry.specs.Rename.{is_beneath, path_numbered}
+
+-- a tree with the entry of a number changed
+abbrev pub changed_in : (Entry → Entry) → Content → ℕ → Content
+changed_in change tree entry = record tree { rows = changed change tree.rows entry }
+
+-- the times and attributes of a file that was written at a moment; of the attributes a tree keeps four ([MS-FSCC] 2.6)
+abbrev pub written_basic : ℕ → Basic → Basic
+written_basic moment basic = kept_basic (record basic { last_write_time = moment; change_time = moment })
+
+-- the path of the entry of a number; the root's where none has it
+abbrev pub path_numbered : List Row → ℕ → Path
+path_numbered rows number = option_map_or (λ row. row.0) (numbered rows number) []
+
+-- a path lies beneath another one: that is at its head, and is not all of it
+abbrev pub is_beneath : Path → Path → Bool
+is_beneath head path = is_within head path && not (is_same_path head path)
+
+-- the locks of the file of an open that shows this
+abbrev pub locks_shown : Table → Option View → List Lock
+locks_shown locks view = option_map_or (λ (v : View). locks_on locks v.entry) view []
 
 -- how many bytes of a file of this size there are from an offset on, at most so many
 abbrev pub bytes_there : ℕ → ℕ → ℕ → ℕ

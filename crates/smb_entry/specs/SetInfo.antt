@@ -1,11 +1,5 @@
 -- What a SET_INFO sets of a file or a folder ([MS-SMB2] 3.3.5.21.1, [MS-FSA] 2.1.5.15).
 use Rattle.std.specs.Prelude.{ℕ, ◌-◌, ◌^◌, ◌==◌, ◌||◌, ◌&&◌, Bool, not, nat_lt, if◌then◌else◌}
-use Rattle.smb_tree.specs.Content.{Content, changed}
-use Rattle.smb_tree.specs.Entries.{Entry}
-
--- a tree with the entry of a number changed
-abbrev pub changed_in : (Entry → Entry) → Content → ℕ → Content
-changed_in change tree entry = record tree { rows = changed change tree.rows entry }
 
 -- what is asked for is no time: it is over 2^63 - 1, and neither -1 nor -2 in 64 bits ([MS-FSCC] 2.4.7)
 abbrev pub is_bad_time : ℕ → Bool

@@ -19,8 +19,7 @@ use Rattle.smb_access.specs.StatusRows.{StatusRow}
 use Rattle.smb_access.specs.Found.{is_pending, is_reached}
 use Rattle.smb_access.specs.Looked.{target_of, is_read_only_target}
 use Rattle.smb_access.specs.Opens.{has_open}
-use Rattle.smb_entry.specs.Rename.{is_beneath, path_numbered}
-use Rattle.smb_entry.specs.Parts.{has_open_beneath}
+use Rattle.smb_entry.specs.Parts.{has_open_beneath, is_beneath, path_numbered}
 
 -- what is found between two paths
 abbrev pub way_between : List Row → Path → Path → RenameLookup

@@ -8,8 +8,7 @@ ghost use Rattle.smb_tree.specs.Good.{GoodContent};
 ghost use Rattle.smb_access.specs.Parts.{ArePresent};
 ghost use Rattle.smb_access.specs.Numbers.{AreRising};
 ghost use Rattle.smb_access.specs.Opens.{open_numbers};
-ghost use Rattle.smb_entry.specs.Rename.{is_beneath, path_numbered};
-ghost use Rattle.smb_entry.specs.Parts.{has_open_beneath};
+ghost use Rattle.smb_entry.specs.Parts.{has_open_beneath, is_beneath, path_numbered};
 
 use smb_access::Opens;
 use smb_tree::{EntryNo, Tree};

@@ -5,8 +5,7 @@ ghost use Rattle.std.specs.Option.{option_map};
 ghost use Rattle.smb_tree.specs.Content.{numbered};
 ghost use Rattle.smb_tree.specs.Entries.{is_folder_kind, kept_basic};
 ghost use Rattle.smb_tree.specs.Faults.{write_fault};
-ghost use Rattle.smb_entry.specs.Bytes.{written_basic};
-ghost use Rattle.smb_entry.specs.Parts.{bytes_there, read_rows, may_not_write, write_rows, written_tree};
+ghost use Rattle.smb_entry.specs.Parts.{bytes_there, read_rows, may_not_write, write_rows, written_tree, written_basic};
 ghost use Rattle.smb_access.specs.StatusRows.{first_status};
 ghost use Rattle.smb_access.specs.Faults.{IsRefusal};
 

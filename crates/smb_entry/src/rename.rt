@@ -11,8 +11,7 @@ ghost use Rattle.smb_access.specs.StatusRows.{StatusRow, first_status};
 ghost use Rattle.smb_access.specs.Parts.{ArePresent};
 ghost use Rattle.smb_access.specs.Numbers.{AreRising};
 ghost use Rattle.smb_access.specs.Opens.{has_open, open_numbers};
-ghost use Rattle.smb_entry.specs.Rename.{path_numbered};
-ghost use Rattle.smb_entry.specs.Parts.{renamed_tree};
+ghost use Rattle.smb_entry.specs.Parts.{renamed_tree, path_numbered};
 ghost use Rattle.smb_entry.specs.Ways.{IsMoveRefusal, way_between, is_own_target, count_replaced, is_kept_target, name_rows, target_rows, way_rows};
 
 use super::beneath::{has_open_beneath, is_path_beneath};

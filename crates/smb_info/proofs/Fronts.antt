@@ -7,11 +7,10 @@ use Rattle.smb_wire.proofs.Numbers.{length-spelling}
 use Rattle.smb_wire.specs.Pairs.{unit_bytes}
 use Rattle.smb_wire.specs.Number.{spelling}
 use Rattle.smb_info.specs.Candidates.{Candidate}
-use Rattle.smb_info.specs.Information.{whole}
-use Rattle.smb_info.specs.DirectoryInformation.{directory_information_of, directory_length, entry_length, distance, followed, laid}
+use Rattle.smb_info.specs.DirectoryInformation.{directory_length, laid}
 use Rattle.smb_info.specs.Cursors.{matched}
-use Rattle.smb_info.specs.Listing.{Sought, fitting}
-use Rattle.smb_info.specs.Parts.{longest_front}
+use Rattle.smb_info.specs.Listing.{fitting}
+use Rattle.smb_info.specs.Parts.{longest_front, whole, directory_information_of, entry_length, distance, followed, Sought}
 use Rattle.smb_info.specs.Rests.{one_by_one, rest_of}
 use Rattle.smb_info.specs.declared.directory_class.DirectoryInformationClass.{DirectoryInformationClass}
 use Rattle.smb_info.specs.declared.directory_class.DirectoryInformationClass.TheVariants.{FileDirectory, FileFullDirectory, FileBothDirectory, FileNames, FileIdBothDirectory, FileIdFullDirectory}

@@ -4,7 +4,7 @@ use Rattle.std.proofs.lemmas.List.{take_all, take-take, length-take}
 use Rattle.std.proofs.lemmas.Bool.Decides.{leb_tells}
 use Rattle.std.proofs.Math.Seq.{take-append-add}
 use Rattle.smb_info.specs.Candidates.{Candidate}
-use Rattle.smb_info.specs.Listing.{at_most_one, reached}
+use Rattle.smb_info.specs.Parts.{at_most_one, reached}
 use Rattle.smb_access.specs.declared.scan.ScanLast.{ScanLast}
 
 no_front : (n : ℕ) → ◌≡◌ {A = List Candidate} (take n []) []

@@ -5,7 +5,8 @@ use Rattle.smb_wire.specs.Number.{spelling}
 use Rattle.smb_wire.specs.Fields.{Field, AllFit, AllStand, InOrder, joined, appended}
 use Rattle.smb_wire.specs.Pairs.{unit_bytes}
 use Rattle.smb_wire.proofs.FieldTables.{appended-joined, length-joined, stand_behind}
-use Rattle.smb_info.specs.Information.{Information, whole, fixed_length}
+use Rattle.smb_info.specs.Information.{Information}
+use Rattle.smb_info.specs.Parts.{whole, fixed_length}
 use Rattle.smb_tree.specs.WholeNames.{Copied}
 use Rattle.smb_info.specs.FileInformation.{file_information_of}
 use Rattle.smb_info.specs.declared.file_class.FileInformationClass.{FileInformationClass}

@@ -13,9 +13,9 @@ use Rattle.smb_access.specs.declared.scan.ScanLast.TheVariants.{Start}
 use Rattle.smb_patterns.specs.Patterns.{is_match}
 use Rattle.smb_info.specs.Candidates.{Candidate, dot_dot, child, children, candidates_behind}
 use Rattle.smb_info.specs.DirectoryInformation.{directory_class, laid}
-use Rattle.smb_info.specs.Listing.{Sought, matching, at_most_one, wanted, fitting, given, reached}
-use Rattle.smb_info.specs.Parts.{longest_front, restarts}
-use Rattle.smb_info.specs.Queries.{ListAsked, pattern_by, scan_by, sought_by, listed_by, entries_listed, scan_after}
+use Rattle.smb_info.specs.Listing.{matching, fitting}
+use Rattle.smb_info.specs.Parts.{longest_front, restarts, Sought, at_most_one, wanted, given, reached, sought_by, listed_by}
+use Rattle.smb_info.specs.Queries.{ListAsked, pattern_by, scan_by, entries_listed, scan_after}
 use Rattle.smb_info.specs.ListingLaws.{AFolderIsListedInFull, NothingIsLeftOut, TheNextQueryGoesOn}
 use Rattle.smb_info.specs.declared.directory_class.DirectoryInformationClass.{DirectoryInformationClass}
 use Rattle.smb_patterns.proofs.PatternRuns.{asterisk_matches}

@@ -4,8 +4,9 @@ use Rattle.std.proofs.lemmas.List.{take-take, length-take}
 use Rattle.smb_tree.specs.Content.{Row}
 use Rattle.smb_info.specs.Candidates.{Candidate}
 use Rattle.smb_info.specs.Cursors.{matched}
-use Rattle.smb_info.specs.DirectoryInformation.{entry_length, distance, followed, laid}
-use Rattle.smb_info.specs.Listing.{Sought, matching, at_most_one, wanted, given, reached}
+use Rattle.smb_info.specs.DirectoryInformation.{laid}
+use Rattle.smb_info.specs.Parts.{entry_length, distance, followed, Sought, at_most_one, wanted, given, reached}
+use Rattle.smb_info.specs.Listing.{matching}
 use Rattle.smb_info.specs.Rests.{one_by_one, rest_of}
 use Rattle.smb_access.specs.declared.scan.ScanLast.{ScanLast}
 use Rattle.smb_info.specs.declared.directory_class.DirectoryInformationClass.{DirectoryInformationClass}

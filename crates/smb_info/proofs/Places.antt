@@ -8,7 +8,8 @@ use Rattle.smb_tree.specs.Children.{name_of, child_after}
 use Rattle.smb_tree.specs.ChildLaws.{and_on, in_turn}
 use Rattle.smb_tree.specs.Good.{GoodContent}
 use Rattle.smb_tree.specs.Views.{Shown, entry_shown}
-use Rattle.smb_info.specs.Candidates.{Candidate, listed_as, dot, dot_dot, child, children, candidates_behind}
+use Rattle.smb_info.specs.Candidates.{Candidate, dot, dot_dot, child, children, candidates_behind}
+use Rattle.smb_info.specs.Parts.{listed_as}
 use Rattle.smb_access.specs.declared.scan.ScanLast.{ScanLast}
 use Rattle.smb_access.specs.declared.scan.ScanLast.TheVariants.{Start, Dot, DotDot, Name}
 use Rattle.smb_info.proofs.Turns.{some_of, turn_more, around_there}

@@ -5,18 +5,17 @@ use Rattle.std.proofs.lemmas.Bool.{le-leb, lt-leb, true≢false}
 use Rattle.std.proofs.lemmas.Bool.Decides.{leb_tells}
 use Rattle.smb_tree.specs.Content.{Row, Content, numbered}
 use Rattle.smb_access.specs.Opens.{open_of}
-use Rattle.smb_access.specs.Parts.{has_number, ArePresent}
-use Rattle.smb_access.specs.Scans.{no_scan}
+use Rattle.smb_access.specs.Parts.{has_number, ArePresent, no_scan}
 use Rattle.smb_access.specs.declared.open_row.OpenRow.{OpenRow}
 use Rattle.smb_access.specs.declared.scan.Scan.{Scan}
 use Rattle.smb_access.specs.declared.scan.ScanLast.{ScanLast}
 use Rattle.smb_opens.specs.State.{StoreState}
 use Rattle.smb_info.specs.Candidates.{Candidate}
-use Rattle.smb_info.specs.DirectoryInformation.{directory_class, directory_length, entry_length, laid}
+use Rattle.smb_info.specs.DirectoryInformation.{directory_class, directory_length, laid}
 use Rattle.smb_info.specs.Cursors.{matched}
-use Rattle.smb_info.specs.Listing.{Sought, matching, at_most_one, wanted, given, reached}
-use Rattle.smb_info.specs.Parts.{is_too_long, wants_one, unmatched_fault}
-use Rattle.smb_info.specs.Queries.{ListAsked, is_started_by, pattern_by, scan_by, sought_by, first_fault, class_fault, fault_by, list_fault, listed_by, bytes_by, bytes_listed, scan_after}
+use Rattle.smb_info.specs.Listing.{matching}
+use Rattle.smb_info.specs.Parts.{is_too_long, wants_one, unmatched_fault, entry_length, Sought, at_most_one, wanted, given, reached, sought_by, first_fault, class_fault, fault_by, listed_by, bytes_by}
+use Rattle.smb_info.specs.Queries.{ListAsked, is_started_by, pattern_by, scan_by, list_fault, bytes_listed, scan_after}
 use Rattle.smb_info.specs.OpenQueries.{open_list_fault, open_bytes_listed, open_scan_after, IsListRefusal}
 use Rattle.smb_info.specs.declared.fault.InfoFault.{InfoFault}
 use Rattle.smb_info.specs.declared.fault.InfoFault.TheVariants.{BadClass, BadPattern, TooSmall, NoMatch, NoMore, NoMemory}

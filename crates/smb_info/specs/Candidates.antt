@@ -14,19 +14,19 @@ pub record Candidate : Type 0 where
   pub name : List ℕ
   pub entry : Shown
 
--- an entry as a candidate; where there is no entry, none
-abbrev pub listed_as : ScanLast → List ℕ → Option Shown → List Candidate
-listed_as behind name None = []
-listed_as behind name (Some entry) = record { behind = behind; name = name; entry = entry } ∷ []
-
 -- the folder itself, as `.`
 unfoldable pub dot : List Row → ℕ → List Candidate
-dot rows folder = listed_as Dot (46 ∷ []) (entry_shown rows folder)
+dot rows folder = elim (entry_shown rows folder) [
+  | None ↦ []
+  | Some entry ↦ record { behind = Dot; name = 46 ∷ []; entry = entry } ∷ []
+]
 
 -- the folder around it, as `..`; the root is around itself
 unfoldable pub dot_dot : List Row → ℕ → List Candidate
-dot_dot rows folder =
-    listed_as DotDot (46 ∷ 46 ∷ []) (option_and_then (λ own. entry_shown rows own.parent) (entry_shown rows folder))
+dot_dot rows folder = elim (option_and_then (λ own. entry_shown rows own.parent) (entry_shown rows folder)) [
+  | None ↦ []
+  | Some entry ↦ record { behind = DotDot; name = 46 ∷ 46 ∷ []; entry = entry } ∷ []
+]
 
 -- a child, under its name as it is spelled
 abbrev pub child : List Row → Row → Candidate

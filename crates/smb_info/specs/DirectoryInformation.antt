@@ -1,10 +1,9 @@
 -- What is told of the entries of a directory ([MS-FSCC] 2.4). A row is a field: its offset, its width, its value.
 use Rattle.std.specs.Prelude.{ℕ, ◌+◌, ◌-◌, ◌*◌, ◌/◌, List, [], ◌∷◌, ◌++◌, length, replicate, ◌==◌, if◌then◌else◌, Option, None, Some}
-use Rattle.smb_wire.specs.Fields.{Field, num}
+use Rattle.smb_wire.specs.Fields.{Field, num, joined}
 use Rattle.smb_wire.specs.Pairs.{unit_bytes}
 use Rattle.smb_tree.specs.Entries.{allocation_size, shown_attributes}
 use Rattle.smb_info.specs.Candidates.{Candidate}
-use Rattle.smb_info.specs.Information.{Information, whole}
 use Rattle.smb_info.specs.declared.directory_class.DirectoryInformationClass.{DirectoryInformationClass}
 use Rattle.smb_info.specs.declared.directory_class.DirectoryInformationClass.TheVariants.{FileDirectory, FileFullDirectory, FileBothDirectory, FileNames, FileIdBothDirectory, FileIdFullDirectory}
 
@@ -82,27 +81,14 @@ fields_of FileIdFullDirectory next c =
     ∷ num 72 8 c.entry.number  -- FileId
     ∷ []
 
--- what a class tells of an entry: its fields, and behind them the name as it is spelled
-abbrev pub directory_information_of : DirectoryInformationClass → ℕ → Candidate → Information
-directory_information_of class next c = record { fields = fields_of class next c; name = unit_bytes c.name }
-
--- how many bytes that is
-abbrev pub entry_length : DirectoryInformationClass → List ℕ → ℕ
-entry_length class name = directory_length class + 2 * length name
-
--- how far behind the beginning of an entry the next one begins: its length, rounded up to a multiple of 8
-abbrev pub distance : DirectoryInformationClass → List ℕ → ℕ
-distance class name = (entry_length class name + 7) / 8 * 8
-
--- an entry that another one follows, with zeros up to that
-abbrev pub followed : DirectoryInformationClass → Candidate → List ℕ
-followed class c =
-    whole (directory_information_of class (distance class c.name) c)
-    ++ replicate (distance class c.name - entry_length class c.name) 0
-
--- entries one behind the other ([MS-SMB2] 3.3.5.18): NextEntryOffset is the distance to the next one, and 0 in the last,
--- behind which there are no zeros
+-- entries one behind the other ([MS-SMB2] 3.3.5.18), each with its fields and behind them its name as it is spelled.
+-- NextEntryOffset is the distance to the next one, the length of the entry rounded up to a multiple of 8, and there are
+-- zeros up to that; it is 0 in the last, behind which there are no zeros
 unfoldable pub laid : DirectoryInformationClass → List Candidate → List ℕ
 laid class [] = []
-laid class (last ∷ []) = whole (directory_information_of class 0 last)
-laid class (c ∷ next ∷ rest) = followed class c ++ laid class (next ∷ rest)
+laid class (last ∷ []) = joined (fields_of class 0 last) ++ unit_bytes last.name
+laid class (c ∷ next ∷ rest) =
+    let size = directory_length class + 2 * length c.name in
+    let distance = (size + 7) / 8 * 8 in
+    joined (fields_of class distance c) ++ unit_bytes c.name ++ replicate (distance - size) 0
+    ++ laid class (next ∷ rest)

@@ -1,7 +1,7 @@
 -- What is told of a file or a folder ([MS-FSCC] 2.4). A row is a field: its offset, its width, its value.
-use Rattle.std.specs.Prelude.{ℕ, ◌+◌, List, [], ◌∷◌, ◌++◌, length, Bool, true, false, ◌==◌, if◌then◌else◌, Option, None, Some}
+use Rattle.std.specs.Prelude.{ℕ, List, [], ◌∷◌, ◌++◌, length, ◌==◌, if◌then◌else◌, Option, None, Some}
 use Rattle.std.specs.Option.{option_map}
-use Rattle.smb_wire.specs.Fields.{Field, num, raw}
+use Rattle.smb_wire.specs.Fields.{Field, num}
 use Rattle.smb_tree.specs.WholeNames.{Copied}
 use Rattle.smb_tree.specs.Entries.{is_folder_kind, allocation_size, shown_attributes}
 use Rattle.smb_info.specs.Information.{Information}
@@ -23,15 +23,6 @@ file_class number =
     if number == 34 then Some FileNetworkOpen else
     if number == 35 then Some FileAttributeTag else None
 
--- the attributes that are shown of an entry
-abbrev pub attributes_of : Copied → ℕ
-attributes_of e = shown_attributes e.kind e.basic.attributes.0
-
--- a yes is 1, a no 0
-abbrev pub flag : Bool → ℕ
-flag false = 0
-flag true = 1
-
 -- FileBasicInformation, class 4
 abbrev pub basic_fields : Copied → List Field
 basic_fields e =
@@ -39,84 +30,57 @@ basic_fields e =
     ∷ num 8 8 e.basic.last_access_time  -- LastAccessTime
     ∷ num 16 8 e.basic.last_write_time  -- LastWriteTime
     ∷ num 24 8 e.basic.change_time  -- ChangeTime
-    ∷ num 32 4 (attributes_of e)  -- FileAttributes
+    ∷ num 32 4 (shown_attributes e.kind e.basic.attributes.0)  -- FileAttributes
     ∷ num 36 4 0  -- Reserved
     ∷ []
-
--- FileStandardInformation, class 5
-abbrev pub standard_fields : Copied → List Field
-standard_fields e =
-    num 0 8 (allocation_size e.size)  -- AllocationSize
-    ∷ num 8 8 e.size  -- EndOfFile
-    ∷ num 16 4 1  -- NumberOfLinks
-    ∷ num 20 1 (flag e.mark)  -- DeletePending
-    ∷ num 21 1 (flag (is_folder_kind e.kind))  -- Directory
-    ∷ num 22 2 0  -- Reserved
-    ∷ []
-
--- FileInternalInformation, class 6
-abbrev pub internal_fields : Copied → List Field
-internal_fields e =
-    num 0 8 e.number  -- IndexNumber
-    ∷ []
-
--- FileEaInformation, class 7: there are no extended attributes
-abbrev pub ea_fields : List Field
-ea_fields =
-    num 0 4 0  -- EaSize
-    ∷ []
-
--- FileAccessInformation, class 8
-abbrev pub access_fields : ℕ → List Field
-access_fields access =
-    num 0 4 access  -- AccessFlags
-    ∷ []
-
--- FilePositionInformation, class 14: an open has no place of its own
-abbrev pub position_fields : List Field
-position_fields =
-    num 0 8 0  -- CurrentByteOffset
-    ∷ []
-
--- FileModeInformation, class 16
-abbrev pub mode_fields : List Field
-mode_fields =
-    num 0 4 0  -- Mode
-    ∷ []
-
--- FileAlignmentInformation, class 17: a buffer may begin anywhere
-abbrev pub alignment_fields : List Field
-alignment_fields =
-    num 0 4 0  -- AlignmentRequirement
-    ∷ []
-
--- fields that begin so many bytes further on
-abbrev pub further : ℕ → List Field → List Field
-further n [] = []
-further n (num place w value ∷ fields) = num (n + place) w value ∷ further n fields
-further n (raw place w text ∷ fields) = raw (n + place) w text ∷ further n fields
-
--- the name of an entry from the root of the share on: a separator, two bytes, and the components of its path
-abbrev pub full_name : Copied → List ℕ
-full_name e = 92 ∷ 0 ∷ e.name
 
 -- what a class tells of an entry through an open with this access
 abbrev pub file_information_of : FileInformationClass → Copied → ℕ → Information
 file_information_of FileBasic e access = record { fields = basic_fields e; name = [] }
-file_information_of FileStandard e access = record { fields = standard_fields e; name = [] }
-file_information_of FileInternal e access = record { fields = internal_fields e; name = [] }
-file_information_of FileEa e access = record { fields = ea_fields; name = [] }
-file_information_of FileAccess e access = record { fields = access_fields access; name = [] }
-file_information_of FilePosition e access = record { fields = position_fields; name = [] }
-file_information_of FileMode e access = record { fields = mode_fields; name = [] }
-file_information_of FileAlignment e access = record { fields = alignment_fields; name = [] }
--- FileAllInformation, class 18: the classes before it, one behind the other, and FileNameLength; the name follows
+-- FileStandardInformation, class 5; a yes is 1, a no 0
+file_information_of FileStandard e access = record {
+  fields =
+      num 0 8 (allocation_size e.size)  -- AllocationSize
+      ∷ num 8 8 e.size  -- EndOfFile
+      ∷ num 16 4 1  -- NumberOfLinks
+      ∷ num 20 1 (if e.mark then 1 else 0)  -- DeletePending
+      ∷ num 21 1 (if is_folder_kind e.kind then 1 else 0)  -- Directory
+      ∷ num 22 2 0  -- Reserved
+      ∷ [];
+  name = [];
+}
+-- FileInternalInformation, class 6: IndexNumber
+file_information_of FileInternal e access = record { fields = num 0 8 e.number ∷ []; name = [] }
+-- FileEaInformation, class 7: EaSize; there are no extended attributes
+file_information_of FileEa e access = record { fields = num 0 4 0 ∷ []; name = [] }
+-- FileAccessInformation, class 8: AccessFlags
+file_information_of FileAccess e access = record { fields = num 0 4 access ∷ []; name = [] }
+-- FilePositionInformation, class 14: CurrentByteOffset; an open has no place of its own
+file_information_of FilePosition e access = record { fields = num 0 8 0 ∷ []; name = [] }
+-- FileModeInformation, class 16: Mode
+file_information_of FileMode e access = record { fields = num 0 4 0 ∷ []; name = [] }
+-- FileAlignmentInformation, class 17: AlignmentRequirement; a buffer may begin anywhere
+file_information_of FileAlignment e access = record { fields = num 0 4 0 ∷ []; name = [] }
+-- FileAllInformation, class 18: the classes before it, one behind the other, and the name from the root of the share
+-- on: a separator, two bytes, and the components of the path
 file_information_of FileAll e access = record {
   fields =
-      basic_fields e ++ (further 40 (standard_fields e) ++ (further 64 (internal_fields e) ++ (further 72 ea_fields
-      ++ (further 76 (access_fields access) ++ (further 80 position_fields ++ (further 88 mode_fields
-      ++ (further 92 alignment_fields ++ num 96 4 (length (full_name e)) ∷ [])))))));
-  name = full_name e;
+      basic_fields e
+      ++ num 40 8 (allocation_size e.size)  -- AllocationSize
+      ∷ num 48 8 e.size  -- EndOfFile
+      ∷ num 56 4 1  -- NumberOfLinks
+      ∷ num 60 1 (if e.mark then 1 else 0)  -- DeletePending
+      ∷ num 61 1 (if is_folder_kind e.kind then 1 else 0)  -- Directory
+      ∷ num 62 2 0  -- Reserved
+      ∷ num 64 8 e.number  -- IndexNumber
+      ∷ num 72 4 0  -- EaSize
+      ∷ num 76 4 access  -- AccessFlags
+      ∷ num 80 8 0  -- CurrentByteOffset
+      ∷ num 88 4 0  -- Mode
+      ∷ num 92 4 0  -- AlignmentRequirement
+      ∷ num 96 4 (length (92 ∷ 0 ∷ e.name))  -- FileNameLength
+      ∷ [];
+  name = 92 ∷ 0 ∷ e.name;
 }
 -- FileNetworkOpenInformation, class 34
 file_information_of FileNetworkOpen e access = record {
@@ -127,7 +91,7 @@ file_information_of FileNetworkOpen e access = record {
       ∷ num 24 8 e.basic.change_time  -- ChangeTime
       ∷ num 32 8 (allocation_size e.size)  -- AllocationSize
       ∷ num 40 8 e.size  -- EndOfFile
-      ∷ num 48 4 (attributes_of e)  -- FileAttributes
+      ∷ num 48 4 (shown_attributes e.kind e.basic.attributes.0)  -- FileAttributes
       ∷ num 52 4 0  -- Reserved
       ∷ [];
   name = [];
@@ -135,7 +99,7 @@ file_information_of FileNetworkOpen e access = record {
 -- FileAttributeTagInformation, class 35
 file_information_of FileAttributeTag e access = record {
   fields =
-      num 0 4 (attributes_of e)  -- FileAttributes
+      num 0 4 (shown_attributes e.kind e.basic.attributes.0)  -- FileAttributes
       ∷ num 4 4 0  -- ReparseTag
       ∷ [];
   name = [];

@@ -29,14 +29,8 @@ fs_class number =
     if number == 5 then Some FileFsAttribute else
     if number == 7 then Some FileFsFullSize else None
 
--- an allocation unit is 8 sectors of 512 bytes
-abbrev pub total_units : VolumeFacts → ℕ
-total_units v = v.capacity / 4096
-
-abbrev pub available_units : VolumeFacts → ℕ
-available_units v = (v.capacity - v.used) / 4096
-
--- what a class tells of a volume (2.5): its fields, and the text behind them
+-- what a class tells of a volume (2.5): its fields, and the text behind them; an allocation unit is 8 sectors of 512
+-- bytes
 abbrev pub fs_information_of : FileSystemInformationClass → VolumeFacts → Information
 -- FileFsVolumeInformation, class 1; the label follows
 fs_information_of FileFsVolume v = record {
@@ -52,8 +46,8 @@ fs_information_of FileFsVolume v = record {
 -- FileFsSizeInformation, class 3
 fs_information_of FileFsSize v = record {
   fields =
-      num 0 8 (total_units v)  -- TotalAllocationUnits
-      ∷ num 8 8 (available_units v)  -- AvailableAllocationUnits
+      num 0 8 (v.capacity / 4096)  -- TotalAllocationUnits
+      ∷ num 8 8 ((v.capacity - v.used) / 4096)  -- AvailableAllocationUnits
       ∷ num 16 4 8  -- SectorsPerAllocationUnit
       ∷ num 20 4 512  -- BytesPerSector
       ∷ [];
@@ -79,9 +73,9 @@ fs_information_of FileFsAttribute v = record {
 -- FileFsFullSizeInformation, class 7
 fs_information_of FileFsFullSize v = record {
   fields =
-      num 0 8 (total_units v)  -- TotalAllocationUnits
-      ∷ num 8 8 (available_units v)  -- CallerAvailableAllocationUnits
-      ∷ num 16 8 (available_units v)  -- ActualAvailableAllocationUnits
+      num 0 8 (v.capacity / 4096)  -- TotalAllocationUnits
+      ∷ num 8 8 ((v.capacity - v.used) / 4096)  -- CallerAvailableAllocationUnits
+      ∷ num 16 8 ((v.capacity - v.used) / 4096)  -- ActualAvailableAllocationUnits
       ∷ num 24 4 8  -- SectorsPerAllocationUnit
       ∷ num 28 4 512  -- BytesPerSector
       ∷ [];

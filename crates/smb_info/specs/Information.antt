@@ -1,9 +1,8 @@
 -- What an information class tells: a table of fields, and for some a name behind it ([MS-FSCC] 2.4, 2.5).
-use Rattle.std.specs.Prelude.{ℕ, List, [], ◌++◌, length, take, nat_lt, if◌then◌else◌, Option, None, Some}
+use Rattle.std.specs.Prelude.{ℕ, List, [], ◌++◌, length, take, nat_le, nat_lt, if◌then◌else◌, Option, None, Some}
 use Rattle.smb_wire.specs.Fields.{Field, joined, width_of, AllStand}
-use Rattle.smb_info.specs.Written.{written_of}
 use Rattle.smb_info.specs.declared.written.Truncation.{Truncation}
-use Rattle.smb_info.specs.declared.written.Truncation.TheVariants.{Whole}
+use Rattle.smb_info.specs.declared.written.Truncation.TheVariants.{Whole, Cut}
 use Rattle.smb_info.specs.declared.fault.InfoFault.{InfoFault}
 use Rattle.smb_info.specs.declared.fault.InfoFault.TheVariants.{BadClass, TooSmall}
 
@@ -12,28 +11,20 @@ pub record Information : Type 0 where
   pub fields : List Field
   pub name : List ℕ
 
--- how many bytes the fixed part has
-abbrev pub fixed_length : Information → ℕ
-fixed_length info = width_of info.fields
-
--- the whole spelling
-abbrev pub whole : Information → List ℕ
-whole info = joined info.fields ++ info.name
-
 -- why nothing is told: the number is of no class that is told, or there is no room for the fixed part
 abbrev pub info_fault : Option Information → ℕ → Option InfoFault
 info_fault None room = Some BadClass
-info_fault (Some info) room = if nat_lt room (fixed_length info) then Some TooSmall else None
+info_fault (Some info) room = if nat_lt room (width_of info.fields) then Some TooSmall else None
 
--- what is told: the first bytes of the whole spelling, as many as there is room for
+-- what is told: the first bytes of the fields and the name, as many as there is room for
 abbrev pub told : Option Information → ℕ → List ℕ
 told None room = []
-told (Some info) room = take room (whole info)
+told (Some info) room = take room (joined info.fields ++ info.name)
 
 -- whether that is all
 abbrev pub information_written : Option Information → ℕ → Truncation
 information_written None room = Whole
-information_written (Some info) room = written_of room (length (whole info))
+information_written (Some info) room = if nat_le (length (joined info.fields ++ info.name)) room then Whole else Cut
 
 -- each field of the fixed part is read at its offset of these bytes
 abbrev pub FieldsStand : Option Information → List ℕ → Type 0

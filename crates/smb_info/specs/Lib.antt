@@ -1,4 +1,3 @@
-pub mod Written
 pub mod Information
 pub mod FileSystemInformation
 pub mod Volumes

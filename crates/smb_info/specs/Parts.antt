@@ -1,24 +1,216 @@
 -- For the proofs; nothing here need be believed.
 -- Tables and steps by names that the code and the proofs speak of.
-use Rattle.std.specs.Prelude.{ℕ, ◌*◌, List, [], ◌∷◌, length, ◌+◌, ◌++◌, ◌/◌, ◌%◌, take, drop, Bool, not, nat_le, ◌==◌, ◌&&◌, ◌||◌, if◌then◌else◌, nat_lt}
-use Rattle.smb_wire.specs.Fields.{Field, num, number_in}
-use Rattle.smb_info.specs.FileSystemInformation.{VolumeFacts, available_units, total_units}
+use Rattle.std.specs.Prelude.{ℕ, ◌*◌, List, [], ◌∷◌, length, ◌+◌, ◌-◌, ◌++◌, ◌/◌, ◌%◌, take, drop, replicate, Bool, not, nat_le, ◌==◌, ◌&&◌, ◌||◌, if◌then◌else◌, nat_lt, Option, None, Some}
+use Rattle.smb_wire.specs.Fields.{Field, num, raw, number_in, joined, width_of}
+use Rattle.smb_info.specs.Information.{Information}
+use Rattle.smb_info.specs.declared.written.Truncation.{Truncation}
+use Rattle.smb_info.specs.declared.written.Truncation.TheVariants.{Whole, Cut}
+use Rattle.smb_info.specs.FileSystemInformation.{VolumeFacts}
+use Rattle.smb_tree.specs.Content.{Row}
 use Rattle.smb_tree.specs.WholeNames.{Copied}
-use Rattle.smb_tree.specs.Entries.{allocation_size}
-use Rattle.smb_info.specs.FileInformation.{access_fields, alignment_fields, attributes_of, basic_fields, ea_fields, full_name, further, internal_fields, mode_fields, position_fields, standard_fields}
+use Rattle.smb_tree.specs.Views.{Shown}
+use Rattle.smb_tree.specs.Entries.{is_folder_kind, allocation_size, shown_attributes}
+use Rattle.smb_info.specs.FileInformation.{basic_fields}
 use Rattle.smb_info.specs.Candidates.{Candidate}
-use Rattle.smb_info.specs.DirectoryInformation.{both_directory_fields, full_directory_fields, laid}
-use Rattle.smb_wire.specs.Pairs.{units_in}
+use Rattle.smb_info.specs.DirectoryInformation.{both_directory_fields, full_directory_fields, directory_length, fields_of, laid}
+use Rattle.smb_wire.specs.Pairs.{units_in, unit_bytes}
 use Rattle.smb_entry.specs.declared.ask.BasicAsk.{BasicAsk}
-use Rattle.smb_info.specs.SetInformation.{name_length}
 use Rattle.smb_wire.specs.Access.{has_any}
 use Rattle.smb_wire.specs.QueryDirectoryFlags.{RESTART_SCANS, RETURN_SINGLE_ENTRY, REOPEN}
 use Rattle.smb_access.specs.declared.scan.Scan.{Scan}
+use Rattle.smb_access.specs.declared.scan.ScanLast.{ScanLast}
 use Rattle.smb_info.specs.declared.fault.InfoFault.{InfoFault}
-use Rattle.smb_info.specs.declared.fault.InfoFault.TheVariants.{NoMatch, NoMore}
-use Rattle.smb_info.specs.Queries.{ListAsked, is_started_by, scan_by}
+use Rattle.smb_info.specs.declared.fault.InfoFault.TheVariants.{BadClass, BadPattern, TooSmall, NoMatch, NoMore}
+use Rattle.smb_info.specs.Queries.{ListAsked, is_started_by, pattern_by, scan_by}
 use Rattle.smb_info.specs.declared.directory_class.DirectoryInformationClass.{DirectoryInformationClass}
-use Rattle.smb_info.specs.Listing.{fitting}
+use Rattle.smb_info.specs.declared.scan.Search.{Search}
+use Rattle.smb_info.specs.Listing.{matching, fitting}
+
+-- an entry as a candidate; where there is no entry, none
+abbrev pub listed_as : ScanLast → List ℕ → Option Shown → List Candidate
+listed_as behind name None = []
+listed_as behind name (Some entry) = record { behind = behind; name = name; entry = entry } ∷ []
+
+-- how many bytes the fixed part has
+abbrev pub fixed_length : Information → ℕ
+fixed_length info = width_of info.fields
+
+-- the whole spelling
+abbrev pub whole : Information → List ℕ
+whole info = joined info.fields ++ info.name
+
+-- so many bytes, where there is so much room
+abbrev pub written_of : ℕ → ℕ → Truncation
+written_of room size = if nat_le size room then Whole else Cut
+
+-- an allocation unit is 8 sectors of 512 bytes
+abbrev pub total_units : VolumeFacts → ℕ
+total_units v = v.capacity / 4096
+
+abbrev pub available_units : VolumeFacts → ℕ
+available_units v = (v.capacity - v.used) / 4096
+
+-- the attributes that are shown of an entry
+abbrev pub attributes_of : Copied → ℕ
+attributes_of e = shown_attributes e.kind e.basic.attributes.0
+
+-- a yes is 1, a no 0
+abbrev pub flag : Bool → ℕ
+flag b = if b then 1 else 0
+
+-- FileStandardInformation, class 5
+abbrev pub standard_fields : Copied → List Field
+standard_fields e =
+    num 0 8 (allocation_size e.size)  -- AllocationSize
+    ∷ num 8 8 e.size  -- EndOfFile
+    ∷ num 16 4 1  -- NumberOfLinks
+    ∷ num 20 1 (flag e.mark)  -- DeletePending
+    ∷ num 21 1 (flag (is_folder_kind e.kind))  -- Directory
+    ∷ num 22 2 0  -- Reserved
+    ∷ []
+
+-- FileInternalInformation, class 6
+abbrev pub internal_fields : Copied → List Field
+internal_fields e =
+    num 0 8 e.number  -- IndexNumber
+    ∷ []
+
+-- FileEaInformation, class 7: there are no extended attributes
+abbrev pub ea_fields : List Field
+ea_fields =
+    num 0 4 0  -- EaSize
+    ∷ []
+
+-- FileAccessInformation, class 8
+abbrev pub access_fields : ℕ → List Field
+access_fields access =
+    num 0 4 access  -- AccessFlags
+    ∷ []
+
+-- FilePositionInformation, class 14: an open has no place of its own
+abbrev pub position_fields : List Field
+position_fields =
+    num 0 8 0  -- CurrentByteOffset
+    ∷ []
+
+-- FileModeInformation, class 16
+abbrev pub mode_fields : List Field
+mode_fields =
+    num 0 4 0  -- Mode
+    ∷ []
+
+-- FileAlignmentInformation, class 17: a buffer may begin anywhere
+abbrev pub alignment_fields : List Field
+alignment_fields =
+    num 0 4 0  -- AlignmentRequirement
+    ∷ []
+
+-- fields that begin so many bytes further on
+abbrev pub further : ℕ → List Field → List Field
+further n [] = []
+further n (num place w value ∷ fields) = num (n + place) w value ∷ further n fields
+further n (raw place w text ∷ fields) = raw (n + place) w text ∷ further n fields
+
+-- the name of an entry from the root of the share on: a separator, two bytes, and the components of its path
+abbrev pub full_name : Copied → List ℕ
+full_name e = 92 ∷ 0 ∷ e.name
+
+-- what a class tells of an entry: its fields, and behind them the name as it is spelled
+abbrev pub directory_information_of : DirectoryInformationClass → ℕ → Candidate → Information
+directory_information_of class next c = record { fields = fields_of class next c; name = unit_bytes c.name }
+
+-- how many bytes that is
+abbrev pub entry_length : DirectoryInformationClass → List ℕ → ℕ
+entry_length class name = directory_length class + 2 * length name
+
+-- how far behind the beginning of an entry the next one begins: its length, rounded up to a multiple of 8
+abbrev pub distance : DirectoryInformationClass → List ℕ → ℕ
+distance class name = (entry_length class name + 7) / 8 * 8
+
+-- an entry that another one follows, with zeros up to that
+abbrev pub followed : DirectoryInformationClass → Candidate → List ℕ
+followed class c =
+    whole (directory_information_of class (distance class c.name) c)
+    ++ replicate (distance class c.name - entry_length class c.name) 0
+
+-- what is sought in a directory: the number of its entry, the pattern of the names, behind which entry the scan goes on,
+-- whether at most one entry is wanted, and how many bytes there may be at most
+pub record Sought : Type 0 where
+  pub folder : ℕ
+  pub pattern : List ℕ
+  pub last : ScanLast
+  pub single : Bool
+  pub room : ℕ
+
+-- at most one, where one is wanted
+abbrev pub at_most_one : Bool → List Candidate → List Candidate
+at_most_one single cs = if single then take 1 cs else cs
+
+-- what is wanted
+abbrev pub wanted : List Row → Sought → List Candidate
+wanted rows sought = at_most_one sought.single (matching rows sought.folder sought.pattern sought.last)
+
+-- the entries that are given: the longest front of what is wanted that is laid in the room
+abbrev pub given : List Row → DirectoryInformationClass → Sought → List Candidate
+given rows class sought = fitting class sought.room (wanted rows sought) (length (wanted rows sought))
+
+-- how far a scan is that has given these; where it gave none, as far as it was
+abbrev pub reached : ScanLast → List Candidate → ScanLast
+reached last [] = last
+reached last (c ∷ cs) = reached c.behind cs
+
+-- what is sought, without where its pattern lies in memory
+abbrev pub sought : Search → Sought
+sought search = record {
+  folder = search.folder;
+  pattern = search.pattern.now;
+  last = search.last;
+  single = search.single;
+  room = search.room;
+}
+
+-- what it seeks in a directory; RETURN_SINGLE_ENTRY asks for one entry at most (2.2.33)
+abbrev pub sought_by : ℕ → Scan → ListAsked → Sought
+sought_by folder scan ask = record {
+  folder = folder;
+  pattern = pattern_by scan ask;
+  last = (scan_by scan ask).last;
+  single = has_any ask.flags RETURN_SINGLE_ENTRY;
+  room = ask.room;
+}
+
+module _ (rows : List Row) (folder : ℕ) (scan : Scan) (ask : ListAsked) where
+  -- why nothing is listed of what is wanted: no name is matched, which is NO_SUCH_FILE where the query starts the scan,
+  -- and the scan is kept, and else NO_MORE_FILES; or the first entry does not fit whole, though it is the only one
+  abbrev pub first_fault : DirectoryInformationClass → List Candidate → Option InfoFault
+  first_fault class [] = Some (if is_started_by scan ask then NoMatch (scan_by scan ask) else NoMore)
+  first_fault class (c ∷ cs) = if nat_lt ask.room (length (laid class (c ∷ []))) then Some TooSmall else None
+
+  -- why nothing is listed by a class: the pattern has over 255 units, there is no room for the fixed part, or as above
+  abbrev pub class_fault : DirectoryInformationClass → Option InfoFault
+  class_fault class =
+      if nat_lt 255 (length ask.pattern) then Some BadPattern else
+      if nat_lt ask.room (directory_length class) then Some TooSmall else
+      first_fault class (wanted rows (sought_by folder scan ask))
+
+  -- why nothing is listed, by the class that has the number: there is none, or as above
+  abbrev pub fault_by : Option DirectoryInformationClass → Option InfoFault
+  fault_by None = Some BadClass
+  fault_by (Some class) = class_fault class
+
+  -- the entries that are listed, by the class that has the number: as many as fit
+  abbrev pub listed_by : Option DirectoryInformationClass → List Candidate
+  listed_by None = []
+  listed_by (Some class) = given rows class (sought_by folder scan ask)
+
+  -- their bytes, by the class that has the number
+  abbrev pub bytes_by : Option DirectoryInformationClass → List ℕ
+  bytes_by None = []
+  bytes_by (Some class) = laid class (given rows class (sought_by folder scan ask))
+
+-- FileNameLength of a rename, in bytes
+abbrev pub name_length : List ℕ → ℕ
+name_length = number_in 4 16
 
 -- FileFsVolumeInformation, class 1; the label follows
 abbrev pub volume_fields : VolumeFacts → List Field

@@ -2,9 +2,8 @@
 -- What is left of a listing behind one of its entries.
 use Rattle.std.specs.Prelude.{ℕ, ◌-◌, List, [], ◌∷◌, nat_le, if◌then◌else◌}
 use Rattle.smb_info.specs.Candidates.{Candidate}
-use Rattle.smb_info.specs.DirectoryInformation.{entry_length, distance}
+use Rattle.smb_info.specs.Parts.{entry_length, distance, Sought}
 use Rattle.smb_info.specs.Cursors.{matched}
-use Rattle.smb_info.specs.Listing.{Sought}
 use Rattle.smb_info.specs.declared.directory_class.DirectoryInformationClass.{DirectoryInformationClass}
 
 -- what is wanted of the candidates behind an entry that was given

@@ -35,10 +35,6 @@ pub data SetAsked : Type 0 where
   asks_allocation : ℕ → SetAsked
   asks_end : ℕ → SetAsked
 
--- FileNameLength of a rename, in bytes
-abbrev pub name_length : List ℕ → ℕ
-name_length = number_in 4 16
-
 -- what the buffer of a class asks
 abbrev pub asked_of : List ℕ → SetInformationClass → SetAsked
 -- CreationTime, LastAccessTime, LastWriteTime, ChangeTime, FileAttributes; 4 bytes are reserved
@@ -49,8 +45,9 @@ asked_of bytes FileBasic = asks_basic (record {
   change_time = number_in 8 24 bytes;
   attributes = record { 0 = number_in 4 32 bytes };
 })
--- ReplaceIfExists: any number but 0 is yes; FileName
-asked_of bytes FileRename = asks_rename (not (number_in 1 0 bytes == 0)) (units_in (take (name_length bytes) (drop 20 bytes)))
+-- ReplaceIfExists: any number but 0 is yes; FileNameLength, in bytes, and FileName
+asked_of bytes FileRename =
+    asks_rename (not (number_in 1 0 bytes == 0)) (units_in (take (number_in 4 16 bytes) (drop 20 bytes)))
 -- DeletePending: any number but 0 is yes
 asked_of bytes FileDisposition = asks_mark (not (number_in 1 0 bytes == 0))
 asked_of bytes FileAllocation = asks_allocation (number_in 8 0 bytes)
@@ -64,8 +61,9 @@ set_of number bytes = option_map (asked_of bytes) (set_class number)
 -- share's root (RootDirectory is 0), has units, whole ones, and ends within the buffer
 abbrev pub is_readable : List ℕ → SetInformationClass → Bool
 is_readable bytes FileRename =
-    (number_in 8 8 bytes == 0) && not (name_length bytes == 0)
-    && nat_le (20 + name_length bytes) (length bytes) && (name_length bytes % 2 == 0)
+    let name_length = number_in 4 16 bytes in
+    (number_in 8 8 bytes == 0) && not (name_length == 0)
+    && nat_le (20 + name_length) (length bytes) && (name_length % 2 == 0)
 is_readable bytes _ = true
 
 -- why nothing is asked: the number is of no class that can be set, the fixed part is not whole, or a rename says no name

@@ -3,8 +3,8 @@
 ghost use Rattle.std.specs.Prelude.{◌≡◌, ◌<◌, ◌≤◌, ◌^◌, ◌-◌, ◌++◌, ◌∷◌, [], length, take, IfNone, IfSome, OnOk, OnErr};
 ghost use Rattle.smb_wire.specs.Units.{units_of};
 ghost use Rattle.smb_info.specs.CandidateViews.{candidate};
-ghost use Rattle.smb_info.specs.DirectoryInformation.{entry_length, distance, followed, laid};
-ghost use Rattle.smb_info.specs.Parts.{rounded_up};
+ghost use Rattle.smb_info.specs.DirectoryInformation.{laid};
+ghost use Rattle.smb_info.specs.Parts.{rounded_up, entry_length, distance, followed};
 
 use super::candidate::CandidateView;
 use super::directory_class::DirectoryInformationClass;

@@ -6,9 +6,8 @@ ghost use Rattle.smb_wire.specs.Number.{spelling};
 ghost use Rattle.smb_wire.specs.Units.{units_of};
 ghost use Rattle.smb_tree.specs.Entries.{shown_attributes};
 ghost use Rattle.smb_info.specs.CandidateViews.{candidate};
-ghost use Rattle.smb_info.specs.DirectoryInformation.{directory_information_of, fields_of, directory_fields, full_directory_fields, both_directory_fields};
-ghost use Rattle.smb_info.specs.Parts.{names_fields, id_both_directory_fields, id_full_directory_fields};
-ghost use Rattle.smb_info.specs.Information.{whole};
+ghost use Rattle.smb_info.specs.DirectoryInformation.{fields_of, directory_fields, full_directory_fields, both_directory_fields};
+ghost use Rattle.smb_info.specs.Parts.{names_fields, id_both_directory_fields, id_full_directory_fields, whole, directory_information_of};
 
 use super::candidate::CandidateView;
 use super::directory_class::DirectoryInformationClass;

@@ -1,7 +1,7 @@
 //! The file information classes ([MS-FSCC] 2.4).
 
 ghost use Rattle.std.specs.Prelude.{◌≡◌, ℕ};
-ghost use Rattle.smb_info.specs.Information.{fixed_length};
+ghost use Rattle.smb_info.specs.Parts.{fixed_length};
 ghost use Rattle.smb_info.specs.FileInformation.{file_class, file_information_of};
 ghost use Rattle.smb_tree.specs.WholeNames.{Copied};
 

@@ -3,9 +3,8 @@
 ghost use Rattle.std.specs.Prelude.{◌≡◌, ◌<◌, ◌++◌, length, take, OnOk};
 ghost use Rattle.smb_wire.specs.Fields.{AllFit, appended};
 ghost use Rattle.smb_tree.specs.WholeNames.{copied};
-ghost use Rattle.smb_info.specs.FileInformation.{file_information_of, attributes_of, flag, basic_fields, standard_fields};
-ghost use Rattle.smb_info.specs.Parts.{network_open_fields, attribute_tag_fields, all_fields};
-ghost use Rattle.smb_info.specs.Information.{whole};
+ghost use Rattle.smb_info.specs.FileInformation.{file_information_of, basic_fields};
+ghost use Rattle.smb_info.specs.Parts.{network_open_fields, attribute_tag_fields, all_fields, whole, attributes_of, flag, standard_fields};
 
 use super::file_class::FileInformationClass;
 use smb_tree::{EntryCopy, allocation_size};

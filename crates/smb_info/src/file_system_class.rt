@@ -1,7 +1,7 @@
 //! The file system information classes ([MS-FSCC] 2.5).
 
 ghost use Rattle.std.specs.Prelude.{◌≡◌};
-ghost use Rattle.smb_info.specs.Information.{fixed_length};
+ghost use Rattle.smb_info.specs.Parts.{fixed_length};
 ghost use Rattle.smb_info.specs.FileSystemInformation.{fs_class, fs_information_of, VolumeFacts};
 
 /// A file system information class that is told; the standard's names end in `Information`.

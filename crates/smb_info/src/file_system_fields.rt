@@ -3,9 +3,8 @@
 ghost use Rattle.std.specs.Prelude.{◌≡◌, ◌≤◌, ◌++◌, true, length, take, OnOk};
 ghost use Rattle.smb_wire.specs.Fields.{AllFit, appended};
 ghost use Rattle.smb_wire.specs.Pairs.{unit_bytes};
-ghost use Rattle.smb_info.specs.Information.{whole};
 ghost use Rattle.smb_info.specs.FileSystemInformation.{fs_information_of, is_volume_label};
-ghost use Rattle.smb_info.specs.Parts.{volume_fields, size_fields, device_fields, attribute_fields, full_size_fields};
+ghost use Rattle.smb_info.specs.Parts.{volume_fields, size_fields, device_fields, attribute_fields, full_size_fields, whole};
 ghost use Rattle.smb_info.specs.Volumes.{volume_facts};
 
 use super::file_system_class::FileSystemInformationClass;

@@ -6,8 +6,7 @@ ghost use Rattle.smb_tree.specs.Content.{numbered};
 ghost use Rattle.smb_tree.specs.Good.{GoodContent, AreLawful};
 ghost use Rattle.smb_info.specs.CandidateViews.{candidate};
 ghost use Rattle.smb_info.specs.Cursors.{to_come, Stands};
-ghost use Rattle.smb_info.specs.DirectoryInformation.{entry_length};
-ghost use Rattle.smb_info.specs.Asks.{sought};
+ghost use Rattle.smb_info.specs.Parts.{entry_length, sought};
 ghost use Rattle.smb_info.specs.Rests.{rest_of, one_by_one};
 
 use super::candidate::CandidateView;

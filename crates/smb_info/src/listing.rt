@@ -4,11 +4,10 @@ ghost use Rattle.std.specs.Prelude.{◌≡◌, ◌++◌, ◌∷◌, ◌≤◌, l
 ghost use Rattle.smb_wire.specs.Units.{units_of};
 ghost use Rattle.smb_tree.specs.Content.{numbered};
 ghost use Rattle.smb_tree.specs.Good.{GoodContent, AreLawful};
-ghost use Rattle.smb_info.specs.Asks.{sought};
 ghost use Rattle.smb_info.specs.CandidateViews.{candidate};
 ghost use Rattle.smb_info.specs.Cursors.{to_come, Stands};
-ghost use Rattle.smb_info.specs.DirectoryInformation.{entry_length, laid};
-ghost use Rattle.smb_info.specs.Listing.{reached};
+ghost use Rattle.smb_info.specs.DirectoryInformation.{laid};
+ghost use Rattle.smb_info.specs.Parts.{entry_length, reached, sought};
 ghost use Rattle.smb_info.specs.Rests.{rest_of, one_by_one};
 
 use super::candidate::CandidateView;

@@ -1,7 +1,7 @@
 //! How much of an information class was written.
 
 ghost use Rattle.std.specs.Prelude.{◌≡◌, ◌≤◌, ◌-◌, ◌++◌, length, take, drop};
-ghost use Rattle.smb_info.specs.Written.{written_of};
+ghost use Rattle.smb_info.specs.Parts.{written_of};
 
 /// Whether all of an information class was written.
 #[derive(Clone, Copy, Debug, PartialEq, Eq)]

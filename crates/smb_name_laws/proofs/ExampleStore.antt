@@ -17,8 +17,7 @@ use Rattle.smb_access.specs.Asked.{FileAsked}
 use Rattle.smb_access.specs.Close.{has_mark}
 use Rattle.smb_access.specs.Numbers.{AreRising}
 use Rattle.smb_access.specs.Opens.{open_of, open_numbers, AreAllBelow}
-use Rattle.smb_access.specs.Parts.{ArePresent, AreCompatible}
-use Rattle.smb_access.specs.Scans.{no_scan}
+use Rattle.smb_access.specs.Parts.{ArePresent, AreCompatible, no_scan}
 use Rattle.smb_opens.specs.Good.{GoodStore, IsMasked}
 use Rattle.smb_opens.specs.Parts.{AreMasked}
 use Rattle.smb_opens.specs.State.{StoreState}

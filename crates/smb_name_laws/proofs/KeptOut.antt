@@ -17,9 +17,9 @@ use Rattle.smb_tree.specs.Entries.{Entry}
 use Rattle.smb_tree.proofs.Apart.{numbered-from_at}
 use Rattle.smb_access.specs.declared.open_row.OpenRow.{OpenRow}
 use Rattle.smb_access.specs.Access.{is_reading, is_writing, is_deleting, granted}
-use Rattle.smb_access.specs.Asked.{FileAsked, share_asked}
+use Rattle.smb_access.specs.Asked.{FileAsked}
 use Rattle.smb_access.specs.Found.{path_asked, is_read_only_file, is_pending}
-use Rattle.smb_access.specs.Parts.{is_marked, is_on_entry, Use, use_of, has_conflict}
+use Rattle.smb_access.specs.Parts.{is_marked, is_on_entry, Use, use_of, has_conflict, share_asked}
 use Rattle.smb_access.specs.Opens.{open_of, without_open}
 use Rattle.smb_access.specs.Sharing.{is_shared_access, is_kept_out, is_conflict, use_asked}
 use Rattle.smb_access.specs.StatusRows.{StatusRow, first_status}
@@ -27,9 +27,9 @@ use Rattle.smb_access.proofs.Mores.{more_conflicts, or_has}
 use Rattle.smb_access.proofs.Rows.{rising_without, length-without}
 use Rattle.smb_entry.proofs.Looks.{hit}
 use Rattle.smb_opens.specs.Close.{closed}
-use Rattle.smb_opens.specs.Create.{access_granted, conflicts, create_rows, create_status}
+use Rattle.smb_opens.specs.Create.{access_granted, create_rows, create_status}
 use Rattle.smb_opens.specs.Found.{entry_asked}
-use Rattle.smb_opens.specs.Parts.{has_all_opens, has_all_entries}
+use Rattle.smb_opens.specs.Parts.{has_all_opens, has_all_entries, conflicts}
 use Rattle.smb_opens.specs.Good.{GoodStore}
 use Rattle.smb_opens.specs.State.{StoreState}
 use Rattle.smb_opens.proofs.Closing.{closed_is, opens_closed}

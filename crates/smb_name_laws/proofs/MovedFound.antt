@@ -23,8 +23,8 @@ use Rattle.smb_access.specs.Opens.{open_of, has_open}
 use Rattle.smb_access.specs.Parts.{is_on_entry, view_at, view_through}
 use Rattle.smb_access.specs.StatusRows.{StatusRow, first_status}
 use Rattle.smb_access.specs.Views.{view_of}
-use Rattle.smb_entry.specs.Rename.{path_named, path_numbered}
-use Rattle.smb_entry.specs.Parts.{is_not_replaced, rename_rows, dated, renamed_tree}
+use Rattle.smb_entry.specs.Rename.{path_named}
+use Rattle.smb_entry.specs.Parts.{is_not_replaced, rename_rows, dated, renamed_tree, path_numbered}
 use Rattle.smb_entry.specs.Ways.{name_rows}
 use Rattle.smb_entry.proofs.Looks.{hit}
 use Rattle.smb_entry.proofs.Under.{path_found, path_at}

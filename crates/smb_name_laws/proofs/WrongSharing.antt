@@ -1,8 +1,9 @@
 -- Wrong rules of sharing, each with a law of specs/Sharing that refuses it.
 -- A law whose name ends in By says of any definition of a CREATE's status what that of specs/ says of the right one, as
 -- the line below it shows; then come the wrong rule, and the proof that the law is false of the status by it.
-use Rattle.std.proofs.Common.{◌≡◌, ◌≢◌, ℕ, [], ◌∷◌, ◌++◌, take, drop, Bool, true, false, ◌&&◌, Option, None, Some, refl}
+use Rattle.std.proofs.Common.{◌≡◌, ◌≢◌, ℕ, [], ◌∷◌, ◌++◌, take, drop, Bool, true, false, ◌&&◌, Option, Some, refl}
 use Rattle.std.specs.List.{list_any}
+use Rattle.std.specs.Option.{option_map_or}
 use Rattle.smb_wire.specs.Access.{FILE_SHARE_ALL}
 use Rattle.smb_wire.specs.declared.disposition.CreateDisposition.TheVariants.{Open}
 use Rattle.smb_wire.specs.declared.nt_status.NtStatus.{NtStatus}
@@ -10,10 +11,10 @@ use Rattle.smb_wire.specs.declared.nt_status.NtStatus.TheVariants.{Success, Shar
 use Rattle.smb_tree.specs.Entries.{Entry}
 use Rattle.smb_access.specs.declared.open_row.OpenRow.{OpenRow}
 use Rattle.smb_access.specs.Access.{granted}
-use Rattle.smb_access.specs.Asked.{FileAsked, share_asked}
+use Rattle.smb_access.specs.Asked.{FileAsked}
 use Rattle.smb_access.specs.Found.{is_read_only_file}
 use Rattle.smb_access.specs.Opens.{open_of}
-use Rattle.smb_access.specs.Parts.{is_on_entry, Use, use_of}
+use Rattle.smb_access.specs.Parts.{is_on_entry, Use, use_of, share_asked}
 use Rattle.smb_access.specs.Sharing.{is_shared_access, is_kept_out, is_conflict, use_asked}
 use Rattle.smb_access.specs.StatusRows.{first_status}
 use Rattle.smb_opens.specs.Create.{create_rows, create_status}
@@ -28,10 +29,11 @@ use Rattle.smb_name_laws.proofs.ExampleStore.{is_good_with_sharing}
 -- a request conflicts with an open of its entry by a rule, of what the request is to do and to share, and of what the
 -- open may do and shares
 abbrev conflicts_by : (Use → Use → Bool) → StoreState → FileAsked → Option Entry → Bool
-conflicts_by rule state ask None = false
-conflicts_by rule state ask (Some entry) =
-    (let wanted : Use = use_asked ask (granted ask.access ask.read_only (is_read_only_file (Some entry))) in
-    list_any (λ row. is_on_entry entry.number row && rule wanted (use_of row)) state.opens)
+conflicts_by rule state ask entry = option_map_or
+    (λ found.
+    let wanted : Use = use_asked ask (granted ask.access ask.read_only (is_read_only_file (Some found))) in
+    list_any (λ row. is_on_entry found.number row && rule wanted (use_of row)) state.opens)
+    entry false
 
 -- the status of a CREATE with such a rule in row 15 of docs/PROFILE.md, which is the seventeenth, behind 6b and 9b
 abbrev status_by : (Use → Use → Bool) → StoreState → FileAsked → NtStatus

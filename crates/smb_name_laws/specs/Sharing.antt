@@ -1,11 +1,12 @@
 -- What an open keeps others from, in a user's words ([MS-FSA] 2.1.5.1.2).
-use Rattle.std.specs.Prelude.{◌≡◌, ◌≢◌, ℕ, ◌||◌, Bool, true, false, Some}
+use Rattle.std.specs.Prelude.{◌≡◌, ◌≢◌, ℕ, ◌||◌, Bool, true, false, Some, bit_and}
+use Rattle.smb_wire.specs.Access.{FILE_SHARE_ALL}
 use Rattle.smb_wire.specs.Counters.{is_spent}
 use Rattle.smb_wire.specs.Dispositions.{overwrites_by}
 use Rattle.smb_wire.specs.declared.nt_status.NtStatus.TheVariants.{Success, SharingViolation}
 use Rattle.smb_tree.specs.Entries.{Entry}
 use Rattle.smb_access.specs.declared.open_row.OpenRow.{OpenRow}
-use Rattle.smb_access.specs.Asked.{FileAsked, share_asked}
+use Rattle.smb_access.specs.Asked.{FileAsked}
 use Rattle.smb_access.specs.Opens.{open_of}
 use Rattle.smb_access.specs.Sharing.{is_shared_access, is_kept_out, is_conflict, use_asked}
 use Rattle.smb_opens.specs.Close.{closed}
@@ -42,12 +43,12 @@ WhoSharesNothingIsAlone =
 abbrev pub WhoWouldShareNothingIsKeptOut : Type 0
 WhoWouldShareNothingIsKeptOut =
     (state : StoreState) (ask : FileAsked) (number : ℕ) (row : OpenRow) → IsInUse state ask number row →
-    (share_asked ask).0 ≡ 0 → is_to_use state ask ≡ true → create_status state ask ≢ Success
+    bit_and ask.share FILE_SHARE_ALL ≡ 0 → is_to_use state ask ≡ true → create_status state ask ≢ Success
 
 -- a CREATE and an open let each other be: each shares what the other is to do of reading, writing and deleting
 pub record LetEachOtherBe (state : StoreState) (ask : FileAsked) (row : OpenRow) : Type 0 where
   pub asked : is_kept_out (use_asked ask (access_granted state ask)).0 row.share ≡ false
-  pub held : is_kept_out row.access (share_asked ask) ≡ false
+  pub held : is_kept_out row.access (use_asked ask (access_granted state ask)).1 ≡ false
 
 -- no CREATE is refused for sharing, where it and each open of its entry let each other be
 abbrev pub WhoSharesIsNotRefused : Type 0

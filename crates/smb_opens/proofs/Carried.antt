@@ -27,8 +27,7 @@ use Rattle.smb_access.specs.Found.{is_pending}
 use Rattle.smb_opens.specs.Good.{IsKept}
 use Rattle.smb_opens.specs.Parts.{AreMarksDue}
 use Rattle.smb_access.specs.Opens.{has_open}
-use Rattle.smb_entry.specs.Rename.{is_beneath, path_numbered}
-use Rattle.smb_entry.specs.Parts.{has_open_beneath, is_not_replaced}
+use Rattle.smb_entry.specs.Parts.{has_open_beneath, is_not_replaced, is_beneath, path_numbered}
 use Rattle.smb_opens.specs.State.{StoreState}
 use Rattle.smb_access.proofs.Removed.{leaf, length-removed}
 use Rattle.smb_access.proofs.Trees.{at_path, above_at}

@@ -26,8 +26,7 @@ use Rattle.smb_access.specs.StatusRows.{StatusRow, first_status}
 use Rattle.smb_access.specs.Faults.{IsRefusal}
 use Rattle.smb_access.specs.Found.{is_pending, is_reached}
 use Rattle.smb_access.specs.Looked.{target_of}
-use Rattle.smb_entry.specs.Rename.{is_beneath, path_numbered}
-use Rattle.smb_entry.specs.Parts.{has_open_beneath, is_not_replaced, rename_rows}
+use Rattle.smb_entry.specs.Parts.{has_open_beneath, is_not_replaced, rename_rows, is_beneath, path_numbered}
 use Rattle.smb_entry.specs.Ways.{IsMoveRefusal, way_between, is_own_target, is_kept_target, name_rows, way_rows}
 use Rattle.smb_opens.proofs.Passing.{pass_at}
 use Rattle.smb_access.proofs.Trees.{folder_target, reached_told}

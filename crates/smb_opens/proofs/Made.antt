@@ -23,9 +23,9 @@ use Rattle.smb_wire.specs.declared.create_action.CreateAction.TheVariants.{Creat
 use Rattle.smb_access.specs.declared.view.Created.{Created as CreatedOpen}
 use Rattle.smb_wire.specs.declared.access.Access.{Access}
 use Rattle.smb_wire.specs.Dispositions.{overwrites_by}
-use Rattle.smb_access.specs.Asked.{FileAsked, share_asked, kind_asked, attributes_asked}
+use Rattle.smb_access.specs.Asked.{FileAsked, kind_asked, attributes_asked}
 use Rattle.smb_access.specs.Effect.{overwritten, entry_after}
-use Rattle.smb_access.specs.Parts.{overwritten_tree, standing_tree, opened_by, action_on, is_marked, ArePresent, use_of, has_conflict, view_at}
+use Rattle.smb_access.specs.Parts.{overwritten_tree, standing_tree, opened_by, action_on, is_marked, ArePresent, use_of, has_conflict, view_at, share_asked}
 use Rattle.smb_opens.specs.Parts.{create_result_by, created_by, has_all_opens, AreMarksDue}
 use Rattle.smb_access.specs.Looked.{target_of, is_read_only_target, target_conflicts}
 use Rattle.smb_tree.specs.Good.{GoodContent, AreLawful}

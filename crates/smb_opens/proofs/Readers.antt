@@ -18,22 +18,21 @@ use Rattle.smb_locks.specs.Table.{Table, locked, unlocked}
 use Rattle.smb_access.specs.declared.open_row.OpenRow.{OpenRow}
 use Rattle.smb_access.specs.declared.scan.Scan.{Scan}
 use Rattle.smb_access.specs.declared.view.View.{View}
-use Rattle.smb_access.specs.Access.{reader_access, is_past_reading, is_writing, is_deleting}
-use Rattle.smb_access.specs.Parts.{is_bad_access, asks_delete, tree_marked, tree_cleared, is_due, opened_by, has_number, is_on_entry, view_through}
+use Rattle.smb_access.specs.Access.{is_past_reading, is_writing, is_deleting}
+use Rattle.smb_access.specs.Parts.{is_bad_access, asks_delete, tree_marked, tree_cleared, is_due, opened_by, has_number, is_on_entry, view_through, reader_access}
 use Rattle.smb_access.specs.Asked.{FileAsked}
 use Rattle.smb_access.specs.Close.{is_deletable, has_mark}
 use Rattle.smb_access.specs.Effect.{entry_after, tree_after}
 use Rattle.smb_access.specs.Opens.{open_of, without_open, with_scan, open_numbers, is_held_by}
 use Rattle.smb_access.specs.StatusRows.{StatusRow, first_status}
 use Rattle.smb_access.specs.Views.{view_of}
-use Rattle.smb_entry.specs.Parts.{keeps_from_writing, has_no_room, write_rows, has_entries, delete_rows, has_no_space, size_rows, basic_rows, rename_rows}
-use Rattle.smb_entry.specs.Rename.{path_named, path_numbered}
+use Rattle.smb_entry.specs.Parts.{keeps_from_writing, has_no_room, write_rows, has_entries, delete_rows, has_no_space, size_rows, basic_rows, rename_rows, path_numbered}
+use Rattle.smb_entry.specs.Rename.{path_named}
 use Rattle.smb_opens.specs.Close.{closed}
-use Rattle.smb_opens.specs.Parts.{closed_open, closed_each}
+use Rattle.smb_opens.specs.Parts.{closed_open, closed_each, with_locks_of}
 use Rattle.smb_opens.specs.Create.{create_rows, create_status, access_granted}
 use Rattle.smb_opens.specs.Effect.{created}
 use Rattle.smb_opens.specs.Found.{entry_asked}
-use Rattle.smb_opens.specs.Locks.{with_locks_of}
 use Rattle.smb_opens.specs.Readers.{opens_to_delete, is_to_go, unmarked_row, LeavesFiles, IsOfReader, AreOfReaders, RefusesChanges, OpensToRead}
 use Rattle.smb_opens.specs.Scans.{scan_set}
 use Rattle.smb_opens.specs.State.{StoreState}

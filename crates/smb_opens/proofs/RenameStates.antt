@@ -16,8 +16,8 @@ use Rattle.smb_access.specs.declared.view.View.{View}
 use Rattle.smb_access.specs.StatusRows.{StatusRow, first_status}
 use Rattle.smb_opens.specs.Good.{IsKept}
 use Rattle.smb_access.specs.Looked.{target_of}
-use Rattle.smb_entry.specs.Rename.{path_named, path_numbered}
-use Rattle.smb_entry.specs.Parts.{has_open_beneath, is_not_replaced, rename_rows, dated, renamed_tree}
+use Rattle.smb_entry.specs.Rename.{path_named}
+use Rattle.smb_entry.specs.Parts.{has_open_beneath, is_not_replaced, rename_rows, dated, renamed_tree, path_numbered}
 use Rattle.smb_opens.specs.Renames.{rename_status, renamed_through}
 use Rattle.smb_opens.specs.State.{StoreState}
 use Rattle.smb_opens.specs.Views.{open_view}

@@ -2,7 +2,7 @@
 use Rattle.std.specs.Prelude.{ℕ, ◌==◌, List, [], length, if◌then◌else◌, ◌||◌, ◌&&◌, not, nat_lt, ◌∷◌, ◌-◌, nat_le, ◌+◌, min}
 use Rattle.std.specs.Option.{option_map_or}
 use Rattle.smb_wire.specs.declared.nt_status.NtStatus.{NtStatus}
-use Rattle.smb_tree.specs.Content.{bytes_read, used_space, with_bytes, written}
+use Rattle.smb_tree.specs.Content.{bytes_read, used_space, with_bytes, written, changed}
 use Rattle.smb_access.specs.declared.open_row.OpenRow.{OpenRow}
 use Rattle.smb_access.specs.Opens.{open_of}
 use Rattle.smb_opens.specs.State.{StoreState}
@@ -11,12 +11,10 @@ use Rattle.smb_opens.specs.Views.{status_through}
 use Rattle.smb_wire.specs.declared.nt_status.NtStatus.TheVariants.{InvalidParameter, AccessDenied, DiskFull, InvalidDeviceRequest, EndOfFile, FileLockConflict}
 use Rattle.smb_access.specs.Access.{is_writing, is_reading}
 use Rattle.smb_locks.specs.Table.{locks_on}
-use Rattle.smb_entry.specs.SetInfo.{changed_in}
-use Rattle.smb_tree.specs.Entries.{is_folder_kind}
+use Rattle.smb_tree.specs.Entries.{is_folder_kind, kept_basic}
 use Rattle.smb_wire.specs.Limits.{most_file_bytes}
 use Rattle.smb_wire.specs.Access.{has_any, FILE_WRITE_DATA}
 use Rattle.smb_locks.specs.Conflicts.{is_read_barred, is_write_barred}
-use Rattle.smb_entry.specs.Bytes.{written_basic}
 
 -- the status of a READ of the open of a number, by the most bytes that one request may ask for
 abbrev pub read_status : StoreState → ℕ → ℕ → ℕ → ℕ → ℕ → NtStatus
@@ -81,8 +79,13 @@ write_status state most number offset buffer = status_through state number (λ v
 abbrev pub written_to : StoreState → ℕ → ℕ → List ℕ → ℕ → StoreState
 written_to state number offset buffer moment = option_map_or
     (λ (row : OpenRow). if length buffer == 0 then state else record state {
-      tree = changed_in
-          (λ entry. record entry { bytes = written offset buffer entry.bytes; basic = written_basic moment entry.basic })
-          state.tree row.entry;
+      tree = record state.tree {
+        rows = changed
+            (λ entry. record entry {
+              bytes = written offset buffer entry.bytes;
+              basic = kept_basic (record entry.basic { last_write_time = moment; change_time = moment });
+            })
+            state.tree.rows row.entry;
+      };
     })
     (open_of state.opens number) state

@@ -1,5 +1,5 @@
 -- The status of a CREATE ([MS-SMB2] 3.3.5.9): the rows in order, the first whose condition holds decides.
-use Rattle.std.specs.Prelude.{◌||◌, ◌&&◌, Bool, false, not, nat_lt, List, [], ◌∷◌, slice_index, Option, Some, ◌-◌, nat_le, ◌==◌, bit_and, length, None}
+use Rattle.std.specs.Prelude.{◌||◌, ◌&&◌, false, not, nat_lt, List, [], ◌∷◌, slice_index, Option, Some, ◌-◌, nat_le, ◌==◌, bit_and, length}
 use Rattle.std.specs.Option.{is_none, is_some, option_map_or}
 use Rattle.smb_wire.specs.declared.access.Access.{Access}
 use Rattle.smb_wire.specs.Dispositions.{overwrites_by, must_exist_by, must_be_new_by}
@@ -25,16 +25,11 @@ use Rattle.smb_wire.specs.CreateOptions.{FILE_DIRECTORY_FILE, FILE_NON_DIRECTORY
 abbrev pub access_granted : StoreState → FileAsked → Access
 access_granted state ask = granted ask.access ask.read_only (is_read_only_file (entry_asked state ask))
 
--- the request conflicts with an open of the entry
-abbrev pub conflicts : StoreState → FileAsked → Option Entry → Bool
-conflicts state ask None = false
-conflicts state ask (Some entry) =
-    let wanted = use_asked ask (granted ask.access ask.read_only (is_read_only_file (Some entry))) in
-    list_any (λ row. row.entry == entry.number && is_conflict wanted (row.access, row.share)) state.opens
-
 -- the rows of a CREATE that names this entry, as docs/PROFILE.md has them
 abbrev pub create_rows : StoreState → FileAsked → Option Entry → List StatusRow
 create_rows state ask entry =
+    -- the access that it is granted, by the entry (3.3.5.9)
+    let access = granted ask.access ask.read_only (is_read_only_file entry) in
     -- C1. no disposition ([MS-SMB2] 2.2.13)
     (nat_lt 5 ask.disposition, InvalidParameter)
     -- C2. a folder is asked for that is to be a file, or to be overwritten (2.2.13)
@@ -54,15 +49,14 @@ create_rows state ask entry =
     ∷ (
       ask.access == 0 || not (bit_and ask.access 0xF21F01FF == ask.access)
           || has_any ask.options FILE_DELETE_ON_CLOSE
-          && not (is_deleting (granted ask.access ask.read_only (is_read_only_file entry))),
+          && not (is_deleting access),
       AccessDenied,
     )
     -- C6b. the session may only read, and asks for a right to change something, or to create or overwrite an entry
     -- ([MS-SMB2] 3.3.5.9)
     ∷ (
       ask.read_only
-          && (is_past_reading (granted ask.access ask.read_only (is_read_only_file entry))
-          || must_be_new_by ask.disposition || overwrites_by ask.disposition),
+          && (is_past_reading access || must_be_new_by ask.disposition || overwrites_by ask.disposition),
       AccessDenied,
     )
     -- C7. an entry above the path is absent, or a file ([MS-FSA] 2.1.5.1)
@@ -88,7 +82,7 @@ create_rows state ask entry =
     -- C13. it is a read-only file, and is to be overwritten or written ([MS-FSA] 2.1.5.1.2)
     ∷ (
       is_read_only_file entry
-          && (overwrites_by ask.disposition || is_writing (granted ask.access ask.read_only (is_read_only_file entry))),
+          && (overwrites_by ask.disposition || is_writing access),
       AccessDenied,
     )
     -- C14. it is to be deleted on close, and is the root (of number 1), or a file that is read-only or becomes so: that is
@@ -103,7 +97,14 @@ create_rows state ask entry =
       CannotDelete,
     )
     -- C15. it has an open that this one conflicts with ([MS-FSA] 2.1.5.1.2)
-    ∷ (conflicts state ask entry, SharingViolation)
+    ∷ (
+      option_map_or
+          (λ found.
+          let wanted = use_asked ask (granted ask.access ask.read_only (is_read_only_file (Some found))) in
+          list_any (λ row. row.entry == found.number && is_conflict wanted (row.access, row.share)) state.opens)
+          entry false,
+      SharingViolation,
+    )
     -- C16. 1,024 opens exist, or their numbers are spent
     ∷ (nat_le most_opens (length state.opens) || is_spent 64 state.next, TooManyOpenedFiles)
     -- C17. it is absent, and 4,096 entries exist besides the root, or their numbers are spent

@@ -1,16 +1,16 @@
 -- LOCK of a file through an open of a store ([MS-SMB2] 3.3.5.14).
-use Rattle.std.specs.Prelude.{ℕ, List, Option, None, Some, if◌then◌else◌, ◌++◌}
-use Rattle.std.specs.Option.{option_map}
+use Rattle.std.specs.Prelude.{ℕ, List, [], if◌then◌else◌, ◌++◌}
+use Rattle.std.specs.Option.{option_map, option_map_or}
 use Rattle.smb_wire.specs.declared.nt_status.NtStatus.{NtStatus}
 use Rattle.smb_tree.specs.Entries.{is_folder_kind}
 use Rattle.smb_locks.specs.declared.ask.LockAsk.{LockAsk}
 use Rattle.smb_locks.specs.Locking.{lock_all_fault}
-use Rattle.smb_locks.specs.Table.{Table, locks_on, with_locks}
+use Rattle.smb_locks.specs.Table.{locks_on, with_locks}
 use Rattle.smb_locks.specs.Unlocking.{unlock_all_error, left_by}
 use Rattle.smb_access.specs.declared.view.View.{View}
 use Rattle.smb_opens.specs.State.{StoreState}
 use Rattle.smb_opens.specs.Views.{open_view}
-use Rattle.smb_entry.specs.Locks.{lock_status_by, locks_shown}
+use Rattle.smb_entry.specs.Locks.{lock_status_by}
 use Rattle.smb_locks.specs.Asks.{locks_asked, are_unlocks}
 
 -- the status of a LOCK that locks, through the open of a number: the first of its elements that is refused beside those
@@ -18,31 +18,34 @@ use Rattle.smb_locks.specs.Asks.{locks_asked, are_unlocks}
 abbrev pub lock_status : StoreState → ℕ → List LockAsk → NtStatus
 lock_status state number asks =
     lock_status_by (open_view state number)
-    (lock_all_fault (locks_shown state.locks (open_view state number)) number asks)
+    (lock_all_fault
+    (option_map_or (λ (view : View). locks_on state.locks view.entry) (open_view state number) []) number asks)
 
 -- the status of a LOCK that unlocks: its first element that is refused, and the flags of all of them before (3.3.5.14.1)
 abbrev pub unlock_status : StoreState → ℕ → List LockAsk → NtStatus
 unlock_status state number asks =
     lock_status_by (open_view state number)
-    (option_map (λ error. error.fault) (unlock_all_error (locks_shown state.locks (open_view state number)) number asks))
+    (option_map (λ error. error.fault)
+    (unlock_all_error
+    (option_map_or (λ (view : View). locks_on state.locks view.entry) (open_view state number) []) number asks))
 
--- the store with other locks, by what the open of a number shows: without it, and of a folder, all is as it was
-abbrev pub with_locks_of : (ℕ → Table) → StoreState → Option View → StoreState
-with_locks_of table state None = state
-with_locks_of table state (Some view) =
-    if is_folder_kind view.kind then state else record state { locks = table view.entry }
-
--- the store after a LOCK that locks and succeeds: its locks, held by the open, are the newest of the file, in order
+-- the store after a LOCK that locks and succeeds: its locks, held by the open, are the newest of the file, in order;
+-- without such an open, and of a folder, all is as it was
 abbrev pub locked_through : StoreState → ℕ → List LockAsk → StoreState
-locked_through state number asks =
-    with_locks_of (λ file. with_locks state.locks file (locks_on state.locks file ++ locks_asked number asks))
-    state (open_view state number)
+locked_through state number asks = option_map_or
+    (λ (view : View). if is_folder_kind view.kind then state else record state {
+      locks = with_locks state.locks view.entry (locks_on state.locks view.entry ++ locks_asked number asks);
+    })
+    (open_view state number) state
 
 -- the store after a LOCK that unlocks, which may be refused at an element: those before it are unlocked; with the flags
 -- of a wrong one nothing is done
 abbrev pub unlocked_through : StoreState → ℕ → List LockAsk → StoreState
-unlocked_through state number asks =
-    with_locks_of
-    (λ file. if are_unlocks asks
-    then with_locks state.locks file (left_by number (locks_on state.locks file) asks) else state.locks)
-    state (open_view state number)
+unlocked_through state number asks = option_map_or
+    (λ (view : View). if is_folder_kind view.kind then state else record state {
+      locks =
+          if are_unlocks asks
+          then with_locks state.locks view.entry (left_by number (locks_on state.locks view.entry) asks)
+          else state.locks;
+    })
+    (open_view state number) state

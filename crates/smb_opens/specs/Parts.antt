@@ -1,6 +1,6 @@
 -- For the proofs; nothing here need be believed.
 -- Steps of a CREATE and of a CLOSE, and parts of what holds of a store, each with a name.
-use Rattle.std.specs.Prelude.{ℕ, Bool, List, [], ◌∷◌, ◌+◌, ◌++◌, Option, ◌-◌, ◌||◌, nat_le, length, ◌≡◌, true, Some, Contains, fold}
+use Rattle.std.specs.Prelude.{ℕ, Bool, false, ◌==◌, ◌&&◌, if◌then◌else◌, List, [], ◌∷◌, ◌+◌, ◌++◌, Option, ◌-◌, ◌||◌, nat_le, length, ◌≡◌, true, Some, Contains, fold}
 use Rattle.smb_locks.specs.Table.{without_holder, Table, locks_on}
 use Rattle.smb_access.specs.declared.open_row.OpenRow.{OpenRow}
 use Rattle.smb_access.specs.Opens.{without_open, open_of, has_open}
@@ -12,10 +12,15 @@ use Rattle.smb_access.specs.declared.view.Created.{Created as CreatedOpen}
 use Rattle.smb_wire.specs.declared.access.Access.{Access}
 use Rattle.smb_access.specs.Asked.{FileAsked}
 use Rattle.smb_access.specs.Views.{view_of}
+use Rattle.smb_access.specs.declared.view.View.{View}
+use Rattle.smb_tree.specs.Entries.{is_folder_kind}
 use Rattle.smb_access.specs.Effect.{entry_after, tree_after}
 use Rattle.smb_wire.specs.Limits.{most_opens, most_entries}
 use Rattle.smb_wire.specs.Counters.{is_spent}
-use Rattle.std.specs.List.{AllByRecursion}
+use Rattle.std.specs.List.{AllByRecursion, list_any}
+use Rattle.smb_access.specs.Access.{granted}
+use Rattle.smb_access.specs.Found.{is_read_only_file}
+use Rattle.smb_access.specs.Sharing.{use_asked, is_conflict}
 use Rattle.std.specs.Option.{option_map, option_map_or}
 use Rattle.smb_tree.specs.Content.{Row}
 use Rattle.smb_locks.specs.declared.lock.Lock.{Lock}
@@ -56,6 +61,20 @@ create_result_by state ask moment access stood = record {
   action = option_map_or (λ found. action_on ask.disposition) stood Created;
   view = view_of access (entry_after state.tree ask moment stood);
 }
+
+-- the request conflicts with an open of the entry
+abbrev pub conflicts : StoreState → FileAsked → Option Entry → Bool
+conflicts state ask entry = option_map_or
+    (λ found.
+    let wanted = use_asked ask (granted ask.access ask.read_only (is_read_only_file (Some found))) in
+    list_any (λ row. row.entry == found.number && is_conflict wanted (row.access, row.share)) state.opens)
+    entry false
+
+-- the store with other locks, by what the open of a number shows: without it, and of a folder, all is as it was
+abbrev pub with_locks_of : (ℕ → Table) → StoreState → Option View → StoreState
+with_locks_of table state view = option_map_or
+    (λ (view : View). if is_folder_kind view.kind then state else record state { locks = table view.entry })
+    view state
 
 -- 1,024 opens exist, or their numbers are spent
 abbrev pub has_all_opens : StoreState → Bool

@@ -5,26 +5,26 @@ use Rattle.smb_wire.specs.declared.nt_status.NtStatus.{NtStatus}
 use Rattle.smb_wire.specs.Paths.{path_spelled, is_separator, path_fault, folded_path}
 use Rattle.smb_access.specs.declared.open_row.OpenRow.{OpenRow}
 use Rattle.smb_access.specs.Opens.{open_of, has_open}
-use Rattle.smb_entry.specs.Rename.{path_numbered, is_beneath}
 use Rattle.smb_opens.specs.State.{StoreState}
 use Rattle.smb_opens.specs.Views.{status_through}
 use Rattle.smb_wire.specs.declared.nt_status.NtStatus.TheVariants.{InvalidParameter, ObjectNameInvalid, AccessDenied, ObjectPathNotFound, DeletePending, ObjectNameCollision, Success}
 use Rattle.smb_access.specs.Access.{is_deleting}
 use Rattle.smb_access.specs.Found.{is_read_only_file, is_pending, is_reached}
-use Rattle.smb_tree.specs.Content.{entry_at, is_same_path}
-use Rattle.smb_entry.specs.SetInfo.{changed_in}
+use Rattle.smb_tree.specs.Content.{Path, entry_at, is_same_path, numbered, changed}
 use Rattle.std.specs.List.{list_any}
 use Rattle.smb_tree.specs.Entries.{is_folder_kind, kept_basic}
 use Rattle.smb_tree.specs.Faults.{would_be_too_deep}
-use Rattle.smb_tree.specs.Moves.{moved}
+use Rattle.smb_tree.specs.Moves.{moved, is_within}
 
 -- the status of a SET_INFO that renames the entry of an open to what a name spells; with the flag (ReplaceIfExists) an
 -- entry that exists at the new path may be replaced
 abbrev pub rename_status : StoreState → ℕ → List ℕ → Bool → NtStatus
 rename_status state number name replace = status_through state number (λ view.
     let rows = state.tree.rows in
-    let from = path_numbered rows view.entry in
+    let path_of : ℕ → Path = λ number. option_map_or (λ row. row.0) (numbered rows number) [] in
+    let from = path_of view.entry in
     let to = folded_path (path_spelled name) in
+    let is_beneath : Path → Bool = λ path. is_within from path && not (is_same_path from path) in
     -- N1. the name is empty, or begins with a separator ([MS-FSCC] 2.4.42)
     (length name == 0 || is_separator (slice_index name 0), InvalidParameter)
     -- N2. the name is no path ([MS-FSCC] 2.1.5, [MS-FSA] 2.1.5.15.11)
@@ -34,7 +34,7 @@ rename_status state number name replace = status_through state number (λ view.
     -- N4. the entry is marked, so it is about to be deleted ([MS-FSA] 2.1.5.15.11)
     ∷ (view.mark, DeletePending)
     -- N5. the new path lies beneath the entry ([MS-FSA] 2.1.5.15.11)
-    ∷ (is_beneath from to, InvalidParameter)
+    ∷ (is_beneath to, InvalidParameter)
     -- N6. an entry above the new path is absent, or a file ([MS-FSA] 2.1.5.15.11)
     ∷ (not (is_reached rows to), ObjectPathNotFound)
     -- N7. the new path is the old one, but for how it is spelled: nothing more is asked ([MS-FSA] 2.1.5.15.11)
@@ -42,7 +42,7 @@ rename_status state number name replace = status_through state number (λ view.
     -- N8. the entry is a folder, and an entry beneath it has an open ([MS-FSA] 2.1.5.15.11)
     ∷ (
       is_folder_kind view.kind
-          && list_any (λ (row : OpenRow). is_beneath from (path_numbered rows row.entry)) state.opens,
+          && list_any (λ (row : OpenRow). is_beneath (path_of row.entry)) state.opens,
       AccessDenied,
     )
     -- N9. the entry at the new path, or its folder, is marked ([MS-FSA] 2.1.5.15.11)
@@ -64,8 +64,12 @@ rename_status state number name replace = status_through state number (λ view.
 -- is gone; its time of the last change is the moment; opens and locks are of entries, by their numbers, and stay
 abbrev pub renamed_through : StoreState → ℕ → List ℕ → ℕ → StoreState
 renamed_through state number name moment = option_map_or
-    (λ (row : OpenRow). record state {
-      tree = changed_in (λ entry. record entry { basic = kept_basic (record entry.basic { change_time = moment }) })
-          (moved state.tree row.entry (path_spelled name)) row.entry;
+    (λ (row : OpenRow).
+    let tree = moved state.tree row.entry (path_spelled name) in
+    record state {
+      tree = record tree {
+        rows = changed (λ entry. record entry { basic = kept_basic (record entry.basic { change_time = moment }) })
+            tree.rows row.entry;
+      };
     })
     (open_of state.opens number) state

@@ -9,20 +9,19 @@ use Rattle.smb_access.specs.declared.open_row.OpenRow.{OpenRow}
 use Rattle.smb_access.specs.Opens.{open_of}
 use Rattle.smb_opens.specs.State.{StoreState}
 use Rattle.smb_opens.specs.Views.{status_through}
-use Rattle.smb_entry.specs.SetInfo.{changed_in, is_bad_time, time_set}
+use Rattle.smb_entry.specs.SetInfo.{is_bad_time, time_set}
 use Rattle.smb_wire.specs.declared.nt_status.NtStatus.TheVariants.{InvalidParameter, AccessDenied, CannotDelete, DiskFull, DirectoryNotEmpty}
 use Rattle.smb_access.specs.Access.{is_deleting}
 use Rattle.smb_tree.specs.Children.{has_children}
 use Rattle.smb_wire.specs.Limits.{most_file_bytes}
 use Rattle.smb_wire.specs.Access.{has_any, FILE_WRITE_DATA, FILE_WRITE_ATTRIBUTES}
-use Rattle.smb_tree.specs.Content.{used_space, with_size, resized, numbered}
-use Rattle.smb_entry.specs.Bytes.{written_basic}
+use Rattle.smb_tree.specs.Content.{used_space, with_size, resized, numbered, changed}
 use Rattle.smb_wire.specs.Attributes.{FILE_ATTRIBUTE_READONLY, FILE_ATTRIBUTE_DIRECTORY}
 
 -- the store with the entry of an open changed, by the number of the open; without such an open it is as it was
 abbrev pub changed_through : (Entry → Entry) → StoreState → ℕ → StoreState
 changed_through change state number = option_map_or
-    (λ (row : OpenRow). record state { tree = changed_in change state.tree row.entry })
+    (λ (row : OpenRow). record state { tree = record state.tree { rows = changed change state.tree.rows row.entry } })
     (open_of state.opens number) state
 
 -- FileDispositionInformation: an entry is to be deleted with its last open, or no longer ([MS-FSCC] 2.4.11)
@@ -75,7 +74,7 @@ abbrev pub size_set_through : StoreState → ℕ → ℕ → Bool → ℕ → St
 size_set_through state number size is_allocation moment = changed_through
     (λ entry. if is_allocation && nat_le (length entry.bytes) size then entry else record entry {
       bytes = resized size entry.bytes;
-      basic = written_basic moment entry.basic;
+      basic = kept_basic (record entry.basic { last_write_time = moment; change_time = moment });
     })
     state number
 

@@ -39,7 +39,8 @@ use Rattle.smb_access.specs.declared.view.View.{View}
 use Rattle.smb_access.specs.Asked.{FileAsked}
 use Rattle.smb_locks.specs.declared.ask.LockAsk.{LockAsk}
 use Rattle.smb_locks.specs.Table.{Table, locked, unlocked}
-use Rattle.smb_opens.specs.Locks.{lock_status, unlock_status, unlocked_through, with_locks_of}
+use Rattle.smb_opens.specs.Locks.{lock_status, unlock_status, unlocked_through}
+use Rattle.smb_opens.specs.Parts.{with_locks_of}
 use Rattle.smb_opens.specs.Bytes.{read_status, write_status, written_to}
 use Rattle.smb_opens.specs.Close.{closed}
 use Rattle.smb_opens.specs.Create.{access_granted, create_status}

@@ -15,11 +15,10 @@ use Rattle.smb_opens.specs.Bytes.{written_to}
 use Rattle.smb_access.specs.Close.{is_deletable}
 use Rattle.smb_access.specs.Parts.{is_due, tree_marked, tree_cleared, standing_tree, overwritten_tree}
 use Rattle.smb_opens.specs.Close.{closed, closed_all}
-use Rattle.smb_opens.specs.Parts.{closed_open, closed_each}
+use Rattle.smb_opens.specs.Parts.{closed_open, closed_each, with_locks_of}
 use Rattle.smb_access.specs.Effect.{tree_after}
 use Rattle.smb_opens.specs.Effect.{created}
 use Rattle.smb_opens.specs.Found.{entry_asked}
-use Rattle.smb_opens.specs.Locks.{with_locks_of}
 use Rattle.smb_access.specs.Opens.{open_of, open_numbers, without_open, is_held_by}
 use Rattle.smb_opens.specs.State.{StoreState}
 use Rattle.smb_request.specs.Parts.{closed_for}

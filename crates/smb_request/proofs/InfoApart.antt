@@ -11,8 +11,7 @@ use Rattle.smb_info.specs.SetInformation.{SetAsked, asks_basic, asks_rename, ask
 use Rattle.smb_tree.specs.Content.{Content}
 use Rattle.smb_access.specs.declared.open_row.OpenRow.{OpenRow}
 use Rattle.smb_access.specs.Opens.{open_of}
-use Rattle.smb_entry.specs.Parts.{renamed_tree, delete_set, size_set, entry_set}
-use Rattle.smb_entry.specs.SetInfo.{changed_in}
+use Rattle.smb_entry.specs.Parts.{renamed_tree, delete_set, size_set, entry_set, changed_in}
 use Rattle.smb_opens.specs.State.{StoreState}
 use Rattle.smb_request.specs.declared.call.Call.{Call}
 use Rattle.smb_wire.specs.declared.nt_status.NtStatus.{NtStatus}

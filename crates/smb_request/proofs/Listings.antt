@@ -10,11 +10,11 @@ use Rattle.smb_body.specs.QueryDirectory.{QueryDirectoryAsked}
 use Rattle.smb_access.specs.declared.scan.Scan.{Scan}
 use Rattle.smb_opens.specs.Scans.{scan_set}
 use Rattle.smb_opens.specs.Views.{open_view}
-use Rattle.smb_info.specs.Queries.{ListAsked, is_started_by, scan_by, sought_by, first_fault, fault_by, list_fault, bytes_by, bytes_listed}
+use Rattle.smb_info.specs.Queries.{ListAsked, is_started_by, scan_by, list_fault, bytes_listed}
 use Rattle.smb_info.specs.Candidates.{Candidate}
 use Rattle.smb_info.specs.DirectoryInformation.{directory_class, directory_length, laid}
-use Rattle.smb_info.specs.Listing.{fitting, wanted}
-use Rattle.smb_info.specs.Parts.{is_too_long}
+use Rattle.smb_info.specs.Listing.{fitting}
+use Rattle.smb_info.specs.Parts.{is_too_long, fixed_length, whole, wanted, sought_by, first_fault, fault_by, bytes_by}
 use Rattle.smb_info.specs.declared.directory_class.DirectoryInformationClass.{DirectoryInformationClass}
 use Rattle.smb_tree.specs.Content.{Row}
 use Rattle.smb_opens.specs.State.{StoreState}
@@ -35,7 +35,7 @@ use Rattle.smb_access.specs.declared.open_row.Owner.TheVariants.{Session}
 use Rattle.smb_access.specs.Numbers.{AreRising}
 use Rattle.smb_access.specs.Opens.{open_of, open_numbers, with_scan, is_held_by}
 use Rattle.smb_access.specs.Parts.{has_number}
-use Rattle.smb_info.specs.Information.{Information, fixed_length, info_fault, told, whole}
+use Rattle.smb_info.specs.Information.{Information, info_fault, told}
 use Rattle.smb_request.specs.Information.{fault_status, IsWhy}
 use Rattle.smb_request.specs.Owners.{AreOwned}
 use Rattle.smb_request.specs.QueryInfo.{request_refusal, information_asked, information_queried}

@@ -1,5 +1,5 @@
 -- QUERY_DIRECTORY ([MS-SMB2] 3.3.5.18).
-use Rattle.std.specs.Prelude.{ℕ, not, nat_lt, Option, None, Some, option_and_then, if◌then◌else◌}
+use Rattle.std.specs.Prelude.{ℕ, [], not, nat_lt, Option, None, Some, option_and_then, if◌then◌else◌}
 use Rattle.std.specs.Option.{option_map_or}
 use Rattle.smb_wire.specs.Limits.{most_at_once}
 use Rattle.smb_wire.specs.Access.{has_any, FILE_READ_DATA}
@@ -7,10 +7,12 @@ use Rattle.smb_tree.specs.Entries.{is_folder_kind}
 use Rattle.smb_body.specs.QueryDirectory.{QueryDirectoryAsked}
 use Rattle.smb_body.specs.Replies.{answers_query_directory}
 use Rattle.smb_access.specs.declared.view.View.{View}
+use Rattle.smb_access.specs.declared.open_row.OpenRow.{OpenRow}
+use Rattle.smb_access.specs.declared.scan.ScanLast.TheVariants.{Start}
+use Rattle.smb_access.specs.Opens.{open_of}
 use Rattle.smb_opens.specs.Scans.{scan_set}
 use Rattle.smb_opens.specs.Views.{open_view}
-use Rattle.smb_info.specs.Queries.{ListAsked}
-use Rattle.smb_info.specs.OpenQueries.{open_list_fault, open_bytes_listed, open_scan_after}
+use Rattle.smb_info.specs.Queries.{ListAsked, list_fault, bytes_listed, scan_after}
 use Rattle.smb_info.specs.declared.fault.InfoFault.{InfoFault}
 use Rattle.smb_info.specs.declared.fault.InfoFault.TheVariants.{BadClass, BadPattern, TooSmall, NoMatch, NoMore, Unreadable, NoMemory}
 use Rattle.smb_wire.specs.declared.nt_status.NtStatus.{NtStatus}
@@ -55,6 +57,8 @@ directory_queried server call asked =
       pattern = asked.file_name;
       room = asked.output_buffer_length;
     } in
+    let rows = server.store.tree.rows in
+    let opened = open_of server.store.opens call.open_number in
     option_map_or
     (λ status. refused server call.ids status)
     (directory_refusal (most_at_once call.dialect) (open_view server.store call.open_number) asked)
@@ -63,8 +67,15 @@ directory_queried server call asked =
       server = option_map_or (λ scan. with_store server (scan_set server.store call.open_number scan)) refusal.scan server;
       response = failure call.ids refusal.status;
     })
-    (option_and_then listing_refusal (open_list_fault server.store call.open_number ask))
-    (record {
-      server = with_store server (scan_set server.store call.open_number (open_scan_after server.store call.open_number ask));
-      response = success call.ids (answers_query_directory (open_bytes_listed server.store call.open_number ask));
+    (option_and_then
+    listing_refusal
+    (option_map_or (λ (row : OpenRow). list_fault rows row.entry row.scan ask) opened None))
+    (let scan = option_map_or
+    (λ (row : OpenRow). scan_after rows row.entry row.scan ask)
+    opened
+    (record { pattern = None; last = Start }) in
+    let bytes = option_map_or (λ (row : OpenRow). bytes_listed rows row.entry row.scan ask) opened [] in
+    record {
+      server = with_store server (scan_set server.store call.open_number scan);
+      response = success call.ids (answers_query_directory bytes);
     }))

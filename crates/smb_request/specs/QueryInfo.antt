@@ -1,15 +1,16 @@
 -- QUERY_INFO ([MS-SMB2] 3.3.5.20).
 use Rattle.std.specs.Prelude.{ℕ, ◌==◌, ◌||◌, not, nat_lt, Option, Some, None, option_and_then, if◌then◌else◌}
-use Rattle.std.specs.Option.{option_map_or}
+use Rattle.std.specs.Option.{option_map, option_map_or}
 use Rattle.smb_wire.specs.Limits.{most_at_once}
+use Rattle.smb_wire.specs.Fields.{width_of}
 use Rattle.smb_tree.specs.Content.{used_space}
 use Rattle.smb_tree.specs.WholeNames.{entry_copied}
 use Rattle.smb_body.specs.declared.query_info.QueryInfoRequest.{QueryInfoRequest}
 use Rattle.smb_body.specs.Replies.{answers_query_info}
 use Rattle.smb_info.specs.declared.written.Truncation.TheVariants.{Whole, Cut}
-use Rattle.smb_info.specs.Information.{Information, fixed_length, told, information_written}
-use Rattle.smb_info.specs.FileInformation.{file_information}
-use Rattle.smb_info.specs.FileSystemInformation.{fs_information}
+use Rattle.smb_info.specs.Information.{Information, told, information_written}
+use Rattle.smb_info.specs.FileInformation.{file_class, file_information_of}
+use Rattle.smb_info.specs.FileSystemInformation.{VolumeFacts, fs_class, fs_information_of}
 use Rattle.smb_access.specs.declared.open_row.OpenRow.{OpenRow}
 use Rattle.smb_access.specs.Opens.{open_of}
 use Rattle.smb_wire.specs.declared.nt_status.NtStatus.{NtStatus}
@@ -26,15 +27,19 @@ information_asked server open_number asked =
     if asked.info_type.0 == FILE
     then option_and_then
     (λ (row : OpenRow). option_and_then
-    (λ entry. file_information asked.file_info_class.0 entry row.access.0)
+    (λ entry. option_map
+    (λ class. file_information_of class entry row.access.0)
+    (file_class asked.file_info_class.0))
     (entry_copied server.store.tree.rows row.entry))
     (open_of server.store.opens open_number)
-    else fs_information asked.file_info_class.0 (record {
+    else
+    let volume : VolumeFacts = record {
       created = server.settings.created;
       label = server.settings.label;
       capacity = server.store.tree.capacity;
       used = used_space server.store.tree.rows;
-    })
+    } in
+    option_map (λ class. fs_information_of class volume) (fs_class asked.file_info_class.0)
 
 -- why a request is refused whatever information it asks for, by the most bytes that it may ask for: the first row that
 -- holds
@@ -62,7 +67,7 @@ information_queried server call asked =
           (failure call.ids)
           -- there is no such class, or no room for its fixed part ([MS-FSCC] 2.4, 2.5)
           (option_map_or
-          (λ known. if nat_lt room (fixed_length known) then Some InfoLengthMismatch else None)
+          (λ (known : Information). if nat_lt room (width_of known.fields) then Some InfoLengthMismatch else None)
           information
           (Some InvalidInfoClass))
           (with_body

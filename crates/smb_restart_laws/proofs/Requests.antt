@@ -44,8 +44,7 @@ use Rattle.smb_access.specs.declared.view.View.{View}
 use Rattle.smb_locks.specs.declared.ask.LockAsk.{LockAsk}
 use Rattle.smb_locks.specs.Table.{locked, unlocked}
 use Rattle.smb_info.specs.SetInformation.{SetAsked, asks_basic, asks_rename, asks_mark, asks_allocation, asks_end}
-use Rattle.smb_entry.specs.Parts.{renamed_tree, delete_set, size_set, entry_set}
-use Rattle.smb_entry.specs.SetInfo.{changed_in}
+use Rattle.smb_entry.specs.Parts.{renamed_tree, delete_set, size_set, entry_set, changed_in}
 use Rattle.smb_opens.specs.Bytes.{read_status, write_status}
 use Rattle.smb_opens.specs.Close.{closed, closed_all}
 use Rattle.smb_opens.specs.Create.{access_granted, create_status}

@@ -26,16 +26,16 @@ use Rattle.smb_access.specs.declared.scan.Scan.{Scan}
 use Rattle.smb_access.specs.declared.view.View.{View}
 use Rattle.smb_access.specs.Opens.{open_of, with_scan}
 use Rattle.smb_access.specs.StatusRows.{StatusRow, first_status}
-use Rattle.smb_entry.specs.Parts.{write_rows, has_no_room, keeps_from_writing, written_tree, has_entries, has_no_space, delete_rows, size_rows, basic_rows, entry_set, delete_set, leaves_size, resized_file, rename_rows, renamed_tree}
-use Rattle.smb_entry.specs.Locks.{lock_fault_status, lock_status_by, locks_shown}
-use Rattle.smb_entry.specs.SetInfo.{changed_in}
+use Rattle.smb_entry.specs.Parts.{write_rows, has_no_room, keeps_from_writing, written_tree, has_entries, has_no_space, delete_rows, size_rows, basic_rows, entry_set, delete_set, leaves_size, resized_file, rename_rows, renamed_tree, changed_in, path_numbered, locks_shown}
+use Rattle.smb_entry.specs.Locks.{lock_fault_status, lock_status_by}
 use Rattle.smb_entry.specs.Ways.{way_between, count_replaced, name_rows, way_rows}
-use Rattle.smb_entry.specs.Rename.{path_named, path_numbered}
+use Rattle.smb_entry.specs.Rename.{path_named}
 use Rattle.smb_entry.specs.declared.ask.BasicAsk.{BasicAsk}
 use Rattle.smb_entry.specs.declared.rename.RenameLookup.{RenameLookup}
 use Rattle.smb_opens.specs.Bytes.{write_status, written_to}
 use Rattle.smb_opens.specs.Good.{GoodStore}
-use Rattle.smb_opens.specs.Locks.{lock_status, locked_through, unlocked_through, with_locks_of}
+use Rattle.smb_opens.specs.Locks.{lock_status, locked_through, unlocked_through}
+use Rattle.smb_opens.specs.Parts.{with_locks_of}
 use Rattle.smb_opens.specs.Renames.{rename_status, renamed_through}
 use Rattle.smb_opens.specs.Scans.{scan_set}
 use Rattle.smb_opens.specs.SetInfo.{delete_status, delete_set_through, size_status, size_set_through, basic_status, basic_set_through}

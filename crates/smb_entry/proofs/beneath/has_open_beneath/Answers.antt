@@ -2,7 +2,7 @@ use Rattle.std.proofs.Common.{◌≡◌, Bool, true, is_some, sym, ap, subst, �
 use Rattle.std.specs.Option.{option_copied}
 use Rattle.smb_tree.specs.Content.{numbered}
 use Rattle.smb_access.specs.declared.open_row.OpenRow.{OpenRow}
-use Rattle.smb_entry.specs.Rename.{is_beneath, path_numbered}
+use Rattle.smb_entry.specs.Parts.{is_beneath, path_numbered}
 use Rattle.smb_entry.proofs.Looks.{IsLooked, first_looked, hit, passed_looked, fewer_left}
 use Rattle.smb_access.proofs.Rows.{found}
 use Rattle.smb_entry.proofs.beneath.has_open_beneath.Goals as goal

@@ -1,4 +1,4 @@
-use Rattle.smb_entry.specs.Rename.{is_beneath, path_numbered}
+use Rattle.smb_entry.specs.Parts.{is_beneath, path_numbered}
 use Rattle.smb_entry.proofs.Looks.{IsLooked}
 use Rattle.smb_access.proofs.Seen.{left_after}
 use Rattle.smb_entry.proofs.beneath.has_open_beneath.Given as goal

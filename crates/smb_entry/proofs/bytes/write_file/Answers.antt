@@ -2,7 +2,7 @@ use Rattle.std.proofs.Common.{if◌then◌else◌, is_some, length, ap, subst, s
 use Rattle.smb_tree.specs.Content.{Content, with_basic}
 use Rattle.smb_tree.specs.Faults.{basic_fault, write_fault}
 use Rattle.smb_tree.specs.Views.{Shown, shown}
-use Rattle.smb_entry.specs.Bytes.{written_basic}
+use Rattle.smb_entry.specs.Parts.{written_basic}
 use Rattle.smb_access.proofs.Trees.{row_of_shown}
 use Rattle.smb_access.specs.Faults.{IsRefusal}
 use Rattle.smb_access.specs.declared.fault.StoreFault.{StoreFault}

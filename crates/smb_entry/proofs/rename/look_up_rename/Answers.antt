@@ -1,7 +1,7 @@
 use Rattle.std.proofs.Common.{◌∙◌}
 use Rattle.smb_wire.specs.Paths.{folded_path}
 use Rattle.smb_wire.specs.PathViews.{parts_of}
-use Rattle.smb_entry.specs.Rename.{path_numbered}
+use Rattle.smb_entry.specs.Parts.{path_numbered}
 use Rattle.smb_entry.proofs.Renaming.{way_is}
 use Rattle.smb_entry.proofs.rename.look_up_rename.Goals as goal
 

@@ -3,7 +3,7 @@ use Rattle.smb_tree.specs.Content.{Content, resized, with_basic}
 use Rattle.smb_tree.specs.Entries.{Entry}
 use Rattle.smb_tree.specs.Faults.{basic_fault}
 use Rattle.smb_tree.specs.Views.{Shown, shown}
-use Rattle.smb_entry.specs.Bytes.{written_basic}
+use Rattle.smb_entry.specs.Parts.{written_basic}
 use Rattle.smb_entry.proofs.Settings.{basic_left, size_done}
 use Rattle.smb_access.proofs.Trees.{row_of_shown}
 use Rattle.smb_entry.proofs.set_info.size_file.Goals as goal

@@ -2,8 +2,7 @@ use Rattle.std.proofs.Common.{◌≡◌, ◌≤◌, refl}
 use Rattle.std.proofs.lemmas.Result.{IfErr-weaker}
 use Rattle.smb_wire.specs.Units.{units_of}
 use Rattle.smb_info.specs.CandidateViews.{candidate}
-use Rattle.smb_info.specs.DirectoryInformation.{entry_length}
-use Rattle.smb_info.specs.Parts.{is_too_long}
+use Rattle.smb_info.specs.Parts.{is_too_long, entry_length}
 use Rattle.smb_info.specs.OpenQueries.{IsListRefusal}
 use Rattle.smb_info.specs.declared.fault.InfoFault.{InfoFault}
 use Rattle.smb_info.specs.declared.fault.InfoFault.TheVariants.{NoMemory}

@@ -4,8 +4,8 @@ use Rattle.smb_info.specs.Asks.{list_asked}
 use Rattle.smb_info.specs.CandidateViews.{candidate}
 use Rattle.smb_info.specs.Cursors.{to_come}
 use Rattle.smb_info.specs.DirectoryInformation.{directory_length}
-use Rattle.smb_info.specs.Listing.{Sought}
-use Rattle.smb_info.specs.Queries.{ListAsked, sought_by, list_fault}
+use Rattle.smb_info.specs.Parts.{Sought, sought_by}
+use Rattle.smb_info.specs.Queries.{ListAsked, list_fault}
 use Rattle.smb_info.specs.OpenQueries.{IsListRefusal}
 use Rattle.smb_info.proofs.Found.{matched_behind}
 use Rattle.smb_info.proofs.Refusals.{bad_class, bad_pattern, too_small, same_sought, unmatched_refusal, refused_first, not_refused, bytes_are, scan_is, on_err, same_err}

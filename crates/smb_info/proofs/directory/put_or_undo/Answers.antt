@@ -1,11 +1,10 @@
 use Rattle.std.proofs.Common.{◌≡◌, ℕ, List, ◌++◌, ◌∙◌, ap, length, take, arith}
 use Rattle.smb_tree.specs.Content.{Row}
-use Rattle.smb_info.specs.Asks.{sought}
 use Rattle.smb_info.specs.Candidates.{Candidate}
 use Rattle.smb_info.specs.CandidateViews.{candidate}
 use Rattle.smb_info.specs.Cursors.{to_come}
 use Rattle.smb_info.specs.DirectoryInformation.{laid}
-use Rattle.smb_info.specs.Listing.{reached}
+use Rattle.smb_info.specs.Parts.{reached, sought}
 use Rattle.smb_info.proofs.Listings.{is_given}
 use Rattle.smb_info.proofs.directory.put_or_undo.Goals as goal
 

@@ -1,8 +1,7 @@
 use Rattle.std.proofs.Common.{◌≡◌, ℕ, ◌-◌, ◌≤◌, List, ◌++◌, take, replicate, ap, ◌∙◌, arith, append_assoc}
 use Rattle.std.proofs.lemmas.List.{take-replicate}
 use Rattle.smb_info.specs.CandidateViews.{candidate}
-use Rattle.smb_info.specs.DirectoryInformation.{directory_information_of}
-use Rattle.smb_info.specs.Information.{whole}
+use Rattle.smb_info.specs.Parts.{whole, directory_information_of}
 use Rattle.smb_info.proofs.directory_entry.put_followed.Goals as goal
 
 some_zeros : (n x : ℕ) → n ≤ 7 → take n (replicate 7 x) ≡ replicate n x

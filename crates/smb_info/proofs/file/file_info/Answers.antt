@@ -1,5 +1,6 @@
 use Rattle.std.proofs.Common.{◌≡◌, ◌++◌, ◌≤◌, ℕ, List, length, take, arith}
-use Rattle.smb_info.specs.Information.{Information, whole, fixed_length}
+use Rattle.smb_info.specs.Information.{Information}
+use Rattle.smb_info.specs.Parts.{whole, fixed_length}
 use Rattle.smb_info.specs.FileInformation.{file_information_of}
 use Rattle.smb_tree.specs.WholeNames.{copied}
 use Rattle.smb_info.proofs.InformationLemmas.{cut_behind, told_stands, file_in_order}

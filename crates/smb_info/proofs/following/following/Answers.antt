@@ -2,8 +2,7 @@ use Rattle.std.proofs.Common.{List, ◌∷◌, sym, ap, ◌∙◌}
 use Rattle.smb_wire.specs.Units.{units_of}
 use Rattle.smb_info.specs.Candidates.{Candidate}
 use Rattle.smb_info.specs.CandidateViews.{candidate}
-use Rattle.smb_info.specs.DirectoryInformation.{entry_length}
-use Rattle.smb_info.specs.Asks.{sought}
+use Rattle.smb_info.specs.Parts.{entry_length, sought}
 use Rattle.smb_info.specs.Cursors.{to_come}
 use Rattle.smb_info.specs.Rests.{one_by_one}
 use Rattle.smb_info.proofs.Fronts.{rest_single, rest_many, nothing_fits, none_fits, too_long, not_too_long}

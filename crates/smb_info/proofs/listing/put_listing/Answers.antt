@@ -3,7 +3,7 @@ use Rattle.std.proofs.lemmas.List.{take_all}
 use Rattle.smb_tree.specs.Content.{Row}
 use Rattle.smb_info.specs.Candidates.{Candidate}
 use Rattle.smb_info.specs.CandidateViews.{candidate}
-use Rattle.smb_info.specs.Asks.{sought}
+use Rattle.smb_info.specs.Parts.{sought}
 use Rattle.smb_info.specs.Cursors.{to_come}
 use Rattle.smb_info.specs.Rests.{rest_of, one_by_one}
 use Rattle.smb_info.proofs.Listings.{put_first, reached_first, put_more, reached_more, put_last, reached_last, kept_by, near_by, some_left}

@@ -1,10 +1,9 @@
 use Rattle.std.proofs.Common.{◌≡◌, ◌<◌, ◌^◌, ◌∷◌, ◌++◌, length, take}
 use Rattle.smb_wire.specs.Units.{units_of}
-use Rattle.smb_info.specs.Asks.{sought}
 use Rattle.smb_info.specs.CandidateViews.{candidate}
 use Rattle.smb_info.specs.Cursors.{to_come, Stands}
-use Rattle.smb_info.specs.DirectoryInformation.{entry_length, distance, laid}
-use Rattle.smb_info.specs.Listing.{reached}
+use Rattle.smb_info.specs.DirectoryInformation.{laid}
+use Rattle.smb_info.specs.Parts.{entry_length, distance, reached, sought}
 use Rattle.smb_info.specs.Rests.{rest_of, one_by_one}
 use Rattle.smb_info.proofs.listing.put_listing.Given as goal
 
