@@ -2,6 +2,7 @@ pub mod OthersLocks
 pub mod Taken
 pub mod Granted
 pub mod ThroughOpens
+pub mod Beside
 pub mod Quiet
 pub mod Parts
 pub mod ReadAgain
@@ -15,6 +16,7 @@ mod ExampleStore
 mod ExampleLocks
 mod WrongLocks
 mod WrongUnlocks
+mod WrongBeside
 mod WrongBytes
 mod WrongSpace
 mod WrongRows

@@ -1,5 +1,5 @@
--- What a LOCK adds, what an UNLOCK takes away, and that no lock of another open is ever touched.
-use Rattle.std.specs.Prelude.{◌≡◌, ◌≢◌, ℕ, true, false, List, [], ◌∷◌, ◌++◌, length, take, None, Some, Contains}
+-- What a LOCK adds, what an UNLOCK takes away, that no lock of another open is ever touched, and what touches none.
+use Rattle.std.specs.Prelude.{◌≡◌, ◌≢◌, ℕ, Bool, true, false, List, [], ◌∷◌, ◌++◌, length, take, None, Some, Contains}
 use Rattle.std.specs.List.{AllByRecursion}
 use Rattle.smb_wire.specs.declared.nt_status.NtStatus.TheVariants.{Success, FileLockConflict}
 use Rattle.smb_locks.specs.declared.ask.LockAsk.{LockAsk}
@@ -15,11 +15,16 @@ use Rattle.smb_locks.specs.Table.{Table, locks_on, locked, unlocked, without_hol
 use Rattle.smb_locks.specs.Laws.{others_locks}
 use Rattle.smb_locks.specs.Unlocking.{unlock_all_error}
 use Rattle.smb_access.specs.declared.open_row.OpenRow.{OpenRow}
+use Rattle.smb_access.specs.Asked.{FileAsked}
 use Rattle.smb_access.specs.Opens.{open_of}
-use Rattle.smb_opens.specs.Bytes.{read_status, write_status}
+use Rattle.smb_entry.specs.declared.ask.BasicAsk.{BasicAsk}
+use Rattle.smb_opens.specs.Bytes.{read_status, write_status, written_to}
 use Rattle.smb_opens.specs.Close.{closed}
+use Rattle.smb_opens.specs.Effect.{created, create_result}
 use Rattle.smb_opens.specs.Good.{GoodStore}
 use Rattle.smb_opens.specs.Locks.{lock_status, unlock_status, locked_through, unlocked_through}
+use Rattle.smb_opens.specs.Renames.{renamed_through}
+use Rattle.smb_opens.specs.SetInfo.{delete_set_through, size_set_through, basic_set_through}
 use Rattle.smb_opens.specs.State.{StoreState}
 
 -- after a LOCK the locks of the file are those that were held, and behind them those that were asked for, in order
@@ -149,6 +154,35 @@ LocksAreBesideTheTree =
     × ((locked_through state number asks).opens ≡ state.opens)
     × ((unlocked_through state number asks).tree ≡ state.tree)
     × ((unlocked_through state number asks).opens ≡ state.opens)
+
+-- a CREATE leaves every lock as it was, and every open but the one that it makes ([MS-SMB2] 3.3.5.9)
+abbrev pub ACreateLeavesLocksAndOpens : Type 0
+ACreateLeavesLocksAndOpens =
+    (state : StoreState) (ask : FileAsked) (moment : ℕ) →
+    let after = created state ask moment in
+    (after.locks ≡ state.locks)
+    × ((other : ℕ) → other ≢ (create_result state ask moment).number →
+    open_of after.opens other ≡ open_of state.opens other)
+
+-- a store has the locks and the opens that another one had
+pub record HasSameOpens (before after : StoreState) : Type 0 where
+  pub locks : after.locks ≡ before.locks
+  pub opens : after.opens ≡ before.opens
+
+-- a WRITE leaves every lock and every open as it was ([MS-SMB2] 3.3.5.13)
+abbrev pub AWriteLeavesLocksAndOpens : Type 0
+AWriteLeavesLocksAndOpens =
+    (state : StoreState) (number offset : ℕ) (buffer : List ℕ) (moment : ℕ) →
+    HasSameOpens state (written_to state number offset buffer moment)
+
+-- and so does a SET_INFO of a mark, of a size, of times or of a name ([MS-SMB2] 3.3.5.21.1)
+abbrev pub ASetInfoLeavesLocksAndOpens : Type 0
+ASetInfoLeavesLocksAndOpens =
+    (state : StoreState) (number size moment : ℕ) (is_deleted is_allocation : Bool) (ask : BasicAsk) (name : List ℕ) →
+    HasSameOpens state (delete_set_through state number is_deleted)
+    × HasSameOpens state (size_set_through state number size is_allocation moment)
+    × HasSameOpens state (basic_set_through state number ask moment)
+    × HasSameOpens state (renamed_through state number name moment)
 
 -- after a LOCK that succeeds, no READ of what the open has just locked is refused for a lock
 abbrev pub WhatIsLockedIsRead : Type 0

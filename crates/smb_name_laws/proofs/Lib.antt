@@ -4,6 +4,13 @@ mod MadeFound
 mod MovedFound
 mod GivenOnce
 mod StillThere
+mod LastParts
+mod Spelled
+mod OthersLeft
+mod PlainNames
+mod MadeNew
+mod OpenedAs
+mod SetAs
 mod OwnerGone
 mod ExampleStore
 mod WrongDeletes
@@ -11,3 +18,6 @@ mod WrongSharing
 mod WrongCreates
 mod WrongNames
 mod WrongNumbers
+mod WrongOpens
+mod WrongNewNames
+mod WrongSettings

@@ -24,7 +24,7 @@ use Rattle.smb_name_laws.specs.Creates.{FindsWhatIsOpen}
 use Rattle.smb_name_laws.proofs.KeptOut.{no_row}
 
 -- an open that comes last is found by its number, which is above all others
-last_open : (rows : List OpenRow) (row : OpenRow) (n : ℕ) → AreAllBelow n rows → row.number ≡ n → open_of (rows ++ row ∷ []) n ≡ Some row
+pub last_open : (rows : List OpenRow) (row : OpenRow) (n : ℕ) → AreAllBelow n rows → row.number ≡ n → open_of (rows ++ row ∷ []) n ≡ Some row
 last_open [] row n h e = grind (arith, nat_tests, e)
 last_open (x ∷ rows) row n h e = grind (arith, nat_tests, h.0, last_open rows row n h.1 e)
 
@@ -74,11 +74,16 @@ no_bytes state ask moment before good e h o =
       refl,
     )
 
+-- where the name found nothing, it finds the new entry
+pub new_found : (state : StoreState) (ask : FileAsked) (moment : ℕ) → GoodStore state → entry_asked state ask ≡ None → entry_at (created state ask moment).tree.rows (path_asked ask) ≡ Some (entry_after state.tree ask moment None)
+new_found state ask moment good h =
+    found_after state.tree ask moment (entry_asked state ask) good.tree refl ∙ ap (λ (o : Option Entry). Some (entry_after state.tree ask moment o)) h
+
 pub made : (state : StoreState) (ask : FileAsked) (moment : ℕ) → GoodStore state → entry_asked state ask ≡ None →
     (made : Entry) × (entry_at (created state ask moment).tree.rows (path_asked ask) ≡ Some made) × (numbered state.tree.rows made.number ≡ None) × (made.kind ≡ kind_asked ask) × (made.bytes ≡ []) × (made.mark ≡ false)
 made state ask moment good h = (
   entry_after state.tree ask moment None,
-  found_after state.tree ask moment (entry_asked state ask) good.tree refl ∙ ap (λ (o : Option Entry). Some (entry_after state.tree ask moment o)) h,
+  new_found state ask moment good h,
   numbered-fresh state.tree.rows state.tree.next good.tree.below,
   refl,
   refl,

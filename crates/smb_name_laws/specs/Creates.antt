@@ -1,8 +1,9 @@
 -- What a CREATE makes its name find, in a user's words ([MS-SMB2] 3.3.5.9).
-use Rattle.std.specs.Prelude.{◌≡◌, ℕ, true, false, [], None, Some}
+use Rattle.std.specs.Prelude.{◌≡◌, ◌⊎◌, ℕ, ◌<◌, true, false, List, [], ◌∷◌, ◌++◌, length, All, None, Some}
 use Rattle.smb_wire.specs.Dispositions.{overwrites_by}
+use Rattle.smb_wire.specs.Paths.{is_separator}
 use Rattle.smb_wire.specs.declared.nt_status.NtStatus.TheVariants.{Success}
-use Rattle.smb_tree.specs.Content.{Path, entry_at, numbered}
+use Rattle.smb_tree.specs.Content.{Path, is_same_path, entry_at, numbered}
 use Rattle.smb_tree.specs.Entries.{Entry, is_folder_kind}
 use Rattle.smb_access.specs.declared.open_row.OpenRow.{OpenRow}
 use Rattle.smb_access.specs.Asked.{FileAsked, kind_asked}
@@ -47,3 +48,31 @@ AnAbsentEntryIsMade =
     (made : Entry) × (entry_at (created state ask moment).tree.rows (path_asked ask) ≡ Some made)
     × (numbered state.tree.rows made.number ≡ None) × (made.kind ≡ kind_asked ask) × (made.bytes ≡ [])
     × (made.mark ≡ false)
+
+-- all four times of a new entry are the moment ([MS-FSA] 2.1.5.1.1)
+abbrev pub ANewEntryIsOfItsMoment : Type 0
+ANewEntryIsOfItsMoment =
+    (state : StoreState) (ask : FileAsked) (moment : ℕ) (made : Entry) → GoodStore state →
+    entry_asked state ask ≡ None → entry_at (created state ask moment).tree.rows (path_asked ask) ≡ Some made →
+    (made.basic.creation_time ≡ moment) × (made.basic.last_access_time ≡ moment)
+    × (made.basic.last_write_time ≡ moment) × (made.basic.change_time ≡ moment)
+
+-- a new entry is spelled as the name that was asked for, in its letters: as the whole name, or as what is behind its
+-- last separator, which is a backslash ([MS-FSCC] 2.1.5)
+abbrev pub ANewEntryIsSpelledAsAskedFor : Type 0
+ANewEntryIsSpelledAsAskedFor =
+    (state : StoreState) (ask : FileAsked) (moment : ℕ) (made : Entry) (front last : List ℕ) → GoodStore state →
+    entry_asked state ask ≡ None → entry_at (created state ask moment).tree.rows (path_asked ask) ≡ Some made →
+    (ask.name ≡ last) ⊎ (ask.name ≡ front ++ 92 ∷ last) →
+    0 < length last → All (λ unit. is_separator unit ≡ false) last →
+    made.spelling ≡ last
+
+-- a CREATE changes no entry but the one that its name finds, and where it opens an entry without overwriting it, none
+-- ([MS-FSA] 2.1.5.1.2)
+abbrev pub ACreateChangesItsEntryAlone : Type 0
+ACreateChangesItsEntryAlone =
+    (state : StoreState) (ask : FileAsked) (moment : ℕ) → GoodStore state →
+    ((other : Path) → is_same_path (path_asked ask) other ≡ false →
+    entry_at (created state ask moment).tree.rows other ≡ entry_at state.tree.rows other)
+    × ((entry : Entry) → entry_asked state ask ≡ Some entry → overwrites_by ask.disposition ≡ false →
+    (created state ask moment).tree ≡ state.tree)

@@ -6,6 +6,7 @@ use Rattle.smb_content_laws.proofs.OthersLocks.{others_locked, others_unlocked, 
 use Rattle.smb_content_laws.proofs.Taken.{takes_asked, takes_before}
 use Rattle.smb_content_laws.proofs.Granted.{reads_locked, writes_locked}
 use Rattle.smb_content_laws.proofs.ThroughOpens.{adds_through, takes_through, other_opens, read_locked, write_locked, kept_from, shared_keeps}
+use Rattle.smb_content_laws.proofs.Beside.{after_create, after_write, after_set}
 use Rattle.smb_content_laws.proofs.locking.laws_of_locking.Goals as goal
 
 pub returns-clause-adds : goal.returns-clause-adds
@@ -56,3 +57,12 @@ returns-clause-kept_out c = λ state number asks row lock other also most offset
 pub returns-clause-writers_out : goal.returns-clause-writers_out
 returns-clause-writers_out c = λ state number asks row lock other also most offset buffer l asked shared opened same overlap.
     shared_keeps state number asks lock row most other offset buffer also l.good l.opened l.succeeds asked shared opened same overlap
+
+pub returns-clause-after_create : goal.returns-clause-after_create
+returns-clause-after_create c = after_create
+
+pub returns-clause-after_write : goal.returns-clause-after_write
+returns-clause-after_write c = after_write
+
+pub returns-clause-after_set : goal.returns-clause-after_set
+returns-clause-after_set c = after_set

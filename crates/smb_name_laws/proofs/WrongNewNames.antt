@@ -1,0 +1,86 @@
+-- Wrong definitions of which CREATE succeeds, each refused by the law of specs/NewNames.
+-- The law whose name ends in By says of any definition what that of specs/ says of the right one, as the line below it
+-- shows; then come the wrong definitions, and the proofs that the law is false of them.
+use Rattle.std.proofs.Common.{◌≡◌, inl, ℕ, zero, suc, ◌==◌, nat_le, List, [], ◌∷◌, length, if◌then◌else◌, All, true}
+use Rattle.std.proofs.Common.{lit<, lit≤, refl, arith}
+use Rattle.smb_wire.specs.Access.{FILE_SHARE_ALL}
+use Rattle.smb_wire.specs.declared.disposition.CreateDisposition.TheVariants.{Create}
+use Rattle.smb_wire.specs.declared.nt_status.NtStatus.{NtStatus}
+use Rattle.smb_wire.specs.declared.nt_status.NtStatus.TheVariants.{Success, ObjectNameInvalid, TooManyOpenedFiles}
+use Rattle.smb_access.specs.declared.open_row.OpenRow.{OpenRow}
+use Rattle.smb_access.specs.Asked.{FileAsked}
+use Rattle.smb_opens.specs.Create.{create_status}
+use Rattle.smb_opens.specs.Good.{GoodStore}
+use Rattle.smb_opens.specs.State.{StoreState}
+use Rattle.smb_name_laws.specs.NewNames.{is_plain_unit, IsPlain, AsksToMake, NamesAbsent, HasRoom, APlainNameIsMade}
+use Rattle.smb_name_laws.proofs.ExampleStore.{sharing, with_opens, asks, is_good_without_opens, is_good_with_sharing}
+
+-- a CREATE of a plain name that is absent succeeds
+abbrev APlainNameIsMadeBy : (StoreState → FileAsked → NtStatus) → Type 0
+APlainNameIsMadeBy status =
+    (state : StoreState) (ask : FileAsked) → GoodStore state → AsksToMake ask → NamesAbsent state ask →
+    HasRoom state → status state ask ≡ Success
+
+a_plain_name_is_made : APlainNameIsMade ≡ APlainNameIsMadeBy create_status
+a_plain_name_is_made = refl
+
+-- a name of two letters, `no`, and a CREATE of it
+abbrev two_letters : List ℕ
+two_letters = 110 ∷ 111 ∷ []
+
+abbrev asks_two : FileAsked
+asks_two = asks two_letters FILE_SHARE_ALL Create
+
+plain_units : All (λ unit. is_plain_unit unit ≡ true) two_letters
+plain_units zero d l = refl
+plain_units (suc zero) d l = refl
+plain_units (suc (suc k)) d l = absurd (omega (arith, l))
+
+plain_parts : All IsPlain (two_letters ∷ [])
+plain_parts zero d l = record { some = lit< tt; short = lit≤ tt; units = plain_units }
+plain_parts (suc k) d l = absurd (omega (arith, l))
+
+two_asked : AsksToMake asks_two
+two_asked = record {
+  disposition = inl refl;
+  some = lit< tt;
+  rights = refl;
+  kind = inl refl;
+  by_name = refl;
+  stays = refl;
+  writer = refl;
+}
+
+two_named : (opens : List OpenRow) → NamesAbsent (with_opens opens) asks_two
+two_named opens = record {
+  above = [];
+  last = two_letters;
+  folder = _;
+  name = refl;
+  plain = plain_parts;
+  few = lit≤ tt;
+  found = refl;
+  kind = refl;
+  unmarked = refl;
+  absent = refl;
+}
+
+-- wrong: a name of two letters is refused
+abbrev status_not_of_two : StoreState → FileAsked → NtStatus
+status_not_of_two state ask = if length ask.name == 2 then ObjectNameInvalid else create_status state ask
+
+a_status_not_of_two_breaks_it : APlainNameIsMadeBy status_not_of_two → ⊥
+a_status_not_of_two_breaks_it law =
+    let made : ObjectNameInvalid ≡ Success =
+    law (with_opens []) asks_two is_good_without_opens two_asked (two_named [])
+    (record { opens = lit< tt; open_numbers = lit< tt; entries = lit≤ tt; entry_numbers = lit< tt }) in cc
+
+-- wrong: a store has one open, and no more
+abbrev status_of_one : StoreState → FileAsked → NtStatus
+status_of_one state ask = if nat_le 1 (length state.opens) then TooManyOpenedFiles else create_status state ask
+
+a_status_of_one_breaks_it : APlainNameIsMadeBy status_of_one → ⊥
+a_status_of_one_breaks_it law =
+    let made : TooManyOpenedFiles ≡ Success =
+    law (with_opens (sharing ∷ [])) asks_two is_good_with_sharing two_asked (two_named (sharing ∷ []))
+    (record { opens = lit< tt; open_numbers = lit< tt; entries = lit≤ tt; entry_numbers = lit< tt }) in cc

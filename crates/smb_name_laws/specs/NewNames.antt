@@ -1,0 +1,73 @@
+-- That a new file or folder can be made under every plain name, in a user's words ([MS-SMB2] 3.3.5.9).
+use Rattle.std.specs.Prelude.{◌≡◌, ◌⊎◌, ℕ, ◌+◌, ◌-◌, ◌^◌, ◌<◌, ◌≤◌, ◌&&◌, ◌||◌, Bool, true, false, List, [], ◌∷◌, ◌++◌}
+use Rattle.std.specs.Prelude.{length, All, bit_and, nat_le, None, Some}
+use Rattle.smb_wire.specs.Access.{has_any, FILE_ALL_ACCESS, MAXIMUM_ALLOWED}
+use Rattle.smb_wire.specs.Access.{GENERIC_ALL, GENERIC_EXECUTE, GENERIC_WRITE, GENERIC_READ}
+use Rattle.smb_wire.specs.CreateOptions.{FILE_DIRECTORY_FILE, FILE_NON_DIRECTORY_FILE, FILE_DELETE_ON_CLOSE}
+use Rattle.smb_wire.specs.CreateOptions.{FILE_OPEN_BY_FILE_ID}
+use Rattle.smb_wire.specs.Dispositions.{disposition_code}
+use Rattle.smb_wire.specs.Limits.{most_opens, most_entries, most_components}
+use Rattle.smb_wire.specs.Paths.{joined_by_separators, folded_path}
+use Rattle.smb_wire.specs.declared.disposition.CreateDisposition.TheVariants.{Create, OpenIf}
+use Rattle.smb_wire.specs.declared.nt_status.NtStatus.TheVariants.{Success}
+use Rattle.smb_tree.specs.Content.{entry_at}
+use Rattle.smb_tree.specs.Entries.{Entry, is_folder_kind}
+use Rattle.smb_access.specs.Asked.{FileAsked}
+use Rattle.smb_opens.specs.Create.{create_status}
+use Rattle.smb_opens.specs.Found.{entry_asked}
+use Rattle.smb_opens.specs.Good.{GoodStore}
+use Rattle.smb_opens.specs.State.{StoreState}
+
+-- a unit is a digit or a letter of ASCII, or a unit from 128 on
+abbrev pub is_plain_unit : ℕ → Bool
+is_plain_unit unit =
+    nat_le 48 unit && nat_le unit 57 || nat_le 65 unit && nat_le unit 90 || nat_le 97 unit && nat_le unit 122
+    || nat_le 128 unit
+
+-- a part of a name is 1 to 255 of these
+pub record IsPlain (part : List ℕ) : Type 0 where
+  pub some : 0 < length part
+  pub short : length part ≤ 255
+  pub units : All (λ unit. is_plain_unit unit ≡ true) part
+
+-- a CREATE asks for a file or a folder to be made where it is absent: with FILE_CREATE or FILE_OPEN_IF; with some
+-- rights, generic ones or MAXIMUM_ALLOWED, and no other bits; as a file or as a folder, neither by its number nor to be
+-- deleted on close; by a session that may write ([MS-SMB2] 2.2.13)
+pub record AsksToMake (ask : FileAsked) : Type 0 where
+  pub disposition : (ask.disposition ≡ disposition_code Create) ⊎ (ask.disposition ≡ disposition_code OpenIf)
+  pub some : 0 < ask.access
+  pub rights :
+      bit_and ask.access
+      (FILE_ALL_ACCESS + MAXIMUM_ALLOWED + GENERIC_ALL + GENERIC_EXECUTE + GENERIC_WRITE + GENERIC_READ)
+      ≡ ask.access
+  pub kind :
+      (has_any ask.options FILE_DIRECTORY_FILE ≡ false) ⊎ (has_any ask.options FILE_NON_DIRECTORY_FILE ≡ false)
+  pub by_name : has_any ask.options FILE_OPEN_BY_FILE_ID ≡ false
+  pub stays : has_any ask.options FILE_DELETE_ON_CLOSE ≡ false
+  pub writer : ask.read_only ≡ false
+
+-- it names an absent entry, by at most 32 plain parts, in a folder that exists and is not marked
+pub record NamesAbsent (state : StoreState) (ask : FileAsked) : Type 0 where
+  pub above : List (List ℕ)
+  pub last : List ℕ
+  pub folder : Entry
+  pub name : ask.name ≡ joined_by_separators (above ++ last ∷ [])
+  pub plain : All IsPlain (above ++ last ∷ [])
+  pub few : length (above ++ last ∷ []) ≤ most_components
+  pub found : entry_at state.tree.rows (folded_path above) ≡ Some folder
+  pub kind : is_folder_kind folder.kind ≡ true
+  pub unmarked : folder.mark ≡ false
+  pub absent : entry_asked state ask ≡ None
+
+-- a store has room for an open and for an entry more, and numbers for them
+pub record HasRoom (state : StoreState) : Type 0 where
+  pub opens : length state.opens < most_opens
+  pub open_numbers : state.next < 2 ^ 64 - 1
+  pub entries : length state.tree.rows ≤ most_entries
+  pub entry_numbers : state.tree.next < 2 ^ 64 - 1
+
+-- such a CREATE succeeds: no plain name is refused, and none where there is room ([MS-SMB2] 3.3.5.9, [MS-FSCC] 2.1.5)
+abbrev pub APlainNameIsMade : Type 0
+APlainNameIsMade =
+    (state : StoreState) (ask : FileAsked) → GoodStore state → AsksToMake ask → NamesAbsent state ask →
+    HasRoom state → create_status state ask ≡ Success
