@@ -5,7 +5,7 @@ use Rattle.std.proofs.lemmas.Bool.Decides.{nat_tests}
 use Rattle.std.specs.List.{AllByRecursion}
 use Rattle.smb_tree.specs.Entries.{Entry, is_folder, is_folder_kind, allocation_size}
 use Rattle.smb_tree.specs.Content.{Path, Row, Content, entry_at, number_at, numbered, parent, changed, used_space}
-use Rattle.smb_tree.specs.Laws.{AreBelow}
+use Rattle.smb_tree.specs.Parts.{AreBelow}
 use Rattle.smb_tree.specs.Faults.{add_fault}
 use Rattle.smb_tree.proofs.Apart.{apart_changed, apart_added, numbered-push, numbered-changed, numbered-fresh}
 use Rattle.smb_tree.proofs.Spaces.{space_changed, space_more}

@@ -2,9 +2,10 @@
 use Rattle.std.proofs.Common.{◌≡◌, ◌==◌, ℕ, List, [], ◌∷◌, Bool, true, false, cond, ◌&&◌, ◌||◌, not, Option, None, Some, is_some, filter, slice_get, refl, sym, ap, arith, ◌∙◌}
 use Rattle.std.proofs.lemmas.Bool.Decides.{nat_tests}
 use Rattle.std.specs.Option.{option_map, option_map_or, option_and_then, is_none}
-use Rattle.smb_tree.specs.Content.{Path, Row, Content, numbered, removed}
+use Rattle.smb_tree.specs.Content.{Path, Row, Content, numbered}
+use Rattle.smb_tree.specs.Parts.{removed, next_child, has_children}
 use Rattle.smb_tree.proofs.Apart.{number-from_numbered}
-use Rattle.smb_tree.specs.Children.{is_child, has_children, first_by_name, next_child, child_after}
+use Rattle.smb_tree.specs.Children.{is_child, first_by_name, child_after}
 use Rattle.smb_access.specs.declared.open_row.OpenRow.{OpenRow}
 use Rattle.smb_access.specs.Close.{is_deletable, has_mark}
 use Rattle.smb_access.specs.Parts.{can_be_deleted, tree_cleared, is_due, is_on_entry}

@@ -3,7 +3,8 @@ use Rattle.std.proofs.Common.{◌≡◌, ◌<◌, ◌≤◌, ℕ, ◌+◌, ◌-�
 use Rattle.std.proofs.lemmas.Bool.Decides.{nat_tests}
 use Rattle.std.specs.Option.{option_map}
 use Rattle.smb_tree.specs.Content.{Row, Content, numbered, next_number}
-use Rattle.smb_tree.specs.Laws.{AreApart, AreBelow}
+use Rattle.smb_tree.specs.Laws.{AreApart}
+use Rattle.smb_tree.specs.Parts.{AreBelow}
 use Rattle.smb_tree.specs.Views.{shown, row_shown, entry_shown}
 use Rattle.smb_tree.specs.declared.entry.EntryView.{EntryView}
 

@@ -3,7 +3,8 @@ use Rattle.std.proofs.Common.{◌≡◌, ◌==◌, ℕ, List, [], ◌∷◌, ◌
 use Rattle.std.specs.Option.{option_map, option_map_or}
 use Rattle.smb_tree.specs.Entries.{Entry}
 use Rattle.smb_tree.specs.Content.{Path, Row, is_same_path, entry_at, numbered, parent, changed}
-use Rattle.smb_tree.specs.Children.{is_child, has_children}
+use Rattle.smb_tree.specs.Children.{is_child}
+use Rattle.smb_tree.specs.Parts.{has_children}
 use Rattle.smb_tree.specs.Laws.{AreApart}
 use Rattle.smb_tree.proofs.Keys.{same_path-eq}
 use Rattle.smb_tree.proofs.Apart.{numbered-changed, numbered-push, at-from_numbered}

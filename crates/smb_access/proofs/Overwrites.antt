@@ -7,7 +7,8 @@ use Rattle.smb_tree.specs.declared.entry.Basic.{Basic}
 use Rattle.smb_tree.specs.declared.fault.TreeFault.{TreeFault}
 use Rattle.smb_tree.specs.declared.fault.TreeFault.TheVariants.{Absent, ParentAbsent, Exists, NotEmpty, TooDeep, Full, NoMemory}
 use Rattle.smb_tree.specs.Entries.{Entry, is_folder_kind, kept_basic}
-use Rattle.smb_tree.specs.Content.{Row, Content, numbered, changed, resized, with_size, with_basic}
+use Rattle.smb_tree.specs.Content.{Row, Content, numbered, changed, resized}
+use Rattle.smb_tree.specs.Parts.{with_size, with_basic}
 use Rattle.smb_tree.specs.Faults.{size_fault, basic_fault}
 use Rattle.smb_tree.proofs.Apart.{numbered-changed}
 use Rattle.smb_access.specs.declared.found.Target.{Target}

@@ -5,9 +5,10 @@ use Rattle.std.proofs.lemmas.Bool.Decides.{nat_tests}
 use Rattle.std.specs.List.{AllByRecursion}
 use Rattle.std.specs.Option.{option_map, option_map_or}
 use Rattle.smb_tree.specs.Entries.{Entry, is_folder, is_folder_kind}
-use Rattle.smb_tree.specs.Content.{Path, Row, Content, is_same_path, entry_at, number_at, numbered, parent, without, removed}
-use Rattle.smb_tree.specs.Children.{is_child, has_children}
-use Rattle.smb_tree.specs.Laws.{AreApart, AreBelow}
+use Rattle.smb_tree.specs.Content.{Path, Row, Content, is_same_path, entry_at, number_at, numbered, parent, without}
+use Rattle.smb_tree.specs.Parts.{removed, AreBelow, has_children}
+use Rattle.smb_tree.specs.Children.{is_child}
+use Rattle.smb_tree.specs.Laws.{AreApart}
 use Rattle.smb_tree.proofs.Keys.{same_path-eq, same_path-sym}
 use Rattle.smb_tree.proofs.Apart.{at-from_numbered}
 use Rattle.smb_tree.proofs.Removals.{at-without, apart_removed, space_without}

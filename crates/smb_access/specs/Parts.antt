@@ -8,8 +8,8 @@ use Rattle.smb_wire.specs.Dispositions.{overwrites_by, must_be_new_by, supersede
 use Rattle.smb_wire.specs.CreateOptions.{FILE_DIRECTORY_FILE, FILE_NON_DIRECTORY_FILE, FILE_DELETE_ON_CLOSE, FILE_OPEN_BY_FILE_ID}
 use Rattle.smb_wire.specs.Attributes.{FILE_ATTRIBUTE_READONLY}
 use Rattle.smb_access.specs.Asked.{FileAsked, attributes_asked}
-use Rattle.smb_tree.specs.Children.{has_children}
-use Rattle.smb_tree.specs.Content.{Row, Content, with_mark, removed, changed, numbered}
+use Rattle.smb_tree.specs.Content.{Row, Content, changed, numbered}
+use Rattle.smb_tree.specs.Parts.{has_children, with_mark, removed}
 use Rattle.smb_access.specs.declared.open_row.OpenRow.{OpenRow}
 use Rattle.smb_access.specs.Opens.{has_open, open_of}
 use Rattle.smb_access.specs.Close.{has_mark, is_deletable}

@@ -12,9 +12,10 @@ use Rattle.smb_wire.specs.declared.nt_status.NtStatus.TheVariants.{Success, Inva
 use Rattle.smb_wire.specs.Paths.{is_separator, is_lawful_component, path_fault, path_spelled}
 use Rattle.smb_tree.specs.declared.fault.TreeFault.{TreeFault}
 use Rattle.smb_tree.specs.declared.fault.TreeFault.TheVariants.{ParentAbsent, Exists, Full}
-use Rattle.smb_tree.specs.Content.{Path, Row, Content, is_same_path, entry_at, numbered, parent, used_space, with_bytes, with_size}
+use Rattle.smb_tree.specs.Content.{Path, Row, Content, is_same_path, entry_at, numbered, parent, used_space, changed_in}
+use Rattle.smb_tree.specs.Parts.{with_bytes, with_size, would_be_too_deep}
 use Rattle.smb_tree.specs.Entries.{Entry, is_folder, is_folder_kind}
-use Rattle.smb_tree.specs.Faults.{add_fault, write_fault, would_be_too_deep, move_fault}
+use Rattle.smb_tree.specs.Faults.{add_fault, write_fault, move_fault}
 use Rattle.smb_tree.proofs.Apart.{numbered-from_at}
 use Rattle.smb_locks.specs.declared.ask.LockAsk.{LockAsk}
 use Rattle.smb_locks.specs.Locking.{lock_all_fault}

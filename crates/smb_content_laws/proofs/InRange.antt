@@ -7,7 +7,7 @@ use Rattle.smb_wire.specs.Counters.{is_spent}
 use Rattle.smb_wire.specs.Limits.{most_opens}
 use Rattle.smb_wire.specs.Paths.{path_spelled}
 use Rattle.smb_wire.specs.declared.nt_status.NtStatus.TheVariants.{Success}
-use Rattle.smb_tree.specs.Content.{Content}
+use Rattle.smb_tree.specs.Content.{Content, changed_in}
 use Rattle.smb_tree.specs.Entries.{is_folder_kind}
 use Rattle.smb_locks.specs.Table.{Table, locked, unlocked}
 use Rattle.smb_access.specs.declared.open_row.OpenRow.{OpenRow}

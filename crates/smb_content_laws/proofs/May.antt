@@ -5,7 +5,8 @@ use Rattle.std.specs.Option.{option_map, option_map_or}
 use Rattle.smb_wire.specs.Access.{has_any, FILE_WRITE_DATA, FILE_APPEND_DATA}
 use Rattle.smb_wire.specs.Attributes.{FILE_ATTRIBUTE_DIRECTORY}
 use Rattle.smb_wire.specs.declared.nt_status.NtStatus.TheVariants.{Success, FileClosed}
-use Rattle.smb_tree.specs.Content.{used_space, with_bytes, with_size}
+use Rattle.smb_tree.specs.Content.{used_space}
+use Rattle.smb_tree.specs.Parts.{with_bytes, with_size}
 use Rattle.smb_tree.specs.Entries.{is_folder_kind}
 use Rattle.smb_locks.specs.declared.ask.LockAsk.{LockAsk}
 use Rattle.smb_locks.specs.declared.fault.LockFault.{LockFault}

@@ -5,12 +5,13 @@ use Rattle.std.proofs.lemmas.List.Elements.{filter-append}
 use Rattle.smb_locks.specs.declared.ask.LockAsk.{LockAsk}
 use Rattle.smb_locks.specs.declared.lock.Lock.{Lock}
 use Rattle.smb_locks.specs.declared.range.ByteRange.{ByteRange}
-use Rattle.smb_locks.specs.Asks.{are_unlocks, range_asked, locks_asked}
+use Rattle.smb_locks.specs.Asks.{locks_asked}
+use Rattle.smb_locks.specs.Parts.{are_unlocks, range_asked, is_lock_over, without_oldest, unlock_fault, left_by}
 use Rattle.smb_locks.specs.Good.{GoodLockTable}
 use Rattle.smb_locks.specs.Table.{Table, locks_on, with_locks, locked, unlocked, without_holder}
 use Rattle.smb_locks.specs.Laws.{others_locks}
-use Rattle.smb_locks.specs.Unlocking.{is_lock_over, without_oldest, unlock_fault, left_by}
 use Rattle.smb_locks.proofs.Tables.{on_with, on_other, on_dropped}
+use Rattle.smb_locks.proofs.Unlocked.{table_is}
 
 -- none of the locks that an open asks for is another's
 others_asked : (holder : ℕ) (asks : List LockAsk) → others_locks holder (locks_asked holder asks) ≡ []
@@ -86,10 +87,11 @@ module _ (table : Table) (file holder : ℕ) (good : GoodLockTable table) where
 
   pub others_unlocked : (other : ℕ) (asks : List LockAsk) → others_locks holder (locks_on (unlocked table file holder asks) other) ≡ others_locks holder (locks_on table other)
   others_unlocked other asks =
-      elim (are_unlocks asks) as (λ b. others_locks holder (locks_on (if b then with_locks table file (left_by holder (locks_on table file) asks) else table) other) ≡ others_locks holder (locks_on table other)) [
+      ap (λ (t : Table). others_locks holder (locks_on t other)) (table_is table file holder asks)
+      ∙ (elim (are_unlocks asks) as (λ b. others_locks holder (locks_on (if b then with_locks table file (left_by holder (locks_on table file) asks) else table) other) ≡ others_locks holder (locks_on table other)) [
         | true ↦ others_with (left_by holder (locks_on table file) asks) (others_left holder asks (locks_on table file)) other
         | false ↦ refl
-      ]
+      ])
 
   pub others_dropped : (other : ℕ) → others_locks holder (locks_on (without_holder holder table) other) ≡ others_locks holder (locks_on table other)
   others_dropped other = ap (others_locks holder) (on_dropped holder other table good.rising) ∙ others_twice holder (locks_on table other)

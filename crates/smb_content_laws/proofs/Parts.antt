@@ -3,7 +3,8 @@ use Rattle.std.proofs.Common.{◌≡◌, ◌⊎◌, inl, inr, ℕ, ◌+◌, ◌-
 use Rattle.std.specs.Prelude.{slice_get}
 use Rattle.std.proofs.lemmas.List.{take-take, take_all, drop_at, drop-drop, drop-take, take-replicate, drop-replicate, length-replicate, get_or-take, get_or-drop, get_or_append_left, ext_get_or}
 use Rattle.std.proofs.lemmas.Option.{slice_get-get_or}
-use Rattle.smb_tree.specs.Content.{part, resized, written}
+use Rattle.smb_tree.specs.Content.{resized, written}
+use Rattle.smb_tree.specs.Parts.{part}
 use Rattle.smb_tree.proofs.Parts.{length-resized, length-written, part-written, gap_written, stays_written}
 
 -- a part of a part that is known

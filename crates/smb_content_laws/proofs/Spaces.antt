@@ -6,9 +6,10 @@ use Rattle.std.proofs.lemmas.List.Sums.{sum_by-cons}
 use Rattle.std.specs.Option.{option_map_or}
 use Rattle.smb_wire.specs.Dispositions.{overwrites_by}
 use Rattle.smb_wire.specs.Paths.{path_spelled, folded_path}
-use Rattle.smb_tree.specs.Content.{Path, Row, Content, entry_at, numbered, changed, without, removed, with_mark, used_space}
+use Rattle.smb_tree.specs.Content.{Path, Row, Content, entry_at, numbered, changed, without, used_space, changed_in}
+use Rattle.smb_tree.specs.Parts.{removed, with_mark, renamed, without_other, moved_rows, moved_row}
 use Rattle.smb_tree.specs.Entries.{Entry, allocation_size}
-use Rattle.smb_tree.specs.Moves.{moved_row, renamed, without_other, moved_rows, moved}
+use Rattle.smb_tree.specs.Moves.{moved}
 use Rattle.smb_tree.proofs.Apart.{numbered-from_at, numbered-changed}
 use Rattle.smb_tree.proofs.Parts.{length-written, length-resized}
 use Rattle.smb_tree.proofs.Removals.{space_without}

@@ -1,5 +1,5 @@
 -- Each element of an UNLOCK that is not refused takes out the oldest lock over its range.
-use Rattle.std.proofs.Common.{◌≡◌, ℕ, suc, ◌+◌, ◌==◌, ◌&&◌, Bool, true, false, not, if◌then◌else◌, List, [], ◌∷◌, Option, None, Some, take, refl, ap, subst, arith}
+use Rattle.std.proofs.Common.{◌≡◌, ℕ, suc, ◌+◌, ◌==◌, ◌&&◌, Bool, true, false, not, if◌then◌else◌, List, [], ◌∷◌, Option, None, Some, take, refl, sym, ap, ◌∙◌, subst, arith}
 use Rattle.std.proofs.lemmas.Bool.{eq-eqb, eqb-true, and_parts, and_from}
 use Rattle.std.specs.List.{list_any}
 use Rattle.std.specs.Option.{option_map_or}
@@ -9,13 +9,13 @@ use Rattle.smb_locks.specs.declared.fault.LockFault.TheVariants.{BadFlags, BadRa
 use Rattle.smb_locks.specs.declared.fault.UnlockError.{UnlockError}
 use Rattle.smb_locks.specs.declared.lock.Lock.{Lock}
 use Rattle.smb_locks.specs.declared.range.ByteRange.{ByteRange}
-use Rattle.smb_locks.specs.Asks.{are_unlocks, range_asked}
+use Rattle.smb_locks.specs.Parts.{are_unlocks, range_asked, is_lock_over, without_oldest, unlock_fault, unlock_error_at, left_by, unlock_error_from}
 use Rattle.smb_locks.specs.Good.{GoodLockTable}
 use Rattle.smb_locks.specs.Ranges.{is_past_the_end}
 use Rattle.smb_locks.specs.Table.{Table, locks_on, unlocked}
-use Rattle.smb_locks.specs.Unlocking.{is_lock_over, without_oldest, unlock_fault, left_by, unlock_error_from, unlock_all_error}
-use Rattle.smb_locks.specs.Parts.{unlock_error_at}
+use Rattle.smb_locks.specs.Unlocking.{unlock_all_error}
 use Rattle.smb_locks.proofs.Tables.{on_with}
+use Rattle.smb_locks.proofs.Unlocked.{error_is, table_is}
 use Rattle.smb_content_laws.specs.Locking.{IsOver, LosesOldest, LosesEach}
 
 -- the test of a lock over a range is the sentence
@@ -92,8 +92,8 @@ flags_first false o h = cc
 
 pub takes_asked : (table : Table) (file holder : ℕ) (asks : List LockAsk) → GoodLockTable table → unlock_all_error (locks_on table file) holder asks ≡ None → LosesEach holder asks (locks_on table file) (locks_on (unlocked table file holder asks) file)
 takes_asked table file holder asks good h =
-    let parts = flags_first (are_unlocks asks) (unlock_error_from 0 holder (locks_on table file) asks) h in
-    let after : locks_on (unlocked table file holder asks) file ≡ left_by holder (locks_on table file) asks = rw (parts.0) (on_with table file (left_by holder (locks_on table file) asks) good) in
+    let parts = flags_first (are_unlocks asks) (unlock_error_from 0 holder (locks_on table file) asks) (sym (error_is (locks_on table file) holder asks) ∙ h) in
+    let after : locks_on (unlocked table file holder asks) file ≡ left_by holder (locks_on table file) asks = rw (table_is table file holder asks, parts.0) (on_with table file (left_by holder (locks_on table file) asks) good) in
     rw after (loses_each holder 0 asks (locks_on table file) parts.1)
 
 -- where an element is refused, those before it have taken theirs
@@ -123,17 +123,17 @@ loses_before holder done (ask ∷ asks) locks error h =
 
 pub takes_before : (table : Table) (file holder : ℕ) (asks : List LockAsk) (error : UnlockError) → GoodLockTable table → unlock_all_error (locks_on table file) holder asks ≡ Some error →
     LosesEach holder (take error.done asks) (locks_on table file) (locks_on (unlocked table file holder asks) file)
-takes_before table file holder asks error good h = by_flags (are_unlocks asks) refl h
+takes_before table file holder asks error good h = by_flags (are_unlocks asks) refl (sym (error_is (locks_on table file) holder asks) ∙ h)
   where
     by_flags : (lawful : Bool) → are_unlocks asks ≡ lawful → (if not lawful then Some (record { done = 0; fault = BadFlags }) else unlock_error_from 0 holder (locks_on table file) asks) ≡ Some error →
         LosesEach holder (take error.done asks) (locks_on table file) (locks_on (unlocked table file holder asks) file)
     by_flags true t e =
-        let after : locks_on (unlocked table file holder asks) file ≡ left_by holder (locks_on table file) asks = rw t (on_with table file (left_by holder (locks_on table file) asks) good) in
+        let after : locks_on (unlocked table file holder asks) file ≡ left_by holder (locks_on table file) asks = rw (table_is table file holder asks, t) (on_with table file (left_by holder (locks_on table file) asks) good) in
         let before = loses_before holder 0 asks (locks_on table file) error e in
         let count : before.0 ≡ error.done = (let c = before.1 in omega (arith, c)) in
         rw after (subst (λ (n : ℕ). LosesEach holder (take n asks) (locks_on table file) (left_by holder (locks_on table file) asks)) count before.2)
     by_flags false t e =
         let here : Some (let error : UnlockError = record { done = 0; fault = BadFlags } in error) ≡ Some error = e in
         let none : 0 ≡ error.done = ap (λ (o : Option UnlockError). option_map_or (λ (x : UnlockError). x.done) o 0) here in
-        let after : locks_on (unlocked table file holder asks) file ≡ locks_on table file = rw t refl in
+        let after : locks_on (unlocked table file holder asks) file ≡ locks_on table file = rw (table_is table file holder asks, t) refl in
         subst (λ (n : ℕ). LosesEach holder (take n asks) (locks_on table file) (locks_on (unlocked table file holder asks) file)) none after

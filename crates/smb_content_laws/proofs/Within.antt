@@ -7,9 +7,10 @@ use Rattle.std.specs.Option.{option_map, option_map_or}
 use Rattle.smb_wire.specs.declared.nt_status.NtStatus.TheVariants.{Success, FileClosed}
 use Rattle.smb_wire.specs.Dispositions.{overwrites_by}
 use Rattle.smb_wire.specs.Paths.{path_spelled, folded_path}
-use Rattle.smb_tree.specs.Content.{Row, Content, entry_at, numbered, changed, without, removed, with_mark, with_bytes, with_size, used_space, written, resized}
+use Rattle.smb_tree.specs.Content.{Row, Content, entry_at, numbered, changed, without, used_space, written, resized, changed_in}
+use Rattle.smb_tree.specs.Parts.{removed, with_mark, with_bytes, with_size, without_other, moved_rows}
 use Rattle.smb_tree.specs.Entries.{Entry, allocation_size, new_entry, is_folder_kind}
-use Rattle.smb_tree.specs.Moves.{without_other, moved_rows, moved}
+use Rattle.smb_tree.specs.Moves.{moved}
 use Rattle.smb_tree.proofs.Apart.{number-from_numbered}
 use Rattle.smb_tree.proofs.Spaces.{space_changed, space_more}
 use Rattle.smb_locks.specs.Table.{Table, locked, unlocked}

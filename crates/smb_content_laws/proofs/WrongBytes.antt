@@ -8,7 +8,8 @@ use Rattle.std.specs.Option.{option_map_or}
 use Rattle.smb_wire.specs.Dispositions.{disposition_code, overwrites_by}
 use Rattle.smb_wire.specs.declared.disposition.CreateDisposition.TheVariants.{Overwrite}
 use Rattle.smb_wire.specs.declared.nt_status.NtStatus.TheVariants.{Success}
-use Rattle.smb_tree.specs.Content.{changed, bytes_of, part, written}
+use Rattle.smb_tree.specs.Content.{changed, bytes_of, written}
+use Rattle.smb_tree.specs.Parts.{part}
 use Rattle.smb_tree.specs.Entries.{Entry}
 use Rattle.smb_access.specs.declared.open_row.OpenRow.{OpenRow}
 use Rattle.smb_access.specs.Asked.{FileAsked}

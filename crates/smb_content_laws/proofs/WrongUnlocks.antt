@@ -7,10 +7,10 @@ use Rattle.std.specs.List.{AllByRecursion, list_any}
 use Rattle.smb_locks.specs.declared.ask.LockAsk.{LockAsk}
 use Rattle.smb_locks.specs.declared.lock.Lock.{Lock}
 use Rattle.smb_locks.specs.declared.range.ByteRange.{ByteRange}
-use Rattle.smb_locks.specs.Asks.{range_asked, are_unlocks}
+use Rattle.smb_locks.specs.Parts.{range_asked, are_unlocks, is_lock_over, without_oldest, unlock_fault}
 use Rattle.smb_locks.specs.Good.{GoodLockTable}
 use Rattle.smb_locks.specs.Table.{Table, locks_on, with_locks, locked, unlocked, without_holder}
-use Rattle.smb_locks.specs.Unlocking.{is_lock_over, without_oldest, unlock_fault, unlock_all_error}
+use Rattle.smb_locks.specs.Unlocking.{unlock_all_error}
 use Rattle.smb_content_laws.specs.Locking.{AnUnlockTakesWhatIsAsked, IsOver, LosesOldest, LosesEach}
 use Rattle.smb_content_laws.proofs.ExampleLocks.{first_ten, exclusive_by, shared_by, asks_unlock, one_lock, two_locks}
 use Rattle.smb_content_laws.proofs.ExampleLocks.{one_lock_is_good, two_locks_are_good}

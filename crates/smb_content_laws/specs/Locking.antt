@@ -6,7 +6,7 @@ use Rattle.smb_locks.specs.declared.ask.LockAsk.{LockAsk}
 use Rattle.smb_locks.specs.declared.fault.UnlockError.{UnlockError}
 use Rattle.smb_locks.specs.declared.lock.Lock.{Lock}
 use Rattle.smb_locks.specs.declared.range.ByteRange.{ByteRange}
-use Rattle.smb_locks.specs.Asks.{range_asked, locks_asked}
+use Rattle.smb_locks.specs.Asks.{locks_asked}
 use Rattle.smb_locks.specs.Conflicts.{is_read_barred, is_write_barred}
 use Rattle.smb_locks.specs.Good.{GoodLockTable}
 use Rattle.smb_locks.specs.Locking.{lock_all_fault}
@@ -53,7 +53,8 @@ pub record LosesOldest (holder : ℕ) (range : ByteRange) (before after : List L
 abbrev pub LosesEach : ℕ → List LockAsk → List Lock → List Lock → Type 0
 LosesEach holder [] before after = after ≡ before
 LosesEach holder (ask ∷ asks) before after =
-    (between : List Lock) × LosesOldest holder (range_asked ask) before between × LosesEach holder asks between after
+    let range : ByteRange = record { offset = ask.offset; length = ask.length } in
+    (between : List Lock) × LosesOldest holder range before between × LosesEach holder asks between after
 
 -- after an UNLOCK that is not refused, for each range that was asked for the oldest lock of the open over that very
 -- range is gone, and all other locks of the file are held still, in order ([MS-SMB2] 3.3.5.14.1)

@@ -1,9 +1,9 @@
 -- What a READ gives: the bytes that were last written there, and zeros where none were.
-use Rattle.std.specs.Prelude.{◌≡◌, ◌⊎◌, ℕ, ◌+◌, ◌-◌, ◌<◌, ◌≤◌, min, true, false, List, [], length, replicate, slice_get}
+use Rattle.std.specs.Prelude.{◌≡◌, ◌⊎◌, ℕ, ◌+◌, ◌-◌, ◌<◌, ◌≤◌, min, true, false, List, [], length, take, drop, replicate, slice_get}
 use Rattle.std.specs.Prelude.{None, Some}
 use Rattle.smb_wire.specs.declared.nt_status.NtStatus.TheVariants.{Success}
 use Rattle.smb_wire.specs.Dispositions.{overwrites_by}
-use Rattle.smb_tree.specs.Content.{Row, numbered, bytes_of, part}
+use Rattle.smb_tree.specs.Content.{Row, numbered, bytes_of}
 use Rattle.smb_access.specs.declared.open_row.OpenRow.{OpenRow}
 use Rattle.smb_access.specs.Asked.{FileAsked}
 use Rattle.smb_access.specs.Opens.{open_of}
@@ -67,7 +67,7 @@ AnyPartOfAWriteIsRead =
     (place : ℕ) (read : LaterRead) → GoodStore state → open_of state.opens number ≡ Some writer →
     let after = written_to state number offset buffer moment in
     ReadsFile after writer.entry read → read.offset ≡ offset + place → place + read.count ≤ length buffer →
-    bytes_given after read ≡ part place read.count buffer
+    bytes_given after read ≡ take read.count (drop place buffer)
 
 -- what a WRITE does not cover reads as it was
 abbrev pub AWriteLeavesTheRest : Type 0
@@ -78,7 +78,7 @@ AWriteLeavesTheRest =
     let after = written_to state number offset buffer moment in
     ReadsFile after writer.entry read → read.offset + read.count ≤ length before →
     (read.offset + read.count ≤ offset) ⊎ (offset + length buffer ≤ read.offset) →
-    bytes_given after read ≡ part read.offset read.count before
+    bytes_given after read ≡ take read.count (drop read.offset before)
 
 -- what is between the end of a file and some bytes that a WRITE put past it reads as zeros ([MS-FSA] 2.1.5.3)
 abbrev pub AGapIsReadAsZeros : Type 0
@@ -108,7 +108,7 @@ ASizeLeavesTheFront =
     let before = bytes_of state.tree.rows setter.entry in
     let after = size_set_through state number size false moment in
     ReadsFile after setter.entry read → read.offset + read.count ≤ size → read.offset + read.count ≤ length before →
-    bytes_given after read ≡ part read.offset read.count before
+    bytes_given after read ≡ take read.count (drop read.offset before)
 
 -- a file that a CREATE adds or overwrites has no bytes
 abbrev pub AMadeFileIsEmpty : Type 0

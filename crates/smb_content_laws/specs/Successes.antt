@@ -1,13 +1,13 @@
 -- What must succeed does: where no row of its table holds, the status of a request is STATUS_SUCCESS.
 use Rattle.std.specs.Prelude.{◌≡◌, ◌≢◌, ◌↔◌, ◌⊎◌, ℕ, ◌+◌, ◌-◌, ◌<◌, ◌≤◌, min, Bool, true, false, List, ◌∷◌, ◌++◌, ◌||◌, ◌&&◌, not}
 use Rattle.std.specs.Prelude.{length, None, Some}
-use Rattle.std.specs.List.{AllByRecursion}
+use Rattle.std.specs.List.{AllByRecursion, list_any}
 use Rattle.smb_wire.specs.Access.{has_any, FILE_WRITE_DATA, FILE_APPEND_DATA, FILE_WRITE_ATTRIBUTES}
 use Rattle.smb_wire.specs.Attributes.{FILE_ATTRIBUTE_DIRECTORY, FILE_ATTRIBUTE_READONLY}
 use Rattle.smb_wire.specs.Limits.{most_file_bytes}
 use Rattle.smb_wire.specs.declared.nt_status.NtStatus.{NtStatus}
 use Rattle.smb_wire.specs.declared.nt_status.NtStatus.TheVariants.{Success}
-use Rattle.smb_tree.specs.Content.{used_space, with_bytes, with_size, numbered}
+use Rattle.smb_tree.specs.Content.{used_space, numbered, changed_in, resized, written}
 use Rattle.smb_tree.specs.Entries.{is_folder_kind}
 use Rattle.smb_locks.specs.declared.ask.LockAsk.{LockAsk}
 use Rattle.smb_locks.specs.Locking.{lock_all_fault}
@@ -27,7 +27,7 @@ use Rattle.smb_opens.specs.State.{StoreState}
 use Rattle.smb_opens.specs.Views.{open_view, status_through}
 use Rattle.std.specs.Option.{option_map_or}
 use Rattle.smb_entry.specs.SetInfo.{is_bad_time}
-use Rattle.smb_tree.specs.Children.{has_children}
+use Rattle.smb_tree.specs.Children.{is_child}
 use Rattle.smb_locks.specs.Conflicts.{is_read_barred, is_write_barred}
 
 -- no row of a table holds
@@ -95,7 +95,9 @@ pub record MayWrite (state : StoreState) (most number offset : ℕ) (buffer : Li
   pub free :
       is_write_barred (locks_on state.locks view.entry) number (record { offset = offset; length = length buffer }) ≡ false
   pub small : 0 < length buffer → offset + length buffer ≤ most_file_bytes
-  pub fits : 0 < length buffer → used_space (with_bytes state.tree view.entry offset buffer).rows ≤ state.tree.capacity
+  pub fits : 0 < length buffer →
+      let after = changed_in (λ entry. record entry { bytes = written offset buffer entry.bytes }) state.tree view.entry in
+      used_space after.rows ≤ state.tree.capacity
 
 -- a WRITE succeeds exactly where it may
 abbrev pub AWriteSucceeds : Type 0
@@ -121,7 +123,7 @@ pub record MayMark (state : StoreState) (is_deleted : Bool) (view : View) : Type
   pub writable : is_deleted ≡ true →
       (not (is_folder_kind view.kind) && has_any view.attributes.0 FILE_ATTRIBUTE_READONLY) ≡ false
   pub empty : is_deleted ≡ true →
-      option_map_or (λ row. has_children state.tree.rows row.0) (numbered state.tree.rows view.entry) false ≡ false
+      option_map_or (λ row. list_any (is_child row.0) state.tree.rows) (numbered state.tree.rows view.entry) false ≡ false
 
 -- a SET_INFO of a mark succeeds exactly where it may
 abbrev pub ASetOfAMarkSucceeds : Type 0
@@ -135,7 +137,9 @@ pub record MaySetSize (state : StoreState) (size : ℕ) (view : View) : Type 0 w
   pub file : is_folder_kind view.kind ≡ false
   pub access : has_any view.access.0 FILE_WRITE_DATA ≡ true
   pub small : size ≤ most_file_bytes
-  pub fits : used_space (with_size state.tree view.entry size).rows ≤ state.tree.capacity
+  pub fits :
+      let after = changed_in (λ entry. record entry { bytes = resized size entry.bytes }) state.tree view.entry in
+      used_space after.rows ≤ state.tree.capacity
 
 -- a SET_INFO of a size succeeds exactly where it may
 abbrev pub ASetOfASizeSucceeds : Type 0

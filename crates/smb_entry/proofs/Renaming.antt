@@ -4,11 +4,12 @@ use Rattle.std.specs.Option.{option_map}
 use Rattle.smb_wire.specs.Paths.{folded_path}
 use Rattle.smb_tree.specs.declared.entry.Basic.{Basic}
 use Rattle.smb_tree.specs.Entries.{Entry, kept_basic, last_part}
-use Rattle.smb_tree.specs.Content.{Path, Row, Content, is_same_path, entry_at, numbered, parent, with_basic}
+use Rattle.smb_tree.specs.Content.{Path, Row, Content, is_same_path, entry_at, numbered, parent}
+use Rattle.smb_tree.specs.Parts.{with_basic, respelled, moved_row}
 use Rattle.smb_tree.specs.Faults.{basic_fault, move_fault}
 use Rattle.smb_tree.specs.Good.{GoodContent}
 use Rattle.smb_tree.specs.MoveLaws.{CanMove}
-use Rattle.smb_tree.specs.Moves.{respelled, moved_row, moved}
+use Rattle.smb_tree.specs.Moves.{moved}
 use Rattle.smb_tree.specs.Views.{Shown, entry_shown}
 use Rattle.smb_tree.proofs.Kept.{numbers_kept}
 use Rattle.smb_access.specs.declared.found.Target.{Target}

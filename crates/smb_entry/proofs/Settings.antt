@@ -5,8 +5,9 @@ use Rattle.std.proofs.lemmas.Bool.Decides.{nat_tests}
 use Rattle.std.specs.Option.{option_map, option_map_or, option_and_then, is_none}
 use Rattle.std.specs.Prelude.{nat_lt, ◌||◌}
 use Rattle.smb_tree.specs.declared.entry.Basic.{Basic}
-use Rattle.smb_tree.specs.Children.{has_children, next_child, child_after}
-use Rattle.smb_tree.specs.Content.{Row, Content, numbered, resized, used_space, with_size, with_basic}
+use Rattle.smb_tree.specs.Children.{child_after}
+use Rattle.smb_tree.specs.Parts.{has_children, next_child, with_size, with_basic}
+use Rattle.smb_tree.specs.Content.{Row, Content, numbered, resized, used_space, changed_in}
 use Rattle.smb_tree.specs.Entries.{Entry, allocation_size, kept_basic}
 use Rattle.smb_tree.specs.Faults.{basic_fault}
 use Rattle.smb_tree.specs.Views.{Shown, entry_shown}

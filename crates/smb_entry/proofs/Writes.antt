@@ -5,8 +5,9 @@ use Rattle.std.proofs.lemmas.Bool.Decides.{nat_tests}
 use Rattle.std.specs.List.{AllByRecursion}
 use Rattle.smb_tree.specs.declared.entry.Basic.{Basic}
 use Rattle.smb_tree.specs.Entries.{Entry, is_folder, is_folder_kind, allocation_size, kept_basic}
-use Rattle.smb_tree.specs.Content.{Row, Content, entry_at, numbered, parent, changed, resized, written, used_space, with_size, with_basic, with_bytes}
-use Rattle.smb_tree.specs.Faults.{size_fault, size_fault_of, basic_fault, write_fault}
+use Rattle.smb_tree.specs.Content.{Row, Content, entry_at, numbered, parent, changed, resized, written, used_space}
+use Rattle.smb_tree.specs.Parts.{with_size, with_basic, with_bytes, size_fault_of}
+use Rattle.smb_tree.specs.Faults.{size_fault, basic_fault, write_fault}
 use Rattle.smb_tree.specs.declared.fault.TreeFault.{TreeFault}
 use Rattle.smb_tree.specs.declared.fault.TreeFault.TheVariants.{Absent, ParentAbsent, Exists, NotEmpty, TooDeep, Full, NoMemory}
 use Rattle.smb_wire.specs.declared.nt_status.NtStatus.TheVariants.{Success, DiskFull}

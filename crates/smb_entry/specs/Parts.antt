@@ -5,7 +5,8 @@ use Rattle.smb_wire.specs.Limits.{most_file_bytes}
 use Rattle.smb_wire.specs.Access.{has_any, FILE_WRITE_DATA}
 use Rattle.smb_wire.specs.declared.nt_status.NtStatus.TheVariants.{InvalidParameter, InvalidDeviceRequest, AccessDenied, EndOfFile, FileLockConflict, DiskFull, CannotDelete, DirectoryNotEmpty, Success, ObjectNameInvalid, DeletePending, ObjectPathNotFound, ObjectNameCollision}
 use Rattle.smb_tree.specs.Entries.{Entry, is_folder_kind, kept_basic}
-use Rattle.smb_tree.specs.Content.{Content, changed, used_space, written, with_bytes, Row, numbered, resized, with_size, Path, is_same_path, entry_at}
+use Rattle.smb_tree.specs.Content.{Content, changed, used_space, written, Row, numbered, resized, Path, is_same_path, entry_at, changed_in}
+use Rattle.smb_tree.specs.Parts.{with_bytes, with_size, would_be_too_deep, has_children}
 use Rattle.smb_locks.specs.Conflicts.{is_read_barred, is_write_barred}
 use Rattle.smb_locks.specs.Table.{Table, locks_on}
 use Rattle.smb_access.specs.declared.view.View.{View}
@@ -14,13 +15,11 @@ use Rattle.smb_access.specs.StatusRows.{StatusRow}
 use Rattle.std.specs.Option.{option_map_or}
 use Rattle.smb_wire.specs.Attributes.{FILE_ATTRIBUTE_READONLY, FILE_ATTRIBUTE_DIRECTORY}
 use Rattle.smb_tree.specs.declared.entry.Basic.{Basic}
-use Rattle.smb_tree.specs.Children.{has_children}
 use Rattle.smb_entry.specs.declared.ask.BasicAsk.{BasicAsk}
 use Rattle.smb_access.specs.Parts.{is_writing_attributes}
 use Rattle.smb_entry.specs.SetInfo.{is_bad_time, time_set}
 use Rattle.std.specs.List.{list_any}
 use Rattle.smb_wire.specs.Paths.{is_separator, path_fault}
-use Rattle.smb_tree.specs.Faults.{would_be_too_deep}
 use Rattle.smb_tree.specs.Moves.{moved, is_within}
 use Rattle.smb_locks.specs.declared.lock.Lock.{Lock}
 use Rattle.smb_access.specs.declared.open_row.OpenRow.{OpenRow}

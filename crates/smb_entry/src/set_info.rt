@@ -2,7 +2,8 @@
 
 ghost use Rattle.std.specs.Prelude.{◌≡◌, ◌≢◌, ◌≤◌, ◌+◌, nat_lt, true, false, Some, IfErr, OnOk, OnErr, is_some};
 ghost use Rattle.std.specs.Option.{option_map};
-ghost use Rattle.smb_tree.specs.Content.{numbered, with_mark};
+ghost use Rattle.smb_tree.specs.Content.{numbered, changed_in};
+ghost use Rattle.smb_tree.specs.Parts.{with_mark};
 ghost use Rattle.smb_tree.specs.Entries.{is_folder_kind, allocation_size, kept_basic};
 ghost use Rattle.smb_access.specs.StatusRows.{first_status};
 ghost use Rattle.smb_tree.specs.Good.{GoodContent};

@@ -7,9 +7,10 @@ use Rattle.std.proofs.lemmas.Option.{slice_get-get_or}
 use Rattle.smb_wire.specs.Names.{folded}
 use Rattle.smb_tree.specs.Entries.{last_part}
 use Rattle.smb_tree.specs.Content.{Row, Content, numbered}
-use Rattle.smb_tree.specs.Good.{GoodContent, AreLawful, IsLawfulRow}
+use Rattle.smb_tree.specs.Good.{GoodContent, IsLawfulRow}
+use Rattle.smb_tree.specs.Parts.{AreLawful, and_on}
 use Rattle.smb_tree.specs.Children.{name_of, child_after}
-use Rattle.smb_tree.specs.ChildLaws.{and_on, in_turn, children_at_once}
+use Rattle.smb_tree.specs.ChildLaws.{in_turn, children_at_once}
 use Rattle.smb_tree.specs.Views.{Shown, row_shown, entry_shown}
 use Rattle.smb_tree.specs.declared.tree.TheConstants.{CHILDREN_AT_ONCE}
 use Rattle.smb_tree.proofs.ChildLists.{number_of}

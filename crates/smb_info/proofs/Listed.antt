@@ -6,8 +6,9 @@ use Rattle.std.proofs.lemmas.List.Elements.{All-nil, All-cons, All-append, All-m
 use Rattle.smb_tree.specs.Content.{Row, Content, Path, numbered}
 use Rattle.smb_tree.specs.Good.{GoodContent}
 use Rattle.smb_tree.specs.Laws.{AreApart}
-use Rattle.smb_tree.specs.Children.{name_of, is_child, is_after, is_before, children_after, first_by_name, first_of_two, next_child, child_after}
-use Rattle.smb_tree.specs.ChildLaws.{and_on, in_turn}
+use Rattle.smb_tree.specs.Children.{name_of, is_child, is_before, first_by_name, child_after}
+use Rattle.smb_tree.specs.Parts.{is_after, children_after, first_of_two, next_child, and_on}
+use Rattle.smb_tree.specs.ChildLaws.{in_turn}
 use Rattle.smb_tree.specs.Views.{row_shown, entry_shown}
 use Rattle.smb_tree.proofs.Siblings.{by_number}
 use Rattle.smb_access.specs.declared.scan.ScanLast.{ScanLast}

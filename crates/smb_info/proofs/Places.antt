@@ -5,7 +5,8 @@ use Rattle.std.proofs.lemmas.List.Elements.{All-nil, All-cons}
 use Rattle.std.specs.Option.{option_and_then}
 use Rattle.smb_tree.specs.Content.{Row, Content, numbered}
 use Rattle.smb_tree.specs.Children.{name_of, child_after}
-use Rattle.smb_tree.specs.ChildLaws.{and_on, in_turn}
+use Rattle.smb_tree.specs.ChildLaws.{in_turn}
+use Rattle.smb_tree.specs.Parts.{and_on}
 use Rattle.smb_tree.specs.Good.{GoodContent}
 use Rattle.smb_tree.specs.Views.{Shown, entry_shown}
 use Rattle.smb_info.specs.Candidates.{Candidate, dot, dot_dot, child, children, candidates_behind}

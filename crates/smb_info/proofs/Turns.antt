@@ -8,9 +8,10 @@ use Rattle.smb_tree.specs.Entries.{Entry, is_folder}
 use Rattle.smb_tree.specs.Good.{GoodContent}
 use Rattle.smb_tree.specs.Laws.{AreApart}
 use Rattle.smb_tree.specs.Views.{Shown, row_shown, entry_shown}
-use Rattle.smb_tree.specs.Children.{name_of, children_after, next_child, child_after}
+use Rattle.smb_tree.specs.Children.{name_of, child_after}
+use Rattle.smb_tree.specs.Parts.{children_after, next_child, and_on}
 use Rattle.smb_tree.proofs.Apart.{numbered-from_at}
-use Rattle.smb_tree.specs.ChildLaws.{and_on, in_turn}
+use Rattle.smb_tree.specs.ChildLaws.{in_turn}
 use Rattle.smb_tree.proofs.Siblings.{fewer, by_number}
 
 none_on : (f : Option (List ℕ) → List Row) (rows : List Row) (folder : Row) (after : Option (List ℕ)) → length (children_after rows folder.0 after) ≤ 0 → and_on f (next_child rows folder.0 after) ≡ []

@@ -4,7 +4,8 @@ ghost use Rattle.std.specs.Prelude.{◌≡◌, ◌≤◌, ◌<◌, ◌∷◌, []
 ghost use Rattle.std.specs.Option.{option_copied};
 ghost use Rattle.smb_wire.specs.Units.{units_of};
 ghost use Rattle.smb_tree.specs.Content.{numbered};
-ghost use Rattle.smb_tree.specs.Good.{GoodContent, AreLawful};
+ghost use Rattle.smb_tree.specs.Good.{GoodContent};
+ghost use Rattle.smb_tree.specs.Parts.{AreLawful};
 ghost use Rattle.smb_info.specs.Candidates.{children, candidates_behind};
 ghost use Rattle.smb_info.specs.CandidateViews.{candidate};
 ghost use Rattle.smb_info.specs.Cursors.{children_from, to_come, Stands, matched};

@@ -3,7 +3,8 @@
 ghost use Rattle.std.specs.Prelude.{◌≡◌, ◌++◌, ◌∷◌, ◌≤◌, None, Some, true, false, if◌then◌else◌, is_some, OnOk, OnErr, IfOk, IfErr};
 ghost use Rattle.smb_wire.specs.Units.{units_of};
 ghost use Rattle.smb_tree.specs.Content.{numbered};
-ghost use Rattle.smb_tree.specs.Good.{GoodContent, AreLawful};
+ghost use Rattle.smb_tree.specs.Good.{GoodContent};
+ghost use Rattle.smb_tree.specs.Parts.{AreLawful};
 ghost use Rattle.smb_access.specs.Opens.{open_of};
 ghost use Rattle.smb_info.specs.Asks.{list_asked};
 ghost use Rattle.smb_info.specs.CandidateViews.{candidate};

@@ -3,7 +3,8 @@
 ghost use Rattle.std.specs.Prelude.{◌≡◌, ◌∷◌, ◌≤◌, [], true, is_some, IfSome, IfNone, OnSome};
 ghost use Rattle.smb_wire.specs.Units.{units_of};
 ghost use Rattle.smb_tree.specs.Content.{numbered};
-ghost use Rattle.smb_tree.specs.Good.{GoodContent, AreLawful};
+ghost use Rattle.smb_tree.specs.Good.{GoodContent};
+ghost use Rattle.smb_tree.specs.Parts.{AreLawful};
 ghost use Rattle.smb_info.specs.CandidateViews.{candidate};
 ghost use Rattle.smb_info.specs.Cursors.{to_come, Stands};
 ghost use Rattle.smb_info.specs.Parts.{entry_length, sought};

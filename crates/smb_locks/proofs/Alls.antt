@@ -2,7 +2,7 @@
 use Rattle.std.proofs.Common.{◌≡◌, Bool, true, false, List, [], ◌∷◌, ◌++◌, filter, refl}
 use Rattle.std.specs.List.{AllByRecursion}
 use Rattle.smb_locks.specs.declared.lock.Lock.{Lock}
-use Rattle.smb_locks.specs.Unlocking.{without_oldest}
+use Rattle.smb_locks.specs.Parts.{without_oldest}
 
 module _ {X : Type 0} (P : X → Type 0) where
   pub all-append : (xs ys : List X) → AllByRecursion P xs → AllByRecursion P ys → AllByRecursion P (xs ++ ys)

@@ -9,17 +9,17 @@ use Rattle.std.specs.Ordering.{nat_cmp}
 use Rattle.smb_locks.specs.declared.ask.LockAsk.{LockAsk}
 use Rattle.smb_locks.specs.declared.fault.LockFault.{LockFault}
 use Rattle.smb_locks.specs.declared.lock.Lock.{Lock}
-use Rattle.smb_locks.specs.Asks.{are_unlocks, locks_asked, range_asked}
-use Rattle.smb_locks.specs.Parts.{are_locks}
+use Rattle.smb_locks.specs.Asks.{locks_asked}
+use Rattle.smb_locks.specs.Parts.{are_unlocks, range_asked, are_locks, left_by}
 use Rattle.smb_locks.specs.Laws.{others_locks}
 use Rattle.smb_locks.specs.Good.{GoodLockTable}
 use Rattle.smb_locks.specs.Locking.{locks_fault, lock_all_fault}
 use Rattle.smb_locks.specs.Ranges.{is_past_the_end}
 use Rattle.smb_locks.specs.Table.{Table, HoldsNoneElsewhere, locks_on, with_locks, locked, unlocked, without_holder}
-use Rattle.smb_locks.specs.Unlocking.{left_by}
 use Rattle.smb_locks.proofs.Entries.{removed-none, set-inserted, removed-set, found-all}
 use Rattle.smb_locks.proofs.Same.{dropped_on}
 use Rattle.smb_locks.proofs.Tables.{good_locked}
+use Rattle.smb_locks.proofs.Unlocked.{table_is}
 
 -- the locks of a file, by what is found
 pub found_on : (table : Table) (file : ℕ) (locks : List Lock) → lookup (is_at (nat_cmp file)) table ≡ Some locks → locks_on table file ≡ locks
@@ -84,7 +84,7 @@ nothing_left holder [] = refl
 nothing_left holder (ask ∷ asks) = nothing_left_at holder ask asks (is_past_the_end (range_asked ask)) refl
 
 by_flags : (table : Table) (file holder : ℕ) (asks : List LockAsk) → are_unlocks asks ≡ true → unlocked table file holder asks ≡ with_locks table file (left_by holder (locks_on table file) asks)
-by_flags table file holder asks flags = rw flags refl
+by_flags table file holder asks flags = table_is table file holder asks ∙ rw flags refl
 
 pub unlocked_absent : (table : Table) (file holder : ℕ) (asks : List LockAsk) → are_unlocks asks ≡ true → lookup (is_at (nat_cmp file)) table ≡ None → table ≡ unlocked table file holder asks
 unlocked_absent table file holder asks flags found =

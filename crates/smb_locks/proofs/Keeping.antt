@@ -3,12 +3,10 @@ use Rattle.std.proofs.Common.{◌≡◌, ℕ, ◌≤◌, Bool, true, false, List
 use Rattle.std.specs.List.{AllByRecursion}
 use Rattle.smb_locks.specs.declared.ask.LockAsk.{LockAsk}
 use Rattle.smb_locks.specs.declared.lock.Lock.{Lock}
-use Rattle.smb_locks.specs.Asks.{range_asked}
+use Rattle.smb_locks.specs.Parts.{range_asked, is_lock_over, without_oldest, unlock_fault, AreCompatible, AreAllCompatible, lock_fault, left_by}
 use Rattle.smb_locks.specs.Good.{GoodLocks}
-use Rattle.smb_locks.specs.Parts.{AreCompatible, AreAllCompatible, lock_fault}
 use Rattle.smb_locks.specs.Laws.{others_locks}
 use Rattle.smb_locks.specs.Locking.{locks_fault}
-use Rattle.smb_locks.specs.Unlocking.{is_lock_over, without_oldest, unlock_fault, left_by}
 use Rattle.smb_locks.proofs.Alls.{all-append, all-filter, all-without}
 use Rattle.smb_locks.proofs.Parts.{IsGranted, granted, both_none, all_beside}
 

@@ -9,3 +9,4 @@ pub mod Asked
 pub mod Changes
 pub mod Members
 pub mod Same
+pub mod Unlocked

@@ -5,12 +5,13 @@ use Rattle.std.proofs.lemmas.List.Elements.{Contains-append_cases, All-contains_
 use Rattle.std.specs.List.{AllByRecursion}
 use Rattle.smb_locks.specs.declared.ask.LockAsk.{LockAsk}
 use Rattle.smb_locks.specs.declared.lock.Lock.{Lock}
-use Rattle.smb_locks.specs.Asks.{are_unlocks, range_asked, locks_asked}
+use Rattle.smb_locks.specs.Asks.{locks_asked}
+use Rattle.smb_locks.specs.Parts.{are_unlocks, range_asked, is_lock_over, without_oldest, unlock_fault, left_by}
 use Rattle.smb_locks.specs.Good.{GoodLockTable}
 use Rattle.smb_locks.specs.Table.{Table, locks_on, with_locks, locked, unlocked, without_holder}
 use Rattle.smb_locks.specs.Laws.{others_locks}
-use Rattle.smb_locks.specs.Unlocking.{is_lock_over, without_oldest, unlock_fault, left_by}
 use Rattle.smb_locks.proofs.Alls.{all-filter, all-without}
+use Rattle.smb_locks.proofs.Unlocked.{table_is}
 use Rattle.smb_locks.proofs.Tables.{at_member, on_with, on_other, on_dropped}
 
 all_members : (locks : List Lock) → AllByRecursion (Contains locks) locks
@@ -57,8 +58,8 @@ written_at table file other holder asks lock false t good c =
     rw (on_other table file other (left_by holder (locks_on table file) asks) (eqb-false other file t)) at c
 
 unlocked_member_at : (table : Table) (file other holder : ℕ) (asks : List LockAsk) (lock : Lock) (b : Bool) → are_unlocks asks ≡ b → GoodLockTable table → Contains (locks_on (unlocked table file holder asks) other) lock → Contains (locks_on table other) lock
-unlocked_member_at table file other holder asks lock true t good c = written_at table file other holder asks lock (other == file) refl good (rw t at c)
-unlocked_member_at table file other holder asks lock false t good c = rw t at c
+unlocked_member_at table file other holder asks lock true t good c = written_at table file other holder asks lock (other == file) refl good (rw (table_is table file holder asks, t) at c)
+unlocked_member_at table file other holder asks lock false t good c = rw (table_is table file holder asks, t) at c
 
 pub member_unlocked : (table : Table) (file other holder : ℕ) (asks : List LockAsk) (lock : Lock) → GoodLockTable table → Contains (locks_on (unlocked table file holder asks) other) lock → Contains (locks_on table other) lock
 member_unlocked table file other holder asks lock good c = unlocked_member_at table file other holder asks lock (are_unlocks asks) refl good c
@@ -78,8 +79,8 @@ member_dropped table holder file lock good c =
 
 -- other files
 unlocked_other_at : (table : Table) (file other holder : ℕ) (asks : List LockAsk) (b : Bool) → are_unlocks asks ≡ b → other ≢ file → locks_on (unlocked table file holder asks) other ≡ locks_on table other
-unlocked_other_at table file other holder asks true t apart = rw t (on_other table file other (left_by holder (locks_on table file) asks) apart)
-unlocked_other_at table file other holder asks false t apart = rw t refl
+unlocked_other_at table file other holder asks true t apart = rw (table_is table file holder asks, t) (on_other table file other (left_by holder (locks_on table file) asks) apart)
+unlocked_other_at table file other holder asks false t apart = rw (table_is table file holder asks, t) refl
 
 pub others_kept : (table : Table) (file other holder : ℕ) (asks : List LockAsk) → other ≢ file →
     (locks_on (locked table file holder asks) other ≡ locks_on table other) × (locks_on (unlocked table file holder asks) other ≡ locks_on table other)

@@ -8,7 +8,7 @@ use Rattle.std.specs.Map.Calls.{RetainsPairs}
 use Rattle.smb_locks.specs.declared.lock.Lock.{Lock}
 use Rattle.smb_locks.specs.Table.{without_holder}
 use Rattle.smb_locks.specs.Laws.{others_locks}
-use Rattle.smb_locks.specs.Unlocking.{without_oldest}
+use Rattle.smb_locks.specs.Parts.{without_oldest}
 
 -- the place of the oldest
 module _ (p : Lock → Bool) where

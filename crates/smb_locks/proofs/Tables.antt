@@ -9,18 +9,18 @@ use Rattle.std.specs.BTreeMap.{is_at}
 use Rattle.std.specs.Ordering.{nat_cmp}
 use Rattle.smb_locks.specs.declared.ask.LockAsk.{LockAsk}
 use Rattle.smb_locks.specs.declared.lock.Lock.{Lock}
-use Rattle.smb_locks.specs.Asks.{locks_asked, are_unlocks}
+use Rattle.smb_locks.specs.Asks.{locks_asked}
+use Rattle.smb_locks.specs.Parts.{are_unlocks, AreCompatible, AreAllCompatible, IsAscending, left_by}
 use Rattle.smb_locks.specs.Good.{GoodLocks, GoodLockTable}
-use Rattle.smb_locks.specs.Parts.{AreCompatible, AreAllCompatible, IsAscending}
 use Rattle.smb_locks.specs.Laws.{others_locks}
 use Rattle.smb_locks.specs.Locking.{lock_all_fault}
 use Rattle.smb_locks.specs.Ranges.{Overlap}
 use Rattle.smb_locks.specs.Table.{Table, locks_on, with_locks, locked, unlocked, without_holder}
-use Rattle.smb_locks.specs.Unlocking.{left_by}
 use Rattle.smb_locks.proofs.Ends.{overlap_from_ends, ends_from_overlap, overlap_turned}
 use Rattle.smb_locks.proofs.Entries.{same_number, all-inserted, all-removed, rising-inserted, rising-removed, lookup-above, found-inserted, other-inserted, found-removed, other-removed, found-all}
 use Rattle.smb_locks.proofs.Keeping.{good_none, good_more, good_left, good_others}
 use Rattle.smb_locks.proofs.Parts.{locks_granted}
+use Rattle.smb_locks.proofs.Unlocked.{table_is}
 
 -- nothing is good
 pub good_empty : GoodLockTable []
@@ -62,8 +62,8 @@ good_locked table file holder asks good h =
 
 unlocked_at : (table : Table) (file holder : ℕ) (asks : List LockAsk) (b : Bool) → are_unlocks asks ≡ b → GoodLockTable table → GoodLockTable (unlocked table file holder asks)
 unlocked_at table file holder asks true t good =
-    rw t (good_with table file (left_by holder (locks_on table file) asks) good (good_left holder asks (locks_on table file) (good_on table file good)))
-unlocked_at table file holder asks false t good = rw t good
+    rw (table_is table file holder asks, t) (good_with table file (left_by holder (locks_on table file) asks) good (good_left holder asks (locks_on table file) (good_on table file good)))
+unlocked_at table file holder asks false t good = rw (table_is table file holder asks, t) good
 
 pub good_unlocked : (table : Table) (file holder : ℕ) (asks : List LockAsk) → GoodLockTable table → GoodLockTable (unlocked table file holder asks)
 good_unlocked table file holder asks good = unlocked_at table file holder asks (are_unlocks asks) refl good

@@ -1,5 +1,5 @@
 -- What follows from the definitions.
-use Rattle.std.specs.Prelude.{◌≡◌, ◌≢◌, ◌↔◌, ◌⊎◌, ℕ, List, false, IsTrue, [], None, Any, Contains, ◌==◌, not, filter}
+use Rattle.std.specs.Prelude.{◌≡◌, ◌≢◌, ◌↔◌, ℕ, List, false, IsTrue, [], None, Any, Contains, ◌==◌, not, filter}
 use Rattle.smb_locks.specs.declared.ask.LockAsk.{LockAsk}
 use Rattle.smb_locks.specs.declared.lock.Lock.{Lock}
 use Rattle.smb_locks.specs.declared.range.ByteRange.{ByteRange}
@@ -61,26 +61,6 @@ RequestsLeaveOtherFiles =
     (table : Table) (file other holder : ℕ) (asks : List LockAsk) → other ≢ file →
     (locks_on (locked table file holder asks) other ≡ locks_on table other) ×
     (locks_on (unlocked table file holder asks) other ≡ locks_on table other)
-
--- after a request that locks, each lock of the file was there before or is held by the open that asks
-abbrev pub LockingAddsOnlyOwnLocks : Type 0
-LockingAddsOnlyOwnLocks =
-    (table : Table) (file holder : ℕ) (asks : List LockAsk) (lock : Lock) → GoodLockTable table →
-    Contains (locks_on (locked table file holder asks) file) lock →
-    Contains (locks_on table file) lock ⊎ (lock.holder ≡ holder)
-
--- after a request that unlocks, each lock of any file was there before
-abbrev pub UnlockingAddsNoLock : Type 0
-UnlockingAddsNoLock =
-    (table : Table) (file other holder : ℕ) (asks : List LockAsk) (lock : Lock) → GoodLockTable table →
-    Contains (locks_on (unlocked table file holder asks) other) lock → Contains (locks_on table other) lock
-
--- after an open is dropped, each lock of any file was there before and is another open's
-abbrev pub DroppingAddsNoLock : Type 0
-DroppingAddsNoLock =
-    (table : Table) (holder file : ℕ) (lock : Lock) → GoodLockTable table →
-    Contains (locks_on (without_holder holder table) file) lock →
-    Contains (locks_on table file) lock × (lock.holder ≢ holder)
 
 -- a table is good at first, and stays so
 abbrev pub NoLocksAreGood : Type 0

@@ -1,12 +1,14 @@
 -- The locks of all files.
 use Rattle.std.specs.Prelude.{◌≡◌, ◌≢◌, ℕ, ◌++◌, ◌∷◌, [], ◌==◌, List, length, map, filter, not, nat_lt, unwrap_or, if◌then◌else◌}
+use Rattle.std.specs.List.{list_all}
 use Rattle.std.specs.BTreeMap.{is_at, insert_entry}
 use Rattle.std.specs.Map.{lookup, remove_entry}
 use Rattle.std.specs.Ordering.{nat_cmp}
+use Rattle.smb_wire.specs.LockFlags.{UNLOCK}
 use Rattle.smb_locks.specs.declared.ask.LockAsk.{LockAsk}
 use Rattle.smb_locks.specs.declared.lock.Lock.{Lock}
-use Rattle.smb_locks.specs.Asks.{locks_asked, are_unlocks}
-use Rattle.smb_locks.specs.Unlocking.{left_by}
+use Rattle.smb_locks.specs.Asks.{locks_asked}
+use Rattle.smb_locks.specs.Unlocking.{all_unlocked}
 
 -- each file that has locks, in rising number, with its locks, oldest first
 abbrev pub Table : Type 0
@@ -28,7 +30,8 @@ locked table file holder asks = with_locks table file (locks_on table file ++ lo
 -- after a request that unlocks, refused at an element or not; with the flags of a wrong one nothing is done
 abbrev pub unlocked : Table → ℕ → ℕ → List LockAsk → Table
 unlocked table file holder asks =
-    if are_unlocks asks then with_locks table file (left_by holder (locks_on table file) asks) else table
+    if list_all (λ ask. ask.flags.0 == UNLOCK) asks
+    then with_locks table file (all_unlocked 0 holder (locks_on table file) asks).0 else table
 
 -- without the locks of an open, on whichever files it holds them
 abbrev pub without_holder : ℕ → Table → Table

@@ -1,8 +1,7 @@
 //! What the elements of a LOCK request ask.
 
 ghost use Rattle.std.specs.Prelude.{◌≡◌, ◌&&◌, ◌||◌};
-ghost use Rattle.smb_locks.specs.Asks.{are_unlocks, range_asked};
-ghost use Rattle.smb_locks.specs.Parts.{is_immediate, may_wait, is_unlock, are_locks, lock_by};
+ghost use Rattle.smb_locks.specs.Parts.{are_unlocks, range_asked, is_immediate, may_wait, is_unlock, are_locks, lock_by};
 
 use super::lock::Lock;
 use super::range::ByteRange;

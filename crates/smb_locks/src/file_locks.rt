@@ -3,10 +3,9 @@
 ghost use Rattle.std.specs.Prelude.{◌≡◌, ◌≢◌, ◌==◌, ◌++◌, ◌∷◌, [], ◌<◌, None, Some, OnOk, OnErr, IfOk, IfErr, IfSome, IsTrue, ◌↔◌, filter, not, length, position, take, nat_le, nat_lt};
 ghost use Rattle.std.specs.List.{list_any};
 ghost use Rattle.smb_locks.specs.Asks.{locks_asked};
-ghost use Rattle.smb_locks.specs.Parts.{lock_by, lock_fault};
+ghost use Rattle.smb_locks.specs.Parts.{lock_by, lock_fault, is_lock_over, unlock_fault, without_oldest, left_by, unlock_error_from};
 ghost use Rattle.smb_locks.specs.Conflicts.{conflicts, is_read_barred, is_write_barred};
 ghost use Rattle.smb_locks.specs.Locking.{locks_fault};
-ghost use Rattle.smb_locks.specs.Unlocking.{is_lock_over, unlock_fault, without_oldest, left_by, unlock_error_from};
 ghost use Rattle.smb_locks.specs.declared.fault.LockFault.TheVariants.{NoMemory};
 
 use super::ask::LockAsk;

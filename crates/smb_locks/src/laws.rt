@@ -1,6 +1,6 @@
 //! The laws of locks.
 
-ghost use Rattle.smb_locks.specs.Laws.{ComparingEndsIsOverlap, OverlapIsSymmetric, AnEmptyRangeOverlapsNothing, ConflictIsByOverlap, BarsAreByOverlap, NoTwoConflict, EachFileHasItsLocks, ADroppedOpenHoldsNothing, RequestsLeaveOtherFiles, LockingAddsOnlyOwnLocks, UnlockingAddsNoLock, DroppingAddsNoLock, NoLocksAreGood, LockingKeepsGood, UnlockingKeepsGood, DroppingKeepsGood};
+ghost use Rattle.smb_locks.specs.Laws.{ComparingEndsIsOverlap, OverlapIsSymmetric, AnEmptyRangeOverlapsNothing, ConflictIsByOverlap, BarsAreByOverlap, NoTwoConflict, EachFileHasItsLocks, ADroppedOpenHoldsNothing, RequestsLeaveOtherFiles, NoLocksAreGood, LockingKeepsGood, UnlockingKeepsGood, DroppingKeepsGood};
 
 /// What follows from the definitions: the contract is the statement, and the body does nothing.
 pub fn laws_of_locks()
@@ -13,9 +13,6 @@ pub fn laws_of_locks()
     ensures files { EachFileHasItsLocks }
     ensures dropped { ADroppedOpenHoldsNothing }
     ensures others { RequestsLeaveOtherFiles }
-    ensures locking_adds { LockingAddsOnlyOwnLocks }
-    ensures unlocking_adds { UnlockingAddsNoLock }
-    ensures dropping_adds { DroppingAddsNoLock }
     ensures none_good { NoLocksAreGood }
     ensures locking_good { LockingKeepsGood }
     ensures unlocking_good { UnlockingKeepsGood }

@@ -2,8 +2,7 @@
 
 ghost use Rattle.std.specs.Prelude.{◌≡◌};
 ghost use Rattle.smb_locks.specs.Conflicts.{conflicts};
-ghost use Rattle.smb_locks.specs.Parts.{bars_read, bars_write};
-ghost use Rattle.smb_locks.specs.Unlocking.{is_lock_over};
+ghost use Rattle.smb_locks.specs.Parts.{bars_read, bars_write, is_lock_over};
 
 use super::range::ByteRange;
 

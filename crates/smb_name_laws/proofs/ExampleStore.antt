@@ -9,8 +9,9 @@ use Rattle.smb_wire.specs.Limits.{most_opens}
 use Rattle.smb_wire.specs.declared.disposition.CreateDisposition.{CreateDisposition}
 use Rattle.smb_tree.specs.declared.entry.Kind.TheVariants.{File, Folder}
 use Rattle.smb_tree.specs.Content.{Path, Row, Content, numbered}
-use Rattle.smb_tree.specs.Entries.{Entry, new_entry, new_basic}
-use Rattle.smb_tree.specs.Good.{GoodContent, AreLawful}
+use Rattle.smb_tree.specs.Entries.{Entry, new_entry}
+use Rattle.smb_tree.specs.Parts.{new_basic, AreLawful}
+use Rattle.smb_tree.specs.Good.{GoodContent}
 use Rattle.smb_locks.proofs.Tables.{good_empty}
 use Rattle.smb_access.specs.declared.open_row.OpenRow.{OpenRow}
 use Rattle.smb_access.specs.Asked.{FileAsked}

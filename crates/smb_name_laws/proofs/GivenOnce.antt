@@ -7,10 +7,10 @@ use Rattle.std.specs.Option.{option_map, option_map_or}
 use Rattle.smb_wire.specs.Dispositions.{overwrites_by}
 use Rattle.smb_wire.specs.Paths.{path_spelled, folded_path}
 use Rattle.smb_tree.specs.declared.entry.Kind.{Kind}
-use Rattle.smb_tree.specs.Content.{Path, Row, Content, is_same_path, entry_at, numbered, changed, without, removed, with_mark}
+use Rattle.smb_tree.specs.Content.{Path, Row, Content, is_same_path, entry_at, numbered, changed, without, changed_in}
+use Rattle.smb_tree.specs.Parts.{removed, with_mark, AreBelow, renamed, without_other, moved_rows, moved_row}
 use Rattle.smb_tree.specs.Entries.{Entry, new_entry, is_folder_kind, last_part}
-use Rattle.smb_tree.specs.Laws.{AreBelow}
-use Rattle.smb_tree.specs.Moves.{moved_row, renamed, without_other, moved_rows, moved}
+use Rattle.smb_tree.specs.Moves.{moved}
 use Rattle.smb_tree.proofs.Apart.{numbered-changed, numbered-push}
 use Rattle.smb_tree.proofs.Renamed.{numbered-renamed, below-renamed}
 use Rattle.smb_locks.specs.Table.{Table, locked, unlocked}

@@ -8,10 +8,11 @@ use Rattle.smb_wire.specs.declared.nt_status.NtStatus.TheVariants.{Success, Inva
 use Rattle.smb_tree.specs.declared.fault.TreeFault.{TreeFault}
 use Rattle.smb_tree.specs.Content.{Path, Row, Content, is_same_path, entry_at, number_at, numbered}
 use Rattle.smb_tree.specs.Entries.{Entry, is_folder_kind, last_part}
-use Rattle.smb_tree.specs.Faults.{would_be_too_deep, move_fault}
+use Rattle.smb_tree.specs.Faults.{move_fault}
+use Rattle.smb_tree.specs.Parts.{would_be_too_deep, moved_row}
 use Rattle.smb_tree.specs.Good.{GoodContent}
 use Rattle.smb_tree.specs.MoveLaws.{CanMove}
-use Rattle.smb_tree.specs.Moves.{is_within, moved_row, moved}
+use Rattle.smb_tree.specs.Moves.{is_within, moved}
 use Rattle.smb_tree.proofs.Apart.{numbered-from_at, at-from_numbered, number-from_numbered, at-changed, numbered-changed}
 use Rattle.smb_tree.proofs.Heads.{within_itself, not_within_not_it, beneath_not_it}
 use Rattle.smb_tree.proofs.Kept.{entry_moved, beneath_moved, nothing_left, others_kept, numbers_kept, good_kept}

@@ -4,7 +4,8 @@ use Rattle.std.proofs.lemmas.Bool.{eqb-true}
 use Rattle.std.proofs.lemmas.Bool.Decides.{nat_tests}
 use Rattle.std.specs.List.{list_any}
 use Rattle.std.specs.Option.{option_map, option_map_or}
-use Rattle.smb_tree.specs.Content.{Path, Row, Content, entry_at, numbered, changed, without, with_mark, removed}
+use Rattle.smb_tree.specs.Content.{Path, Row, Content, entry_at, numbered, changed, without}
+use Rattle.smb_tree.specs.Parts.{with_mark, removed}
 use Rattle.smb_tree.specs.Entries.{Entry}
 use Rattle.smb_tree.proofs.Apart.{numbered-changed}
 use Rattle.smb_tree.proofs.Removals.{at-without_none}

@@ -2,7 +2,7 @@
 use Rattle.std.proofs.Common.{◌≡◌, ◌==◌, ℕ, List, [], ◌∷◌, ◌++◌, length, Bool, true, false, if◌then◌else◌, Option, None, Some, is_some, refl, ap, ◌∙◌}
 use Rattle.std.specs.Option.{option_map, option_map_or}
 use Rattle.smb_wire.specs.Dispositions.{overwrites_by}
-use Rattle.smb_tree.specs.Content.{Row, Content, numbered, changed}
+use Rattle.smb_tree.specs.Content.{Row, Content, numbered, changed, changed_in}
 use Rattle.smb_tree.specs.Entries.{Entry, is_folder_kind}
 use Rattle.smb_tree.proofs.Apart.{numbered-changed, numbered-push}
 use Rattle.smb_locks.specs.Table.{Table, locked, unlocked}

@@ -1,6 +1,7 @@
 -- What the end of an open deletes, in a user's words ([MS-FSA] 2.1.5.4).
 use Rattle.std.specs.Prelude.{◌≡◌, ◌≢◌, ℕ, ◌==◌, ◌||◌, ◌&&◌, Bool, true, false, not, List, None, Some, is_some}
-use Rattle.smb_tree.specs.Children.{has_children}
+use Rattle.std.specs.List.{list_any}
+use Rattle.smb_tree.specs.Children.{is_child}
 use Rattle.smb_tree.specs.Content.{Path, Row, is_same_path, entry_at, numbered}
 use Rattle.smb_tree.specs.Entries.{Entry, is_folder_kind}
 use Rattle.smb_access.specs.declared.open_row.OpenRow.{OpenRow}
@@ -15,7 +16,7 @@ use Rattle.smb_opens.specs.Steps.{renames, sets_scan, closes, closes_all, steppe
 -- an entry is a file, or a folder other than the root (which has number 1) in which no entry is
 abbrev pub is_file_or_empty_folder : List Row → Row → Bool
 is_file_or_empty_folder rows row =
-    not (is_folder_kind row.1.kind) || not (row.1.number == 1) && not (has_children rows row.0)
+    not (is_folder_kind row.1.kind) || not (row.1.number == 1) && not (list_any (is_child row.0) rows)
 
 -- the CLOSE of an open is to delete its entry, once no other open of it is left: the entry is marked (DeletePending),
 -- or the open was made with FILE_DELETE_ON_CLOSE, and the entry is a file or an empty folder

@@ -1,7 +1,7 @@
 -- The numbers of opens ([MS-SMB2] 3.3.1.10) and of entries are given once, in a user's words.
 use Rattle.std.specs.Prelude.{◌≡◌, ℕ, ◌<◌, ◌≤◌, true, List, ◌∷◌, None, Some, is_some}
+use Rattle.std.specs.List.{AllByRecursion}
 use Rattle.smb_tree.specs.Content.{Row, numbered}
-use Rattle.smb_tree.specs.Laws.{AreBelow}
 use Rattle.smb_access.specs.declared.open_row.OpenRow.{OpenRow}
 use Rattle.smb_access.specs.Opens.{open_of, AreAllBelow}
 use Rattle.smb_opens.specs.Close.{closed}
@@ -24,7 +24,7 @@ pub record GivesEachOpenOnce (before after : StoreState) : Type 0 where
 -- was given, and names no entry, names none later; and one that names a file names no folder later, nor a folder's a file
 pub record GivesEachEntryOnce (before after : StoreState) : Type 0 where
   pub rise : before.tree.next ≤ after.tree.next
-  pub below : AreBelow after.tree.rows after.tree.next
+  pub below : AllByRecursion (λ row. row.1.number < after.tree.next) after.tree.rows
   pub ended : (number : ℕ) → number < before.tree.next → numbered before.tree.rows number ≡ None →
       numbered after.tree.rows number ≡ None
   pub same : (number : ℕ) (one other : Row) → numbered before.tree.rows number ≡ Some one →

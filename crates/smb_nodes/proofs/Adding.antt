@@ -8,7 +8,7 @@ use Rattle.smb_wire.specs.Paths.{folded_path}
 use Rattle.smb_tree.specs.declared.entry.Kind.{Kind}
 use Rattle.smb_tree.specs.Entries.{Entry, is_folder, last_part, new_entry}
 use Rattle.smb_tree.specs.Content.{Path, Row, parent, used_space}
-use Rattle.smb_tree.specs.Faults.{add_fault_by}
+use Rattle.smb_tree.specs.Parts.{add_fault_by}
 use Rattle.smb_tree.proofs.Spaces.{space_more}
 use Rattle.smb_nodes.specs.Nodes.{Heap, IsTree, rows_in, levels, levels-is, child_in, entry_in, entry_on, entry_down, walk, path_to}
 use Rattle.smb_nodes.specs.Changes.{Grown}

@@ -1,5 +1,5 @@
 -- The children that come next behind a name, taken from a range one after the other.
-use Rattle.std.proofs.Common.{◌≡◌, ℕ, ◌≤◌, Bool, true, false, ◌&&◌, cond, not, List, [], ◌∷◌, ◌++◌, length, map, filter, Option, None, Some, IfSome, is_some, ◌⊎◌, inl, inr, refl, sym, ap, ◌∙◌, arith, subst}
+use Rattle.std.proofs.Common.{◌≡◌, ℕ, ◌≤◌, Bool, true, false, ◌&&◌, cond, List, [], ◌∷◌, ◌++◌, length, map, filter, Option, None, Some, IfSome, inl, inr, refl, sym, ap, ◌∙◌, arith, subst}
 use Rattle.std.specs.List.{AllByRecursion, slice_get}
 use Rattle.std.specs.List.Sorted.{IsStrictlySortedBy}
 use Rattle.std.specs.Map.{keys_of}
@@ -9,16 +9,14 @@ use Rattle.std.specs.declared.cmp.Ordering.TheVariants.{Less, Equal, Greater}
 use Rattle.std.specs.declared.ops.Bound.{Bound}
 use Rattle.std.specs.declared.ops.Bound.TheVariants.{Excluded, Unbounded}
 use Rattle.std.specs.Cmp.Lexicographic.{slice_cmp}
-use Rattle.std.specs.BTreeMap as tree
 use Rattle.std.specs.BTreeMap.{BTreeMap, IsOrdered}
 use Rattle.std.specs.BTreeMap.Range.{range_contains, entries_between, IsFromStart, IsEntryInRange}
 use Rattle.std_collections.proofs.Ordered.{first_in_range, least_in_range, none_in_range}
-use Rattle.std.proofs.lemmas.Bool.{true≢false}
 use Rattle.std.proofs.lemmas.Cmp.{nat_list_cmp_total}
-use Rattle.smb_tree.specs.Children.{is_before, is_after}
+use Rattle.smb_tree.specs.Parts.{is_after}
 use Rattle.smb_tree.specs.declared.tree.TheConstants.{CHILDREN_AT_ONCE}
 use Rattle.smb_nodes.specs.Nodes.{Heap, entry_of_slot}
-use Rattle.smb_nodes.specs.Nexts.{bound_of, IsNextEntry, AreNext, NoneAfter, NextNumbers}
+use Rattle.smb_nodes.specs.Nexts.{bound_of, IsNextEntry, AreNext, NextNumbers}
 use Rattle.smb_nodes.proofs.Nexting.{before_behind}
 
 abbrev Entry : Type 0

@@ -6,7 +6,8 @@ use Rattle.std.proofs.lemmas.List.{length-drop}
 use Rattle.smb_wire.specs.Paths.{folded_path}
 use Rattle.smb_tree.specs.Entries.{Entry}
 use Rattle.smb_tree.specs.Content.{Path, Row, changed, without}
-use Rattle.smb_tree.specs.Moves.{is_within, replaced, renamed, without_other}
+use Rattle.smb_tree.specs.Moves.{is_within, replaced}
+use Rattle.smb_tree.specs.Parts.{renamed, without_other}
 use Rattle.smb_tree.proofs.Heads.{replaced_drop, replaced-elsewhere}
 use Rattle.smb_tree.proofs.Renamed.{all-without}
 use Rattle.smb_nodes.specs.Nodes.{Heap, levels, levels-is, row_in, rows_in, Live, IsTree}

@@ -4,7 +4,8 @@ use Rattle.std.proofs.Common.{arith, sym, ap, ◌∙◌, length-append}
 use Rattle.std.proofs.lemmas.Bool.Decides.{nat_tests}
 use Rattle.smb_tree.specs.Entries.{last_part}
 use Rattle.smb_tree.specs.Content.{Path, Row, parent, is_same_path}
-use Rattle.smb_tree.specs.Children.{is_child, has_children}
+use Rattle.smb_tree.specs.Children.{is_child}
+use Rattle.smb_tree.specs.Parts.{has_children}
 use Rattle.smb_tree.proofs.Keys.{same_path-eq, same_path-of_eq}
 use Rattle.smb_tree.proofs.Lasts.{parent_of}
 use Rattle.smb_nodes.specs.Nodes.{Heap, up_in, child_in, walk, levels, row_in, rows_in, has_slot, Live, IsTree}

@@ -6,7 +6,8 @@ use Rattle.slab.specs.Slab.{get}
 use Rattle.smb_wire.specs.Pairs.{unit_bytes}
 use Rattle.smb_wire.specs.Paths.{joined_by_separators}
 use Rattle.smb_tree.specs.Entries.{Entry}
-use Rattle.smb_tree.specs.WholeNames.{Copied, row_copied, entry_copied, whole_name}
+use Rattle.smb_tree.specs.WholeNames.{Copied, entry_copied}
+use Rattle.smb_tree.specs.Parts.{row_copied, whole_name}
 use Rattle.smb_tree.proofs.Moving.{length-spellings}
 use Rattle.smb_nodes.specs.declared.node.Node.{Node}
 use Rattle.smb_nodes.specs.declared.tree.NodeTree.TheInside.{Inside}

@@ -2,7 +2,7 @@
 use Rattle.std.proofs.Common.{◌≡◌, ℕ, zero, suc, ◌+◌, ◌-◌, ◌≤◌, ◌==◌, nat_lt, Bool, true, false, ◌&&◌, if◌then◌else◌, List, [], ◌∷◌, ◌++◌, length, Option, None, Some, is_some, unwrap_or, refl, subst, sym, ap, ◌∙◌, arith, length-append, drop}
 use Rattle.std.proofs.lemmas.List.{length-drop}
 use Rattle.smb_tree.specs.Content.{Path, is_same_path}
-use Rattle.smb_tree.specs.Faults.{would_be_too_deep}
+use Rattle.smb_tree.specs.Parts.{would_be_too_deep}
 use Rattle.smb_tree.specs.Moves.{is_within, replaced}
 use Rattle.smb_tree.proofs.Keys.{same_path-eq}
 use Rattle.smb_tree.proofs.Heads.{within_itself, length_within, replaced_drop}

@@ -3,7 +3,8 @@ use Rattle.std.specs.Prelude.{◌≡◌, ℕ, true, List, Option, None, Some}
 use Rattle.std.specs.Option.{option_map, option_and_then}
 use Rattle.std.proofs.Common.{sym, ap, ◌∙◌}
 use Rattle.smb_tree.specs.Content.{Row}
-use Rattle.smb_tree.specs.Children.{is_after, next_child, child_after}
+use Rattle.smb_tree.specs.Children.{child_after}
+use Rattle.smb_tree.specs.Parts.{is_after, next_child}
 use Rattle.smb_nodes.specs.declared.tree.NodeTree.TheInside.{Inside}
 use Rattle.smb_nodes.specs.Nodes.{child_in, slot_of, entry_of_slot}
 use Rattle.smb_nodes.specs.Changes.{IsNext}

@@ -8,7 +8,7 @@ use Rattle.smb_tree.specs.declared.fault.TreeFault.{TreeFault}
 use Rattle.smb_tree.specs.declared.fault.TreeFault.TheVariants.{ParentAbsent, Exists, TooDeep}
 use Rattle.smb_tree.specs.Entries.{Entry, is_folder}
 use Rattle.smb_tree.specs.Content.{Path, Row, entry_at, parent}
-use Rattle.smb_tree.specs.Faults.{is_other_folder, would_be_too_deep, move_fault_between}
+use Rattle.smb_tree.specs.Parts.{is_other_folder, would_be_too_deep, move_fault_between}
 use Rattle.smb_tree.specs.Moves.{is_within, replaced}
 use Rattle.smb_tree.proofs.Heads.{replaced-elsewhere}
 use Rattle.smb_nodes.specs.Nodes.{Heap, entry_in, path_to, levels, levels-is, row_in, rows_in, slot_of, has_slot, entry_of_slot, Tied, Numbers, AreDistinct, IsTree}

@@ -7,7 +7,8 @@ use Rattle.std.proofs.lemmas.Grind.{common_steps}
 use Rattle.smb_wire.specs.Paths.{folded_path}
 use Rattle.smb_tree.specs.Entries.{Entry, last_part}
 use Rattle.smb_tree.specs.Content.{Path, is_same_path}
-use Rattle.smb_tree.specs.Moves.{is_within, rest_behind, replaced, respelled, renamed}
+use Rattle.smb_tree.specs.Moves.{is_within, rest_behind, replaced}
+use Rattle.smb_tree.specs.Parts.{respelled, renamed}
 use Rattle.smb_tree.proofs.Keys.{same_path-eq, same_path-of_eq}
 use Rattle.smb_tree.proofs.Heads.{within_or_not, replaced-within, replaced-elsewhere, within_itself}
 use Rattle.smb_nodes.specs.Nodes.{Heap, name_in, up_in, child_in, entry_in, path_to, blank, row_in, rows_in, is_same_component, Tied, Live}

@@ -14,7 +14,8 @@ use Rattle.std.proofs.lemmas.Bool.{and_parts, and_from}
 use Rattle.std.proofs.lemmas.Cmp.{nat_list_cmp_total}
 use Rattle.smb_tree.specs.Entries.{last_part}
 use Rattle.smb_tree.specs.Content.{Row}
-use Rattle.smb_tree.specs.Children.{name_of, is_child, is_before, is_after, first_of_two, first_by_name, next_child}
+use Rattle.smb_tree.specs.Children.{name_of, is_child, is_before, first_by_name}
+use Rattle.smb_tree.specs.Parts.{is_after, first_of_two, next_child}
 use Rattle.smb_tree.proofs.Lasts.{last_of}
 use Rattle.smb_tree.proofs.Orders.{before_same}
 use Rattle.smb_nodes.specs.Nodes.{TreeNode, Heap, child_in, levels, row_in, rows_in, has_slot, Live, IsTree}

@@ -5,7 +5,8 @@ use Rattle.std.proofs.Common.{arith, sym, ap, ◌∙◌, subst}
 use Rattle.std.proofs.lemmas.List.{length-map}
 use Rattle.smb_tree.specs.Entries.{Entry}
 use Rattle.smb_tree.specs.Content.{Path, numbered, number_at}
-use Rattle.smb_tree.specs.Faults.{add_fault, add_fault_by}
+use Rattle.smb_tree.specs.Faults.{add_fault}
+use Rattle.smb_tree.specs.Parts.{add_fault_by}
 use Rattle.smb_nodes.specs.Nodes.{TreeNode, Heap, entry_in, path_to, entry_down, levels, blank, row_in, rows_in, slot_of, Live, Numbers, IsTree}
 use Rattle.smb_nodes.proofs.Walks.{is_some-Some, at-looked}
 

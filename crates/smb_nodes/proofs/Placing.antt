@@ -7,8 +7,9 @@ use Rattle.smb_tree.specs.declared.fault.TreeFault.{TreeFault}
 use Rattle.smb_tree.specs.declared.fault.TreeFault.TheVariants.{NoMemory, ParentAbsent, Exists, TooDeep}
 use Rattle.smb_tree.specs.Entries.{Entry, allocation_size, is_folder, last_part}
 use Rattle.smb_tree.specs.Content.{Row, entry_at, parent, used_space}
-use Rattle.smb_tree.specs.Faults.{is_other_folder, would_be_too_deep, move_fault, move_fault_between}
-use Rattle.smb_tree.specs.Moves.{renamed, without_other, moved}
+use Rattle.smb_tree.specs.Faults.{move_fault}
+use Rattle.smb_tree.specs.Parts.{is_other_folder, would_be_too_deep, move_fault_between, renamed, without_other}
+use Rattle.smb_tree.specs.Moves.{moved}
 use Rattle.smb_tree.proofs.Moving.{fault_found, moved_is}
 use Rattle.smb_nodes.specs.declared.tree.NodeTree.TheInside.{Inside}
 use Rattle.smb_nodes.specs.Nodes.{entry_on, Heap, levels, row_in, rows_in, slot_of, index_without, entry_of_slot, name_of_slot, is_same_component, up_in, walk, IsTree}

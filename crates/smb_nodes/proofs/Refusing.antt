@@ -7,7 +7,7 @@ use Rattle.smb_wire.specs.Paths.{folded_path}
 use Rattle.smb_tree.specs.declared.fault.TreeFault.TheVariants.{ParentAbsent, Exists, TooDeep}
 use Rattle.smb_tree.specs.Entries.{Entry, is_folder}
 use Rattle.smb_tree.specs.Content.{Path, entry_at, parent}
-use Rattle.smb_tree.specs.Faults.{is_other_folder, move_fault_between}
+use Rattle.smb_tree.specs.Parts.{is_other_folder, move_fault_between}
 use Rattle.smb_tree.specs.Moves.{is_within}
 use Rattle.smb_nodes.specs.Nodes.{Heap, entry_down, levels, row_in, rows_in, walk, IsTree}
 use Rattle.smb_nodes.specs.Ways.{SomeDeep, is_deep, is_within_slot}

@@ -6,8 +6,8 @@ use Rattle.smb_wire.specs.Names.{folded}
 use Rattle.smb_wire.specs.Paths.{folded_path}
 use Rattle.smb_tree.specs.Entries.{Entry, is_folder, is_folder_kind, allocation_size, last_part}
 use Rattle.smb_tree.specs.Content.{Path, is_same_path, entry_at, parent, without, used_space}
-use Rattle.smb_tree.specs.Faults.{is_other_folder}
-use Rattle.smb_tree.specs.Moves.{replaced, renamed, moved_row, respelled, without_other}
+use Rattle.smb_tree.specs.Parts.{is_other_folder, renamed, respelled, without_other, moved_row}
+use Rattle.smb_tree.specs.Moves.{replaced}
 use Rattle.smb_tree.proofs.Heads.{within_or_not, replaced-within, replaced-elsewhere}
 use Rattle.smb_tree.proofs.Keys.{same_path-eq, same_path-of_eq}
 use Rattle.smb_tree.proofs.Moving.{used-renamed}

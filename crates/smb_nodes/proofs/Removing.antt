@@ -4,7 +4,8 @@ use Rattle.std.specs.Option.{option_map}
 use Rattle.std.proofs.Common.{arith, sym, ap, ◌∙◌, subst}
 use Rattle.smb_tree.specs.declared.fault.TreeFault.TheVariants.{NotEmpty}
 use Rattle.smb_tree.specs.Entries.{Entry, allocation_size}
-use Rattle.smb_tree.specs.Content.{Row, without, used_space, removed}
+use Rattle.smb_tree.specs.Content.{Row, without, used_space}
+use Rattle.smb_tree.specs.Parts.{removed}
 use Rattle.smb_tree.specs.Faults.{remove_fault}
 use Rattle.smb_tree.proofs.Changes.{remove_fault_is}
 use Rattle.smb_tree.proofs.Removals.{space_without}

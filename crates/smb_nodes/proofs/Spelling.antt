@@ -3,7 +3,8 @@ use Rattle.std.proofs.Common.{◌≡◌, ℕ, zero, suc, ◌-◌, ◌==◌, true
 use Rattle.std.specs.Option.{option_map_or}
 use Rattle.smb_tree.specs.Entries.{Entry}
 use Rattle.smb_tree.specs.Content.{Path, Row, entry_at}
-use Rattle.smb_tree.specs.WholeNames.{spelling_at, spellings_from, whole_name}
+use Rattle.smb_tree.specs.WholeNames.{spellings_from}
+use Rattle.smb_tree.specs.Parts.{spelling_at, whole_name}
 use Rattle.smb_wire.specs.Paths.{joined_by_separators}
 use Rattle.smb_nodes.specs.Nodes.{TreeNode, Heap, entry_in, up_in, path_to, entry_on, levels, row_in, rows_in, IsTree}
 use Rattle.smb_nodes.specs.Spellings.{spelled_behind, spellings_up}

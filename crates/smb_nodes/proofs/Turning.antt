@@ -1,28 +1,28 @@
 -- Children that come next behind a name are those that are looked up at once.
-use Rattle.std.proofs.Common.{◌≡◌, ℕ, zero, suc, ◌+◌, ◌-◌, Bool, true, false, ◌||◌, ◌==◌, if◌then◌else◌, List, [], ◌∷◌, ◌++◌, length, map, Option, None, Some, is_some, ◌⊎◌, inl, inr, refl, sym, ap, ◌∙◌, arith, subst, append-nil, zero-add}
-use Rattle.std.specs.Option.{option_map, option_and_then}
+use Rattle.std.proofs.Common.{◌≡◌, ℕ, suc, ◌+◌, ◌-◌, true, false, ◌||◌, ◌==◌, if◌then◌else◌, List, [], ◌∷◌, ◌++◌, length, map, Option, None, Some, is_some, inl, inr, refl, sym, ap, ◌∙◌, arith, subst, append-nil}
+use Rattle.std.specs.Option.{option_and_then}
 use Rattle.std.specs.Ordering.{nat_cmp}
 use Rattle.std.specs.Cmp.Lexicographic.{slice_cmp}
 use Rattle.std.specs.BTreeMap as tree
 use Rattle.std.specs.BTreeMap.{BTreeMap}
 use Rattle.smb_tree.specs.Entries.{last_part}
 use Rattle.smb_tree.specs.Content.{Row, numbered}
-use Rattle.smb_tree.specs.Children.{name_of, is_after, next_child, child_after}
-use Rattle.smb_tree.specs.ChildLaws.{and_on, in_turn, children_at_once}
+use Rattle.smb_tree.specs.Children.{name_of}
+use Rattle.smb_tree.specs.ChildLaws.{in_turn, children_at_once}
 use Rattle.smb_tree.specs.declared.tree.TheConstants.{CHILDREN_AT_ONCE}
 use Rattle.std.proofs.lemmas.List.{length-map}
 use Rattle.smb_tree.proofs.Lasts.{last_of}
 use Rattle.smb_tree.proofs.ChildLists.{number_of, no_further, one_further}
 use Rattle.smb_nodes.specs.declared.tree.NodeTree.TheInside.{Inside}
-use Rattle.smb_nodes.specs.Nodes.{TreeNode, Heap, Numbers, AreDistinct, has_slot, name_in, entry_in, child_in, levels, row_in, rows_in, slot_of, entry_of_slot, IsTree}
+use Rattle.smb_nodes.specs.Nodes.{Heap, Numbers, AreDistinct, has_slot, child_in, levels, row_in, slot_of, entry_of_slot}
 use Rattle.smb_nodes.specs.Changes.{IsNext}
 use Rattle.smb_nodes.specs.Seen.{heap_of}
 use Rattle.smb_nodes.specs.Tree.{content_kept, KeepsTree}
 use Rattle.smb_nodes.specs.Nexts.{IsNextEntry, AreNext, NoneAfter, NextNumbers}
-use Rattle.smb_nodes.proofs.Kept.{no_row, live_is, row_is}
+use Rattle.smb_nodes.proofs.Kept.{live_is}
 use Rattle.smb_nodes.proofs.Following.{no_folder, child_next, no_child_next}
 use Rattle.smb_nodes.proofs.Childing.{child_row}
-use Rattle.smb_nodes.proofs.Numbered.{found, number_kept, numbered_is}
+use Rattle.smb_nodes.proofs.Numbered.{found, number_kept}
 use Rattle.smb_nodes.proofs.Growing.{eqb-eq}
 use Rattle.smb_nodes.proofs.Walks.{live-name}
 

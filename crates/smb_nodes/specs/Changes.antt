@@ -5,7 +5,8 @@ use Rattle.std.specs.Option.{option_map}
 use Rattle.smb_tree.specs.Entries.{Entry}
 use Rattle.smb_tree.specs.Content.{Path}
 use Rattle.smb_tree.specs.Moves.{is_within}
-use Rattle.smb_tree.specs.Children.{is_after, is_before}
+use Rattle.smb_tree.specs.Children.{is_before}
+use Rattle.smb_tree.specs.Parts.{is_after}
 use Rattle.smb_nodes.specs.Nodes.{TreeNode, Heap, entry_in, name_in, up_in, child_in, name_of_slot, path_to, is_same_component}
 
 -- f is g with one more node, new, beneath `up`, as the four reads of a node see it

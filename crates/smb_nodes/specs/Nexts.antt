@@ -7,7 +7,8 @@ use Rattle.std.specs.BTreeMap as tree
 use Rattle.std.specs.BTreeMap.{BTreeMap}
 use Rattle.std.specs.declared.ops.Bound.{Bound}
 use Rattle.std.specs.declared.ops.Bound.TheVariants.{Excluded, Unbounded}
-use Rattle.smb_tree.specs.Children.{is_before, is_after}
+use Rattle.smb_tree.specs.Children.{is_before}
+use Rattle.smb_tree.specs.Parts.{is_after}
 use Rattle.smb_tree.specs.declared.tree.TheConstants.{CHILDREN_AT_ONCE}
 use Rattle.smb_nodes.specs.Nodes.{Heap, entry_of_slot}
 

@@ -6,7 +6,7 @@ ghost use Rattle.smb_wire.specs.Names.{folded};
 ghost use Rattle.smb_wire.specs.Paths.{folded_path};
 ghost use Rattle.smb_wire.specs.PathViews.{parts_of};
 ghost use Rattle.smb_tree.specs.Entries.{is_folder};
-ghost use Rattle.smb_tree.specs.Faults.{add_fault_by};
+ghost use Rattle.smb_tree.specs.Parts.{add_fault_by};
 ghost use Rattle.smb_nodes.specs.Changes.{Grown};
 ghost use Rattle.smb_nodes.specs.Nodes.{child_in, entry_down, Under};
 ghost use Rattle.smb_nodes.specs.Seen.{heap_of, entry_seen, SameHeap};

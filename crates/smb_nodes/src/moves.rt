@@ -6,7 +6,7 @@ ghost use Rattle.smb_wire.specs.Paths.{folded_path};
 ghost use Rattle.smb_wire.specs.PathViews.{parts_of};
 ghost use Rattle.smb_tree.specs.Content.{parent};
 ghost use Rattle.smb_tree.specs.Entries.{is_folder};
-ghost use Rattle.smb_tree.specs.Faults.{is_other_folder, move_fault_between};
+ghost use Rattle.smb_tree.specs.Parts.{is_other_folder, move_fault_between};
 ghost use Rattle.smb_nodes.specs.Nodes.{IsTree, entry_in, entry_on, levels, row_in, rows_in, walk};
 ghost use Rattle.smb_nodes.specs.Seen.{heap_of};
 ghost use Rattle.smb_nodes.specs.Ways.{NoneBelow, is_within_slot};

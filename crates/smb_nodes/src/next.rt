@@ -5,7 +5,7 @@ ghost use Rattle.std.specs.Option.{option_copied};
 ghost use Rattle.std.specs.Ordering.{nat_cmp};
 ghost use Rattle.std.specs.Cmp.Lexicographic.{slice_cmp};
 ghost use Rattle.std.specs.BTreeMap.Range.{IsFromStart};
-ghost use Rattle.smb_tree.specs.Children.{is_after};
+ghost use Rattle.smb_tree.specs.Parts.{is_after};
 ghost use Rattle.smb_nodes.specs.Changes.{IsNext};
 ghost use Rattle.smb_nodes.specs.Nexts.{bound_of, NextNumbers};
 ghost use Rattle.smb_nodes.specs.Nodes.{child_in};

@@ -4,7 +4,8 @@ use Rattle.std.proofs.lemmas.Grind.{common_steps}
 use Rattle.std.proofs.lemmas.Bool.Decides.{nat_tests}
 use Rattle.std.specs.Prelude.{if◌then◌else◌}
 use Rattle.std.specs.Option.{option_map_or}
-use Rattle.smb_tree.specs.Content.{Row, Content, numbered, written, bytes_of, bytes_read, part, with_bytes}
+use Rattle.smb_tree.specs.Content.{Row, Content, numbered, written, bytes_of}
+use Rattle.smb_tree.specs.Parts.{bytes_read, part, with_bytes}
 use Rattle.smb_tree.proofs.AfterWrites.{other_changed, read_written}
 use Rattle.smb_tree.proofs.Apart.{numbered-changed}
 use Rattle.smb_access.specs.declared.open_row.OpenRow.{OpenRow}

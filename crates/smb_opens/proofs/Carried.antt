@@ -6,7 +6,8 @@ use Rattle.std.proofs.lemmas.List.{length-map}
 use Rattle.std.specs.List.{list_all}
 use Rattle.std.specs.Option.{option_map, option_map_or}
 use Rattle.smb_wire.specs.Paths.{folded_path, is_lawful_component}
-use Rattle.smb_tree.specs.Children.{is_child, has_children}
+use Rattle.smb_tree.specs.Children.{is_child}
+use Rattle.smb_tree.specs.Parts.{has_children, moved_row, respelled, without_other, moved_rows}
 use Rattle.smb_tree.specs.Entries.{Entry, is_folder, is_folder_kind, last_part}
 use Rattle.smb_tree.specs.Content.{Path, Row, Content, is_same_path, entry_at, number_at, numbered, parent, without}
 use Rattle.smb_tree.specs.Faults.{move_fault}
@@ -14,7 +15,7 @@ use Rattle.smb_tree.proofs.Lawful.{lawful_moved}
 use Rattle.smb_tree.specs.Good.{GoodContent}
 use Rattle.smb_tree.specs.Laws.{AreApart}
 use Rattle.smb_tree.specs.MoveLaws.{CanMove}
-use Rattle.smb_tree.specs.Moves.{is_within, replaced, respelled, moved_row, without_other, moved_rows, moved}
+use Rattle.smb_tree.specs.Moves.{is_within, replaced, moved}
 use Rattle.smb_tree.proofs.Apart.{numbered-from_at, at-from_numbered}
 use Rattle.smb_tree.proofs.Heads.{within_or_not, within-append, replaced-within, replaced-elsewhere, beneath_not_it, parent_beneath}
 use Rattle.smb_tree.proofs.Keys.{same_path-eq, same_path-sym}

@@ -3,7 +3,8 @@ use Rattle.std.proofs.Common.{◌≡◌, ◌==◌, ℕ, ◌+◌, ◌-◌, List, 
 use Rattle.std.proofs.lemmas.Bool.Decides.{nat_tests}
 use Rattle.std.specs.Option.{option_map, option_map_or}
 use Rattle.smb_tree.specs.Entries.{Entry}
-use Rattle.smb_tree.specs.Content.{Row, Content, numbered, with_mark, without, removed}
+use Rattle.smb_tree.specs.Content.{Row, Content, numbered, without}
+use Rattle.smb_tree.specs.Parts.{with_mark, removed, AreLawful}
 use Rattle.smb_tree.specs.Laws.{AreApart}
 use Rattle.smb_locks.specs.Table.{Table, without_holder}
 use Rattle.smb_locks.proofs.Tables.{good_dropped}
@@ -14,7 +15,7 @@ use Rattle.smb_access.specs.Close.{is_deletable, has_mark}
 use Rattle.smb_access.specs.Parts.{tree_marked, tree_cleared, is_due, ArePresent}
 use Rattle.smb_opens.specs.Close.{closed, is_removed_with}
 use Rattle.smb_opens.specs.Parts.{closed_open, removes_entry, AreMarksDue}
-use Rattle.smb_tree.specs.Good.{GoodContent, AreLawful}
+use Rattle.smb_tree.specs.Good.{GoodContent}
 use Rattle.smb_tree.proofs.Lawful.{lawful_changed, lawful_without}
 use Rattle.smb_opens.specs.Good.{GoodStore, IsKept, IsMasked}
 use Rattle.smb_access.specs.Numbers.{AreRising}

@@ -11,7 +11,8 @@ use Rattle.smb_tree.specs.declared.fault.TreeFault.{TreeFault}
 use Rattle.smb_tree.specs.declared.fault.TreeFault.TheVariants.{ParentAbsent, Exists, TooDeep}
 use Rattle.smb_tree.specs.Entries.{Entry, is_folder, is_folder_kind}
 use Rattle.smb_tree.specs.Content.{Path, Row, Content, is_same_path, entry_at, number_at, numbered, parent}
-use Rattle.smb_tree.specs.Faults.{is_other_folder, would_be_too_deep, move_fault, move_fault_of}
+use Rattle.smb_tree.specs.Faults.{move_fault}
+use Rattle.smb_tree.specs.Parts.{is_other_folder, would_be_too_deep, move_fault_of}
 use Rattle.smb_tree.specs.Good.{GoodContent}
 use Rattle.smb_tree.specs.Laws.{AreApart}
 use Rattle.smb_tree.specs.Moves.{is_within, replaced}

@@ -9,7 +9,7 @@ use Rattle.smb_opens.specs.Parts.{closed_each}
 use Rattle.smb_opens.specs.Good.{GoodStore}
 use Rattle.smb_access.specs.Opens.{open_of, first_held_by}
 use Rattle.smb_opens.specs.State.{StoreState}
-use Rattle.smb_access.specs.Parts.{view_at, view_through}
+use Rattle.smb_access.specs.Parts.{view_at}
 use Rattle.smb_opens.proofs.Closing.{opens_closed}
 use Rattle.smb_access.proofs.Rows.{found, numbers_held, first_stands, first_closed, none_held}
 

@@ -10,12 +10,12 @@ use Rattle.smb_locks.specs.declared.fault.LockFault.{LockFault}
 use Rattle.smb_locks.specs.declared.fault.LockFault.TheVariants.{BadFlags, BadRange, Full, NotGranted, NotLocked, NoMemory as NoLockMemory}
 use Rattle.smb_locks.specs.declared.fault.UnlockError.{UnlockError}
 use Rattle.smb_locks.specs.declared.lock.Lock.{Lock}
-use Rattle.smb_locks.specs.Asks.{are_unlocks, range_asked}
+use Rattle.smb_locks.specs.Parts.{are_unlocks, range_asked, is_lock_over, without_oldest, unlock_error_at, unlock_error_from}
 use Rattle.smb_locks.specs.Locking.{lock_all_fault}
 use Rattle.smb_locks.specs.Ranges.{is_past_the_end}
 use Rattle.smb_locks.specs.Table.{Table, locks_on, locked}
-use Rattle.smb_locks.specs.Unlocking.{is_lock_over, without_oldest, unlock_error_from, unlock_all_error}
-use Rattle.smb_locks.specs.Parts.{unlock_error_at}
+use Rattle.smb_locks.specs.Unlocking.{unlock_all_error}
+use Rattle.smb_locks.proofs.Unlocked.{error_is}
 use Rattle.smb_access.specs.declared.fault.StoreFault.{StoreFault}
 use Rattle.smb_access.specs.declared.view.View.{View}
 use Rattle.smb_access.specs.Faults.{IsRefusal}
@@ -79,4 +79,4 @@ status_of_all holder locks asks true = status_from 0 holder locks asks
 status_of_all holder locks asks false = refl
 
 pub has_status : (locks : List Lock) (holder : ℕ) (asks : List LockAsk) (error : UnlockError) → unlock_all_error locks holder asks ≡ Some error → is_some (lock_fault_status error.fault) ≡ true
-has_status locks holder asks error e = subst HasStatus e (status_of_all holder locks asks (are_unlocks asks))
+has_status locks holder asks error e = subst HasStatus (sym (error_is locks holder asks) ∙ e) (status_of_all holder locks asks (are_unlocks asks))

@@ -12,7 +12,8 @@ use Rattle.smb_tree.specs.declared.entry.Kind.TheVariants.{File}
 use Rattle.smb_tree.specs.Entries.{Entry, new_entry}
 use Rattle.smb_tree.specs.Content.{Path, Row, Content, entry_at, number_at, numbered, parent, changed, added, next_number}
 use Rattle.smb_tree.specs.Faults.{add_fault}
-use Rattle.smb_tree.specs.Laws.{AreApart, AreBelow}
+use Rattle.smb_tree.specs.Laws.{AreApart}
+use Rattle.smb_tree.specs.Parts.{AreBelow, AreLawful}
 use Rattle.smb_locks.specs.Table.{Table}
 use Rattle.smb_tree.proofs.Apart.{numbered-from_at, numbered-changed, numbered-fresh}
 use Rattle.smb_access.specs.declared.open_row.OpenRow.{OpenRow}
@@ -28,7 +29,7 @@ use Rattle.smb_access.specs.Effect.{overwritten, entry_after}
 use Rattle.smb_access.specs.Parts.{overwritten_tree, standing_tree, opened_by, action_on, is_marked, ArePresent, use_of, has_conflict, view_at, share_asked}
 use Rattle.smb_opens.specs.Parts.{create_result_by, created_by, has_all_opens, AreMarksDue}
 use Rattle.smb_access.specs.Looked.{target_of, is_read_only_target, target_conflicts}
-use Rattle.smb_tree.specs.Good.{GoodContent, AreLawful}
+use Rattle.smb_tree.specs.Good.{GoodContent}
 use Rattle.smb_tree.proofs.Lawful.{lawful_changed, lawful_push, lawful_new, keeps_kept, kept_twice}
 use Rattle.smb_opens.specs.Good.{GoodStore, IsKept, IsMasked}
 use Rattle.smb_access.specs.Opens.{without_open, AreAllBelow}

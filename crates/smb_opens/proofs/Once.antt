@@ -4,8 +4,8 @@ use Rattle.std.proofs.lemmas.Bool.Decides.{nat_tests}
 use Rattle.std.specs.Option.{option_map}
 use Rattle.smb_tree.specs.Entries.{Entry}
 use Rattle.smb_tree.specs.Content.{Path, Row, numbered, changed, without}
-use Rattle.smb_tree.specs.Laws.{AreApart, AreBelow}
-use Rattle.smb_tree.specs.Moves.{moved_row, renamed}
+use Rattle.smb_tree.specs.Laws.{AreApart}
+use Rattle.smb_tree.specs.Parts.{AreBelow, renamed, moved_row}
 use Rattle.smb_tree.proofs.Apart.{numbered-changed, numbered-push}
 use Rattle.smb_tree.proofs.Renamed.{numbered-renamed, same_number}
 

@@ -6,9 +6,9 @@ use Rattle.smb_wire.specs.Dispositions.{overwrites_by}
 use Rattle.smb_wire.specs.Paths.{path_spelled, folded_path}
 use Rattle.smb_tree.specs.declared.entry.Kind.{Kind}
 use Rattle.smb_tree.specs.Entries.{Entry, new_entry, is_folder_kind, last_part}
-use Rattle.smb_tree.specs.Moves.{moved_row, renamed, without_other, moved_rows, moved}
-use Rattle.smb_tree.specs.Content.{Path, Row, Content, is_same_path, entry_at, numbered, changed, without, removed, added, with_mark, bytes_of, bytes_read, part}
-use Rattle.smb_tree.specs.Laws.{AreBelow}
+use Rattle.smb_tree.specs.Moves.{moved}
+use Rattle.smb_tree.specs.Parts.{moved_row, renamed, without_other, moved_rows, removed, with_mark, part, AreBelow, bytes_read}
+use Rattle.smb_tree.specs.Content.{Path, Row, Content, is_same_path, entry_at, numbered, changed, without, added, bytes_of, changed_in}
 use Rattle.smb_tree.proofs.Apart.{numbered-changed, numbered-push}
 use Rattle.smb_tree.proofs.Renamed.{numbered-renamed, below-renamed}
 use Rattle.smb_locks.specs.Table.{Table, locked, unlocked}

@@ -12,7 +12,8 @@ use Rattle.smb_wire.specs.declared.access.Access.{Access}
 use Rattle.smb_wire.specs.declared.nt_status.NtStatus.{NtStatus}
 use Rattle.smb_wire.specs.declared.nt_status.NtStatus.TheVariants.{Success, InvalidParameter, InvalidDeviceRequest, AccessDenied, ObjectNameInvalid, FileClosed}
 use Rattle.smb_tree.specs.Entries.{Entry, is_folder_kind}
-use Rattle.smb_tree.specs.Content.{Row, Content, numbered, changed, without, removed, with_mark}
+use Rattle.smb_tree.specs.Content.{Row, Content, numbered, changed, without}
+use Rattle.smb_tree.specs.Parts.{removed, with_mark}
 use Rattle.smb_tree.proofs.AfterWrites.{other_changed}
 use Rattle.smb_locks.specs.Table.{Table, locked, unlocked}
 use Rattle.smb_access.specs.declared.open_row.OpenRow.{OpenRow}

@@ -7,7 +7,8 @@ use Rattle.smb_wire.specs.Paths.{path_spelled, folded_path}
 use Rattle.smb_tree.specs.declared.entry.Kind.{Kind}
 use Rattle.smb_tree.specs.Entries.{Entry, last_part}
 use Rattle.smb_tree.specs.Content.{Path, Row, Content, is_same_path, entry_at, number_at, numbered, without}
-use Rattle.smb_tree.specs.Moves.{moved_row, without_other, moved_rows, moved}
+use Rattle.smb_tree.specs.Moves.{moved}
+use Rattle.smb_tree.specs.Parts.{moved_row, without_other, moved_rows}
 use Rattle.smb_tree.proofs.Apart.{numbered-changed}
 use Rattle.smb_tree.proofs.Renamed.{numbered-renamed}
 use Rattle.smb_access.specs.declared.open_row.OpenRow.{OpenRow}

@@ -6,7 +6,7 @@ use Rattle.std.proofs.lemmas.List.{take_all, drop_at, drop_all, places, same_lis
 use Rattle.std.specs.List.{AllByRecursion, list_any}
 use Rattle.std.specs.Option.{option_map, option_map_or}
 use Rattle.smb_wire.specs.declared.nt_status.NtStatus.TheVariants.{Success, DeletePending}
-use Rattle.smb_tree.specs.Content.{Path, Row, numbered, changed, resized}
+use Rattle.smb_tree.specs.Content.{Path, Row, numbered, changed, resized, changed_in}
 use Rattle.smb_tree.specs.Entries.{Entry}
 use Rattle.smb_tree.proofs.AfterWrites.{other_changed}
 use Rattle.smb_tree.proofs.Apart.{numbered-changed}

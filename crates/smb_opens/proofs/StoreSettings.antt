@@ -5,8 +5,8 @@ use Rattle.std.proofs.lemmas.Bool.Decides.{nat_tests}
 use Rattle.std.specs.Option.{option_map, option_map_or}
 use Rattle.std.specs.Prelude.{Result, Ok, Err, OnOk, OnErr}
 use Rattle.smb_wire.specs.declared.nt_status.NtStatus.TheVariants.{Success, AccessDenied, CannotDelete, DirectoryNotEmpty, FileClosed}
-use Rattle.smb_tree.specs.Children.{has_children}
-use Rattle.smb_tree.specs.Content.{Row, Content, numbered, changed, resized, used_space, with_size, with_mark}
+use Rattle.smb_tree.specs.Parts.{has_children, with_size, with_mark}
+use Rattle.smb_tree.specs.Content.{Row, Content, numbered, changed, resized, used_space, changed_in}
 use Rattle.smb_tree.specs.Entries.{Entry, is_folder_kind}
 use Rattle.smb_tree.proofs.Apart.{numbered-changed, number-from_numbered}
 use Rattle.smb_tree.proofs.Parts.{length-resized}

@@ -8,7 +8,8 @@ use Rattle.smb_wire.specs.declared.nt_status.NtStatus.{NtStatus}
 use Rattle.smb_wire.specs.declared.nt_status.NtStatus.TheVariants.{Success, DiskFull}
 use Rattle.smb_tree.specs.declared.fault.TreeFault.{TreeFault}
 use Rattle.smb_tree.specs.Entries.{Entry, is_folder_kind}
-use Rattle.smb_tree.specs.Content.{Row, Content, numbered, changed, bytes_read}
+use Rattle.smb_tree.specs.Content.{Row, Content, numbered, changed}
+use Rattle.smb_tree.specs.Parts.{bytes_read}
 use Rattle.smb_tree.specs.Faults.{size_fault, write_fault}
 use Rattle.smb_tree.proofs.Changes.{bytes_found}
 use Rattle.smb_locks.specs.Table.{Table}

@@ -1,8 +1,8 @@
 -- READ and WRITE of a file through an open of a store ([MS-SMB2] 3.3.5.12, 3.3.5.13). The rows are those of docs/PROFILE.md.
-use Rattle.std.specs.Prelude.{ℕ, ◌==◌, List, [], length, if◌then◌else◌, ◌||◌, ◌&&◌, not, nat_lt, ◌∷◌, ◌-◌, nat_le, ◌+◌, min}
+use Rattle.std.specs.Prelude.{ℕ, ◌==◌, List, [], length, take, drop, if◌then◌else◌, ◌||◌, ◌&&◌, not, nat_lt, ◌∷◌, ◌-◌, nat_le, ◌+◌, min}
 use Rattle.std.specs.Option.{option_map_or}
 use Rattle.smb_wire.specs.declared.nt_status.NtStatus.{NtStatus}
-use Rattle.smb_tree.specs.Content.{bytes_read, used_space, with_bytes, written, changed}
+use Rattle.smb_tree.specs.Content.{used_space, written, changed, bytes_of, changed_in}
 use Rattle.smb_access.specs.declared.open_row.OpenRow.{OpenRow}
 use Rattle.smb_access.specs.Opens.{open_of}
 use Rattle.smb_opens.specs.State.{StoreState}
@@ -40,15 +40,17 @@ read_status state most number offset count minimum = status_through state number
 -- the bytes that it reads: those of the file from the offset on, at most so many
 abbrev pub file_bytes : StoreState → ℕ → ℕ → ℕ → List ℕ
 file_bytes state number offset count =
-    option_map_or (λ (row : OpenRow). bytes_read state.tree.rows row.entry offset count) (open_of state.opens number) []
+    option_map_or (λ (row : OpenRow). take count (drop offset (bytes_of state.tree.rows row.entry)))
+    (open_of state.opens number) []
 
 -- the bytes of a part of a file
 abbrev pub part_bytes : StoreState → FilePart → List ℕ
-part_bytes state part = bytes_read state.tree.rows part.entry part.offset part.count
+part_bytes state part = take part.count (drop part.offset (bytes_of state.tree.rows part.entry))
 
 -- the status of a WRITE through the open of a number, by the most bytes that one request may bring
 abbrev pub write_status : StoreState → ℕ → ℕ → ℕ → List ℕ → NtStatus
 write_status state most number offset buffer = status_through state number (λ view.
+    let after = changed_in (λ entry. record entry { bytes = written offset buffer entry.bytes }) state.tree view.entry in
     -- WR1. more is given than one request writes ([MS-SMB2] 3.3.5.13)
     (nat_lt most (length buffer), InvalidParameter)
     -- WR2. the entry is a folder ([MS-FSA] 2.1.5.3)
@@ -68,8 +70,7 @@ write_status state most number offset buffer = status_through state number (λ v
     -- use pass the capacity ([MS-FSA] 2.1.5.3)
     ∷ (
       nat_lt 0 (length buffer)
-          && (nat_lt most_file_bytes (offset + length buffer)
-          || nat_lt state.tree.capacity (used_space (with_bytes state.tree view.entry offset buffer).rows)),
+          && (nat_lt most_file_bytes (offset + length buffer) || nat_lt state.tree.capacity (used_space after.rows)),
       DiskFull,
     )
     ∷ [])

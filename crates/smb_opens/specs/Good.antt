@@ -5,7 +5,7 @@ use Rattle.std.specs.Option.{option_map}
 use Rattle.smb_wire.specs.Limits.{most_opens}
 use Rattle.smb_wire.specs.Access.{FILE_ALL_ACCESS, FILE_SHARE_ALL}
 use Rattle.smb_tree.specs.Content.{Content, numbered}
-use Rattle.smb_tree.specs.Good.{GoodContent, AreLawful}
+use Rattle.smb_tree.specs.Good.{GoodContent, IsLawfulRow}
 use Rattle.smb_locks.specs.declared.lock.Lock.{Lock}
 use Rattle.smb_locks.specs.Good.{GoodLockTable}
 use Rattle.smb_locks.specs.Table.{Table, locks_on}
@@ -24,7 +24,7 @@ pub record IsMasked (row : OpenRow) : Type 0 where
 -- a good tree in which no entry is marked: a store may begin with it
 pub record UnmarkedTree (content : Content) : Type 0 where
   pub good : GoodContent content
-  pub lawful : AreLawful content.rows
+  pub lawful : AllByRecursion IsLawfulRow content.rows
   pub unmarked : (number : ℕ) → has_mark content.rows number ≡ false
 
 -- a good store: its tree is good, and its entries are lawful; its opens are at most 1,024, of entries that exist, in rising
@@ -33,7 +33,7 @@ pub record UnmarkedTree (content : Content) : Type 0 where
 -- are on a file, and each is held by an open of its file
 pub record GoodStore (state : StoreState) : Type 0 where
   pub tree : GoodContent state.tree
-  pub lawful : AreLawful state.tree.rows
+  pub lawful : AllByRecursion IsLawfulRow state.tree.rows
   pub present : AllByRecursion (λ row. is_some (numbered state.tree.rows row.entry) ≡ true) state.opens
   pub rising : AreRising (open_numbers state.opens)
   pub below : AllByRecursion (λ number. number < state.next) (open_numbers state.opens)

@@ -1,17 +1,19 @@
 -- LOCK of a file through an open of a store ([MS-SMB2] 3.3.5.14).
-use Rattle.std.specs.Prelude.{ℕ, List, [], if◌then◌else◌, ◌++◌}
+use Rattle.std.specs.Prelude.{ℕ, List, [], if◌then◌else◌, ◌++◌, ◌==◌}
 use Rattle.std.specs.Option.{option_map, option_map_or}
+use Rattle.std.specs.List.{list_all}
 use Rattle.smb_wire.specs.declared.nt_status.NtStatus.{NtStatus}
 use Rattle.smb_tree.specs.Entries.{is_folder_kind}
 use Rattle.smb_locks.specs.declared.ask.LockAsk.{LockAsk}
 use Rattle.smb_locks.specs.Locking.{lock_all_fault}
 use Rattle.smb_locks.specs.Table.{locks_on, with_locks}
-use Rattle.smb_locks.specs.Unlocking.{unlock_all_error, left_by}
+use Rattle.smb_locks.specs.Unlocking.{unlock_all_error, all_unlocked}
 use Rattle.smb_access.specs.declared.view.View.{View}
 use Rattle.smb_opens.specs.State.{StoreState}
 use Rattle.smb_opens.specs.Views.{open_view}
 use Rattle.smb_entry.specs.Locks.{lock_status_by}
-use Rattle.smb_locks.specs.Asks.{locks_asked, are_unlocks}
+use Rattle.smb_locks.specs.Asks.{locks_asked}
+use Rattle.smb_wire.specs.LockFlags.{UNLOCK}
 
 -- the status of a LOCK that locks, through the open of a number: the first of its elements that is refused beside those
 -- before it, and their flags before all (3.3.5.14.2)
@@ -44,8 +46,8 @@ abbrev pub unlocked_through : StoreState → ℕ → List LockAsk → StoreState
 unlocked_through state number asks = option_map_or
     (λ (view : View). if is_folder_kind view.kind then state else record state {
       locks =
-          if are_unlocks asks
-          then with_locks state.locks view.entry (left_by number (locks_on state.locks view.entry) asks)
+          if list_all (λ ask. ask.flags.0 == UNLOCK) asks
+          then with_locks state.locks view.entry (all_unlocked 0 number (locks_on state.locks view.entry) asks).0
           else state.locks;
     })
     (open_view state number) state

@@ -1,5 +1,5 @@
 -- A rename of a store's entry ([MS-SMB2] 3.3.5.21.1, [MS-FSA] 2.1.5.15.11). The rows are those of docs/PROFILE.md.
-use Rattle.std.specs.Prelude.{ℕ, Bool, List, ◌||◌, ◌&&◌, false, not, [], ◌∷◌, slice_index, Some, is_some, ◌==◌, length}
+use Rattle.std.specs.Prelude.{ℕ, Bool, List, ◌||◌, ◌&&◌, false, not, [], ◌∷◌, slice_index, Some, is_some, ◌==◌, length, nat_lt}
 use Rattle.std.specs.Option.{option_map_or}
 use Rattle.smb_wire.specs.declared.nt_status.NtStatus.{NtStatus}
 use Rattle.smb_wire.specs.Paths.{path_spelled, is_separator, path_fault, folded_path}
@@ -10,11 +10,11 @@ use Rattle.smb_opens.specs.Views.{status_through}
 use Rattle.smb_wire.specs.declared.nt_status.NtStatus.TheVariants.{InvalidParameter, ObjectNameInvalid, AccessDenied, ObjectPathNotFound, DeletePending, ObjectNameCollision, Success}
 use Rattle.smb_access.specs.Access.{is_deleting}
 use Rattle.smb_access.specs.Found.{is_read_only_file, is_pending, is_reached}
-use Rattle.smb_tree.specs.Content.{Path, entry_at, is_same_path, numbered, changed}
+use Rattle.smb_tree.specs.Content.{Path, entry_at, is_same_path, numbered, changed, Row, changed_in}
 use Rattle.std.specs.List.{list_any}
 use Rattle.smb_tree.specs.Entries.{is_folder_kind, kept_basic}
-use Rattle.smb_tree.specs.Faults.{would_be_too_deep}
-use Rattle.smb_tree.specs.Moves.{moved, is_within}
+use Rattle.smb_tree.specs.Moves.{moved, is_within, replaced}
+use Rattle.smb_wire.specs.Limits.{most_components}
 
 -- the status of a SET_INFO that renames the entry of an open to what a name spells; with the flag (ReplaceIfExists) an
 -- entry that exists at the new path may be replaced
@@ -57,7 +57,10 @@ rename_status state number name replace = status_through state number (λ view.
       AccessDenied,
     )
     -- N12. a path would have more than 32 components ([MS-FSCC] 2.1.5)
-    ∷ (would_be_too_deep rows from to, ObjectNameInvalid)
+    ∷ (
+      list_any (λ (row : Row). is_within from row.0 && nat_lt most_components (length (replaced from to row.0))) rows,
+      ObjectNameInvalid,
+    )
     ∷ [])
 
 -- the store afterwards: the entry is moved, with all that lies beneath it, to the path that the name spells, where a file

@@ -1,6 +1,7 @@
 -- SET_INFO of a file or a folder through an open of a store ([MS-SMB2] 3.3.5.21.1, [MS-FSA] 2.1.5.15). The rows are those
 -- of docs/PROFILE.md, each status by the first that holds.
 use Rattle.std.specs.Prelude.{ℕ, Bool, ◌||◌, ◌&&◌, false, not, nat_lt, [], ◌∷◌, nat_le, if◌then◌else◌, ◌==◌, length}
+use Rattle.std.specs.List.{list_any}
 use Rattle.std.specs.Option.{option_map_or}
 use Rattle.smb_wire.specs.declared.nt_status.NtStatus.{NtStatus}
 use Rattle.smb_tree.specs.Entries.{Entry, is_folder_kind, kept_basic}
@@ -10,12 +11,13 @@ use Rattle.smb_access.specs.Opens.{open_of}
 use Rattle.smb_opens.specs.State.{StoreState}
 use Rattle.smb_opens.specs.Views.{status_through}
 use Rattle.smb_entry.specs.SetInfo.{is_bad_time, time_set}
+use Rattle.smb_tree.specs.Content.{changed_in, used_space, resized, numbered}
 use Rattle.smb_wire.specs.declared.nt_status.NtStatus.TheVariants.{InvalidParameter, AccessDenied, CannotDelete, DiskFull, DirectoryNotEmpty}
 use Rattle.smb_access.specs.Access.{is_deleting}
-use Rattle.smb_tree.specs.Children.{has_children}
+use Rattle.smb_tree.specs.Children.{is_child}
 use Rattle.smb_wire.specs.Limits.{most_file_bytes}
 use Rattle.smb_wire.specs.Access.{has_any, FILE_WRITE_DATA, FILE_WRITE_ATTRIBUTES}
-use Rattle.smb_tree.specs.Content.{used_space, with_size, resized, numbered, changed}
+use Rattle.smb_tree.specs.Content.{changed}
 use Rattle.smb_wire.specs.Attributes.{FILE_ATTRIBUTE_READONLY, FILE_ATTRIBUTE_DIRECTORY}
 
 -- the store with the entry of an open changed, by the number of the open; without such an open it is as it was
@@ -40,7 +42,7 @@ delete_status state number is_deleted = status_through state number (λ view.
     )
     -- it is a folder in which entries are ([MS-FSA] 2.1.5.15.3)
     ∷ (
-      option_map_or (λ row. has_children state.tree.rows row.0) (numbered state.tree.rows view.entry) false,
+      option_map_or (λ row. list_any (is_child row.0) state.tree.rows) (numbered state.tree.rows view.entry) false,
       DirectoryNotEmpty,
     )
     ∷ []
@@ -55,17 +57,14 @@ delete_set_through state number is_deleted = changed_through (λ entry. record e
 -- the status of a SET_INFO that sets the size of a file through the open of a number, or its allocation size
 abbrev pub size_status : StoreState → ℕ → ℕ → NtStatus
 size_status state number size = status_through state number (λ view.
+    let after = changed_in (λ entry. record entry { bytes = resized size entry.bytes }) state.tree view.entry in
     -- the entry is a folder ([MS-FSA] 2.1.5.15.1, 2.1.5.15.4)
     (is_folder_kind view.kind, InvalidParameter)
     -- the open was not granted FILE_WRITE_DATA ([MS-FSA] 2.1.5.15.1, 2.1.5.15.4)
     ∷ (not (has_any view.access.0 FILE_WRITE_DATA), AccessDenied)
     -- there is no room: the size is over 16,777,216 bytes, or the space that files use would pass the capacity
     -- ([MS-FSA] 2.1.5.15.1, 2.1.5.15.4)
-    ∷ (
-      nat_lt most_file_bytes size
-          || nat_lt state.tree.capacity (used_space (with_size state.tree view.entry size).rows),
-      DiskFull,
-    )
+    ∷ (nat_lt most_file_bytes size || nat_lt state.tree.capacity (used_space after.rows), DiskFull)
     ∷ [])
 
 -- the store afterwards: the bytes are cut, or have zeros behind them, and the times of the last write and change are the

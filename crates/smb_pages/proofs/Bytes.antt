@@ -4,7 +4,8 @@ use Rattle.std.specs.List.{range_with_len}
 use Rattle.std.proofs.lemmas.Bool.{cases_lt}
 use Rattle.std.proofs.lemmas.List.{length-take, length-drop, length-replicate, get_or-replicate, get_or_append_left, get_or-append_right, get_or-take, get_or-drop, get_or_past, ext_get_or}
 use Rattle.std.proofs.lemmas.List.FromFn.{length-map-range_with_len, get_or-map-range_with_len}
-use Rattle.smb_tree.specs.Content.{part, resized, written}
+use Rattle.smb_tree.specs.Content.{resized, written}
+use Rattle.smb_tree.specs.Parts.{part}
 use Rattle.smb_tree.proofs.Parts.{length-resized}
 
 zeros : (n i z : ℕ) → z ≡ 0 → get_or (replicate n z) i 0 ≡ 0

@@ -1,7 +1,7 @@
 //! The bytes of one file.
 
-ghost use Rattle.std.specs.Prelude.{◌≡◌, ◌+◌, ◌^◌, ◌<◌, ◌++◌, [], OnOk, OnErr, length, vec_len, vec_capacity};
-ghost use Rattle.smb_tree.specs.Content.{part, resized, written};
+ghost use Rattle.std.specs.Prelude.{◌≡◌, ◌+◌, ◌^◌, ◌<◌, ◌++◌, [], OnOk, OnErr, length, take, drop, vec_len, vec_capacity};
+ghost use Rattle.smb_tree.specs.Content.{resized, written};
 
 use super::page::PAGE_BYTES;
 use super::table::{add, cut, make_room, put};
@@ -57,9 +57,9 @@ impl Pages {
     /// It takes memory once, for the bytes that it adds and no more. A read of n bytes then finds some n / 4,096 pages,
     /// and copies each byte once: a page in one block, and in one block of zeros what was never written of it.
     pub fn add_part(&self, offset: u64, count: u64, behind: &mut Vec<u8>) -> Result<(), AllocError>
-        ensures ok { OnOk result (behind.new.items ≡ behind.old.items ++ part offset count self.now) }
+        ensures ok { OnOk result (behind.new.items ≡ behind.old.items ++ take count (drop offset self.now)) }
         ensures err { OnErr result (behind.new.items ≡ behind.old.items) }
-        ensures full { OnErr result (vec_capacity behind.old < vec_len behind.old + length (part offset count self.now)) }
+        ensures full { OnErr result (vec_capacity behind.old < vec_len behind.old + length (take count (drop offset self.now))) }
     {
         let begin = offset.min(self.size);
         let taken = count.min(self.size - begin) as usize;

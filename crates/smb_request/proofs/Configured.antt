@@ -3,7 +3,8 @@ use Rattle.std.proofs.Common.{◌≡◌, ◌==◌, ◌&&◌, ℕ, true, false, f
 use Rattle.std.specs.Option.{option_map_or}
 use Rattle.smb_wire.specs.Dispositions.{overwrites_by}
 use Rattle.smb_tree.specs.Entries.{Entry, is_folder_kind}
-use Rattle.smb_tree.specs.Content.{Content, with_mark, removed}
+use Rattle.smb_tree.specs.Content.{Content}
+use Rattle.smb_tree.specs.Parts.{with_mark, removed}
 use Rattle.smb_locks.specs.Table.{Table}
 use Rattle.smb_access.specs.declared.open_row.OpenRow.{OpenRow}
 use Rattle.smb_access.specs.declared.open_row.Owner.{Owner}

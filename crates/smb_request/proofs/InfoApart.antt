@@ -8,7 +8,7 @@ use Rattle.smb_body.specs.Replies.{answers_set_info}
 use Rattle.smb_body.specs.SetInfo.{SetInfoAsked}
 use Rattle.smb_info.specs.declared.set_info.SetInformationClass.{SetInformationClass}
 use Rattle.smb_info.specs.SetInformation.{SetAsked, asks_basic, asks_rename, asks_mark, asks_allocation, asks_end, set_class, set_length, is_readable, asked_of}
-use Rattle.smb_tree.specs.Content.{Content}
+use Rattle.smb_tree.specs.Content.{Content, changed_in}
 use Rattle.smb_access.specs.declared.open_row.OpenRow.{OpenRow}
 use Rattle.smb_access.specs.Opens.{open_of}
 use Rattle.smb_entry.specs.Parts.{renamed_tree, delete_set, size_set, entry_set, changed_in}

@@ -50,7 +50,7 @@ use Rattle.smb_tree.specs.Content.{used_space}
 use Rattle.smb_tree.specs.WholeNames.{entry_copied}
 use Rattle.smb_info.specs.declared.written.Truncation.{Truncation}
 use Rattle.smb_info.specs.declared.written.Truncation.TheVariants.{Whole, Cut}
-use Rattle.smb_info.specs.Information.{Information, told}
+use Rattle.smb_info.specs.Information.{Information}
 use Rattle.smb_info.specs.Parts.{fixed_length}
 use Rattle.smb_info.specs.FileInformation.{file_information}
 use Rattle.smb_info.specs.FileSystemInformation.{VolumeFacts}

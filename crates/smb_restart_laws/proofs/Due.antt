@@ -5,7 +5,8 @@ use Rattle.std.proofs.lemmas.Bool.Decides.{nat_tests}
 use Rattle.std.specs.List.{list_any}
 use Rattle.std.specs.Option.{option_map_or}
 use Rattle.smb_tree.specs.Entries.{Entry}
-use Rattle.smb_tree.specs.Content.{Row, Content, numbered, with_mark, removed}
+use Rattle.smb_tree.specs.Content.{Row, Content, numbered}
+use Rattle.smb_tree.specs.Parts.{with_mark, removed}
 use Rattle.smb_tree.specs.Laws.{AreApart}
 use Rattle.smb_tree.proofs.Apart.{numbered-changed}
 use Rattle.smb_access.specs.declared.open_row.OpenRow.{OpenRow}

@@ -9,7 +9,7 @@ use Rattle.smb_wire.specs.declared.nt_status.NtStatus.{NtStatus}
 use Rattle.smb_wire.specs.declared.nt_status.NtStatus.TheVariants.{Success, FileClosed, InvalidParameter, ObjectNameInvalid}
 use Rattle.smb_wire.specs.Paths.{is_separator, path_spelled, folded_path, path_fault}
 use Rattle.smb_tree.specs.Entries.{is_folder_kind}
-use Rattle.smb_tree.specs.Content.{Content}
+use Rattle.smb_tree.specs.Content.{Content, changed_in}
 use Rattle.smb_tree.specs.Faults.{move_fault, write_fault}
 use Rattle.smb_tree.specs.declared.fault.TreeFault.{TreeFault}
 use Rattle.smb_locks.specs.declared.ask.LockAsk.{LockAsk}

@@ -7,9 +7,9 @@ use Rattle.smb_wire.specs.Paths.{components, folded_path, is_lawful_component}
 use Rattle.smb_wire.proofs.Pairing.{units_read, length-unit_bytes}
 use Rattle.smb_tree.specs.declared.entry.Basic.{Basic}
 use Rattle.smb_tree.specs.declared.entry.Kind.{Kind}
-use Rattle.smb_tree.specs.Entries.{Entry, last_part, new_basic, new_entry}
+use Rattle.smb_tree.specs.Entries.{Entry, last_part, new_entry}
+use Rattle.smb_tree.specs.Parts.{new_basic, add_fault_by}
 use Rattle.smb_tree.specs.Content.{Path, Row}
-use Rattle.smb_tree.specs.Faults.{add_fault_by}
 use Rattle.smb_tree.specs.Texts.{SpellPath}
 
 pub parts_read : (items us : List ℕ) (parts : List (List ℕ)) → items ≡ unit_bytes us → AreUnits us → components us ≡ parts → components (units_in items) ≡ parts

@@ -3,7 +3,8 @@ use Rattle.std.proofs.Common.{◌≡◌, ◌≢◌, ℕ, List, [], length, Optio
 use Rattle.std.specs.Option.{option_map_or}
 use Rattle.std.proofs.lemmas.Bool.Decides.{nat_tests}
 use Rattle.smb_tree.specs.Entries.{Entry}
-use Rattle.smb_tree.specs.Content.{Row, Content, numbered, changed, part, bytes_read, written, with_bytes}
+use Rattle.smb_tree.specs.Content.{Row, Content, numbered, changed, written}
+use Rattle.smb_tree.specs.Parts.{bytes_read, part, with_bytes}
 use Rattle.smb_tree.proofs.Apart.{numbered-changed}
 use Rattle.smb_tree.proofs.Parts.{part-written}
 

@@ -3,7 +3,8 @@ use Rattle.std.proofs.Common.{◌≡◌, ℕ, ◌==◌, true, false, if◌then�
 use Rattle.std.specs.Option.{option_map}
 use Rattle.smb_tree.specs.Entries.{Entry}
 use Rattle.smb_tree.specs.Content.{Path, Row, is_same_path, entry_at, numbered, changed}
-use Rattle.smb_tree.specs.Laws.{AreApart, AreBelow}
+use Rattle.smb_tree.specs.Laws.{AreApart}
+use Rattle.smb_tree.specs.Parts.{AreBelow}
 use Rattle.smb_tree.proofs.Keys.{same_path-eq, same_path-itself, same_path-sym}
 
 -- a path leads to its number, and a number to its path

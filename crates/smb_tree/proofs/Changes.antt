@@ -10,8 +10,8 @@ use Rattle.smb_tree.specs.declared.fault.TreeFault.TheVariants.{Absent, NotEmpty
 use Rattle.smb_tree.specs.declared.stored.Stored.{Stored}
 use Rattle.smb_tree.specs.Entries.{allocation_size, kept_basic, is_folder_kind}
 use Rattle.smb_tree.specs.Content.{Row, Content, numbered, changed, resized, written, bytes_of, used_space}
-use Rattle.smb_tree.specs.Children.{has_children}
-use Rattle.smb_tree.specs.Faults.{size_fault, size_fault_of, read_fault_of, write_fault, remove_fault_of}
+use Rattle.smb_tree.specs.Parts.{has_children, size_fault_of, read_fault_of, remove_fault_of}
+use Rattle.smb_tree.specs.Faults.{size_fault, write_fault}
 use Rattle.smb_tree.specs.Plain.{row_of, rows_of, IsPlace}
 use Rattle.smb_tree.proofs.Parts.{length-resized, length-written}
 use Rattle.smb_tree.proofs.Places.{place_found, place_changed, place_without}

@@ -1,5 +1,5 @@
 -- Children that are looked up one after the other, as many as fit in a list.
-use Rattle.std.proofs.Common.{◌≡◌, ℕ, zero, suc, ◌+◌, ◌<◌, ◌≤◌, Bool, true, false, cond, ◌==◌, List, [], ◌∷◌, ◌++◌, length, map, Option, None, Some, IfSome, sym, ap, ◌∙◌, refl, subst, arith, append_assoc, append-nil}
+use Rattle.std.proofs.Common.{◌≡◌, ℕ, zero, suc, ◌+◌, ◌<◌, ◌≤◌, Bool, true, false, cond, ◌==◌, List, [], ◌∷◌, ◌++◌, length, map, Option, None, Some, sym, ap, ◌∙◌, refl, subst, arith, append_assoc, append-nil}
 use Rattle.std.specs.Option.{option_map, option_and_then}
 use Rattle.std.proofs.lemmas.Bool.{eqb-true}
 use Rattle.std.proofs.lemmas.Bool.Decides.{nat_tests}
@@ -7,7 +7,8 @@ use Rattle.std.proofs.lemmas.List.{length_push}
 use Rattle.smb_tree.specs.Content.{Row, numbered}
 use Rattle.smb_tree.specs.Children.{name_of, child_after}
 use Rattle.smb_tree.specs.declared.tree.TheConstants.{CHILDREN_AT_ONCE}
-use Rattle.smb_tree.specs.ChildLaws.{and_on, in_turn, children_at_once}
+use Rattle.smb_tree.specs.ChildLaws.{in_turn, children_at_once}
+use Rattle.smb_tree.specs.Parts.{and_on}
 
 abbrev pub number_of : Row → ℕ
 number_of row = row.1.number

@@ -9,9 +9,10 @@ use Rattle.smb_tree.specs.declared.fault.TreeFault.{TreeFault}
 use Rattle.smb_tree.specs.declared.fault.TreeFault.TheVariants.{Absent, ParentAbsent, Exists, TooDeep}
 use Rattle.smb_tree.specs.Entries.{Entry, is_folder, is_folder_kind, last_part}
 use Rattle.smb_tree.specs.Content.{Path, Row, Content, is_same_path, entry_at, number_at, numbered, parent, without, used_space}
-use Rattle.smb_tree.specs.Laws.{AreApart, AreBelow}
-use Rattle.smb_tree.specs.Faults.{is_other_folder, would_be_too_deep, move_fault, move_fault_of}
-use Rattle.smb_tree.specs.Moves.{is_within, replaced, respelled, moved_row, renamed, without_other, moved_rows, moved}
+use Rattle.smb_tree.specs.Laws.{AreApart}
+use Rattle.smb_tree.specs.Parts.{AreBelow, is_other_folder, would_be_too_deep, move_fault_of, respelled, renamed, without_other, moved_rows, moved_row}
+use Rattle.smb_tree.specs.Faults.{move_fault}
+use Rattle.smb_tree.specs.Moves.{is_within, replaced, moved}
 use Rattle.smb_tree.specs.Good.{GoodContent}
 use Rattle.smb_tree.specs.MoveLaws.{CanMove, AddsNothing}
 use Rattle.smb_tree.proofs.Keys.{same_path-eq, same_path-itself, same_path-of_eq, same_path-sym}

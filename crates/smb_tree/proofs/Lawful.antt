@@ -9,8 +9,9 @@ use Rattle.smb_wire.specs.Paths.{folded_path, is_lawful_unit, is_lawful_componen
 use Rattle.smb_tree.specs.declared.entry.Kind.{Kind}
 use Rattle.smb_tree.specs.Entries.{Entry, kept_attributes, last_part, new_entry}
 use Rattle.smb_tree.specs.Content.{Path, Row, Content, is_same_path, entry_at, numbered, changed, without}
-use Rattle.smb_tree.specs.Moves.{replaced, moved_row, without_other, moved_rows, moved}
-use Rattle.smb_tree.specs.Good.{IsLawfulRow, AreLawful}
+use Rattle.smb_tree.specs.Moves.{replaced, moved}
+use Rattle.smb_tree.specs.Parts.{moved_row, without_other, moved_rows, AreLawful}
+use Rattle.smb_tree.specs.Good.{IsLawfulRow}
 use Rattle.smb_tree.proofs.Heads.{within_or_not, replaced-within, replaced-elsewhere, not_within_not_it, beneath_not_it}
 use Rattle.smb_tree.proofs.Keys.{same_path-itself}
 use Rattle.smb_tree.proofs.Names.{last_folded}

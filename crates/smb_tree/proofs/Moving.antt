@@ -13,11 +13,12 @@ use Rattle.smb_tree.specs.declared.stored.Stored.{Stored}
 use Rattle.smb_tree.specs.declared.stored.NewText.{NewText}
 use Rattle.smb_tree.specs.Content.{Path, Row, Content, is_same_path, entry_at, numbered, parent, used_space}
 use Rattle.smb_tree.specs.Entries.{is_folder, allocation_size, last_part}
-use Rattle.smb_tree.specs.Faults.{is_other_folder, would_be_too_deep, move_fault, move_fault_of, move_fault_between}
-use Rattle.smb_tree.specs.Moves.{is_within, moved_row, renamed, without_other, moved_rows, moved}
+use Rattle.smb_tree.specs.Faults.{move_fault}
+use Rattle.smb_tree.specs.Parts.{is_other_folder, would_be_too_deep, move_fault_of, move_fault_between, renamed, without_other, moved_rows, spelling_at, whole_name, row_copied, moved_row}
+use Rattle.smb_tree.specs.Moves.{is_within, moved}
 use Rattle.smb_tree.specs.NewTexts.{separated, parts_new, parts_moved, with_all_parts}
 use Rattle.smb_tree.specs.Plain.{row_of, rows_of}
-use Rattle.smb_tree.specs.WholeNames.{spelling_at, spellings_from, whole_name, Copied, row_copied}
+use Rattle.smb_tree.specs.WholeNames.{spellings_from, Copied}
 use Rattle.smb_tree.proofs.NewRows.{all_moved, map-remove}
 
 -- the fault of an entry that was found

@@ -11,7 +11,8 @@ use Rattle.smb_wire.specs.Paths.{components, folded_path, is_lawful_component, i
 use Rattle.smb_tree.specs.declared.stored.Stored.{Stored}
 use Rattle.smb_tree.specs.Entries.{last_part}
 use Rattle.smb_tree.specs.Content.{Path, Row, is_same_path, parent}
-use Rattle.smb_tree.specs.Children.{name_of, is_child, has_children, is_after, first_by_name, next_child}
+use Rattle.smb_tree.specs.Children.{name_of, is_child, first_by_name}
+use Rattle.smb_tree.specs.Parts.{has_children, is_after, next_child}
 use Rattle.smb_tree.specs.Plain.{row_of, rows_of, key_of, nearer}
 use Rattle.smb_tree.proofs.Keys.{same_path-name, parent_folded}
 use Rattle.smb_tree.proofs.Lasts.{split-some}

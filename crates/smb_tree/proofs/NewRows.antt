@@ -9,7 +9,8 @@ use Rattle.smb_tree.specs.declared.stored.Stored.{Stored}
 use Rattle.smb_tree.specs.declared.stored.NewText.{NewText}
 use Rattle.smb_tree.specs.Entries.{Entry, last_part}
 use Rattle.smb_tree.specs.Content.{Path, Row, is_same_path}
-use Rattle.smb_tree.specs.Moves.{is_within, replaced, moved_row, renamed}
+use Rattle.smb_tree.specs.Moves.{is_within, replaced}
+use Rattle.smb_tree.specs.Parts.{moved_row, renamed}
 use Rattle.smb_tree.specs.NewTexts.{parts_new, parts_moved, with_parts, with_all_parts}
 use Rattle.smb_tree.specs.Plain.{parts_stored, row_of, rows_of}
 use Rattle.smb_tree.proofs.Keys.{same_path-eq, same_path-of_eq}

@@ -8,7 +8,8 @@ use Rattle.std.specs.Cmp.Lexicographic.{slice_cmp}
 use Rattle.std.specs.FinMap.{slice_cmp-IsAntisymmetric, nat_cmp-IsAntisymmetric}
 use Rattle.std.proofs.lemmas.Cmp.{nat_list_cmp_total, upto, tied_itself}
 use Rattle.smb_tree.specs.Content.{Row}
-use Rattle.smb_tree.specs.Children.{name_of, is_before, first_of_two, first_by_name}
+use Rattle.smb_tree.specs.Children.{name_of, is_before, first_by_name}
+use Rattle.smb_tree.specs.Parts.{first_of_two}
 use Rattle.smb_tree.specs.Plain.{key_of, nearer}
 
 lt_less : (o : Ordering) → is_lt o ≡ true → o ≡ Less

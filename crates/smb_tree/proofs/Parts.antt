@@ -2,7 +2,8 @@
 use Rattle.std.proofs.Common.{◌≡◌, ℕ, ◌+◌, ◌-◌, ◌<◌, ◌≤◌, ◌⊎◌, min, max, List, ◌++◌, length, take, drop, replicate, get_or, refl, sym, ap, ◌∙◌, arith, rules, inl, inr, append_assoc, length-append}
 use Rattle.std.proofs.lemmas.Bool.{cases_lt}
 use Rattle.std.proofs.lemmas.List.{length-take, length-drop, length-replicate, append-nil, take_all, take_at, drop_at, drop_all, take_min, drop_min, get_or_append_left, get_or-append_right, get_or-take, get_or-drop, places, same_lists}
-use Rattle.smb_tree.specs.Content.{resized, part, written}
+use Rattle.smb_tree.specs.Content.{resized, written}
+use Rattle.smb_tree.specs.Parts.{part}
 
 pub length-resized : (size : ℕ) (bytes : List ℕ) → length (resized size bytes) ≡ size
 length-resized size bytes =

@@ -6,8 +6,9 @@ use Rattle.std.proofs.lemmas.List.Sums.{sum_by-cons}
 use Rattle.smb_wire.specs.Paths.{folded_path}
 use Rattle.smb_tree.specs.Entries.{Entry, is_folder, allocation_size, last_part}
 use Rattle.smb_tree.specs.Content.{Path, Row, is_same_path, entry_at, numbered, without, used_space}
-use Rattle.smb_tree.specs.Laws.{AreApart, AreBelow}
-use Rattle.smb_tree.specs.Moves.{is_within, respelled, moved_row, renamed}
+use Rattle.smb_tree.specs.Laws.{AreApart}
+use Rattle.smb_tree.specs.Parts.{AreBelow, respelled, renamed, moved_row}
+use Rattle.smb_tree.specs.Moves.{is_within}
 use Rattle.smb_tree.proofs.Keys.{same_path-eq, same_path-itself}
 use Rattle.smb_tree.proofs.Heads.{within_or_not, within-append, replaced-within, replaced-elsewhere, same_path-append, not_within_not_same, within_itself}
 

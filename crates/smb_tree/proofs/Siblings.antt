@@ -10,8 +10,9 @@ use Rattle.std.proofs.lemmas.Slice.Eq.{bytes_eq-Decides}
 use Rattle.smb_tree.specs.Entries.{last_part}
 use Rattle.smb_tree.specs.Content.{Path, Row, is_same_path, entry_at, numbered, parent}
 use Rattle.smb_tree.specs.Laws.{AreApart}
-use Rattle.smb_tree.specs.Children.{name_of, is_child, is_before, is_after, children_after, first_of_two, first_by_name, next_child, child_after}
-use Rattle.smb_tree.specs.ChildLaws.{and_on, in_turn, AreInOrder, is_among}
+use Rattle.smb_tree.specs.Children.{name_of, is_child, is_before, first_by_name, child_after}
+use Rattle.smb_tree.specs.Parts.{is_after, children_after, first_of_two, next_child, and_on}
+use Rattle.smb_tree.specs.ChildLaws.{in_turn, AreInOrder, is_among}
 use Rattle.smb_tree.proofs.Keys.{same_path-eq, same_path-of_eq}
 use Rattle.smb_tree.proofs.Lasts.{last_of, parent_of, one_more}
 use Rattle.smb_tree.proofs.Orders.{before_trans, before_not, before_itself, before_back, before_same}

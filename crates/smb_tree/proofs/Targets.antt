@@ -6,7 +6,7 @@ use Rattle.std.specs.Option.{IfNone, IfSome}
 use Rattle.smb_tree.specs.declared.stored.Stored.{Stored}
 use Rattle.smb_tree.specs.Entries.{Entry}
 use Rattle.smb_tree.specs.Content.{Row, numbered, without}
-use Rattle.smb_tree.specs.Moves.{without_other}
+use Rattle.smb_tree.specs.Parts.{without_other}
 use Rattle.smb_tree.specs.Plain.{rows_of, IsPlace}
 use Rattle.smb_tree.proofs.Places.{place_without}
 

@@ -1,24 +1,19 @@
 -- The children of a folder, asked for one after the other.
 use Rattle.std.specs.Prelude.{◌≡◌, ℕ, zero, suc, ◌≤◌, Bool, true, nat_eq, is_some, List, [], ◌∷◌, ◌++◌, length, map, Option, None, Some}
 use Rattle.std.specs.List.{list_any}
-use Rattle.std.specs.Option.{option_and_then}
+use Rattle.std.specs.Option.{option_map_or, option_and_then}
 use Rattle.std.specs.Cmp.Lexicographic.{pointwise}
 use Rattle.smb_tree.specs.Content.{Row, numbered, entry_at}
 use Rattle.smb_tree.specs.Laws.{AreApart}
 use Rattle.smb_tree.specs.Children.{name_of, is_before, child_after}
 use Rattle.smb_tree.specs.declared.tree.TheConstants.{CHILDREN_AT_ONCE}
 
--- a row, and what follows it
-abbrev pub and_on : (Option (List ℕ) → List Row) → Option Row → List Row
-and_on rest None = []
-and_on rest (Some row) = row ∷ rest (Some (name_of row))
-
 -- the entries that `child_after` gives of a folder: the next after a given name, the next after that one's name
 -- and so on, up to None, in at most so many steps
 abbrev pub in_turn : ℕ → List Row → ℕ → Option (List ℕ) → List Row
 in_turn zero rows number after = []
-in_turn (suc steps) rows number after =
-    and_on (in_turn steps rows number) (option_and_then (numbered rows) (child_after rows number after))
+in_turn (suc steps) rows number after = option_map_or (λ row. row ∷ in_turn steps rows number (Some (name_of row)))
+    (option_and_then (numbered rows) (child_after rows number after)) []
 
 -- the numbers of the children that come next after a given name, or first: of as many as are looked up at once
 unfoldable pub children_at_once : List Row → ℕ → Option (List ℕ) → List ℕ

@@ -4,10 +4,9 @@ use Rattle.std.specs.Option.{option_map, option_map_or}
 use Rattle.std.specs.Cmp.Lexicographic.{pointwise}
 use Rattle.smb_wire.specs.Counters.{is_spent}
 use Rattle.smb_wire.specs.Paths.{folded_path}
-use Rattle.smb_tree.specs.declared.entry.Basic.{Basic}
 use Rattle.smb_tree.specs.declared.entry.Kind.{Kind}
 use Rattle.smb_tree.specs.declared.entry.Kind.TheVariants.{Folder}
-use Rattle.smb_tree.specs.Entries.{Entry, kept_basic, new_entry, allocation_size}
+use Rattle.smb_tree.specs.Entries.{Entry, new_entry, allocation_size}
 
 -- a path: its components, folded
 abbrev pub Path : Type 0
@@ -73,55 +72,23 @@ changed change [] number = []
 changed change (row ∷ rows) number =
     if row.1.number == number then (row.0, change row.1) ∷ rows else row ∷ changed change rows number
 
+-- a content with the entry of this number changed
+abbrev pub changed_in : (Entry → Entry) → Content → ℕ → Content
+changed_in change content number = record content { rows = changed change content.rows number }
+
 -- bytes with another size: cut, or with zeros behind them
 abbrev pub resized : ℕ → List ℕ → List ℕ
 resized size bytes = take size bytes ++ replicate (size - length bytes) 0
-
--- the file of this number with another size
-abbrev pub with_size : Content → ℕ → ℕ → Content
-with_size content number size = record content {
-  rows = changed (λ entry. record entry { bytes = resized size entry.bytes }) content.rows number;
-}
-
--- the entry of this number with other times and attributes
-abbrev pub with_basic : Content → ℕ → Basic → Content
-with_basic content number basic = record content {
-  rows = changed (λ entry. record entry { basic = kept_basic basic }) content.rows number;
-}
-
--- the entry of this number marked, or its mark taken away ([MS-FSCC] 2.4.11, DeletePending)
-abbrev pub with_mark : Content → ℕ → Bool → Content
-with_mark content number mark = record content {
-  rows = changed (λ entry. record entry { mark = mark }) content.rows number;
-}
 
 -- the entries without that of this number
 abbrev pub without : List Row → ℕ → List Row
 without [] number = []
 without (row ∷ rows) number = if row.1.number == number then rows else row ∷ without rows number
 
--- the entry of this number taken out
-abbrev pub removed : Content → ℕ → Content
-removed content number = record content { rows = without content.rows number }
-
 -- the bytes of the file of this number
 abbrev pub bytes_of : List Row → ℕ → List ℕ
 bytes_of rows number = option_map_or (λ row. row.1.bytes) (numbered rows number) []
 
--- of bytes those from an offset on, at most so many
-abbrev pub part : ℕ → ℕ → List ℕ → List ℕ
-part offset count bytes = take count (drop offset bytes)
-
--- what a read of the file of this number gives ([MS-SMB2] 3.3.5.12)
-abbrev pub bytes_read : List Row → ℕ → ℕ → ℕ → List ℕ
-bytes_read rows number offset count = part offset count (bytes_of rows number)
-
 -- bytes with others put at an offset: a gap before these is filled with zeros, and what is behind them stays
 abbrev pub written : ℕ → List ℕ → List ℕ → List ℕ
 written offset buffer bytes = resized offset bytes ++ buffer ++ drop (offset + length buffer) bytes
-
--- the file of this number with bytes put at an offset ([MS-SMB2] 3.3.5.13)
-abbrev pub with_bytes : Content → ℕ → ℕ → List ℕ → Content
-with_bytes content number offset buffer = record content {
-  rows = changed (λ entry. record entry { bytes = written offset buffer entry.bytes }) content.rows number;
-}

@@ -38,28 +38,25 @@ shown_attributes File attributes = if attributes == 0 then FILE_ATTRIBUTE_NORMAL
 abbrev pub kept_basic : Basic → Basic
 kept_basic basic = record basic { attributes = record { 0 = kept_attributes basic.attributes.0 } }
 
--- four times this moment, and the kept ones of these attributes
-abbrev pub new_basic : ℕ → ℕ → Basic
-new_basic attributes moment = record {
-  creation_time = moment;
-  last_access_time = moment;
-  last_write_time = moment;
-  change_time = moment;
-  attributes = record { 0 = kept_attributes attributes };
-}
-
 -- the last component of a path; the root has none
 abbrev pub last_part : List (List ℕ) → List ℕ
 last_part parts = slice_index_or parts (length parts - 1) []
 
--- an entry as it is added: spelled as the path's last component, with no bytes and no mark
+-- an entry as it is added: spelled as the path's last component, with no bytes and no mark; its four times are this
+-- moment, and of these attributes it has those that are kept
 abbrev pub new_entry : ℕ → List (List ℕ) → Kind → ℕ → ℕ → Entry
 new_entry number parts kind attributes moment = record {
   number = number;
   kind = kind;
   spelling = last_part parts;
   bytes = [];
-  basic = new_basic attributes moment;
+  basic = record {
+    creation_time = moment;
+    last_access_time = moment;
+    last_write_time = moment;
+    change_time = moment;
+    attributes = record { 0 = kept_attributes attributes };
+  };
   mark = false;
 }
 

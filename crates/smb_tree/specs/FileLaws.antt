@@ -1,13 +1,14 @@
 -- Reads and writes of a file, in a user's words.
-use Rattle.std.specs.Prelude.{◌≡◌, ◌≢◌, ℕ, ◌+◌, ◌-◌, ◌<◌, ◌≤◌, ◌⊎◌, max, List, length, replicate, slice_index, Some}
+use Rattle.std.specs.Prelude.{◌≡◌, ◌≢◌, ℕ, ◌+◌, ◌-◌, ◌<◌, ◌≤◌, ◌⊎◌, max, List, length, take, drop, replicate, slice_index, Some}
 use Rattle.smb_tree.specs.Entries.{Entry}
-use Rattle.smb_tree.specs.Content.{Row, Content, numbered, changed, part, bytes_read, written, with_bytes}
+use Rattle.smb_tree.specs.Content.{Row, Content, numbered, changed, changed_in, bytes_of, written}
 
 -- what was written at an offset is read there
 abbrev pub WhatIsWrittenIsRead : Type 0
 WhatIsWrittenIsRead =
     (content : Content) (number offset : ℕ) (buffer : List ℕ) (row : Row) → numbered content.rows number ≡ Some row →
-    bytes_read (with_bytes content number offset buffer).rows number offset (length buffer) ≡ buffer
+    let after = changed_in (λ entry. record entry { bytes = written offset buffer entry.bytes }) content number in
+    take (length buffer) (drop offset (bytes_of after.rows number)) ≡ buffer
 
 -- each byte that was there and was not written over stays
 abbrev pub WhatIsNotWrittenStays : Type 0
@@ -19,7 +20,7 @@ WhatIsNotWrittenStays =
 abbrev pub AGapReadsAsZeros : Type 0
 AGapReadsAsZeros =
     (offset : ℕ) (buffer bytes : List ℕ) →
-    part (length bytes) (offset - length bytes) (written offset buffer bytes) ≡ replicate (offset - length bytes) 0
+    take (offset - length bytes) (drop (length bytes) (written offset buffer bytes)) ≡ replicate (offset - length bytes) 0
 
 -- afterwards the size is the greater of the size before and the end of what was written
 abbrev pub TheSizeIsTheGreater : Type 0

@@ -1,22 +1,23 @@
 -- Good contents: what a store keeps of its tree, and what a move keeps.
-use Rattle.std.specs.Prelude.{◌≡◌, ◌<◌, ◌≤◌, ◌+◌, ◌^◌, true, List, [], length, Some}
+use Rattle.std.specs.Prelude.{◌≡◌, ◌<◌, ◌≤◌, ◌+◌, ◌^◌, true, [], length, Some}
 use Rattle.std.specs.List.{AllByRecursion, list_all}
+use Rattle.std.specs.Option.{option_map}
 use Rattle.smb_wire.specs.Limits.{most_entries, most_components, most_file_bytes}
 use Rattle.smb_wire.specs.Names.{folded}
 use Rattle.smb_wire.specs.Paths.{folded_path, is_lawful_component}
 use Rattle.smb_tree.specs.Entries.{is_folder, is_folder_kind, kept_attributes, last_part}
-use Rattle.smb_tree.specs.Content.{Row, Content, entry_at, number_at, parent, used_space}
-use Rattle.smb_tree.specs.Laws.{AreApart, AreBelow}
+use Rattle.smb_tree.specs.Content.{Row, Content, entry_at, parent, used_space}
+use Rattle.smb_tree.specs.Laws.{AreApart}
 
 -- a good content: the root is a folder of number 1, and around each entry there is a folder; no path and no number is
 -- there twice; the numbers are below the next; at most 4,096 entries besides the root, of at most 32 components;
 -- files of at most 16,777,216 bytes, folders of none; and the space used is there
 pub record GoodContent (content : Content) : Type 0 where
   pub root : is_folder (entry_at content.rows []) ≡ true
-  pub first : number_at content.rows [] ≡ Some 1
+  pub first : option_map (λ entry. entry.number) (entry_at content.rows []) ≡ Some 1
   pub parents : AllByRecursion (λ row. is_folder (entry_at content.rows (parent row.0)) ≡ true) content.rows
   pub apart : AreApart content.rows
-  pub below : AreBelow content.rows content.next
+  pub below : AllByRecursion (λ row. row.1.number < content.next) content.rows
   pub counted : content.next < 2 ^ 64
   pub few : length content.rows ≤ most_entries + 1
   pub shallow : AllByRecursion (λ row. length row.0 ≤ most_components) content.rows
@@ -33,7 +34,3 @@ pub record IsLawfulRow (row : Row) : Type 0 where
   pub same : folded_path row.0 ≡ row.0
   pub spelling : folded row.1.spelling ≡ last_part row.0
   pub attributes : kept_attributes row.1.basic.attributes.0 ≡ row.1.basic.attributes.0
-
--- all entries are so
-abbrev pub AreLawful : List Row → Type 0
-AreLawful = AllByRecursion IsLawfulRow

@@ -1,5 +1,6 @@
 -- A content as a finite map from paths to entries, and what holds between paths and numbers.
 use Rattle.std.specs.Prelude.{◌≡◌, ℕ, ◌<◌, ◌++◌, ◌∷◌, List, [], None, Some}
+use Rattle.std.specs.List.{AllByRecursion}
 use Rattle.std.specs.Ordering.{nat_cmp}
 use Rattle.std.specs.Cmp.Lexicographic.{slice_cmp}
 use Rattle.std.specs.declared.cmp.Ordering.{Ordering}
@@ -19,11 +20,6 @@ as_map rows = from_entries rows
 abbrev pub AreApart : List Row → Type 0
 AreApart [] = Unit {0}
 AreApart (row ∷ rows) = (entry_at rows row.0 ≡ None) × (numbered rows row.1.number ≡ None) × AreApart rows
-
--- each number is below the next
-abbrev pub AreBelow : List Row → ℕ → Type 0
-AreBelow [] next = Unit {0}
-AreBelow (row ∷ rows) next = (row.1.number < next) × AreBelow rows next
 
 -- the entry at a path is that of the map
 abbrev pub TheMapTells : Type 0
@@ -51,7 +47,8 @@ PathsAndNumbersAgree =
 -- an addition under the next number, at a path where no entry stood, leaves paths and numbers apart
 abbrev pub AnAdditionKeepsApart : Type 0
 AnAdditionKeepsApart =
-    (rows : List Row) (path : Path) (entry : Entry) → AreApart rows → AreBelow rows entry.number → entry_at rows path ≡ None →
+    (rows : List Row) (path : Path) (entry : Entry) → AreApart rows →
+    AllByRecursion (λ row. row.1.number < entry.number) rows → entry_at rows path ≡ None →
     AreApart (rows ++ (path, entry) ∷ [])
 
 -- a change that leaves the number leaves paths and numbers apart

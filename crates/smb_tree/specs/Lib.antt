@@ -7,6 +7,7 @@ pub mod Views
 pub mod WholeNames
 pub mod Texts
 pub mod Plain
+pub mod Parts
 pub mod NewTexts
 pub mod Tree
 pub mod Laws

@@ -1,13 +1,13 @@
 -- A move that is not refused, in a user's words.
-use Rattle.std.specs.Prelude.{◌≡◌, ◌≢◌, ℕ, ◌≤◌, true, false, List, [], ◌∷◌, ◌++◌, length, None, Some}
-use Rattle.std.specs.List.{list_all}
+use Rattle.std.specs.Prelude.{◌≡◌, ◌≢◌, ℕ, ◌≤◌, true, false, if◌then◌else◌, List, [], ◌∷◌, ◌++◌, length, None, Some}
+use Rattle.std.specs.List.{AllByRecursion, list_all}
 use Rattle.std.specs.Option.{option_map}
 use Rattle.smb_wire.specs.Paths.{folded_path, is_lawful_component}
 use Rattle.smb_tree.specs.declared.fault.TreeFault.TheVariants.{Exists}
 use Rattle.smb_tree.specs.Entries.{Entry, last_part}
 use Rattle.smb_tree.specs.Content.{Path, Row, Content, is_same_path, entry_at, number_at, numbered, used_space}
-use Rattle.smb_tree.specs.Good.{GoodContent, AreLawful}
-use Rattle.smb_tree.specs.Moves.{is_within, moved_row, moved}
+use Rattle.smb_tree.specs.Good.{GoodContent, IsLawfulRow}
+use Rattle.smb_tree.specs.Moves.{is_within, replaced, moved}
 use Rattle.smb_tree.specs.Faults.{move_fault}
 
 -- of a good content the entry of a number, at `from`, can be moved to the path that these components spell
@@ -48,7 +48,12 @@ abbrev pub NumbersKeepTheirEntries : Type 0
 NumbersKeepTheirEntries =
     (content : Content) (number : ℕ) (parts : List (List ℕ)) (from : Path) (entry : Entry) (other : ℕ) →
     CanMove content number parts from entry → (number_at content.rows (folded_path parts) ≡ Some other → other ≡ number) →
-    numbered (moved content number parts).rows other ≡ option_map (moved_row from parts) (numbered content.rows other)
+    numbered (moved content number parts).rows other ≡ option_map
+    (λ (row : Row). (
+      replaced from (folded_path parts) row.0,
+      if is_same_path row.0 from then record row.1 { spelling = last_part parts } else row.1,
+    ))
+    (numbered content.rows other)
 
 -- an entry that was replaced is gone
 abbrev pub TheReplacedIsGone : Type 0
@@ -81,5 +86,5 @@ AMoveKeepsGood =
 -- a move to a lawful path leaves all entries lawful
 abbrev pub AMoveLeavesLawful : Type 0
 AMoveLeavesLawful =
-    (content : Content) (number : ℕ) (parts : List (List ℕ)) → AreLawful content.rows → list_all is_lawful_component parts ≡ true →
-    AreLawful (moved content number parts).rows
+    (content : Content) (number : ℕ) (parts : List (List ℕ)) → AllByRecursion IsLawfulRow content.rows →
+    list_all is_lawful_component parts ≡ true → AllByRecursion IsLawfulRow (moved content number parts).rows

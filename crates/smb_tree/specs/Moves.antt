@@ -26,32 +26,17 @@ is_row_within (Some head) (Some row) = is_within head.0 row.0
 abbrev pub replaced : Path → Path → Path → Path
 replaced from to path = option_map_or (λ rest. to ++ rest) (rest_behind from path) path
 
--- an entry that stands at this path spelled as a path's last component, if it stands at `from` itself
-abbrev pub respelled : Path → List (List ℕ) → Path → Entry → Entry
-respelled from parts path entry = if is_same_path path from then record entry { spelling = last_part parts } else entry
-
--- a row once what is within `from` was moved to the path that these components spell: number, bytes, times, attributes
--- and mark stay
-abbrev pub moved_row : Path → List (List ℕ) → Row → Row
-moved_row from parts row = (replaced from (folded_path parts) row.0, respelled from parts row.0 row.1)
-
--- all rows so
-abbrev pub renamed : Path → List (List ℕ) → List Row → List Row
-renamed from parts = map (moved_row from parts)
-
--- the rows without the entry that stood where that of a number goes; where it is that one itself it stays
-abbrev pub without_other : List Row → ℕ → Option Entry → List Row
-without_other rows number None = rows
-without_other rows number (Some entry) = if entry.number == number then rows else without rows entry.number
-
--- the row of a number, if there is one, moved with all that lies beneath it to the path that these components spell
-abbrev pub moved_rows : List Row → ℕ → List (List ℕ) → Option Row → List Row
-moved_rows rows number parts None = rows
-moved_rows rows number parts (Some row) =
-    renamed row.0 parts (without_other rows number (entry_at rows (folded_path parts)))
-
--- the entry of a number moved so: a file that stood at the path is gone, and the order of the rows stays
+-- the entry of a number moved, with all that lies beneath it, to the path that these components spell, the last of which
+-- spells it: another entry (a file) at that path is gone; numbers, bytes, times, attributes, marks and the order of the
+-- rows stay; where no entry has the number, nothing is moved
 abbrev pub moved : Content → ℕ → List (List ℕ) → Content
-moved content number parts = record content {
-  rows = moved_rows content.rows number parts (numbered content.rows number);
-}
+moved content number parts =
+    let rows = content.rows in
+    let to = folded_path parts in
+    let others = option_map_or (λ (entry : Entry). if entry.number == number then rows else without rows entry.number)
+    (entry_at rows to) rows in
+    let moved_from : Path → Row → Row = λ from row. (
+      replaced from to row.0,
+      if is_same_path row.0 from then record row.1 { spelling = last_part parts } else row.1,
+    ) in
+    record content { rows = option_map_or (λ (row : Row). map (moved_from row.0) others) (numbered rows number) rows }

@@ -5,7 +5,7 @@ use Rattle.smb_wire.specs.Units.{units_of}
 use Rattle.smb_tree.specs.declared.entry.Basic.{Basic}
 use Rattle.smb_tree.specs.declared.entry.Kind.{Kind}
 use Rattle.smb_tree.specs.declared.entry.EntryView.{EntryView}
-use Rattle.smb_tree.specs.Content.{Row, numbered, number_at, parent}
+use Rattle.smb_tree.specs.Content.{Row, entry_at, numbered, parent}
 
 -- a view, without where the units of its spelling lie
 pub record Shown : Type 0 where
@@ -32,7 +32,7 @@ shown view = record {
 abbrev pub row_shown : List Row → Row → Shown
 row_shown rows row = record {
   number = row.1.number;
-  parent = unwrap_or (number_at rows (parent row.0)) 0;
+  parent = unwrap_or (option_map (λ entry. entry.number) (entry_at rows (parent row.0))) 0;
   kind = row.1.kind;
   basic = row.1.basic;
   size = length row.1.bytes;

@@ -8,19 +8,12 @@ use Rattle.smb_tree.specs.declared.entry.Kind.{Kind}
 use Rattle.smb_tree.specs.declared.entry_copy.EntryCopy.{EntryCopy}
 use Rattle.smb_tree.specs.Content.{Path, Row, entry_at, numbered}
 
--- how the entry at a path is spelled
-abbrev pub spelling_at : List Row → Path → List ℕ
-spelling_at rows path = option_map_or (λ entry. entry.spelling) (entry_at rows path) []
-
 -- how the entries on the way from a folder's path down these components are spelled
 abbrev pub spellings_from : List Row → Path → Path → List (List ℕ)
 spellings_from rows folder [] = []
 spellings_from rows folder (name ∷ names) =
-    spelling_at rows (folder ++ name ∷ []) ∷ spellings_from rows (folder ++ name ∷ []) names
-
--- the whole name of the entry at a path: the spellings on the way from the root, a separator between each two
-abbrev pub whole_name : List Row → Path → List ℕ
-whole_name rows path = joined_by_separators (spellings_from rows [] path)
+    option_map_or (λ entry. entry.spelling) (entry_at rows (folder ++ name ∷ [])) []
+    ∷ spellings_from rows (folder ++ name ∷ []) names
 
 -- a copy, without where the bytes of its name lie
 pub record Copied : Type 0 where
@@ -41,17 +34,16 @@ copied copy = record {
   name = copy.name.items;
 }
 
--- what is copied of an entry at its path
-abbrev pub row_copied : List Row → Row → Copied
-row_copied rows row = record {
-  number = row.1.number;
-  kind = row.1.kind;
-  basic = row.1.basic;
-  size = length row.1.bytes;
-  mark = row.1.mark;
-  name = unit_bytes (whole_name rows row.0);
-}
-
--- what is copied of the entry of a number
+-- what is copied of the entry of a number; its whole name is the spellings on the way from the root, with a separator
+-- between each two
 abbrev pub entry_copied : List Row → ℕ → Option Copied
-entry_copied rows number = option_map (row_copied rows) (numbered rows number)
+entry_copied rows number = option_map
+    (λ (row : Row). record {
+      number = row.1.number;
+      kind = row.1.kind;
+      basic = row.1.basic;
+      size = length row.1.bytes;
+      mark = row.1.mark;
+      name = unit_bytes (joined_by_separators (spellings_from rows [] row.0));
+    })
+    (numbered rows number)

@@ -2,7 +2,8 @@
 
 ghost use Rattle.std.specs.Prelude.{◌≡◌, ◌+◌, ◌≤◌, ◌++◌, max, OnOk, OnErr, length, take, drop};
 ghost use Rattle.smb_wire.specs.Limits.{most_file_bytes};
-ghost use Rattle.smb_tree.specs.Content.{part, resized, written};
+ghost use Rattle.smb_tree.specs.Content.{resized, written};
+ghost use Rattle.smb_tree.specs.Parts.{part};
 
 use std::alloc::AllocError;
 

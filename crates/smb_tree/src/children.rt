@@ -4,7 +4,8 @@ ghost use Rattle.std.specs.Prelude.{◌≡◌};
 ghost use Rattle.std.specs.Option.{option_map, option_copied};
 ghost use Rattle.smb_wire.specs.Paths.{components, folded_path};
 ghost use Rattle.smb_wire.specs.Units.{units_of};
-ghost use Rattle.smb_tree.specs.Children.{name_of, is_child, has_children, is_after, next_child};
+ghost use Rattle.smb_tree.specs.Children.{name_of, is_child};
+ghost use Rattle.smb_tree.specs.Parts.{has_children, is_after, next_child};
 ghost use Rattle.smb_tree.specs.Plain.{row_of, rows_of, nearer};
 
 use super::entry::EntryNo;

@@ -2,7 +2,7 @@
 
 ghost use Rattle.std.specs.Prelude.{◌≡◌, ◌≤◌};
 ghost use Rattle.smb_wire.specs.Limits.{most_file_bytes};
-ghost use Rattle.smb_tree.specs.Entries.{allocation_size, is_folder_kind, kept_attributes, shown_attributes, kept_basic, new_basic};
+ghost use Rattle.smb_tree.specs.Entries.{allocation_size, is_folder_kind, kept_attributes, shown_attributes, kept_basic};
 
 use smb_wire::{FileAttributes, Units};
 
@@ -74,7 +74,7 @@ pub struct Basic {
 impl Basic {
     /// An entry's times and attributes as it is added at a moment.
     pub fn of(attributes: FileAttributes, moment: u64) -> Basic
-        ensures { result ≡ new_basic attributes.0 moment }
+        ensures { result ≡ record { creation_time = moment; last_access_time = moment; last_write_time = moment; change_time = moment; attributes = record { 0 = kept_attributes attributes.0 } } }
     {
         Basic {
             creation_time: moment,

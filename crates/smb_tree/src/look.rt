@@ -8,7 +8,7 @@ ghost use Rattle.smb_wire.specs.PathViews.{parts_of};
 ghost use Rattle.smb_wire.specs.Units.{units_of};
 ghost use Rattle.smb_tree.specs.Content.{entry_at, numbered, number_at};
 ghost use Rattle.smb_tree.specs.Entries.{is_folder};
-ghost use Rattle.smb_tree.specs.Faults.{add_fault_by};
+ghost use Rattle.smb_tree.specs.Parts.{add_fault_by};
 ghost use Rattle.smb_tree.specs.Plain.{row_of, rows_of, IsPlace};
 ghost use Rattle.smb_tree.specs.Views.{shown, row_shown};
 

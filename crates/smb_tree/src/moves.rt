@@ -5,8 +5,8 @@ ghost use Rattle.std.specs.List.{remove};
 ghost use Rattle.smb_wire.specs.Paths.{folded_path};
 ghost use Rattle.smb_wire.specs.PathViews.{parts_of};
 ghost use Rattle.smb_tree.specs.Content.{entry_at};
-ghost use Rattle.smb_tree.specs.Faults.{is_other_folder, would_be_too_deep, move_fault_between};
-ghost use Rattle.smb_tree.specs.Moves.{is_within, replaced, without_other};
+ghost use Rattle.smb_tree.specs.Parts.{is_other_folder, would_be_too_deep, move_fault_between, without_other};
+ghost use Rattle.smb_tree.specs.Moves.{is_within, replaced};
 ghost use Rattle.smb_tree.specs.NewTexts.{parts_new, parts_moved, with_parts, with_all_parts};
 ghost use Rattle.smb_tree.specs.Plain.{row_of, rows_of};
 

@@ -1,15 +1,16 @@
 //! The tree that every layer above speaks to.
 
-ghost use Rattle.std.specs.Prelude.{◌≡◌, ◌≢◌, ◌++◌, None, Some, OnOk, OnErr, IfOk, IfErr, length};
+ghost use Rattle.std.specs.Prelude.{◌≡◌, ◌≢◌, ◌++◌, None, Some, OnOk, OnErr, IfOk, IfErr, length, take, drop};
 ghost use Rattle.std.specs.Option.{option_map, option_copied};
 ghost use Rattle.smb_wire.specs.Paths.{folded_path};
 ghost use Rattle.smb_wire.specs.PathViews.{parts_of};
-ghost use Rattle.smb_tree.specs.Content.{numbered, number_at, next_number, used_space, added, with_size, with_basic, with_mark, removed, bytes_read, with_bytes};
+ghost use Rattle.smb_tree.specs.Content.{numbered, number_at, next_number, used_space, added, changed_in, resized, without, written, bytes_of};
+ghost use Rattle.smb_tree.specs.Entries.{kept_basic};
 ghost use Rattle.smb_tree.specs.Moves.{moved, is_row_within};
 ghost use Rattle.smb_tree.specs.WholeNames.{copied, entry_copied};
 ghost use Rattle.smb_tree.specs.Children.{name_of, child_after};
 ghost use Rattle.smb_tree.specs.ChildLaws.{children_at_once};
-ghost use Rattle.smb_tree.specs.Faults.{add_fault, size_fault, basic_fault, mark_fault, remove_fault, move_fault, copy_fault, read_fault, write_fault};
+ghost use Rattle.smb_tree.specs.Faults.{add_fault, size_fault, basic_fault, remove_fault, move_fault, read_fault, write_fault};
 ghost use Rattle.smb_tree.specs.Views.{shown, entry_shown};
 ghost use Rattle.smb_tree.specs.declared.fault.TreeFault.TheVariants.{NoMemory};
 
@@ -49,8 +50,8 @@ pub trait Tree {
     /// allocation is refused.
     fn copy_entry(&self, alloc: Global, number: EntryNo) -> Result<EntryCopy, TreeFault>
         ensures ok { IfOk result (λ copy. Some (copied copy) ≡ entry_copied (content self.now).rows number) }
-        ensures why { IfErr result (λ fault. fault ≢ NoMemory → copy_fault (content self.now) number ≡ Some fault) }
-        ensures memory { IfErr result (λ fault. fault ≡ NoMemory → copy_fault (content self.now) number ≡ None) };
+        ensures why { IfErr result (λ fault. fault ≢ NoMemory → basic_fault (content self.now) number ≡ Some fault) }
+        ensures memory { IfErr result (λ fault. fault ≡ NoMemory → basic_fault (content self.now) number ≡ None) };
 
     /// The child of an entry whose folded name comes next after a given one, or first where none is given; None
     /// where no further child stands or no entry has the number.
@@ -126,7 +127,7 @@ pub trait Tree {
     /// bytes or where the used space would pass the capacity, [`NoMemory`](TreeFault::NoMemory) where an
     /// allocation is refused.
     fn set_size(&mut self, number: EntryNo, size: u64) -> Result<(), TreeFault>
-        ensures ok { OnOk result (content self.new ≡ with_size (content self.old) number size) }
+        ensures ok { OnOk result (content self.new ≡ changed_in (λ entry. record entry { bytes = resized size entry.bytes }) (content self.old) number) }
         ensures lawful { OnOk result (size_fault (content self.old) number size ≡ None) }
         ensures err { OnErr result (content self.new ≡ content self.old) }
         ensures why { IfErr result (λ fault. fault ≢ NoMemory → size_fault (content self.old) number size ≡ Some fault) }
@@ -135,7 +136,7 @@ pub trait Tree {
     /// Gives an entry other times and attributes, of which it keeps those that are kept.
     /// [`Absent`](TreeFault::Absent) where no entry has the number.
     fn set_basic(&mut self, number: EntryNo, basic: Basic) -> Result<(), TreeFault>
-        ensures ok { OnOk result (content self.new ≡ with_basic (content self.old) number basic) }
+        ensures ok { OnOk result (content self.new ≡ changed_in (λ entry. record entry { basic = kept_basic basic }) (content self.old) number) }
         ensures lawful { OnOk result (basic_fault (content self.old) number ≡ None) }
         ensures err { OnErr result (content self.new ≡ content self.old) }
         ensures why { IfErr result (λ fault. basic_fault (content self.old) number ≡ Some fault) };
@@ -143,10 +144,10 @@ pub trait Tree {
     /// Marks an entry, so that it goes once its last open is closed, or takes its mark away. It takes no memory.
     /// [`Absent`](TreeFault::Absent) where no entry has the number.
     fn set_mark(&mut self, number: EntryNo, mark: bool) -> Result<(), TreeFault>
-        ensures ok { OnOk result (content self.new ≡ with_mark (content self.old) number mark) }
-        ensures lawful { OnOk result (mark_fault (content self.old) number ≡ None) }
+        ensures ok { OnOk result (content self.new ≡ changed_in (λ entry. record entry { mark = mark }) (content self.old) number) }
+        ensures lawful { OnOk result (basic_fault (content self.old) number ≡ None) }
         ensures err { OnErr result (content self.new ≡ content self.old) }
-        ensures why { IfErr result (λ fault. mark_fault (content self.old) number ≡ Some fault) };
+        ensures why { IfErr result (λ fault. basic_fault (content self.old) number ≡ Some fault) };
 
     /// Removes an entry that is not the root, which has number 1. It takes no memory.
     ///
@@ -154,7 +155,7 @@ pub trait Tree {
     /// entries stand in it.
     fn remove(&mut self, number: EntryNo) -> Result<(), TreeFault>
         requires { number ≢ 1 }
-        ensures ok { OnOk result (content self.new ≡ removed (content self.old) number) }
+        ensures ok { OnOk result (content self.new ≡ record (content self.old) { rows = without (content self.old).rows number }) }
         ensures lawful { OnOk result (remove_fault (content self.old) number ≡ None) }
         ensures err { OnErr result (content self.new ≡ content self.old) }
         ensures why { IfErr result (λ fault. remove_fault (content self.old) number ≡ Some fault) };
@@ -188,7 +189,7 @@ pub trait Tree {
         count: u64,
         bytes: &mut Vec<u8>,
     ) -> Result<(), TreeFault>
-        ensures ok { OnOk result (bytes.new.items ≡ bytes.old.items ++ bytes_read (content self.now).rows number offset count) }
+        ensures ok { OnOk result (bytes.new.items ≡ bytes.old.items ++ take count (drop offset (bytes_of (content self.now).rows number))) }
         ensures lawful { OnOk result (read_fault (content self.now) number ≡ None) }
         ensures err { OnErr result (bytes.new.items ≡ bytes.old.items) }
         ensures why { IfErr result (λ fault. fault ≢ NoMemory → read_fault (content self.now) number ≡ Some fault) }
@@ -201,7 +202,7 @@ pub trait Tree {
     /// would have over 16,777,216 bytes or the used space would pass the capacity,
     /// [`NoMemory`](TreeFault::NoMemory) where an allocation is refused.
     fn write(&mut self, number: EntryNo, offset: u64, buffer: &[u8]) -> Result<(), TreeFault>
-        ensures ok { OnOk result (content self.new ≡ with_bytes (content self.old) number offset buffer.now) }
+        ensures ok { OnOk result (content self.new ≡ changed_in (λ entry. record entry { bytes = written offset buffer.now entry.bytes }) (content self.old) number) }
         ensures lawful { OnOk result (write_fault (content self.old) number offset (length buffer.now) ≡ None) }
         ensures err { OnErr result (content self.new ≡ content self.old) }
         ensures why { IfErr result (λ fault. fault ≢ NoMemory → write_fault (content self.old) number offset (length buffer.now) ≡ Some fault) }

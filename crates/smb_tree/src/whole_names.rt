@@ -6,7 +6,7 @@ ghost use Rattle.smb_wire.specs.Paths.{components, folded_path};
 ghost use Rattle.smb_wire.specs.PathViews.{parts_of};
 ghost use Rattle.smb_wire.specs.Units.{units_of};
 ghost use Rattle.smb_tree.specs.Plain.{rows_of};
-ghost use Rattle.smb_tree.specs.WholeNames.{spelling_at, whole_name};
+ghost use Rattle.smb_tree.specs.Parts.{spelling_at, whole_name};
 
 use super::look::stored_at;
 use super::paths::add_component;

@@ -1,5 +1,6 @@
 use Rattle.std.proofs.Common.{sym, ap, ◌∙◌}
-use Rattle.smb_tree.specs.Content.{Content, with_basic}
+use Rattle.smb_tree.specs.Content.{Content}
+use Rattle.smb_tree.specs.Parts.{with_basic}
 use Rattle.smb_tree.specs.Faults.{basic_fault}
 use Rattle.smb_wire.specs.Dispositions.{overwrites_by}
 use Rattle.smb_access.specs.Asked.{asked}

@@ -1,5 +1,6 @@
 use Rattle.std.proofs.Common.{if◌then◌else◌, is_some, length, ap, subst, sym, ◌∙◌}
-use Rattle.smb_tree.specs.Content.{Content, with_basic}
+use Rattle.smb_tree.specs.Content.{Content}
+use Rattle.smb_tree.specs.Parts.{with_basic}
 use Rattle.smb_tree.specs.Faults.{basic_fault, write_fault}
 use Rattle.smb_tree.specs.Views.{Shown, shown}
 use Rattle.smb_entry.specs.Parts.{written_basic}

@@ -1,7 +1,8 @@
 use Rattle.std.proofs.Common.{ap, ◌∙◌}
 use Rattle.smb_wire.specs.PathViews.{parts_of}
 use Rattle.smb_tree.specs.declared.entry.Basic.{Basic}
-use Rattle.smb_tree.specs.Content.{Content, with_basic}
+use Rattle.smb_tree.specs.Content.{Content}
+use Rattle.smb_tree.specs.Parts.{with_basic}
 use Rattle.smb_tree.specs.Faults.{basic_fault}
 use Rattle.smb_tree.specs.Views.{shown}
 use Rattle.smb_entry.proofs.Renaming.{basic_free, dated_done}

@@ -1,5 +1,6 @@
 use Rattle.std.proofs.Common.{refl, ap, ◌∙◌}
-use Rattle.smb_tree.specs.Content.{Content, resized, with_basic}
+use Rattle.smb_tree.specs.Content.{Content, resized}
+use Rattle.smb_tree.specs.Parts.{with_basic}
 use Rattle.smb_tree.specs.Entries.{Entry}
 use Rattle.smb_tree.specs.Faults.{basic_fault}
 use Rattle.smb_tree.specs.Views.{Shown, shown}

@@ -1,7 +1,7 @@
 use Rattle.smb_locks.specs.Conflicts.{BarsRead, BarsWrite}
 use Rattle.smb_locks.specs.Parts.{bars_read, bars_write}
 use Rattle.smb_locks.proofs.Ends.{overlap_from_ends, ends_from_overlap, overlap_turned, empty_apart, conflict_from_test, test_from_conflict, bar_from_read_test, read_test_from_bar, bar_from_write_test, write_test_from_bar, some_from_test, test_from_some}
-use Rattle.smb_locks.proofs.Members.{member_locked, member_unlocked, member_dropped, others_kept}
+use Rattle.smb_locks.proofs.Members.{others_kept}
 use Rattle.smb_locks.proofs.Tables.{good_empty, good_on, on_with, on_other, good_locked, good_unlocked, good_dropped, on_dropped, compatible_pair}
 use Rattle.smb_locks.proofs.laws.laws_of_locks.Goals as goal
 
@@ -34,15 +34,6 @@ returns-clause-dropped c = λ table holder file good. on_dropped holder file tab
 
 pub returns-clause-others : goal.returns-clause-others
 returns-clause-others c = others_kept
-
-pub returns-clause-locking_adds : goal.returns-clause-locking_adds
-returns-clause-locking_adds c = member_locked
-
-pub returns-clause-unlocking_adds : goal.returns-clause-unlocking_adds
-returns-clause-unlocking_adds c = member_unlocked
-
-pub returns-clause-dropping_adds : goal.returns-clause-dropping_adds
-returns-clause-dropping_adds c = member_dropped
 
 pub returns-clause-none_good : goal.returns-clause-none_good
 returns-clause-none_good c = good_empty

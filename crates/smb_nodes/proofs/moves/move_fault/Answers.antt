@@ -3,7 +3,7 @@ use Rattle.smb_wire.specs.Paths.{folded_path}
 use Rattle.smb_wire.specs.PathViews.{parts_of}
 use Rattle.smb_tree.specs.Content.{parent}
 use Rattle.smb_tree.specs.Entries.{is_folder}
-use Rattle.smb_tree.specs.Faults.{is_other_folder}
+use Rattle.smb_tree.specs.Parts.{is_other_folder}
 use Rattle.smb_nodes.specs.Nodes.{IsTree, entry_down, entry_on, walk}
 use Rattle.smb_nodes.specs.Seen.{heap_of}
 use Rattle.smb_nodes.specs.Ways.{is_within_slot}

@@ -1,7 +1,7 @@
 use Rattle.std.proofs.Common.{◌≡◌, drop}
 use Rattle.smb_wire.specs.Paths.{components, folded_path}
 use Rattle.smb_wire.specs.Units.{units_of}
-use Rattle.smb_tree.specs.Children.{has_children}
+use Rattle.smb_tree.specs.Parts.{has_children}
 use Rattle.smb_tree.specs.Plain.{rows_of}
 use Rattle.smb_tree.proofs.children.has_children.Given as goal
 

@@ -3,7 +3,8 @@ use Rattle.std.specs.Option.{option_copied}
 use Rattle.smb_wire.specs.Paths.{components, folded_path}
 use Rattle.smb_wire.specs.Units.{units_of}
 use Rattle.smb_tree.specs.Content.{Path}
-use Rattle.smb_tree.specs.Children.{name_of, is_after}
+use Rattle.smb_tree.specs.Children.{name_of}
+use Rattle.smb_tree.specs.Parts.{is_after}
 use Rattle.smb_tree.specs.Plain.{row_of, nearer}
 use Rattle.smb_tree.proofs.Names.{found_among, among_taken, among_early, among_other}
 use Rattle.smb_tree.proofs.children.next_child.Goals as goal

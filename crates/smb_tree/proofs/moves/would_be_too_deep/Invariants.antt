@@ -1,7 +1,7 @@
 use Rattle.std.proofs.Common.{◌≡◌, drop}
 use Rattle.smb_wire.specs.Paths.{folded_path}
 use Rattle.smb_wire.specs.PathViews.{parts_of}
-use Rattle.smb_tree.specs.Faults.{would_be_too_deep}
+use Rattle.smb_tree.specs.Parts.{would_be_too_deep}
 use Rattle.smb_tree.specs.Plain.{rows_of}
 use Rattle.smb_tree.proofs.moves.would_be_too_deep.Given as goal
 

@@ -7,7 +7,8 @@ use Rattle.smb_wire.specs.Paths.{folded_path, joined_by_separators}
 use Rattle.smb_wire.specs.Units.{units_of}
 use Rattle.smb_tree.specs.Content.{Path, Row}
 use Rattle.smb_tree.specs.Plain.{rows_of}
-use Rattle.smb_tree.specs.WholeNames.{spelling_at, spellings_from}
+use Rattle.smb_tree.specs.WholeNames.{spellings_from}
+use Rattle.smb_tree.specs.Parts.{spelling_at}
 use Rattle.smb_tree.proofs.Moving.{length-spellings, spelling_next, short_more}
 use Rattle.smb_tree.proofs.NewPaths.{bytes_more}
 use Rattle.smb_tree.proofs.whole_names.whole_name.Goals as goal

@@ -1,6 +1,6 @@
 use Rattle.std.proofs.Common.{List, remove, refl, sym, ap, ◌∙◌}
 use Rattle.smb_locks.specs.declared.lock.Lock.{Lock}
-use Rattle.smb_locks.specs.Unlocking.{is_lock_over}
+use Rattle.smb_locks.specs.Parts.{is_lock_over}
 use Rattle.smb_locks.proofs.Steps.{oldest_none, oldest_place}
 use Rattle.smb_locks.proofs.file_locks.FileLocks.unlock.Goals as goal
 

@@ -1,5 +1,5 @@
 use Rattle.std.proofs.Common.{◌≡◌, drop}
-use Rattle.smb_locks.specs.Unlocking.{left_by, unlock_error_from}
+use Rattle.smb_locks.specs.Parts.{left_by, unlock_error_from}
 use Rattle.smb_locks.proofs.file_locks.FileLocks.unlock_all.Given as goal
 
 abbrev pub invariant-loop-done : goal.invariant-loop-done

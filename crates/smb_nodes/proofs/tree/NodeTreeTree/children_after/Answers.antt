@@ -1,4 +1,4 @@
-use Rattle.std.proofs.Common.{sym, ◌∙◌}
+use Rattle.std.proofs.Common.{sym}
 use Rattle.std.specs.Option.{option_copied}
 use Rattle.smb_nodes.proofs.Kept.{has_node}
 use Rattle.smb_nodes.proofs.Putting.{children_of}

@@ -1,5 +1,5 @@
 use Rattle.std.proofs.Common.{◌≡◌, ℕ, List, ◌++◌, refl, sym, ap, ◌∙◌}
-use Rattle.smb_tree.specs.Content.{part}
+use Rattle.smb_tree.specs.Parts.{part}
 use Rattle.smb_tree.proofs.Changes.{read_fault_is}
 use Rattle.smb_nodes.specs.Nodes.{row_in, levels}
 use Rattle.smb_nodes.specs.Seen.{heap_of}

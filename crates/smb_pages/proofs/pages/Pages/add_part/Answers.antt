@@ -1,7 +1,7 @@
 use Rattle.std.proofs.Common.{◌≡◌, ◌+◌, ◌<◌, List, ℕ, ◌++◌, length, map, vec_len, vec_capacity, Result, Ok, Err, OnErr, sym, ap, ◌∙◌, arith}
 use Rattle.std.specs.List.{range_with_len}
 use Rattle.smb_pages.specs.Pages.{Table, byte_at}
-use Rattle.smb_tree.specs.Content.{part}
+use Rattle.smb_tree.specs.Parts.{part}
 use Rattle.smb_pages.proofs.Bytes.{length-part, part-range}
 use Rattle.smb_pages.proofs.Places.{length-bytes_of}
 use Rattle.smb_pages.proofs.pages.Pages.add_part.Goals as goal

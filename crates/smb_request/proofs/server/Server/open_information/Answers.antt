@@ -1,6 +1,6 @@
 use Rattle.std.proofs.Common.{◌≡◌, ℕ, true, false, List, [], ◌∷◌, Some, is_some, refl, sym, ap, subst, arith, ◌∙◌}
 use Rattle.smb_tree.specs.Content.{Row, Content, numbered}
-use Rattle.smb_tree.specs.Faults.{copy_fault}
+use Rattle.smb_tree.specs.Parts.{copy_fault}
 use Rattle.smb_tree.specs.declared.fault.TreeFault.{TreeFault}
 use Rattle.smb_access.specs.declared.open_row.OpenRow.{OpenRow}
 use Rattle.smb_opens.specs.Good.{GoodStore}

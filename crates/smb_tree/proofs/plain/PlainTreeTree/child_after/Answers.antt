@@ -2,7 +2,7 @@ use Rattle.std.proofs.Common.{ℕ, List, ap, ◌∙◌}
 use Rattle.std.specs.Option.{option_map, option_copied}
 use Rattle.smb_wire.specs.Paths.{components, folded_path}
 use Rattle.smb_tree.specs.Content.{Row}
-use Rattle.smb_tree.specs.Children.{next_child}
+use Rattle.smb_tree.specs.Parts.{next_child}
 use Rattle.smb_tree.specs.Plain.{rows_of}
 use Rattle.smb_tree.proofs.Places.{place_found}
 use Rattle.smb_tree.proofs.plain.PlainTreeTree.child_after.Goals as goal

@@ -2,7 +2,7 @@ use Rattle.std.proofs.Common.{◌≡◌, List, ℕ, Some, length, rules, refl, a
 use Rattle.smb_wire.specs.Pairs.{unit_bytes}
 use Rattle.smb_wire.specs.Paths.{folded_path}
 use Rattle.smb_tree.specs.Plain.{rows_of}
-use Rattle.smb_tree.specs.WholeNames.{whole_name}
+use Rattle.smb_tree.specs.Parts.{whole_name}
 use Rattle.smb_tree.proofs.Moving.{copy_same}
 use Rattle.smb_tree.proofs.Places.{place_found}
 use Rattle.smb_tree.specs.declared.fault.TreeFault.TheVariants.{NoMemory}

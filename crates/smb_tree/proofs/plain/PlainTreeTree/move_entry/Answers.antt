@@ -3,7 +3,7 @@ use Rattle.smb_wire.specs.PathViews.{parts_of}
 use Rattle.smb_wire.specs.Paths.{folded_path}
 use Rattle.smb_tree.specs.Content.{Path, Row, entry_at}
 use Rattle.smb_tree.specs.declared.fault.TreeFault.TheVariants.{NoMemory}
-use Rattle.smb_tree.specs.Moves.{renamed, without_other}
+use Rattle.smb_tree.specs.Parts.{renamed, without_other}
 use Rattle.smb_tree.specs.Plain.{row_of, rows_of}
 use Rattle.smb_tree.specs.Tree.{content_kept}
 use Rattle.smb_tree.proofs.Moving.{fault_found, not_too_deep, as_many, rows_put, used_put, taken_out, moved_is}

@@ -1,5 +1,5 @@
 use Rattle.std.proofs.Common.{◌≡◌, ℕ, List, ◌++◌, sym, ap, ◌∙◌}
-use Rattle.smb_tree.specs.Content.{part}
+use Rattle.smb_tree.specs.Parts.{part}
 use Rattle.smb_tree.specs.Plain.{row_of, rows_of}
 use Rattle.smb_tree.proofs.Changes.{bytes_found, read_fault_is}
 use Rattle.smb_tree.proofs.Places.{place_found}

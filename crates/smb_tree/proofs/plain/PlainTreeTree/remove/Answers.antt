@@ -1,7 +1,7 @@
 use Rattle.std.proofs.Common.{◌≡◌, ◌+◌, ◌-◌, ℕ, List, length, rules, refl, sym, ap, ◌∙◌, arith}
 use Rattle.smb_wire.specs.Paths.{components, folded_path}
 use Rattle.smb_tree.specs.Content.{used_space}
-use Rattle.smb_tree.specs.Children.{has_children}
+use Rattle.smb_tree.specs.Parts.{has_children}
 use Rattle.smb_tree.specs.Entries.{allocation_size}
 use Rattle.smb_tree.specs.Plain.{row_of, rows_of}
 use Rattle.smb_tree.proofs.Changes.{removed_space, remove_fault_is}
