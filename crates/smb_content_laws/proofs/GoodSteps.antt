@@ -32,7 +32,7 @@ use Rattle.smb_access.specs.Opens.{open_of, with_scan}
 use Rattle.smb_access.specs.StatusRows.{StatusRow, first_status}
 use Rattle.smb_access.proofs.Trees.{reached_folder}
 use Rattle.smb_entry.specs.declared.ask.BasicAsk.{BasicAsk}
-use Rattle.smb_entry.specs.Parts.{has_no_room, keeps_from_writing, write_rows, written_tree, delete_set, entry_set, resized_file, leaves_size, has_entries, has_no_space, delete_rows, size_rows, basic_rows, is_not_replaced, rename_rows, renamed_tree, changed_in, path_numbered}
+use Rattle.smb_entry.specs.Parts.{has_no_room, keeps_from_writing, write_rows, written_tree, delete_set, entry_set, resized_file, leaves_size, has_entries, has_no_space, delete_rows, size_rows, basic_rows, is_not_replaced, rename_rows, renamed_tree, path_numbered}
 use Rattle.smb_entry.specs.Rename.{path_named}
 use Rattle.smb_entry.specs.Ways.{way_between, name_rows, way_rows, count_replaced}
 use Rattle.smb_entry.proofs.Under.{path_found}

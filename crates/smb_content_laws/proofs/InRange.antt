@@ -17,7 +17,7 @@ use Rattle.smb_access.specs.Effect.{entry_after}
 use Rattle.smb_access.specs.Parts.{opened_by}
 use Rattle.smb_access.specs.Opens.{open_of, without_open, open_numbers, is_held_by}
 use Rattle.smb_access.proofs.Rows.{all_more}
-use Rattle.smb_entry.specs.Parts.{written_tree, delete_set, size_set, entry_set, renamed_tree, changed_in}
+use Rattle.smb_entry.specs.Parts.{written_tree, delete_set, size_set, entry_set, renamed_tree}
 use Rattle.smb_opens.specs.Close.{closed}
 use Rattle.smb_opens.specs.Parts.{closed_open, closed_each, has_all_opens, with_locks_of}
 use Rattle.smb_opens.specs.Create.{access_granted, create_status}

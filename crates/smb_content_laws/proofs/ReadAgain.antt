@@ -17,7 +17,7 @@ use Rattle.smb_access.specs.Views.{view_of}
 use Rattle.smb_access.specs.Parts.{view_through}
 use Rattle.smb_access.proofs.Changes.{Keeps, below_changed}
 use Rattle.smb_access.proofs.Rows.{found}
-use Rattle.smb_entry.specs.Parts.{bytes_there, keeps_from_reading, read_rows, written_file, written_tree, size_set, changed_in}
+use Rattle.smb_entry.specs.Parts.{bytes_there, keeps_from_reading, read_rows, written_file, written_tree, size_set}
 use Rattle.smb_entry.proofs.Writes.{writes_keep}
 use Rattle.smb_opens.specs.Bytes.{read_status, file_bytes, written_to}
 use Rattle.smb_opens.specs.Effect.{created, create_result}

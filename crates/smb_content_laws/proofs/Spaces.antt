@@ -21,7 +21,7 @@ use Rattle.smb_access.specs.Parts.{is_due, tree_marked, tree_cleared}
 use Rattle.smb_access.specs.Effect.{overwritten, tree_after}
 use Rattle.smb_access.specs.Found.{path_asked}
 use Rattle.smb_access.specs.Opens.{open_of, without_open}
-use Rattle.smb_entry.specs.Parts.{written_file, leaves_size, size_set, resized_file, dated, renamed_tree, changed_in}
+use Rattle.smb_entry.specs.Parts.{written_file, leaves_size, size_set, resized_file, dated, renamed_tree}
 use Rattle.smb_entry.specs.Rename.{path_named}
 use Rattle.smb_opens.specs.Bytes.{written_to}
 use Rattle.smb_opens.specs.Close.{closed, is_removed_with}

@@ -23,7 +23,7 @@ use Rattle.smb_access.specs.Effect.{overwritten, tree_after}
 use Rattle.smb_access.specs.Opens.{open_of, without_open, open_numbers, is_held_by}
 use Rattle.smb_access.specs.StatusRows.{first_status}
 use Rattle.smb_access.specs.Views.{view_of}
-use Rattle.smb_entry.specs.Parts.{keeps_from_writing, has_no_room, write_rows, written_file, written_tree, delete_set, entry_set, leaves_size, size_set, resized_file, has_no_space, size_rows, dated, renamed_tree, changed_in}
+use Rattle.smb_entry.specs.Parts.{keeps_from_writing, has_no_room, write_rows, written_file, written_tree, delete_set, entry_set, leaves_size, size_set, resized_file, has_no_space, size_rows, dated, renamed_tree}
 use Rattle.smb_opens.specs.Bytes.{write_status}
 use Rattle.smb_opens.specs.Close.{closed}
 use Rattle.smb_opens.specs.Parts.{closed_open, closed_each, with_locks_of}

@@ -26,10 +26,9 @@ use Rattle.smb_request.specs.Context.{first_context}
 use Rattle.smb_request.specs.State.{ServerState}
 use Rattle.smb_request.specs.Response.{Performed}
 use Rattle.smb_request.specs.Request.{performed}
-use Rattle.smb_engine.specs.Run.{PerformedRequest, message_ids, keeps_negotiate_rule, ChainState, one_performed, all_performed, requests_of_chain, admitted, Step, refused_step, first_negotiate, first_step, chain_step, payload_step}
-use Rattle.smb_engine.specs.Parts.{is_cancel, is_negotiate_request, runs_of, replied, chain_begun, framed_chain}
+use Rattle.smb_engine.specs.Run.{PerformedRequest, message_ids, keeps_negotiate_rule, ChainState, one_performed, requests_of_chain, admitted, Step, first_step, chain_step, payload_step}
+use Rattle.smb_engine.specs.Parts.{is_cancel, is_negotiate_request, runs_of, replied, chain_begun, framed_chain, all_performed, refused_step, first_negotiate, server_after}
 use Rattle.smb_engine.specs.Output.{reply_frame}
-use Rattle.smb_engine.specs.Refusals.{server_after}
 use Rattle.smb_request.specs.declared.response.NoReply.{NoReply}
 use Rattle.smb_request.specs.declared.response.NoReply.TheVariants.{NotPerformed, Performed as WasPerformed}
 use Rattle.smb_request.specs.Charge.{charge_of}
@@ -186,7 +185,7 @@ first_long_at payload false true dialects o e h = omega (arith, leb-true 35 (len
 first_long_at payload false false dialects o e h = cc
 
 first_long : (connection : Connection) (payload : List ℕ) (dialects : Smb1Dialects) → first_negotiate connection payload ≡ Some dialects → 1 ≤ length payload
-unfolding first_negotiate smb1_of
+unfolding smb1_of
 first_long connection payload dialects h = first_long_at payload connection.payload_came (is_smb1 payload) dialects _ refl h
 
 module _ {S : Type 0} (m : Meaning S) (arrival : Arrival) (server : ServerState S) (connection : Connection) where

@@ -6,7 +6,8 @@ use Rattle.std.proofs.lemmas.List.Concat.{flat_map-append}
 use Rattle.std.proofs.lemmas.Bool.{eqb-true, ne_eqb, eq-eqb, true≢false}
 use Rattle.smb_session.specs.Authenticator.{Meaning}
 use Rattle.smb_engine.specs.State.{ShareState, opened}
-use Rattle.smb_engine.specs.Run.{opening_refusal, event_refusal}
+use Rattle.smb_engine.specs.Run.{event_refusal}
+use Rattle.smb_engine.specs.Refusals.{opening_refusal}
 use Rattle.smb_engine.specs.Stream.{unread}
 use Rattle.smb_engine.specs.Event.{opens}
 use Rattle.smb_engine.specs.Happenings.{Happening, performed, run_of}

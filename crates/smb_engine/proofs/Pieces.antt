@@ -22,9 +22,8 @@ use Rattle.smb_request.specs.Response.{Performed}
 use Rattle.smb_engine.specs.State.{StreamState, new_stream}
 use Rattle.smb_engine.specs.Output.{AreShort, Output, end_of}
 use Rattle.smb_engine.specs.Sink.{Heard}
-use Rattle.smb_engine.specs.Parts.{added_payloads, replied, chain_begun, and_then, framed_chain}
-use Rattle.smb_engine.specs.Run.{ChainState, one_performed, all_performed, admitted, Step, refused_step, first_negotiate, first_step, chain_step, payload_step, payload_steps, piece_step}
-use Rattle.smb_engine.specs.Refusals.{server_after}
+use Rattle.smb_engine.specs.Parts.{added_payloads, replied, chain_begun, and_then, framed_chain, all_performed, refused_step, first_negotiate, server_after}
+use Rattle.smb_engine.specs.Run.{ChainState, one_performed, admitted, Step, first_step, chain_step, payload_step, payload_steps, piece_step}
 use Rattle.smb_engine.specs.Held.{Waits, IsPieceHeld, StoppedAfter}
 use Rattle.smb_engine.specs.InPlace.{step_behind}
 use Rattle.smb_engine.proofs.Short.{with_end}

@@ -17,10 +17,10 @@ use Rattle.smb_request.specs.State.{ServerState, connection_added}
 use Rattle.smb_engine.specs.State.{StreamState, ShareState, stream_of, new_stream, opened}
 use Rattle.smb_engine.specs.Output.{Output}
 use Rattle.smb_engine.specs.Stream.{unread}
-use Rattle.smb_engine.specs.Parts.{added_payloads, unread_stream, unread_entry, settled, connection_at, EventStopped, events_of, can_want_memory}
-use Rattle.smb_engine.specs.Run.{Step, piece_step, EventStep, quiet_step, bytes_step, event_step, opening_refusal, event_refusal, Stop, Ran, run}
-use Rattle.smb_engine.specs.Happenings.{later, then_ran, refused_at_once}
-use Rattle.smb_engine.specs.Refusals.{stopped, EventOutOfMemory, OpeningRefused, run_behind, RunStopped}
+use Rattle.smb_engine.specs.Parts.{added_payloads, unread_stream, unread_entry, settled, connection_at, EventStopped, events_of, can_want_memory, quiet_step}
+use Rattle.smb_engine.specs.Run.{Step, piece_step, EventStep, bytes_step, event_step, event_refusal, Stop, Ran, run}
+use Rattle.smb_engine.specs.Happenings.{later, then_ran, refused_at_once, stopped}
+use Rattle.smb_engine.specs.Refusals.{EventOutOfMemory, OpeningRefused, run_behind, RunStopped, opening_refusal}
 use Rattle.smb_engine.specs.Event.{EventText, opens, brings, ends, text_of, connection_of}
 use Rattle.smb_engine.proofs.Pieces.{added_is}
 use Rattle.smb_engine.proofs.Streams.{arrived, unread-with, unread-without, unread-insert, stream_of-unread}

@@ -11,10 +11,10 @@ use Rattle.std.proofs.lemmas.Bool.{ltb-true, eq-eqb}
 use Rattle.smb_session.specs.Authenticator.{Meaning}
 use Rattle.smb_session.proofs.Windows.{all-append}
 use Rattle.smb_engine.specs.State.{is_open, ShareState, stream_of, ended, opened}
-use Rattle.smb_engine.specs.Run.{bytes_step, opening_refusal, event_refusal}
+use Rattle.smb_engine.specs.Run.{bytes_step, event_refusal}
 use Rattle.smb_engine.specs.Stream.{unread}
 use Rattle.smb_engine.specs.Event.{opens, brings, ends}
-use Rattle.smb_engine.specs.Refusals.{EventOutOfMemory}
+use Rattle.smb_engine.specs.Refusals.{EventOutOfMemory, opening_refusal}
 use Rattle.smb_engine.specs.Happenings.{Happening, performed, cut_short, is_cut_short, times_out_of_memory, run_of}
 use Rattle.smb_engine.specs.Record.{PeerCall, next_opened, next_bytes, next_ended, next_idle, send, close, taken_in, closes_of}
 use Rattle.smb_engine.specs.ServedPeers.{PeerState, peer_of, with_peer, with_one_more, dropped}

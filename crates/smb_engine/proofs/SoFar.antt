@@ -1,5 +1,5 @@
 -- Bytes of a stream performed in two parts, one behind the other.
-use Rattle.std.proofs.Common.{◌≡◌, ℕ, ◌+◌, ◌≤◌, Bool, true, false, List, [], ◌∷◌, ◌++◌, length, take, drop, Option, None, IsTrue, ◌-◌, refl, sym, ap, ◌∙◌, append_assoc, arith, min, length-append}
+use Rattle.std.proofs.Common.{◌≡◌, ℕ, ◌+◌, ◌≤◌, Bool, true, false, List, [], ◌∷◌, ◌++◌, length, take, drop, Option, None, IsTrue, ◌-◌, refl, sym, ap, ◌∙◌, append_assoc, arith, length-append}
 use Rattle.std.specs.List.{flat_map}
 use Rattle.std.proofs.lemmas.List.{append-nil, length-drop, length-take-le, take-append-drop}
 use Rattle.std.proofs.Math.Seq.{take-length}
@@ -20,7 +20,7 @@ use Rattle.smb_engine.specs.Output.{AreShort, Output}
 use Rattle.smb_engine.specs.Sink.{Heard}
 use Rattle.smb_engine.specs.Run.{Step, payload_steps}
 use Rattle.smb_engine.specs.Parts.{after_step}
-use Rattle.smb_engine.specs.Refusals.{server_after}
+use Rattle.smb_engine.specs.Parts.{server_after}
 use Rattle.smb_engine.specs.Held.{StoppedAfter}
 use Rattle.smb_engine.specs.InPlace.{StepPlaced, step_behind}
 use Rattle.smb_engine.specs.SoFar.{StepsSoFar, StepsOver, AreTaken}
@@ -228,7 +228,10 @@ pub sum_small : (held left piece : List ℕ) (count d k : ℕ) → first longest
     k ≤ length (left ++ take (length piece - count) (drop count piece)) → d + k ≤ length piece + 2097158
 sum_small held left piece count d k none sound none' sound' few one two =
     omega (
-      arith, one, two, few,
+      arith,
+      one,
+      two,
+      few,
       open_rest_short longest_payload held none sound,
       open_rest_short longest_payload left none' sound',
       length-append held (take count piece),

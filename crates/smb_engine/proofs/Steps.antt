@@ -16,8 +16,7 @@ use Rattle.smb_request.specs.State.{ServerState}
 use Rattle.smb_engine.specs.Output.{AreShort, Output, output_bytes, reply_frame}
 use Rattle.smb_engine.specs.Sink.{Heard}
 use Rattle.smb_engine.specs.Run.{Step, payload_step, payload_steps}
-use Rattle.smb_engine.specs.Parts.{and_then, after_step}
-use Rattle.smb_engine.specs.Refusals.{server_after}
+use Rattle.smb_engine.specs.Parts.{and_then, after_step, server_after}
 use Rattle.smb_engine.specs.InPlace.{StepPlaced, step_behind}
 use Rattle.smb_engine.specs.SoFar.{StepsSoFar}
 use Rattle.smb_engine.proofs.Chains.{payload_whole, after-past, after-front}

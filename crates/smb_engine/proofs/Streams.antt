@@ -14,11 +14,11 @@ use Rattle.smb_session.specs.Authenticator.{Meaning}
 use Rattle.smb_request.specs.State.{ServerState, connection_ended}
 use Rattle.smb_engine.specs.declared.arrival.Arrival.{Arrival}
 use Rattle.smb_engine.specs.State.{StreamState, ShareState, stream_of}
-use Rattle.smb_engine.specs.Parts.{with_stream, without_stream, settled, unread_stream, unread_entry}
+use Rattle.smb_engine.specs.Parts.{with_stream, without_stream, settled, unread_stream, unread_entry, quiet_step, server_after}
 use Rattle.smb_engine.specs.Stream.{unread}
 use Rattle.smb_engine.specs.Event.{brings}
-use Rattle.smb_engine.specs.Run.{piece_step, bytes_step, quiet_step}
-use Rattle.smb_engine.specs.Refusals.{server_after, EventOutOfMemory}
+use Rattle.smb_engine.specs.Run.{piece_step, bytes_step}
+use Rattle.smb_engine.specs.Refusals.{EventOutOfMemory}
 use Rattle.smb_engine.specs.Held.{Waits, AllWait, IsPieceHeld}
 use Rattle.smb_engine.specs.Output.{Output}
 use Rattle.smb_engine.specs.Sink.{Heard}

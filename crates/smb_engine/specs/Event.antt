@@ -1,5 +1,5 @@
 -- What happens to a share.
-use Rattle.std.specs.Prelude.{ℕ, List, map}
+use Rattle.std.specs.Prelude.{ℕ, List}
 use Rattle.smb_engine.specs.declared.event.Event.{Event}
 use Rattle.smb_engine.specs.declared.event.Event.TheVariants.{Opened, Bytes, Ended}
 

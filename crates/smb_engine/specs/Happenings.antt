@@ -1,12 +1,12 @@
 -- A run in which memory may run out, as it may for a share that goes on then.
-use Rattle.std.specs.Prelude.{ℕ, Bool, true, false, ◌==◌, List, [], ◌∷◌, None, count_by, suc, ◌++◌, Some}
+use Rattle.std.specs.Prelude.{ℕ, Bool, true, false, ◌==◌, List, [], ◌∷◌, None, count_by, suc, ◌++◌, take, Some}
 use Rattle.std.specs.Option.{option_map_or, option_map}
-use Rattle.std.specs.List.{list_any}
+use Rattle.std.specs.List.{list_any, fold}
 use Rattle.smb_session.specs.Authenticator.{Meaning}
-use Rattle.smb_engine.specs.State.{ShareState}
+use Rattle.smb_engine.specs.State.{ShareState, ended}
 use Rattle.smb_engine.specs.Event.{EventText, opens, brings, ends}
-use Rattle.smb_engine.specs.Run.{EventStep, quiet_step, event_step, event_refusal, Ran, Stop}
-use Rattle.smb_engine.specs.Refusals.{stopped}
+use Rattle.smb_engine.specs.Run.{PerformedRequest, EventStep, bytes_step, event_step, event_refusal, Ran, Stop}
+use Rattle.smb_request.specs.State.{ServerState}
 use Rattle.smb_engine.specs.declared.fault.ServeFault.{ServeFault}
 
 -- an event that is performed whole, or one in which memory runs out after so many of its requests
@@ -50,11 +50,23 @@ then_ran step ran = record { state = ran.state; outputs = step.outputs ++ ran.ou
 abbrev pub refused_at_once : {S : Type 0} → ShareState S → ServeFault → Ran S
 refused_at_once s fault = record { state = s; outputs = []; stop = Some (record { place = 0; fault = fault }) }
 
+-- the share where memory ran out after the first k requests of an event: those of a piece were performed, and then its
+-- connection ended; an opening changed nothing; and at an end memory is never wanting
+abbrev pub stopped : {S : Type 0} → Meaning S → ShareState S → EventText → ℕ → ShareState S
+stopped {S} authenticator s event k = elim event as (λ e. ShareState S) [
+  | opens connection ↦ s
+  | brings connection moment piece ↦
+      let step = bytes_step authenticator s connection moment piece in
+      let after : ServerState S → PerformedRequest S → ServerState S = λ before request. request.after in
+      ended (record s { server = fold after s.server (take k step.requests) }) connection
+  | ends connection ↦ s
+]
+
 module _ {S : Type 0} (authenticator : Meaning S) where
   -- what a happening leaves and puts out. Where memory runs out, nothing is put out
   abbrev pub happening_step : ShareState S → Happening → EventStep S
   happening_step s (performed event) = event_step authenticator s event
-  happening_step s (cut_short event done) = quiet_step (stopped authenticator s event done)
+  happening_step s (cut_short event done) = record { state = stopped authenticator s event done; outputs = []; requests = [] }
 
   -- happenings in order, as `run` has events
   abbrev pub run_of : ShareState S → List Happening → Ran S

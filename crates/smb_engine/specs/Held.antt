@@ -8,7 +8,7 @@ use Rattle.smb_session.specs.Window.{GoodWindow}
 use Rattle.smb_request.specs.State.{ServerState}
 use Rattle.smb_engine.specs.State.{StreamState, new_stream}
 use Rattle.smb_engine.specs.Run.{Step}
-use Rattle.smb_engine.specs.Refusals.{server_after}
+use Rattle.smb_engine.specs.Parts.{server_after}
 
 -- what is held between calls: less than a whole frame, nothing wrong with it, and a good window; and a connection of which
 -- no payload came is a new one

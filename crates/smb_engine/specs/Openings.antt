@@ -7,7 +7,7 @@ use Rattle.smb_engine.specs.declared.fault.ServeFault.TheVariants.{TooManyConnec
 use Rattle.smb_engine.specs.declared.serving.Opening.{Opening}
 use Rattle.smb_engine.specs.declared.serving.Opening.TheVariants.{Done, Refused, NoMemory}
 use Rattle.smb_engine.specs.State.{ShareState, opened}
-use Rattle.smb_engine.specs.Run.{opening_refusal}
+use Rattle.smb_engine.specs.Refusals.{opening_refusal}
 use Rattle.smb_engine.specs.ServedPeers.{PeerState, with_one_more}
 use Rattle.smb_engine.specs.Record.{PeerCall, next_opened, next_bytes, next_ended, next_idle, send, close}
 use Rattle.smb_engine.specs.Serving.{new_peer, ServingState, told, Follows, AreServed}

@@ -32,4 +32,6 @@ output_bytes (end_of connection) = []
 
 -- a frame's payload has at most as many bytes as the responses to the requests of a chain, behind the 4 of its length
 abbrev pub AreShort : List Output → Type 0
-AreShort = AllByRecursion (λ output. length (output_bytes output) ≤ 4 + most_requests * longest_response)
+AreShort = AllByRecursion (λ output.
+    length (elim output as (λ it. List ℕ) [ frame_to connection bytes ↦ bytes | end_of connection ↦ [] ])
+    ≤ 4 + most_requests * longest_response)

@@ -1,6 +1,6 @@
 -- For the proofs; nothing here need be believed.
 -- Parts of the definitions that the proofs and private functions speak of.
-use Rattle.std.specs.Prelude.{ℕ, Bool, true, ◌&&◌, ◌==◌, not, nat_lt, List, [], ◌∷◌, ◌++◌, filter, map, Option, Some, None, is_none, if◌then◌else◌, slice_get, ◌+◌, ◌*◌, ◌≤◌, length, ◌≡◌, drop, false}
+use Rattle.std.specs.Prelude.{ℕ, Bool, true, ◌&&◌, ◌==◌, not, nat_lt, List, [], ◌∷◌, ◌++◌, filter, map, replicate, Option, Some, None, is_none, if◌then◌else◌, slice_get, ◌+◌, ◌*◌, ◌≤◌, length, ◌≡◌, take, drop, false}
 use Rattle.std.specs.Option.{option_map_or, option_map}
 use Rattle.smb_wire.specs.Limits.{longest_payload, most_requests, longest_response}
 use Rattle.smb_wire.specs.Commands.{code_of}
@@ -12,15 +12,20 @@ use Rattle.smb_session.specs.Window.{without_ids, credits_granted, with_more}
 use Rattle.smb_request.specs.Charge.{charge_of}
 use Rattle.smb_request.specs.Context.{first_context}
 use Rattle.smb_request.specs.State.{ServerState}
-use Rattle.smb_request.specs.Response.{Performed}
+use Rattle.smb_request.specs.Response.{ResponseState, Performed}
 use Rattle.smb_engine.specs.declared.connection.Connection.{Connection}
 use Rattle.smb_engine.specs.declared.fault.ServeFault.{ServeFault}
 use Rattle.smb_engine.specs.declared.fault.ServeFault.TheVariants.{BadEvent, TooManyConnections, NoMemory, BadConfig}
 use Rattle.smb_engine.specs.State.{ShareState, ended, StreamState, is_open}
 use Rattle.smb_engine.specs.Output.{reply_frame, end_of, Output, frame_to, output_bytes}
-use Rattle.smb_head.specs.Replies.{joined_replies}
+use Rattle.smb_head.specs.Replies.{Reply, joined_replies}
+use Rattle.smb_head.specs.Chains.{is_related}
+use Rattle.smb_wire.specs.NtStatus.{status_code}
+use Rattle.smb_body.specs.Smb1.{smb1_of}
+use Rattle.smb_body.specs.declared.smb1.Smb1Dialects.{Smb1Dialects}
+use Rattle.std.specs.List.{fold}
 use Rattle.smb_engine.specs.declared.arrival.Arrival.{Arrival}
-use Rattle.smb_engine.specs.Run.{all_performed, requests_of_chain, ChainState, EventStep, Step, message_ids, reply_to, event_refusal}
+use Rattle.smb_engine.specs.Run.{PerformedRequest, one_performed, requests_of_chain, ChainState, EventStep, Step, message_ids, event_refusal}
 use Rattle.smb_engine.specs.Event.{EventText, connection_of, text_of, opens, brings, ends}
 use Rattle.smb_engine.specs.declared.output.Answer.{Answer}
 use Rattle.smb_engine.specs.declared.output.Answer.TheVariants.{Frame, End}
@@ -30,6 +35,44 @@ use Rattle.std.specs.Map.{set_value, remove_entry}
 use Rattle.std.specs.BTreeMap.{is_at}
 use Rattle.std.specs.Ordering.{nat_cmp}
 use Rattle.smb_engine.specs.declared.event.Event.{Event}
+
+-- the reply to a request: its header has the request's numbers, the flag SERVER_TO_REDIR (1), RELATED_OPERATIONS (4)
+-- where the request had it, and the credits that are granted (3.3.4.1)
+abbrev pub reply_to : List ℕ → ResponseState → ℕ → Reply
+reply_to request response credits = record {
+  header = record {
+    credit_charge = (header_of request).credit_charge;
+    status = status_code response.status;
+    command = (header_of request).command;
+    credits = credits;
+    flags = record { 0 = if is_related request then 5 else 1 };
+    next_command = 0;
+    message_id = (header_of request).message_id;
+    reserved = (header_of request).reserved;
+    tree_id = response.ids.tree_id;
+    session_id = response.ids.session_id;
+    signature = replicate 16 0;
+  };
+  body = response.body;
+}
+
+-- a payload that ends the connection: nothing of it is performed
+abbrev pub refused_step : {S : Type 0} → ServerState S → Connection → Step S
+refused_step server connection = record { server = server; connection = connection; outputs = []; stays_open = false; requests = [] }
+
+-- the first payload of a connection may be an SMB_COM_NEGOTIATE: which dialects it lists (3.3.5.3.1)
+abbrev pub first_negotiate : Connection → List ℕ → Option Smb1Dialects
+first_negotiate connection payload = if connection.payload_came then None else smb1_of payload
+
+-- an event that puts nothing out
+abbrev pub quiet_step : {S : Type 0} → ShareState S → EventStep S
+quiet_step s = record { state = s; outputs = []; requests = [] }
+
+-- the server after the first k of some requests that were performed
+abbrev pub server_after : {S : Type 0} → ServerState S → List (PerformedRequest S) → ℕ → ServerState S
+server_after {S} server requests k =
+    let after : ServerState S → PerformedRequest S → ServerState S = λ before request. request.after in
+    fold after server (take k requests)
 
 -- the streams with another in the place of a connection's, and without it
 abbrev pub with_stream : ℕ → StreamState → List (ℕ × StreamState) → List (ℕ × StreamState)
@@ -135,12 +178,16 @@ abbrev pub unread_entry : ℕ × StreamState → ℕ × StreamState
 unread_entry entry = (entry.0, unread_stream entry.1)
 
 module _ {S : Type 0} (authenticator : Meaning S) (arrival : Arrival) where
+  -- the requests of a chain, in order (3.3.5.2.7)
+  abbrev pub all_performed : ChainState S → List (List ℕ) → ChainState S
+  all_performed chain requests = fold (one_performed authenticator arrival) chain requests
+
   -- the requests of a chain, their replies in one frame
   abbrev pub framed_chain : ChainState S → List (List ℕ) → Step S
   framed_chain chain requests = record {
-    server = (all_performed authenticator arrival chain requests).server;
-    connection = (all_performed authenticator arrival chain requests).connection;
-    outputs = reply_frame arrival.connection_id (joined_replies (all_performed authenticator arrival chain requests).replies);
+    server = (all_performed chain requests).server;
+    connection = (all_performed chain requests).connection;
+    outputs = reply_frame arrival.connection_id (joined_replies (all_performed chain requests).replies);
     stays_open = true;
     requests = requests_of_chain authenticator arrival chain requests;
   }

@@ -1,29 +1,18 @@
 -- What a fault of a share says, and the state that it leaves.
-use Rattle.std.specs.Prelude.{◌≡◌, ℕ, zero, suc, ◌≤◌, Bool, true, false, List, [], ◌∷◌, ◌++◌, length, take, drop, None, Some}
+use Rattle.std.specs.Prelude.{◌≡◌, ℕ, ◌≤◌, Bool, true, false, ◌||◌, nat_le, List, ◌∷◌, ◌++◌, length, take, drop, Option, None, Some, is_some, if◌then◌else◌}
+use Rattle.std.specs.List.{fold}
+use Rattle.smb_wire.specs.Counters.{is_spent}
+use Rattle.smb_wire.specs.Limits.{most_connections}
 use Rattle.smb_session.specs.Authenticator.{Meaning}
 use Rattle.smb_request.specs.Settings.{Settings, is_lawful}
 use Rattle.smb_request.specs.State.{ServerState}
 use Rattle.smb_engine.specs.declared.fault.ServeFault.{ServeFault}
 use Rattle.smb_engine.specs.declared.fault.ServeFault.TheVariants.{TooManyConnections, NoMemory, BadEvent, BadConfig}
-use Rattle.smb_engine.specs.State.{ShareState, is_open, ended}
+use Rattle.smb_engine.specs.State.{ShareState, stream_of, ended}
 use Rattle.smb_engine.specs.Stream.{unread}
 use Rattle.smb_engine.specs.Event.{EventText, opens, brings, ends}
 use Rattle.smb_engine.specs.Output.{Output}
-use Rattle.smb_engine.specs.Run.{PerformedRequest, Ran, opening_refusal, event_refusal, bytes_step, event_step, run}
-
--- the server after the first k of some requests that were performed
-abbrev pub server_after : {S : Type 0} → ServerState S → List (PerformedRequest S) → ℕ → ServerState S
-server_after server requests zero = server
-server_after server [] (suc k) = server
-server_after server (request ∷ requests) (suc k) = server_after request.after requests k
-
--- the share where memory ran out after the first k requests of an event: those of a piece were performed, and then its
--- connection ended; an opening changed nothing; and at an end memory is never wanting
-abbrev pub stopped : {S : Type 0} → Meaning S → ShareState S → EventText → ℕ → ShareState S
-stopped authenticator s (opens connection) k = s
-stopped authenticator s (brings connection moment piece) k =
-    ended (record s { server = server_after s.server (bytes_step authenticator s connection moment piece).requests k }) connection
-stopped authenticator s (ends connection) k = s
+use Rattle.smb_engine.specs.Run.{PerformedRequest, Ran, event_refusal, bytes_step, event_step, run}
 
 -- memory ran out after so many requests of an event, of which it has so many or more: each whose change is left is
 -- among them. Where the last of them change nothing, as ECHO and READ, the state does not tell their number.
@@ -32,11 +21,20 @@ pub record EventOutOfMemory {S : Type 0} (authenticator : Meaning S) (s : ShareS
   pub wanting :
       elim event as (λ e. Bool) [
         | opens connection ↦ true
-        | brings connection moment piece ↦ is_open s connection
+        | brings connection moment piece ↦ is_some (stream_of connection s.streams)
         | ends connection ↦ false
       ] ≡ true
   pub within : done ≤ length (event_step authenticator s event).requests
-  pub state : left ≡ unread (stopped authenticator s event done)
+  -- the first `done` requests of a piece were performed, and then its connection ended; an opening changed nothing
+  pub state :
+      left ≡ unread (elim event as (λ e. ShareState S) [
+        | opens connection ↦ s
+        | brings connection moment piece ↦
+            let step = bytes_step authenticator s connection moment piece in
+            let after : ServerState S → PerformedRequest S → ServerState S = λ before request. request.after in
+            ended (record s { server = fold after s.server (take done step.requests) }) connection
+        | ends connection ↦ s
+      ])
 
 -- why a share is not made: the configuration breaks its rules; else memory may be wanting
 abbrev pub MakingRefused : Settings → ServeFault → Type 0
@@ -44,6 +42,11 @@ MakingRefused settings (NoMemory done) = (is_lawful settings ≡ true) × (done 
 MakingRefused settings BadConfig = is_lawful settings ≡ false
 MakingRefused settings TooManyConnections = ⊥
 MakingRefused settings BadEvent = ⊥
+
+-- why no connection opens: 64 are open, or the numbers are spent (3.3.5.1)
+abbrev pub opening_refusal : {S : Type 0} → ShareState S → Option ServeFault
+opening_refusal s =
+    if nat_le most_connections (length s.streams) || is_spent 64 s.next then Some TooManyConnections else None
 
 -- why opening a connection is refused
 abbrev pub OpeningRefused : {S : Type 0} → ShareState S → ServeFault → Type 0
@@ -78,8 +81,7 @@ pub record RunOutOfMemory {S : Type 0} (authenticator : Meaning S) (start : Shar
 -- what an error of a run says: the definition stops there, or memory ran out
 abbrev pub RunStopped : {S : Type 0} → Meaning S → ShareState S → List EventText → ℕ → ServeFault → ShareState S → List Output → List Output → Type 0
 RunStopped authenticator start events place (NoMemory done) left before after = RunOutOfMemory authenticator start events place done left before after
-RunStopped authenticator start events place TooManyConnections left before after =
-    record { state = left; outputs = after; stop = Some (record { place = place; fault = TooManyConnections }) } ≡ run_behind before (run authenticator start events)
-RunStopped authenticator start events place BadEvent left before after =
-    record { state = left; outputs = after; stop = Some (record { place = place; fault = BadEvent }) } ≡ run_behind before (run authenticator start events)
 RunStopped authenticator start events place BadConfig left before after = ⊥
+RunStopped authenticator start events place fault left before after =
+    record { state = left; outputs = after; stop = Some (record { place = place; fault = fault }) }
+    ≡ run_behind before (run authenticator start events)

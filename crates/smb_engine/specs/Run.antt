@@ -2,7 +2,7 @@
 -- connection's stream, an event and a run of events, each over the definition before it ([MS-SMB2] 3.3.5).
 use Rattle.std.specs.Prelude.{ℕ, suc, Bool, true, false, ◌&&◌, ◌||◌, ◌==◌, not, nat_lt, nat_le, List, [], ◌∷◌, ◌++◌, length, drop, filter, map, replicate, Option, Some, None, is_none, if◌then◌else◌}
 use Rattle.std.specs.Option.{option_map, option_map_or}
-use Rattle.std.specs.List.{list_any}
+use Rattle.std.specs.List.{list_any, list_all, fold}
 use Rattle.std.specs.Map.{set_value}
 use Rattle.std.specs.BTreeMap.{is_at}
 use Rattle.std.specs.Ordering.{nat_cmp}
@@ -11,19 +11,24 @@ use Rattle.smb_wire.specs.Commands.{code_of}
 use Rattle.smb_wire.specs.Counters.{is_spent}
 use Rattle.smb_wire.specs.declared.command.Command.TheVariants.{Negotiate, Cancel}
 use Rattle.smb_wire.specs.declared.dialect.Dialect.{Dialect}
+use Rattle.smb_wire.specs.declared.dialect.Dialect.TheVariants.{Smb202}
+use Rattle.smb_wire.specs.Dialects.{revision_of}
+use Rattle.smb_body.specs.Replies.{reply_spelling}
+use Rattle.smb_session.specs.Numbers.{contains}
 use Rattle.smb_frame.specs.Reading.{payloads, rest, fault_of}
 use Rattle.smb_head.specs.Headers.{header_of}
 use Rattle.smb_head.specs.Chains.{chain_of, is_related}
 use Rattle.smb_head.specs.Replies.{Reply, joined_replies}
 use Rattle.smb_body.specs.Smb1.{smb1_of}
 use Rattle.smb_body.specs.declared.smb1.Smb1Dialects.{Smb1Dialects}
-use Rattle.smb_session.specs.Window.{first_window, may_use, without_ids, numbers_of, credits_granted, with_more}
+use Rattle.smb_session.specs.Window.{are_distinct, numbers_of, credits_granted, with_more}
 use Rattle.smb_session.specs.Authenticator.{Meaning}
 use Rattle.smb_request.specs.declared.context.Context.{Context}
 use Rattle.smb_wire.specs.NtStatus.{status_code}
+use Rattle.smb_wire.specs.declared.nt_status.NtStatus.TheVariants.{Success}
 use Rattle.smb_request.specs.Charge.{charge_of}
 use Rattle.smb_request.specs.Negotiate.{negotiate_answer}
-use Rattle.smb_request.specs.Smb1.{answer_to_smb1, reply_to_smb1}
+use Rattle.smb_request.specs.declared.smb1.Smb1Answer.{Smb1Answer}
 use Rattle.smb_request.specs.Context.{first_context}
 use Rattle.smb_request.specs.State.{ServerState}
 use Rattle.smb_request.specs.Response.{ResponseState}
@@ -54,39 +59,39 @@ pub record ChainState (S : Type 0) : Type 0 where
   pub context : Context
   pub replies : List Reply
 
--- the reply to a request: its header has the request's numbers, the flag SERVER_TO_REDIR (1), RELATED_OPERATIONS (4)
--- where the request had it, and the credits that are granted (3.3.4.1)
-abbrev pub reply_to : List ℕ → ResponseState → ℕ → Reply
-reply_to request response credits = record {
-  header = record {
-    credit_charge = (header_of request).credit_charge;
-    status = status_code response.status;
-    command = (header_of request).command;
-    credits = credits;
-    flags = record { 0 = if is_related request then 5 else 1 };
-    next_command = 0;
-    message_id = (header_of request).message_id;
-    reserved = (header_of request).reserved;
-    tree_id = response.ids.tree_id;
-    session_id = response.ids.session_id;
-    signature = replicate 16 0;
-  };
-  body = response.body;
-}
-
 module _ {S : Type 0} (authenticator : Meaning S) (arrival : Arrival) where
   -- one request of a chain on a connection (3.3.5.2): its response grants credits and joins the replies (3.3.1.2);
-  -- without a response neither changes
+  -- without a response neither changes. The reply's header has the request's numbers, the flag SERVER_TO_REDIR (1),
+  -- RELATED_OPERATIONS (4) where the request had it, and the credits that are granted (3.3.4.1)
   unfoldable pub one_performed : ChainState S → List ℕ → ChainState S
   one_performed chain request =
       let before = chain.connection in
+      let asked = header_of request in
       let p = performed authenticator arrival.connection_id arrival.moment chain.server before.dialect chain.context request in
       option_map_or
-      (λ response. let credits = credits_granted before.window (header_of request).credits in record {
+      (λ (response : ResponseState).
+      let credits = credits_granted before.window asked.credits in
+      let reply : Reply = record {
+        header = record {
+          credit_charge = asked.credit_charge;
+          status = status_code response.status;
+          command = asked.command;
+          credits = credits;
+          flags = record { 0 = if is_related request then 5 else 1 };
+          next_command = 0;
+          message_id = asked.message_id;
+          reserved = asked.reserved;
+          tree_id = response.ids.tree_id;
+          session_id = response.ids.session_id;
+          signature = replicate 16 0;
+        };
+        body = response.body;
+      } in
+      record {
         server = p.server;
         connection = record before { dialect = p.dialect; window = with_more before.window credits };
         context = p.context;
-        replies = chain.replies ++ reply_to request response credits ∷ [];
+        replies = chain.replies ++ reply ∷ [];
       })
       p.response
       (record {
@@ -98,12 +103,7 @@ module _ {S : Type 0} (authenticator : Meaning S) (arrival : Arrival) where
 
   -- A CHAIN
 
-  -- the requests of a chain, in order (3.3.5.2.7)
-  abbrev pub all_performed : ChainState S → List (List ℕ) → ChainState S
-  all_performed chain [] = chain
-  all_performed chain (request ∷ requests) = all_performed (one_performed chain request) requests
-
-  -- and each of them as it was performed
+  -- the requests of a chain, each as it was performed, in order (3.3.5.2.7)
   abbrev pub requests_of_chain : ChainState S → List (List ℕ) → List (PerformedRequest S)
   requests_of_chain chain [] = []
   requests_of_chain chain (request ∷ requests) =
@@ -129,8 +129,13 @@ keeps_negotiate_rule (Some dialect) requests =
 unfoldable pub admitted : Connection → List ℕ → Option (List (List ℕ))
 admitted connection payload =
     option_map_or
-    (λ requests. if keeps_negotiate_rule connection.dialect requests && may_use connection.window (message_ids connection.dialect requests) then Some requests else None)
-    (chain_of payload) None
+    (λ requests.
+    let ids = message_ids connection.dialect requests in
+    if keeps_negotiate_rule connection.dialect requests
+    && (are_distinct ids && list_all (contains connection.window.usable) ids)
+    then Some requests else None)
+    (chain_of payload)
+    None
 
 -- A PAYLOAD
 
@@ -143,33 +148,55 @@ pub record Step (S : Type 0) : Type 0 where
   pub stays_open : Bool
   pub requests : List (PerformedRequest S)
 
--- a payload that ends the connection: nothing of it is performed
-abbrev pub refused_step : {S : Type 0} → ServerState S → Connection → Step S
-refused_step server connection = record { server = server; connection = connection; outputs = []; stays_open = false; requests = [] }
-
--- the first payload of a connection may be an SMB_COM_NEGOTIATE: which dialects it lists (3.3.5.3.1)
-unfoldable pub first_negotiate : Connection → List ℕ → Option Smb1Dialects
-first_negotiate connection payload = if connection.payload_came then None else smb1_of payload
-
 module _ {S : Type 0} (authenticator : Meaning S) (arrival : Arrival) where
-  -- it is answered by an SMB2 NEGOTIATE response, and the client goes on with MessageId 1; without a dialect of the
-  -- share it ends the connection (3.3.5.3.1)
+  -- an SMB_COM_NEGOTIATE that lists some dialects: it is answered by an SMB2 NEGOTIATE response to MessageId 0, which
+  -- tells one credit, and the client goes on with MessageId 1; without a dialect of the share it ends the connection
+  -- (3.3.5.3.1, 3.3.5.3.2)
   unfoldable pub first_step : ServerState S → Connection → Smb1Dialects → Step S
-  first_step server connection dialects = option_map_or
-      (λ answer. record {
-        server = server;
-        connection = record connection { payload_came = true; dialect = answer.dialect; window = first_window 1 };
-        outputs = reply_frame arrival.connection_id (joined_replies (reply_to_smb1 (negotiate_answer
+  first_step server connection dialects =
+      let answer : Option Smb1Answer =
+      -- "SMB 2.???" is answered by the revision 0x02FF, and the client is to choose by an SMB2 NEGOTIATE
+      if dialects.smb_2_wildcard then Some (record { dialect_revision = 0x02FF; dialect = None }) else
+      -- else "SMB 2.002" by 0x0202, which is the dialect of the connection from now on
+      if dialects.smb_2_002 then Some (record { dialect_revision = revision_of Smb202; dialect = Some Smb202 }) else
+      None in
+      option_map_or
+      (λ answer.
+      let reply : Reply = record {
+        header = record {
+          credit_charge = 0;
+          status = status_code Success;
+          command = record { 0 = 0 };
+          credits = 1;
+          flags = record { 0 = 1 };
+          next_command = 0;
+          message_id = 0;
+          reserved = 0;
+          tree_id = 0;
+          session_id = 0;
+          signature = replicate 16 0;
+        };
+        body = reply_spelling (negotiate_answer
             server.settings.guid
             (authenticator.hello server.sessions.authenticator)
             arrival.moment
             answer.dialect
-            answer.dialect_revision) ∷ []));
+            answer.dialect_revision);
+      } in
+      record {
+        server = server;
+        connection = record connection {
+          payload_came = true;
+          dialect = answer.dialect;
+          window = record { usable = 1 ∷ []; next = 2 };
+        };
+        outputs = reply_frame arrival.connection_id (joined_replies (reply ∷ []));
         stays_open = true;
         requests = record { before = server; context = first_context; request = None; after = server } ∷ [];
       })
-      (answer_to_smb1 dialects)
-      (refused_step server connection)
+      answer
+      -- nothing of it is performed
+      (record { server = server; connection = connection; outputs = []; stays_open = false; requests = [] })
 
   -- a payload that is a chain: performed whole and answered, the replies in one frame, or refused whole, which ends the
   -- connection (3.3.5.2). Where a chain begins its MessageIds are no more in the window (3.3.1.1)
@@ -179,11 +206,14 @@ module _ {S : Type 0} (authenticator : Meaning S) (arrival : Arrival) where
       let ids = message_ids connection.dialect requests in
       let begun : ChainState S = record {
         server = server;
-        connection = record connection { payload_came = true; window = without_ids connection.window ids };
+        connection = record connection {
+          payload_came = true;
+          window = record connection.window { usable = filter (λ id. not (contains ids id)) connection.window.usable };
+        };
         context = first_context;
         replies = [];
       } in
-      let done = all_performed authenticator arrival begun requests in
+      let done = fold (one_performed authenticator arrival) begun requests in
       record {
         server = done.server;
         connection = done.connection;
@@ -192,11 +222,15 @@ module _ {S : Type 0} (authenticator : Meaning S) (arrival : Arrival) where
         requests = requests_of_chain authenticator arrival begun requests;
       })
       (admitted connection payload)
-      (refused_step server connection)
+      -- nothing of it is performed
+      (record { server = server; connection = connection; outputs = []; stays_open = false; requests = [] })
 
-  -- one payload
+  -- one payload. The first of a connection may be an SMB_COM_NEGOTIATE, which lists dialects (3.3.5.3.1)
   unfoldable pub payload_step : ServerState S → Connection → List ℕ → Step S
-  payload_step server connection payload = option_map_or (first_step server connection) (first_negotiate connection payload) (chain_step server connection payload)
+  payload_step server connection payload = option_map_or
+      (first_step server connection)
+      (if connection.payload_came then None else smb1_of payload)
+      (chain_step server connection payload)
 
 -- A PIECE OF A STREAM
 
@@ -232,10 +266,6 @@ pub record EventStep (S : Type 0) : Type 0 where
   pub outputs : List Output
   pub requests : List (PerformedRequest S)
 
--- an event that puts nothing out
-abbrev pub quiet_step : {S : Type 0} → ShareState S → EventStep S
-quiet_step s = record { state = s; outputs = []; requests = [] }
-
 -- a piece on a connection: if that stays open it has received these bytes, else it has ended; on one that is not open a
 -- piece is passed over
 unfoldable pub bytes_step : {S : Type 0} → Meaning S → ShareState S → ℕ → ℕ → List ℕ → EventStep S
@@ -255,24 +285,23 @@ bytes_step authenticator s connection moment piece = option_map_or
       requests = step.requests;
     })
     (stream_of connection s.streams)
-    (quiet_step s)
+    (record { state = s; outputs = []; requests = [] })
 
 -- one event that is not refused
 abbrev pub event_step : {S : Type 0} → Meaning S → ShareState S → EventText → EventStep S
-event_step authenticator s (opens connection) = quiet_step (opened s)
+event_step authenticator s (opens connection) = record { state = opened s; outputs = []; requests = [] }
 event_step authenticator s (brings connection moment piece) = bytes_step authenticator s connection moment piece
-event_step authenticator s (ends connection) = quiet_step (ended s connection)
+event_step authenticator s (ends connection) = record { state = ended s connection; outputs = []; requests = [] }
 
 -- A RUN OF EVENTS
 
--- why no connection opens: 64 are open, or the numbers are spent (3.3.5.1)
-abbrev pub opening_refusal : {S : Type 0} → ShareState S → Option ServeFault
-opening_refusal s = if nat_le most_connections (length s.streams) || is_spent 64 s.next then Some TooManyConnections else None
-
--- why an event is refused: an opening has to bear the next number, and then there has to be room for it; another event
--- is on a number that was opened
+-- why an event is refused: an opening has to bear the next number, and then no more than 63 connections may be open,
+-- nor the numbers be spent (3.3.5.1); another event is on a number that was opened
 abbrev pub event_refusal : {S : Type 0} → ShareState S → EventText → Option ServeFault
-event_refusal s (opens connection) = if connection == s.next then opening_refusal s else Some BadEvent
+event_refusal s (opens connection) =
+    if connection == s.next then
+    (if nat_le most_connections (length s.streams) || is_spent 64 s.next then Some TooManyConnections else None)
+    else Some BadEvent
 event_refusal s (brings connection moment piece) =
     if nat_lt 0 connection && nat_lt connection s.next then None else Some BadEvent
 event_refusal s (ends connection) = if nat_lt 0 connection && nat_lt connection s.next then None else Some BadEvent

@@ -5,8 +5,8 @@ use Rattle.std.specs.List.{flat_map}
 use Rattle.smb_session.specs.Authenticator.{Meaning}
 use Rattle.smb_engine.specs.declared.fault.ServeFault.TheVariants.{TooManyConnections}
 use Rattle.smb_engine.specs.State.{ShareState, is_open, opened, ended}
-use Rattle.smb_engine.specs.Refusals.{EventOutOfMemory}
-use Rattle.smb_engine.specs.Run.{opening_refusal, bytes_step}
+use Rattle.smb_engine.specs.Refusals.{EventOutOfMemory, opening_refusal}
+use Rattle.smb_engine.specs.Run.{bytes_step}
 use Rattle.smb_engine.specs.Stream.{unread}
 use Rattle.smb_engine.specs.Event.{brings}
 use Rattle.smb_engine.specs.Output.{AreShort, output_bytes}

@@ -6,7 +6,8 @@ use Rattle.smb_engine.specs.declared.fault.ServeFault.TheVariants.{TooManyConnec
 use Rattle.smb_session.specs.Authenticator.{Meaning}
 use Rattle.smb_engine.specs.State.{ShareState, stream_of, is_open}
 use Rattle.smb_engine.specs.Good.{GoodState}
-use Rattle.smb_engine.specs.Run.{opening_refusal, run}
+use Rattle.smb_engine.specs.Run.{run}
+use Rattle.smb_engine.specs.Refusals.{opening_refusal}
 use Rattle.smb_engine.specs.Stream.{unread}
 use Rattle.smb_engine.specs.Laws.{receiver}
 use Rattle.smb_engine.specs.Event.{EventText, opens, brings, ends}

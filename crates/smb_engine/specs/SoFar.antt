@@ -10,7 +10,7 @@ use Rattle.smb_engine.specs.declared.connection.Connection.{Connection}
 use Rattle.smb_engine.specs.Sink.{Heard}
 use Rattle.smb_engine.specs.Output.{Output, AreShort}
 use Rattle.smb_engine.specs.Run.{payload_steps}
-use Rattle.smb_engine.specs.Refusals.{server_after}
+use Rattle.smb_engine.specs.Parts.{server_after}
 use Rattle.smb_engine.specs.Held.{StoppedAfter}
 use Rattle.smb_engine.specs.InPlace.{step_behind}
 

@@ -1,11 +1,12 @@
 -- The state of a share ([MS-SMB2] 3.3.1), and what opens and ends a connection.
-use Rattle.std.specs.Prelude.{ℕ, ◌+◌, Bool, false, List, [], None, Option, is_some}
+use Rattle.std.specs.Prelude.{ℕ, ◌+◌, Bool, false, List, [], ◌∷◌, None, Option, is_some, if◌then◌else◌}
 use Rattle.std.specs.Map.{lookup, remove_entry}
 use Rattle.std.specs.BTreeMap.{is_at, insert_entry}
 use Rattle.std.specs.Ordering.{nat_cmp}
-use Rattle.smb_session.specs.Window.{first_window}
+use Rattle.smb_session.specs.Numbers.{contains, with_number}
+use Rattle.smb_session.specs.Table.{TableState}
 use Rattle.smb_request.specs.Settings.{Settings}
-use Rattle.smb_request.specs.State.{ServerState, new_server, connection_added, connection_ended}
+use Rattle.smb_request.specs.State.{ServerState, new_server, connection_ended}
 use Rattle.smb_engine.specs.declared.connection.Connection.{Connection}
 
 -- a connection with its stream: in the definition all bytes that were received, in the code those that are unread
@@ -34,11 +35,25 @@ is_open s connection = is_some (stream_of connection s.streams)
 
 -- the stream of a new connection: nothing was received, no dialect is negotiated, and the window is {0} (3.3.5.1)
 abbrev pub new_stream : StreamState
-new_stream = record { received = []; connection = record { payload_came = false; dialect = None; window = first_window 0 } }
+new_stream = record {
+  received = [];
+  connection = record { payload_came = false; dialect = None; window = record { usable = 0 ∷ []; next = 1 } };
+}
 
--- the share with one connection more (3.3.5.1)
+-- the share with one connection more, which may begin sessions from now on (3.3.5.1)
 abbrev pub opened : {S : Type 0} → ShareState S → ShareState S
-opened s = record s { server = connection_added s.server s.next; streams = insert_entry nat_cmp s.streams s.next new_stream; next = s.next + 1 }
+opened s =
+    let table : TableState = s.server.sessions.table in
+    record s {
+      server = record s.server {
+        sessions = record s.server.sessions {
+          table = if contains table.connections s.next then table
+              else record table { connections = with_number table.connections s.next };
+        };
+      };
+      streams = insert_entry nat_cmp s.streams s.next new_stream;
+      next = s.next + 1;
+    }
 
 -- the share without a connection: its sessions end with it (3.3.7.1)
 abbrev pub ended : {S : Type 0} → ShareState S → ℕ → ShareState S

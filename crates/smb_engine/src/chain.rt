@@ -13,8 +13,8 @@ ghost use Rattle.smb_head.specs.Replies.{joined_replies};
 ghost use Rattle.smb_request.specs.Negotiate.{negotiate_answer};
 ghost use Rattle.smb_request.specs.Parts.{hello_of};
 ghost use Rattle.smb_request.specs.Smb1.{reply_to_smb1};
-ghost use Rattle.smb_engine.specs.Run.{message_ids, keeps_negotiate_rule, admitted, reply_to, one_performed, first_negotiate, first_step, chain_step, payload_step};
-ghost use Rattle.smb_engine.specs.Parts.{is_negotiate_request, runs_of, longest_reply};
+ghost use Rattle.smb_engine.specs.Run.{message_ids, keeps_negotiate_rule, admitted, one_performed, first_step, chain_step, payload_step};
+ghost use Rattle.smb_engine.specs.Parts.{is_negotiate_request, runs_of, longest_reply, reply_to, first_negotiate};
 ghost use Rattle.smb_engine.specs.Held.{StoppedAfter};
 ghost use Rattle.smb_request.specs.Held.{is_performed};
 ghost use Rattle.smb_engine.specs.Output.{output_bytes, reply_frame};
@@ -136,7 +136,6 @@ fn reply_header(header: &Header, answered: Answered, credits: u16) -> Header
 }
 
 /// Which dialects a connection's first payload lists, where it is an SMB_COM_NEGOTIATE.
-#[tactic(auto, unfolding(crate::specs::Run::first_negotiate))]
 fn first_negotiate(connection: &Connection, payload: &[u8]) -> Option<Smb1Dialects>
     ensures { result ≡ first_negotiate connection.now payload.now }
 {

@@ -15,10 +15,10 @@ ghost use Rattle.smb_request.specs.State.{connection_added};
 ghost use Rattle.smb_engine.specs.Event.{brings, text_of, connection_of};
 ghost use Rattle.smb_engine.specs.Parts.{events_of, unknown_refusal, EventStopped};
 ghost use Rattle.smb_engine.specs.Output.{AreShort, output_bytes, outputs_of};
-ghost use Rattle.smb_engine.specs.Refusals.{MakingRefused, EventOutOfMemory, OpeningRefused, PieceStopped, run_behind, RunStopped};
+ghost use Rattle.smb_engine.specs.Refusals.{MakingRefused, EventOutOfMemory, OpeningRefused, PieceStopped, run_behind, RunStopped, opening_refusal};
 ghost use Rattle.smb_engine.specs.Rest.{ends_of, IsAtRest};
 ghost use Rattle.smb_engine.specs.State.{StreamState, new_share, new_stream, stream_of, is_open, opened, ended};
-ghost use Rattle.smb_engine.specs.Run.{opening_refusal, bytes_step, event_refusal, event_step, run};
+ghost use Rattle.smb_engine.specs.Run.{bytes_step, event_refusal, event_step, run};
 ghost use Rattle.smb_engine.specs.Stream.{unread};
 ghost use Rattle.smb_engine.specs.Good.{GoodState};
 

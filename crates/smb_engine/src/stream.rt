@@ -184,7 +184,7 @@ fn take_held<A: Authenticator + Drop, T: Tree + Drop, O: Opens + Drop, K: Sink>(
 }
 
 /// Takes the bytes of a piece behind the end of the frame that was held. Where no byte is held, whole frames are performed
-/// from where they are, and what is behind them is held; each byte of it is copied once.
+/// from where they are, and what is behind them is held.
 fn take_back<A: Authenticator + Drop, T: Tree + Drop, O: Opens + Drop, K: Sink>(
     server: &mut Server<A, T, O>,
     arrival: Arrival,
@@ -235,7 +235,8 @@ fn take_back<A: Authenticator + Drop, T: Tree + Drop, O: Opens + Drop, K: Sink>(
     }
 }
 
-/// Takes a piece in two parts: what the frame that is held lacks, and what is behind it. So no byte that is held is moved.
+/// Takes a piece in two parts: what the frame that is held lacks, and what is behind it. So the bytes of a frame whose
+/// length has come are never moved.
 fn take_parts<A: Authenticator + Drop, T: Tree + Drop, O: Opens + Drop, K: Sink>(
     server: &mut Server<A, T, O>,
     arrival: Arrival,

@@ -15,7 +15,7 @@ use Rattle.smb_tree.proofs.Apart.{numbered-changed}
 use Rattle.smb_tree.proofs.Parts.{length-resized}
 use Rattle.smb_tree.proofs.Spaces.{space_changed, space_within}
 use Rattle.smb_tree.specs.Good.{GoodContent}
-use Rattle.smb_entry.specs.Parts.{has_entries, has_no_space, resized_file, changed_in, written_basic}
+use Rattle.smb_entry.specs.Parts.{has_entries, has_no_space, resized_file, written_basic}
 use Rattle.smb_access.proofs.Closing.{none_first, none_mapped}
 use Rattle.smb_access.proofs.Overwrites.{changed-changed, changed-same}
 use Rattle.smb_access.proofs.Trees.{row_of_shown}

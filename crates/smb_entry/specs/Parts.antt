@@ -26,10 +26,6 @@ use Rattle.smb_access.specs.declared.open_row.OpenRow.{OpenRow}
 use Rattle.smb_access.specs.Found.{is_read_only_file, is_pending, is_reached}
 use Rattle.smb_access.specs.Opens.{has_open}
 
--- a tree with the entry of a number changed
-abbrev pub changed_in : (Entry → Entry) → Content → ℕ → Content
-changed_in change tree entry = record tree { rows = changed change tree.rows entry }
-
 -- the times and attributes of a file that was written at a moment; of the attributes a tree keeps four ([MS-FSCC] 2.6)
 abbrev pub written_basic : ℕ → Basic → Basic
 written_basic moment basic = kept_basic (record basic { last_write_time = moment; change_time = moment })

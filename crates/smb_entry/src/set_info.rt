@@ -8,7 +8,7 @@ ghost use Rattle.smb_tree.specs.Entries.{is_folder_kind, allocation_size, kept_b
 ghost use Rattle.smb_access.specs.StatusRows.{first_status};
 ghost use Rattle.smb_tree.specs.Good.{GoodContent};
 ghost use Rattle.smb_entry.specs.SetInfo.{is_bad_time, time_set};
-ghost use Rattle.smb_entry.specs.Parts.{shows_read_only_file, has_entries, mark_rows, delete_rows, has_no_space, size_rows, resized_file, leaves_size, has_bad_time, basic_rows, change_time_set, attributes_set, basic_set, entry_set, changed_in};
+ghost use Rattle.smb_entry.specs.Parts.{shows_read_only_file, has_entries, mark_rows, delete_rows, has_no_space, size_rows, resized_file, leaves_size, has_bad_time, basic_rows, change_time_set, attributes_set, basic_set, entry_set};
 ghost use Rattle.smb_access.specs.declared.fault.StoreFault.TheVariants.{NoMemory};
 
 use super::ask::BasicAsk;

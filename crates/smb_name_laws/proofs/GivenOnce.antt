@@ -26,7 +26,7 @@ use Rattle.smb_access.proofs.Changes.{Keeps, below_changed, below_push}
 use Rattle.smb_access.proofs.Removed.{below_removed}
 use Rattle.smb_access.proofs.Rows.{below_without}
 use Rattle.smb_access.proofs.Rows.{below_push as opens_push}
-use Rattle.smb_entry.specs.Parts.{written_file, written_tree, delete_set, size_set, entry_set, dated, renamed_tree, changed_in}
+use Rattle.smb_entry.specs.Parts.{written_file, written_tree, delete_set, size_set, entry_set, dated, renamed_tree}
 use Rattle.smb_entry.proofs.Writes.{writes_keep}
 use Rattle.smb_opens.specs.Close.{closed}
 use Rattle.smb_opens.specs.Parts.{closed_open, closed_each, with_locks_of}

@@ -13,7 +13,7 @@ use Rattle.smb_access.specs.Effect.{overwritten, entry_after, tree_after}
 use Rattle.smb_access.specs.Parts.{overwritten_tree}
 use Rattle.smb_access.specs.Found.{path_asked}
 use Rattle.smb_access.specs.Opens.{open_of}
-use Rattle.smb_entry.specs.Parts.{written_file, written_tree, delete_set, size_set, entry_set, changed_in}
+use Rattle.smb_entry.specs.Parts.{written_file, written_tree, delete_set, size_set, entry_set}
 use Rattle.smb_opens.specs.Found.{entry_asked}
 use Rattle.smb_opens.specs.Parts.{with_locks_of}
 use Rattle.smb_opens.specs.State.{StoreState}

@@ -16,7 +16,7 @@ use Rattle.smb_access.specs.declared.open_row.OpenRow.{OpenRow}
 use Rattle.smb_access.specs.declared.view.View.{View}
 use Rattle.smb_access.specs.Asked.{FileAsked, kind_asked, attributes_asked}
 use Rattle.smb_opens.specs.Bytes.{file_bytes, written_to}
-use Rattle.smb_entry.specs.Parts.{written_file, written_tree, delete_set, size_set, entry_set, dated, renamed_tree, changed_in}
+use Rattle.smb_entry.specs.Parts.{written_file, written_tree, delete_set, size_set, entry_set, dated, renamed_tree}
 use Rattle.smb_access.specs.Close.{is_deletable}
 use Rattle.smb_access.specs.Parts.{tree_marked, is_due, overwritten_tree, is_on_entry}
 use Rattle.smb_opens.specs.Close.{closed}

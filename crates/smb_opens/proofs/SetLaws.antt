@@ -20,7 +20,7 @@ use Rattle.smb_opens.specs.Found.{entry_asked}
 use Rattle.smb_access.specs.Found.{path_asked, is_pending}
 use Rattle.smb_opens.specs.Laws.{LeavesOthers, path_and_bytes}
 use Rattle.smb_access.specs.Opens.{open_of}
-use Rattle.smb_entry.specs.Parts.{delete_set, resized_file, leaves_size, size_set, entry_set, changed_in}
+use Rattle.smb_entry.specs.Parts.{delete_set, resized_file, leaves_size, size_set, entry_set}
 use Rattle.smb_opens.specs.SetInfo.{changed_through, delete_set_through, size_set_through, basic_set_through}
 use Rattle.smb_opens.specs.State.{StoreState}
 use Rattle.smb_opens.proofs.StoreSettings.{size_keeps}

@@ -24,7 +24,7 @@ use Rattle.smb_tree.specs.Good.{GoodContent}
 use Rattle.smb_opens.specs.Good.{IsKept}
 use Rattle.smb_opens.specs.Parts.{AreMarksDue}
 use Rattle.smb_access.specs.Opens.{open_of, has_open}
-use Rattle.smb_entry.specs.Parts.{shows_read_only_file, has_entries, attributes_set, delete_rows, delete_set, has_no_space, resized_file, leaves_size, size_set, entry_set, changed_in}
+use Rattle.smb_entry.specs.Parts.{shows_read_only_file, has_entries, attributes_set, delete_rows, delete_set, has_no_space, resized_file, leaves_size, size_set, entry_set}
 use Rattle.smb_opens.specs.SetInfo.{changed_through, size_set_through, delete_status}
 use Rattle.smb_opens.specs.State.{StoreState}
 use Rattle.smb_access.proofs.Changes.{Keeps, Shrinks, keeps_of, good_changed, length-changed, present_changed}

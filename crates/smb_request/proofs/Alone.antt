@@ -14,8 +14,8 @@ use Rattle.smb_opens.specs.Close.{closed_all}
 use Rattle.smb_access.specs.Opens.{is_held_by}
 use Rattle.smb_opens.specs.State.{StoreState}
 use Rattle.smb_request.specs.Laws.{NumbersInOrder}
-use Rattle.smb_request.specs.State.{ServerState, closed_with, connection_added, connection_ended}
-use Rattle.smb_request.specs.Parts.{without_connection}
+use Rattle.smb_request.specs.State.{ServerState, connection_added, connection_ended}
+use Rattle.smb_request.specs.Parts.{without_connection, closed_with}
 use Rattle.smb_request.proofs.Numbered.{at_is}
 use Rattle.smb_request.proofs.Numbers.{others_left, order_closed}
 use Rattle.smb_request.proofs.Leaving.{LeavesBut, LeavesSharedBut, IsSame, leaves_same, other_connection, others_held, none_fewer, opens_of}

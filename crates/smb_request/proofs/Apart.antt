@@ -19,12 +19,13 @@ use Rattle.smb_request.specs.declared.context.Context.{Context}
 use Rattle.smb_request.specs.declared.context.ContextOpen.{ContextOpen}
 use Rattle.smb_request.specs.declared.context.ContextOpen.TheVariants.{Nothing, Named, Refused}
 use Rattle.smb_request.specs.Context.{open_named, named_on, open_for_next_related}
-use Rattle.smb_request.specs.Parts.{number_named, named_open, names_open, file_asked, close_response, asks_unlock, needs_session, is_unsupported, is_cancel_command, check_session_tree_and_open, dialect_after, lock_asks, hello_of}
+use Rattle.smb_request.specs.Parts.{number_named, named_open, names_open, file_asked, close_response, asks_unlock, needs_session, is_unsupported, is_cancel_command, check_session_tree_and_open, dialect_after, lock_asks, hello_of, open_refusal, performed_by, success, with_store, set_through, negotiated, file_locked, file_unlocked}
+use Rattle.smb_request.specs.Refusals.{status_of_refusal}
 use Rattle.smb_wire.specs.declared.nt_status.NtStatus.{NtStatus}
 use Rattle.smb_request.specs.Needs.{needs_of}
 use Rattle.smb_request.specs.Negotiate.{negotiate_answer}
 use Rattle.smb_request.specs.Call.{body_of, call_of}
-use Rattle.smb_request.specs.Request.{open_refusal, check_request, negotiated, acted, performed_by, performed}
+use Rattle.smb_request.specs.Request.{check_request, acted, performed}
 use Rattle.smb_request.specs.Held.{IsCallOf}
 use Rattle.smb_session.specs.Authenticator.{Meaning}
 use Rattle.smb_opens.specs.Close.{closed_all}
@@ -54,7 +55,6 @@ use Rattle.smb_opens.specs.Views.{open_view}
 use Rattle.smb_opens.proofs.Again.{opens_left}
 use Rattle.smb_opens.proofs.Closing.{opens_closed}
 use Rattle.smb_request.specs.Bytes.{file_read, file_written}
-use Rattle.smb_request.specs.Locks.{file_locked, file_unlocked}
 use Rattle.smb_request.specs.Files.{file_created, file_closed}
 use Rattle.smb_session.specs.Parts.{with_tree, without_tree, logoff_refusal, tree_disconnected}
 use Rattle.smb_session.specs.Table.{tree_disconnect_refusal}
@@ -62,13 +62,12 @@ use Rattle.smb_session.specs.Sessions.{tree_connect_refusal}
 use Rattle.smb_body.specs.Replies.{answers_close, answers_lock}
 use Rattle.smb_request.specs.declared.call.Call.{Call}
 use Rattle.smb_wire.specs.declared.nt_status.NtStatus.TheVariants.{InvalidParameter, FileClosed, NotSupported}
-use Rattle.smb_request.specs.Response.{success, refused}
-use Rattle.smb_request.specs.Session.{may_only_read, status_of_refusal, session_logged_off, tree_joined, tree_left}
-use Rattle.smb_request.specs.State.{ServerState, with_store}
+use Rattle.smb_request.specs.Response.{refused}
+use Rattle.smb_request.specs.Session.{may_only_read, session_logged_off, tree_joined, tree_left}
+use Rattle.smb_request.specs.State.{ServerState}
 use Rattle.smb_request.specs.Laws.{NumbersInOrder, IsInOrder, IsAsItWas, IsOver, ReplacesSession}
 use Rattle.smb_entry.specs.Parts.{written_tree}
 use Rattle.smb_access.specs.declared.open_row.Owner.{Owner}
-use Rattle.smb_request.specs.SetInfo.{set_through}
 use Rattle.smb_request.proofs.Handed.{mapped_there, request_passed}
 use Rattle.smb_request.proofs.Performed.{call_read}
 use Rattle.smb_request.proofs.InfoApart.{set_opens, set_next, queried_left, info_set_left}
@@ -240,7 +239,6 @@ module _ {S : Type 0} (may : ℕ → SessionState → Type 0) (acts : ℕ → Bo
   locks_kept table = opens_kept (with_locks_of table server.store (open_view server.store k)) (locks_opens table server.store (open_view server.store k)) (locks_next table server.store (open_view server.store k))
 
   locked_left : (asks : List LockAsk) → Left (file_locked server call asks).server
-  unfolding file_locked
   locked_left asks = where_done _ _ (is_success (lock_status server.store k asks)) (locks_kept (λ entry. locked server.store.locks entry k asks))
 
   unlocked_at : (after : ServerState S) (status : NtStatus) (b : Bool) → Left after → Left (let x : CommandStep S = if b then record { server = after; response = success call.ids answers_lock } else refused after call.ids status in x).server
@@ -248,7 +246,6 @@ module _ {S : Type 0} (may : ℕ → SessionState → Type 0) (acts : ℕ → Bo
   unlocked_at after status false h = h
 
   unlocked_left : (asks : List LockAsk) → Left (file_unlocked server call asks).server
-  unfolding file_unlocked
   unlocked_left asks =
       unlocked_at (with_store server (unlocked_through server.store k asks)) (unlock_status server.store k asks) (is_success (unlock_status server.store k asks)) (locks_kept (λ entry. unlocked server.store.locks entry k asks))
 
@@ -274,7 +271,6 @@ module _ {S : Type 0} (may : ℕ → SessionState → Type 0) (acts : ℕ → Bo
   negotiated_at m (Some best) = same
 
   negotiated_left : (m : Meaning S) (dialects : List ℕ) → Left (negotiated m server call dialects).server
-  unfolding negotiated
   negotiated_left m dialects = negotiated_at m (best_of dialects)
 
   -- each command: a request that needs a session acts under one of this connection, and the open that it names exists

@@ -16,8 +16,8 @@ use Rattle.smb_request.specs.Settings.{Settings}
 use Rattle.smb_access.specs.declared.open_row.Owner.TheVariants.{Session}
 use Rattle.smb_opens.specs.Close.{closed_all}
 use Rattle.smb_opens.specs.State.{StoreState}
-use Rattle.smb_request.specs.State.{ServerState, closed_with, connection_ended}
-use Rattle.smb_request.specs.Parts.{without_connection}
+use Rattle.smb_request.specs.State.{ServerState, connection_ended}
+use Rattle.smb_request.specs.Parts.{without_connection, closed_with}
 use Rattle.smb_request.proofs.Numbered.{at_same, at_above}
 
 abbrev others : ℕ → List (ℕ × SessionState) → List (ℕ × SessionState)

@@ -7,13 +7,13 @@ use Rattle.smb_access.specs.Opens.{open_of, is_held_by}
 use Rattle.smb_request.specs.declared.context.ContextOpen.{ContextOpen}
 use Rattle.smb_request.specs.declared.context.ContextOpen.TheVariants.{Nothing, Named, Refused}
 use Rattle.smb_request.specs.declared.context.HeaderIds.{HeaderIds}
-use Rattle.smb_request.specs.Parts.{number_named, due_of, names_open, check_session_tree_and_open}
+use Rattle.smb_request.specs.Parts.{number_named, due_of, names_open, check_session_tree_and_open, open_refusal}
 use Rattle.smb_body.specs.Requests.{RequestValue, payload_of}
 use Rattle.smb_request.specs.declared.call.Call.{Call}
 use Rattle.smb_wire.specs.declared.nt_status.NtStatus.{NtStatus}
 use Rattle.smb_wire.specs.declared.nt_status.NtStatus.TheVariants.{InvalidParameter}
 use Rattle.smb_request.specs.State.{ServerState}
-use Rattle.smb_request.specs.Request.{open_refusal, check_request}
+use Rattle.smb_request.specs.Request.{check_request}
 
 held_there : (P : OpenRow → Bool) (o : Option OpenRow) → option_map_or P o false ≡ true → IsSome o
 held_there P None h = h

@@ -11,16 +11,16 @@ use Rattle.smb_info.specs.SetInformation.{SetAsked, asks_basic, asks_rename, ask
 use Rattle.smb_tree.specs.Content.{Content, changed_in}
 use Rattle.smb_access.specs.declared.open_row.OpenRow.{OpenRow}
 use Rattle.smb_access.specs.Opens.{open_of}
-use Rattle.smb_entry.specs.Parts.{renamed_tree, delete_set, size_set, entry_set, changed_in}
+use Rattle.smb_entry.specs.Parts.{renamed_tree, delete_set, size_set, entry_set}
 use Rattle.smb_opens.specs.State.{StoreState}
 use Rattle.smb_request.specs.declared.call.Call.{Call}
 use Rattle.smb_wire.specs.declared.nt_status.NtStatus.{NtStatus}
 use Rattle.smb_wire.specs.declared.nt_status.NtStatus.TheVariants.{Success, InvalidParameter, InvalidInfoClass, InfoLengthMismatch}
 use Rattle.smb_request.specs.QueryInfo.{information_queried}
-use Rattle.smb_request.specs.Response.{CommandStep, success, refused}
-use Rattle.smb_request.specs.SetInfo.{set_status, set_through, information_set}
-use Rattle.smb_request.specs.Parts.{set_type_refusal, set_as_asked, class_set}
-use Rattle.smb_request.specs.State.{ServerState, with_store}
+use Rattle.smb_request.specs.Response.{CommandStep, refused}
+use Rattle.smb_request.specs.SetInfo.{information_set}
+use Rattle.smb_request.specs.Parts.{set_type_refusal, set_as_asked, class_set, success, set_status, set_through, with_store}
+use Rattle.smb_request.specs.State.{ServerState}
 
 -- what a store has beside its tree is as it was
 with_tree : {X : Type 0} (part : StoreState → X) → ((state : StoreState) (tree : Content) → part (record state { tree = tree }) ≡ part state) → (tree : OpenRow → Content) (store : StoreState) (found : Option OpenRow) →

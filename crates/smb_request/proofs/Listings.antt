@@ -25,10 +25,10 @@ use Rattle.smb_wire.specs.declared.nt_status.NtStatus.{NtStatus}
 use Rattle.smb_wire.specs.declared.nt_status.NtStatus.TheVariants.{InfoLengthMismatch}
 use Rattle.smb_request.specs.declared.call.Call.{Call}
 use Rattle.smb_request.specs.declared.query_directory.ListingRefusal.{ListingRefusal}
-use Rattle.smb_request.specs.QueryDirectory.{directory_refusal, listing_refusal, directory_queried}
-use Rattle.smb_request.specs.Parts.{list_asked_by, listing_refused, directory_listed, listed_as_asked, is_owned, room_refusal}
+use Rattle.smb_request.specs.QueryDirectory.{listing_refusal, directory_queried}
+use Rattle.smb_request.specs.Parts.{list_asked_by, listing_refused, directory_listed, listed_as_asked, is_owned, room_refusal, directory_refusal, with_store, request_refusal, information_asked}
 use Rattle.smb_request.specs.Response.{refused}
-use Rattle.smb_request.specs.State.{ServerState, with_store}
+use Rattle.smb_request.specs.State.{ServerState}
 use Rattle.smb_session.specs.Table.{TableState}
 use Rattle.smb_access.specs.declared.open_row.OpenRow.{OpenRow}
 use Rattle.smb_access.specs.declared.open_row.Owner.TheVariants.{Session}
@@ -38,7 +38,7 @@ use Rattle.smb_access.specs.Parts.{has_number}
 use Rattle.smb_info.specs.Information.{Information, info_fault, told}
 use Rattle.smb_request.specs.Information.{fault_status, IsWhy}
 use Rattle.smb_request.specs.Owners.{AreOwned}
-use Rattle.smb_request.specs.QueryInfo.{request_refusal, information_asked, information_queried}
+use Rattle.smb_request.specs.QueryInfo.{information_queried}
 use Rattle.smb_body.specs.declared.query_info.QueryInfoRequest.{QueryInfoRequest}
 use Rattle.smb_session.specs.Authenticator.{Meaning}
 use Rattle.smb_request.specs.declared.refusal.Refusal.{Refusal}

@@ -1,5 +1,5 @@
 -- One request as the code performs it: what its call and its body say.
-use Rattle.std.proofs.Common.{◌≡◌, ◌≤◌, ℕ, true, false, if◌then◌else◌, List, Option, None, Some, Result, Ok, Err, IfErr, refl, sym, ap, ◌∙◌, arith}
+use Rattle.std.proofs.Common.{◌≡◌, ◌≤◌, ℕ, true, false, if◌then◌else◌, List, Option, None, Some, Result, Ok, Err, IfErr, refl, sym, subst, ap, ◌∙◌, arith}
 use Rattle.std.specs.Option.{option_map_or}
 use Rattle.smb_wire.specs.Commands.{code_of}
 use Rattle.smb_wire.specs.declared.command.Command.{Command}
@@ -20,8 +20,8 @@ use Rattle.smb_request.specs.Call.{body_of, call_of}
 use Rattle.smb_request.specs.Context.{named_on, open_for_next_related}
 use Rattle.smb_request.specs.Held.{is_performed, IsCallOf}
 use Rattle.smb_request.specs.InPlace.{AnswerHeld, answer_behind, PerformedHeld, performed_behind}
-use Rattle.smb_request.specs.Parts.{is_unsupported, is_cancel_command, dialect_after}
-use Rattle.smb_request.specs.Request.{performed_by, performed}
+use Rattle.smb_request.specs.Parts.{is_unsupported, is_cancel_command, dialect_after, performed_by}
+use Rattle.smb_request.specs.Request.{performed}
 use Rattle.smb_request.specs.Response.{Performed}
 use Rattle.smb_request.specs.State.{ServerState}
 
@@ -72,6 +72,24 @@ module _ {S : Type 0} (m : Meaning S) (connection moment : ℕ) (server : Server
       let cancel : is_cancel_command (call_of connection moment dialect context request).command ≡ true = ap (λ (c : Call). is_cancel_command c.command) (sym is) ∙ e in
       rw (cancel, is) refl
 
+  -- what a request is, by its parts
+  same_step : performed m connection moment server dialect context request
+      ≡ (let call = call_of connection moment dialect context request in
+      let step = performed_by m server call (body_of call.command request) in
+      let x : Performed S = if is_cancel_command call.command
+      then record { server = server; dialect = dialect; context = record { ids = call.ids; last_open = named_on call.inherited call.file_id }; response = None }
+      else record {
+        server = step.server;
+        dialect = option_map_or (dialect_after dialect) (body_of call.command request) dialect;
+        context = record {
+          ids = step.response.ids;
+          last_open = open_for_next_related call.inherited server.store.next call.command call.file_id step.response.status;
+        };
+        response = Some step.response;
+      } in x)
+  unfolding performed
+  same_step = refl
+
   answered : is_cancel_command call.command ≡ false → performed m connection moment server dialect context request
       ≡ (let step = performed_by m server call (body_of call.command request) in let x : Performed S = record {
         server = step.server;
@@ -82,10 +100,19 @@ module _ {S : Type 0} (m : Meaning S) (connection moment : ℕ) (server : Server
         };
         response = Some step.response;
       } in x)
-  unfolding performed
   answered e =
       let cancel : is_cancel_command (call_of connection moment dialect context request).command ≡ false = ap (λ (c : Call). is_cancel_command c.command) (sym is) ∙ e in
-      rw (cancel, is) refl
+      let P : Call → Type 0 = λ c. performed m connection moment server dialect context request
+      ≡ (let step = performed_by m server c (body_of c.command request) in let x : Performed S = record {
+        server = step.server;
+        dialect = option_map_or (dialect_after dialect) (body_of c.command request) dialect;
+        context = record {
+          ids = step.response.ids;
+          last_open = open_for_next_related c.inherited server.store.next c.command c.file_id step.response.status;
+        };
+        response = Some step.response;
+      } in x) in
+      subst P (sym is) (same_step ∙ rw cancel refl)
 
   -- a request with its response, whose body is behind what was in the vector
   pub performed_put : (body : Option RequestValue) → body ≡ body_of call.command request → is_cancel_command call.command ≡ false →

@@ -55,18 +55,17 @@ use Rattle.smb_request.specs.Bytes.{file_read, file_written}
 use Rattle.smb_request.specs.Call.{body_of, call_of}
 use Rattle.smb_request.specs.Context.{named_on, open_for_next_related}
 use Rattle.smb_request.specs.Files.{file_created, file_closed}
-use Rattle.smb_request.specs.Parts.{file_asked, close_response, asks_unlock, needs_session, is_unsupported, is_cancel_command, has_tree, only_reads, owns, is_owned, check_session_tree_and_open, dialect_after, closed_for, setup_answered, without_connection, lock_asks, hello_of}
+use Rattle.smb_request.specs.Parts.{file_asked, close_response, asks_unlock, needs_session, is_unsupported, is_cancel_command, has_tree, only_reads, owns, is_owned, check_session_tree_and_open, dialect_after, closed_for, setup_answered, without_connection, lock_asks, hello_of, performed_by, success, set_status, set_through, with_store, closed_with, file_locked, file_unlocked, negotiated}
+use Rattle.smb_request.specs.Refusals.{status_of_refusal}
 use Rattle.smb_request.specs.Held.{IsCallOf, opens_left}
 use Rattle.smb_request.specs.Laws.{NumbersInOrder, AllMayOnlyRead, ChangesNoFile}
-use Rattle.smb_request.specs.Locks.{file_locked, file_unlocked}
 use Rattle.smb_request.specs.Needs.{needs_of}
 use Rattle.smb_request.specs.Negotiate.{negotiate_answer}
 use Rattle.smb_request.specs.Owners.{AreOwned}
-use Rattle.smb_request.specs.Request.{check_request, negotiated, acted, performed_by, performed}
-use Rattle.smb_request.specs.Response.{CommandStep, Performed, success, refused}
-use Rattle.smb_request.specs.Session.{may_only_read, status_of_refusal, session_set_up, session_logged_off, tree_joined, tree_left}
-use Rattle.smb_request.specs.SetInfo.{set_status, set_through}
-use Rattle.smb_request.specs.State.{ServerState, with_store, closed_with, connection_ended}
+use Rattle.smb_request.specs.Request.{check_request, acted, performed}
+use Rattle.smb_request.specs.Response.{CommandStep, Performed, refused}
+use Rattle.smb_request.specs.Session.{may_only_read, session_set_up, session_logged_off, tree_joined, tree_left}
+use Rattle.smb_request.specs.State.{ServerState, connection_ended}
 use Rattle.smb_request.proofs.Apart.{acts_known, id_held}
 use Rattle.smb_request.proofs.Configured.{locks_opens}
 use Rattle.smb_request.proofs.Endings.{one_session, none_left}
@@ -253,7 +252,6 @@ module _ {S : Type 0} (call : Call) (server : ServerState S) (o : NumbersInOrder
 
   -- LOCK
   locked_reads : (asks : List LockAsk) → Left (file_locked server call asks).server
-  unfolding file_locked
   locked_reads asks = where_done _ _ (is_success (lock_status server.store k asks)) refl (λ done. record {
     files = step_leaves_files server.store (locks k asks) tt;
     owned = rw (locks_opens (λ entry. locked server.store.locks entry k asks) server.store (open_view server.store k)) own;
@@ -264,7 +262,6 @@ module _ {S : Type 0} (call : Call) (server : ServerState S) (o : NumbersInOrder
   unlocked_at after status false h = h
 
   unlocked_reads : (asks : List LockAsk) → Left (file_unlocked server call asks).server
-  unfolding file_unlocked
   unlocked_reads asks =
       unlocked_at (with_store server (unlocked_through server.store k asks)) (unlock_status server.store k asks) (is_success (unlock_status server.store k asks)) (record {
         files = step_leaves_files server.store (unlocks k asks) tt;
@@ -306,7 +303,6 @@ module _ {S : Type 0} (call : Call) (server : ServerState S) (o : NumbersInOrder
   negotiated_at m (Some best) = same
 
   negotiated_reads : (m : Meaning S) (dialects : List ℕ) → Left (negotiated m server call dialects).server
-  unfolding negotiated
   negotiated_reads m dialects = negotiated_at m (best_of dialects)
 
   -- each command

@@ -23,12 +23,12 @@ use Rattle.smb_body.specs.SessionSetup.{SessionSetupAsked}
 use Rattle.smb_opens.specs.Close.{closed_all}
 use Rattle.smb_request.specs.Session.{session_set_up}
 use Rattle.smb_request.specs.Parts.{closed_for, setup_answered}
+use Rattle.smb_request.specs.Refusals.{status_of_refusal}
 use Rattle.smb_opens.specs.State.{StoreState}
 use Rattle.smb_request.specs.declared.call.Call.{Call}
 use Rattle.smb_request.specs.declared.context.HeaderIds.{HeaderIds}
 use Rattle.smb_wire.specs.declared.nt_status.NtStatus.{NtStatus}
 use Rattle.smb_request.specs.Response.{refused}
-use Rattle.smb_request.specs.Session.{status_of_refusal}
 use Rattle.smb_request.specs.State.{ServerState}
 use Rattle.smb_request.specs.Laws.{NumbersInOrder}
 use Rattle.smb_request.proofs.Leaving.{LeavesBut, LeavesSharedBut, IsApart, leaves_then, leaves_same, leaves_begun, leaves_changed, leaves_ended, leaves_whole, other_connection, look_removed, gone}

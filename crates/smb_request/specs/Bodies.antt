@@ -20,9 +20,9 @@ use Rattle.smb_request.specs.declared.response.NoReply.{NoReply}
 use Rattle.smb_request.specs.declared.response.NoReply.TheVariants.{NotPerformed, Performed}
 use Rattle.smb_request.specs.Negotiate.{negotiate_answer}
 use Rattle.smb_request.specs.State.{ServerState}
-use Rattle.smb_request.specs.Parts.{hello_of}
+use Rattle.smb_request.specs.Parts.{hello_of, success}
 use Rattle.smb_request.specs.QueryDirectory.{directory_queried}
-use Rattle.smb_request.specs.Response.{CommandStep, with_body, success, refused}
+use Rattle.smb_request.specs.Response.{CommandStep, with_body, refused}
 
 -- the value of each body
 abbrev pub body_value : {S : Type 0} → Meaning S → ServerState S → Call → Body → ReplyValue

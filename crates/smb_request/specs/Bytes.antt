@@ -4,10 +4,11 @@ use Rattle.smb_wire.specs.Limits.{most_at_once}
 use Rattle.smb_body.specs.declared.read.ReadRequest.{ReadRequest}
 use Rattle.smb_body.specs.Write.{WriteAsked}
 use Rattle.smb_body.specs.Replies.{answers_read, answers_write}
+use Rattle.smb_wire.specs.declared.nt_status.NtStatus.TheVariants.{Success}
 use Rattle.smb_opens.specs.Bytes.{read_status, file_bytes, write_status, written_to}
 use Rattle.smb_request.specs.declared.call.Call.{Call}
-use Rattle.smb_request.specs.State.{ServerState, with_store}
-use Rattle.smb_request.specs.Response.{CommandStep, success, by_status}
+use Rattle.smb_request.specs.State.{ServerState}
+use Rattle.smb_request.specs.Response.{CommandStep, with_body, by_status}
 
 -- READ (3.3.5.12) of the open of a number: it is answered by the bytes of its file
 unfoldable pub file_read : {S : Type 0} → ServerState S → Call → ReadRequest → CommandStep S
@@ -15,7 +16,8 @@ file_read server call asked = by_status server call.ids
     (read_status server.store (most_at_once call.dialect) call.open_number asked.offset asked.length asked.minimum_count)
     (record {
       server = server;
-      response = success call.ids (answers_read (file_bytes server.store call.open_number asked.offset asked.length));
+      response = with_body call.ids Success
+          (answers_read (file_bytes server.store call.open_number asked.offset asked.length));
     })
 
 -- WRITE (3.3.5.13) of the open of a number: it is answered by how many bytes were written
@@ -23,6 +25,6 @@ unfoldable pub file_written : {S : Type 0} → ServerState S → Call → WriteA
 file_written server call asked = by_status server call.ids
     (write_status server.store (most_at_once call.dialect) call.open_number asked.offset asked.buffer)
     (record {
-      server = with_store server (written_to server.store call.open_number asked.offset asked.buffer call.moment);
-      response = success call.ids (answers_write (record { count = length asked.buffer }));
+      server = record server { store = written_to server.store call.open_number asked.offset asked.buffer call.moment };
+      response = with_body call.ids Success (answers_write (record { count = length asked.buffer }));
     })

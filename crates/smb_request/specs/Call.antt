@@ -24,7 +24,8 @@ abbrev pub call_of : ℕ → ℕ → Option Dialect → Context → List ℕ →
 call_of connection moment dialect context request =
     let command = known_command (header_of request).command.0 in
     let inherited = if is_related request then Some context.last_open else None in
-    let file_id = option_and_then file_id_of (body_of command request) in
+    let body = option_and_then (λ known. request_of (code_of known) request) command in
+    let file_id = option_and_then file_id_of body in
     record {
       connection = connection;
       moment = moment;

@@ -9,10 +9,10 @@ use Rattle.smb_opens.specs.Create.{create_status}
 use Rattle.smb_opens.specs.Effect.{created, create_result}
 use Rattle.smb_opens.specs.Views.{open_view}
 use Rattle.smb_opens.specs.Close.{closed}
-use Rattle.smb_wire.specs.declared.nt_status.NtStatus.TheVariants.{FileClosed}
+use Rattle.smb_wire.specs.declared.nt_status.NtStatus.TheVariants.{Success, FileClosed}
 use Rattle.smb_request.specs.declared.call.Call.{Call}
-use Rattle.smb_request.specs.State.{ServerState, with_store}
-use Rattle.smb_request.specs.Response.{CommandStep, success, refused, by_status}
+use Rattle.smb_request.specs.State.{ServerState}
+use Rattle.smb_request.specs.Response.{CommandStep, with_body, refused, by_status}
 use Rattle.smb_request.specs.Session.{may_only_read}
 
 -- CREATE (3.3.5.9), under a session, which may only read or write too, and a tree. Where it succeeds it is answered: no
@@ -32,8 +32,8 @@ file_created server call asked =
     } in
     let done = create_result server.store ask call.moment in
     by_status server call.ids (create_status server.store ask) (record {
-      server = with_store server (created server.store ask call.moment);
-      response = success call.ids (answers_create (record {
+      server = record server { store = created server.store ask call.moment };
+      response = with_body call.ids Success (answers_create (record {
         oplock_level = record { 0 = 0 };
         create_action = done.action;
         creation_time = done.view.creation_time;
@@ -52,8 +52,8 @@ file_created server call asked =
 unfoldable pub file_closed : {S : Type 0} → ServerState S → Call → CloseFlags → CommandStep S
 file_closed server call flags = option_map_or
     (λ view. record {
-      server = with_store server (closed server.store call.open_number);
-      response = success call.ids (answers_close (if bit_and flags.0 1 == 0
+      server = record server { store = closed server.store call.open_number };
+      response = with_body call.ids Success (answers_close (if bit_and flags.0 1 == 0
           then record {
             flags = record { 0 = 0 };
             creation_time = 0;

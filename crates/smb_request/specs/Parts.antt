@@ -1,6 +1,6 @@
 -- For the proofs; nothing here need be believed.
 -- Parts of the definitions that the proofs and private functions speak of.
-use Rattle.std.specs.Prelude.{ℕ, List, Option, Some, None, if◌then◌else◌, ◌+◌, ◌-◌, ◌/◌, Bool, false, ◌&&◌, ◌==◌, bit_and, [], ◌∷◌, true, ◌||◌, not, is_some, option_and_then, nat_lt, length, ◌%◌, nat_le, filter, map}
+use Rattle.std.specs.Prelude.{ℕ, ◌^◌, List, Option, Some, None, if◌then◌else◌, ◌+◌, ◌-◌, ◌/◌, Bool, false, ◌&&◌, ◌==◌, bit_and, [], ◌∷◌, true, ◌||◌, not, is_some, option_and_then, nat_lt, length, ◌%◌, nat_le, filter, map}
 use Rattle.std.specs.Option.{option_map, option_map_or}
 use Rattle.smb_head.specs.Chains.{is_related}
 use Rattle.smb_request.specs.declared.call.Call.{Call}
@@ -9,7 +9,7 @@ use Rattle.smb_request.specs.declared.context.ContextOpen.{ContextOpen}
 use Rattle.smb_request.specs.Context.{open_named}
 use Rattle.smb_request.specs.declared.context.ContextOpen.TheVariants.{Nothing, Named, Refused}
 use Rattle.smb_wire.specs.declared.nt_status.NtStatus.{NtStatus}
-use Rattle.smb_wire.specs.declared.nt_status.NtStatus.TheVariants.{Success, InvalidParameter, AccessDenied, BufferOverflow, InvalidInfoClass, InfoLengthMismatch, NetworkNameDeleted, UserSessionDeleted, NotSupported}
+use Rattle.smb_wire.specs.declared.nt_status.NtStatus.TheVariants.{Success, InvalidParameter, AccessDenied, BufferOverflow, InvalidInfoClass, InfoLengthMismatch, NetworkNameDeleted, UserSessionDeleted, FileClosed, NotSupported}
 use Rattle.smb_wire.specs.declared.file_id.FileId.{FileId}
 use Rattle.smb_body.specs.declared.create.CreateResponse.{CreateResponse}
 use Rattle.smb_body.specs.declared.close.CloseFlags.{CloseFlags}
@@ -38,38 +38,87 @@ use Rattle.smb_access.specs.Access.{is_past_reading, most_allowed}
 use Rattle.smb_wire.specs.Access.{has_any, FILE_READ_DATA}
 use Rattle.smb_tree.specs.Entries.{is_folder_kind}
 use Rattle.smb_body.specs.QueryDirectory.{QueryDirectoryAsked}
-use Rattle.smb_body.specs.Replies.{answers_query_directory, answers_set_info}
+use Rattle.smb_body.specs.Replies.{ReplyValue, answers_error, answers_session_setup, answers_query_directory, answers_set_info, answers_lock}
 use Rattle.smb_opens.specs.Scans.{scan_set}
 use Rattle.smb_info.specs.Queries.{ListAsked}
 use Rattle.smb_info.specs.OpenQueries.{open_list_fault, open_bytes_listed, open_scan_after}
 use Rattle.smb_request.specs.declared.query_directory.ListingRefusal.{ListingRefusal}
-use Rattle.smb_request.specs.Response.{CommandStep, success, failure, refused, by_status}
-use Rattle.smb_request.specs.State.{ServerState, with_store}
+use Rattle.smb_request.specs.Response.{ResponseState, CommandStep, with_body, refused, by_status}
+use Rattle.smb_request.specs.State.{ServerState}
 use Rattle.smb_request.specs.QueryDirectory.{listing_refusal}
 use Rattle.smb_tree.specs.Content.{used_space}
 use Rattle.smb_tree.specs.WholeNames.{entry_copied}
+use Rattle.smb_body.specs.declared.query_info.QueryInfoRequest.{QueryInfoRequest}
 use Rattle.smb_info.specs.declared.written.Truncation.{Truncation}
 use Rattle.smb_info.specs.declared.written.Truncation.TheVariants.{Whole, Cut}
 use Rattle.smb_info.specs.Information.{Information}
 use Rattle.smb_info.specs.Parts.{fixed_length}
 use Rattle.smb_info.specs.FileInformation.{file_information}
-use Rattle.smb_info.specs.FileSystemInformation.{VolumeFacts}
+use Rattle.smb_info.specs.FileSystemInformation.{VolumeFacts, fs_information}
 use Rattle.smb_opens.specs.State.{StoreState}
 use Rattle.smb_session.specs.Negotiate.{best_of}
+use Rattle.smb_wire.specs.Dialects.{revision_of}
+use Rattle.smb_request.specs.Negotiate.{negotiate_answer}
+use Rattle.smb_opens.specs.Locks.{lock_status, unlock_status, locked_through, unlocked_through}
 use Rattle.smb_body.specs.Requests.{RequestValue, asks_negotiate}
 use Rattle.smb_request.specs.Needs.{needs_of}
-use Rattle.smb_request.specs.Request.{open_refusal}
+use Rattle.smb_request.specs.Request.{acted, check_request}
 use Rattle.smb_body.specs.declared.tree_connect.TreeConnectResponse.{TreeConnectResponse}
 use Rattle.smb_session.specs.Sessions.{SetupStep}
 use Rattle.smb_opens.specs.Close.{closed_all}
-use Rattle.smb_request.specs.Session.{setup_response}
+use Rattle.smb_session.specs.Setup.{SetupResult}
+use Rattle.smb_session.specs.declared.setup.SetupStatus.{SetupStatus}
+use Rattle.smb_session.specs.declared.setup.SetupStatus.TheVariants.{Success as SetUp, MoreProcessingRequired, LogonFailure}
 use Rattle.smb_info.specs.declared.set_info.SetInformationClass.{SetInformationClass}
-use Rattle.smb_info.specs.SetInformation.{SetAsked, set_length, is_readable, asked_of}
+use Rattle.smb_info.specs.SetInformation.{SetAsked, asks_basic, asks_rename, asks_mark, asks_allocation, asks_end, set_length, is_readable, asked_of}
 use Rattle.smb_request.specs.InfoTypes.{FILE, FILESYSTEM, SECURITY, QUOTA}
-use Rattle.smb_request.specs.SetInfo.{set_status, set_through}
-use Rattle.std.specs.List.{list_all, list_any}
-use Rattle.smb_request.specs.Settings.{is_between}
+use Rattle.smb_opens.specs.Renames.{rename_status, renamed_through}
+use Rattle.smb_opens.specs.SetInfo.{delete_status, delete_set_through, size_status, size_set_through, basic_status, basic_set_through}
+use Rattle.std.specs.List.{list_all, list_any, fold}
 use Rattle.smb_session.specs.Authenticator.{Meaning}
+
+-- a length from the least to the greatest
+abbrev pub is_between : ℕ → ℕ → ℕ → Bool
+is_between least greatest n = nat_le least n && nat_le n greatest
+
+-- the server with another store
+abbrev pub with_store : {S : Type 0} → ServerState S → StoreState → ServerState S
+with_store server store = record server { store = store }
+
+-- the response to a request that succeeds, under the session and tree connect of the request
+abbrev pub success : HeaderIds → ReplyValue → ResponseState
+success ids reply = with_body ids Success reply
+
+-- the response to one that fails
+abbrev pub failure : HeaderIds → NtStatus → ResponseState
+failure ids status = with_body ids status answers_error
+
+-- a FileId of all ones stands for the inherited open
+abbrev pub is_all_ones : FileId → Bool
+is_all_ones id = id.persistent == 2 ^ 64 - 1 && id.volatile == 2 ^ 64 - 1
+
+-- sessions end one after the other: each one's opens are closed (3.3.7.1)
+abbrev pub closed_with : StoreState → List ℕ → StoreState
+closed_with store sessions =
+    let close : StoreState → ℕ → StoreState = λ store session. closed_all store (Session session) in
+    fold close store sessions
+
+-- what a SESSION_SETUP is answered
+abbrev pub setup_response : HeaderIds → SetupResult → SetupStatus → ResponseState
+setup_response ids told SetUp = with_body ids Success
+    (answers_session_setup (record { session_flags = record { 0 = told.flags }; security_buffer = told.token }))
+setup_response ids told MoreProcessingRequired = with_body ids NtStatus.MoreProcessingRequired
+    (answers_session_setup (record { session_flags = record { 0 = told.flags }; security_buffer = told.token }))
+setup_response ids told LogonFailure = with_body ids NtStatus.LogonFailure answers_error
+
+-- why a request that names this open is refused (P6 to P8)
+abbrev pub open_refusal : List OpenRow → HeaderIds → ContextOpen → Option NtStatus
+open_refusal opens ids Nothing = Some InvalidParameter
+open_refusal opens ids (Refused status) = Some status
+open_refusal opens ids (Named id) =
+    if id.persistent == id.volatile
+    && option_map_or (is_held_by (Tree ids.session_id ids.tree_id)) (open_of opens id.persistent) false
+    then None else Some FileClosed
 
 -- the open that a request inherits; one that is not related inherits none (3.3.5.2.7.2)
 abbrev pub inherited_open : Context → List ℕ → Option ContextOpen
@@ -222,6 +271,12 @@ view_refusal view =
     if not (is_folder_kind view.kind) then Some InvalidParameter else
     if not (has_any view.access.0 FILE_READ_DATA) then Some AccessDenied else None
 
+-- why a query is refused before its class is looked at, the first that holds
+abbrev pub directory_refusal : ℕ → Option View → QueryDirectoryAsked → Option NtStatus
+directory_refusal most view asked =
+    if nat_lt most asked.output_buffer_length then Some InvalidParameter else
+    option_map_or view_refusal view (Some InvalidParameter)
+
 -- a listing that is not refused: the entries, and the open's scan goes on behind them
 abbrev pub directory_listed : {S : Type 0} → ServerState S → Call → ListAsked → CommandStep S
 directory_listed server call ask = record {
@@ -257,6 +312,20 @@ volume_of server = record {
   capacity = server.store.tree.capacity;
   used = used_space server.store.tree.rows;
 }
+
+-- what is asked for: of the entry of the open, or of the share as a volume
+abbrev pub information_asked : {S : Type 0} → ServerState S → ℕ → QueryInfoRequest → Option Information
+information_asked server open_number asked =
+    if asked.info_type.0 == FILE
+    then open_information server.store open_number asked.file_info_class.0
+    else fs_information asked.file_info_class.0 (volume_of server)
+
+-- why a request is refused whatever information it asks for, by the most bytes that it may ask for
+abbrev pub request_refusal : ℕ → QueryInfoRequest → Option NtStatus
+request_refusal most asked =
+    if asked.info_type.0 == SECURITY || asked.info_type.0 == QUOTA then Some NotSupported else
+    if not (asked.info_type.0 == FILE || asked.info_type.0 == FILESYSTEM) then Some InvalidParameter else
+    if nat_lt most asked.output_buffer_length then Some InvalidParameter else None
 
 -- why information is not told: there is no such class, or no room for its fixed part ([MS-FSCC] 2.4, 2.5)
 abbrev pub room_refusal : Option Information → ℕ → Option NtStatus
@@ -306,6 +375,22 @@ tree_response read_only = record {
   capabilities = record { 0 = 0 };
   maximal_access = record { 0 = most_allowed read_only false };
 }
+
+-- the status that the store gives what is asked of the entry of an open (3.3.5.21.1)
+abbrev pub set_status : StoreState → ℕ → SetAsked → NtStatus
+set_status store open_number (asks_basic ask) = basic_status store open_number ask
+set_status store open_number (asks_rename replace name) = rename_status store open_number name replace
+set_status store open_number (asks_mark mark) = delete_status store open_number mark
+set_status store open_number (asks_allocation size) = size_status store open_number size
+set_status store open_number (asks_end size) = size_status store open_number size
+
+-- the store with it set at a moment
+abbrev pub set_through : StoreState → ℕ → ℕ → SetAsked → StoreState
+set_through store open_number moment (asks_basic ask) = basic_set_through store open_number ask moment
+set_through store open_number moment (asks_rename replace name) = renamed_through store open_number name moment
+set_through store open_number moment (asks_mark mark) = delete_set_through store open_number mark
+set_through store open_number moment (asks_allocation size) = size_set_through store open_number size true moment
+set_through store open_number moment (asks_end size) = size_set_through store open_number size false moment
 
 -- what is asked: a refusal changes nothing
 abbrev pub set_as_asked : {S : Type 0} → ServerState S → Call → SetAsked → CommandStep S
@@ -367,3 +452,46 @@ lock_asks elements = map lock_ask elements
 -- the token that the authenticator offers first
 abbrev pub hello_of : {S : Type 0} → Meaning S → ServerState S → List ℕ
 hello_of authenticator server = authenticator.hello server.sessions.authenticator
+
+-- a request other than CANCEL: it is refused by the first row that holds, or performed
+abbrev pub performed_by : {S : Type 0} → Meaning S → ServerState S → Call → Option RequestValue → CommandStep S
+performed_by authenticator server call body =
+    if option_map_or is_unsupported call.command false then refused server call.ids NotSupported else
+    option_map_or
+    (λ asked. option_map_or
+    (refused server call.ids)
+    (check_request server call asked)
+    (acted authenticator server call asked))
+    body
+    (refused server call.ids InvalidParameter)
+
+-- NEGOTIATE (3.3.5.4): it is answered by the greatest dialect of the server's that its body lists
+abbrev pub negotiated : {S : Type 0} → Meaning S → ServerState S → Call → List ℕ → CommandStep S
+negotiated authenticator server call dialects = option_map_or
+    (λ best. record {
+      server = server;
+      response = success call.ids (negotiate_answer
+          server.settings.guid
+          (authenticator.hello server.sessions.authenticator)
+          call.moment
+          (Some best)
+          (revision_of best));
+    })
+    (best_of dialects)
+    (refused server call.ids NotSupported)
+
+-- a LOCK that locks (3.3.5.14.2): a refusal changes nothing
+abbrev pub file_locked : {S : Type 0} → ServerState S → Call → List LockAsk → CommandStep S
+file_locked server call asks = by_status server call.ids
+    (lock_status server.store call.open_number asks)
+    (record {
+      server = with_store server (locked_through server.store call.open_number asks);
+      response = success call.ids answers_lock;
+    })
+
+-- a LOCK that unlocks (3.3.5.14.1): a refusal leaves the elements before it unlocked
+abbrev pub file_unlocked : {S : Type 0} → ServerState S → Call → List LockAsk → CommandStep S
+file_unlocked server call asks =
+    let after = with_store server (unlocked_through server.store call.open_number asks) in
+    by_status after call.ids (unlock_status server.store call.open_number asks)
+    (record { server = after; response = success call.ids answers_lock })

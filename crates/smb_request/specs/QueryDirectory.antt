@@ -1,11 +1,11 @@
 -- QUERY_DIRECTORY ([MS-SMB2] 3.3.5.18).
-use Rattle.std.specs.Prelude.{ℕ, [], not, nat_lt, Option, None, Some, option_and_then, if◌then◌else◌}
+use Rattle.std.specs.Prelude.{[], not, nat_lt, Option, None, Some, option_and_then, if◌then◌else◌}
 use Rattle.std.specs.Option.{option_map_or}
 use Rattle.smb_wire.specs.Limits.{most_at_once}
 use Rattle.smb_wire.specs.Access.{has_any, FILE_READ_DATA}
 use Rattle.smb_tree.specs.Entries.{is_folder_kind}
 use Rattle.smb_body.specs.QueryDirectory.{QueryDirectoryAsked}
-use Rattle.smb_body.specs.Replies.{answers_query_directory}
+use Rattle.smb_body.specs.Replies.{answers_error, answers_query_directory}
 use Rattle.smb_access.specs.declared.view.View.{View}
 use Rattle.smb_access.specs.declared.open_row.OpenRow.{OpenRow}
 use Rattle.smb_access.specs.declared.scan.ScanLast.TheVariants.{Start}
@@ -15,26 +15,11 @@ use Rattle.smb_opens.specs.Views.{open_view}
 use Rattle.smb_info.specs.Queries.{ListAsked, list_fault, bytes_listed, scan_after}
 use Rattle.smb_info.specs.declared.fault.InfoFault.{InfoFault}
 use Rattle.smb_info.specs.declared.fault.InfoFault.TheVariants.{BadClass, BadPattern, TooSmall, NoMatch, NoMore, Unreadable, NoMemory}
-use Rattle.smb_wire.specs.declared.nt_status.NtStatus.{NtStatus}
-use Rattle.smb_wire.specs.declared.nt_status.NtStatus.TheVariants.{InvalidParameter, AccessDenied, InvalidInfoClass, ObjectNameInvalid, InfoLengthMismatch, NoSuchFile, NoMoreFiles}
+use Rattle.smb_wire.specs.declared.nt_status.NtStatus.TheVariants.{Success, InvalidParameter, AccessDenied, InvalidInfoClass, ObjectNameInvalid, InfoLengthMismatch, NoSuchFile, NoMoreFiles}
 use Rattle.smb_request.specs.declared.call.Call.{Call}
 use Rattle.smb_request.specs.declared.query_directory.ListingRefusal.{ListingRefusal}
-use Rattle.smb_request.specs.Response.{CommandStep, success, failure, refused}
-use Rattle.smb_request.specs.State.{ServerState, with_store}
-
--- why a query is refused before its class is looked at, the first that holds
-abbrev pub directory_refusal : ℕ → Option View → QueryDirectoryAsked → Option NtStatus
-directory_refusal most view asked =
-    -- room for more bytes than it may ask for
-    if nat_lt most asked.output_buffer_length then Some InvalidParameter else
-    option_map_or
-    (λ (it : View).
-    -- an open that is not of a directory
-    if not (is_folder_kind it.kind) then Some InvalidParameter else
-    -- one that was not granted FILE_LIST_DIRECTORY, the bit that is FILE_READ_DATA of a file (2.2.13.1.2)
-    if not (has_any it.access.0 FILE_READ_DATA) then Some AccessDenied else None)
-    view
-    (Some InvalidParameter)
+use Rattle.smb_request.specs.Response.{CommandStep, with_body, refused}
+use Rattle.smb_request.specs.State.{ServerState}
 
 -- what a refusal of the listing comes to: its status, and the open's scan where this query started it, though no name
 -- is matched. (A rename alone is unreadable, and no definition refuses for being out of memory.)
@@ -60,12 +45,24 @@ directory_queried server call asked =
     let rows = server.store.tree.rows in
     let opened = open_of server.store.opens call.open_number in
     option_map_or
-    (λ status. refused server call.ids status)
-    (directory_refusal (most_at_once call.dialect) (open_view server.store call.open_number) asked)
+    (refused server call.ids)
+    -- before its class is looked at: room for more bytes than it may ask for
+    (if nat_lt (most_at_once call.dialect) asked.output_buffer_length then Some InvalidParameter else
+    option_map_or
+    (λ (it : View).
+    -- an open that is not of a directory
+    if not (is_folder_kind it.kind) then Some InvalidParameter else
+    -- one that was not granted FILE_LIST_DIRECTORY, the bit that is FILE_READ_DATA of a file (2.2.13.1.2)
+    if not (has_any it.access.0 FILE_READ_DATA) then Some AccessDenied else None)
+    (open_view server.store call.open_number)
+    (Some InvalidParameter))
     (option_map_or
     (λ (refusal : ListingRefusal). record {
-      server = option_map_or (λ scan. with_store server (scan_set server.store call.open_number scan)) refusal.scan server;
-      response = failure call.ids refusal.status;
+      server = option_map_or
+          (λ scan. record server { store = scan_set server.store call.open_number scan })
+          refusal.scan
+          server;
+      response = with_body call.ids refusal.status answers_error;
     })
     (option_and_then
     listing_refusal
@@ -76,6 +73,6 @@ directory_queried server call asked =
     (record { pattern = None; last = Start }) in
     let bytes = option_map_or (λ (row : OpenRow). bytes_listed rows row.entry row.scan ask) opened [] in
     record {
-      server = with_store server (scan_set server.store call.open_number scan);
-      response = success call.ids (answers_query_directory bytes);
+      server = record server { store = scan_set server.store call.open_number scan };
+      response = with_body call.ids Success (answers_query_directory bytes);
     }))

@@ -8,25 +8,24 @@ use Rattle.smb_session.specs.Negotiate.{best_of}
 use Rattle.smb_session.specs.Table.{knows_session, knows_tree}
 use Rattle.smb_wire.specs.declared.command.Command.{Command}
 use Rattle.smb_wire.specs.declared.command.Command.TheVariants.{Ioctl, Cancel, ChangeNotify, OplockBreak}
-use Rattle.smb_access.specs.declared.open_row.OpenRow.{OpenRow}
 use Rattle.smb_access.specs.declared.open_row.Owner.{Owner}
 use Rattle.smb_access.specs.Opens.{open_of, is_held_by}
-use Rattle.smb_body.specs.Requests.{RequestValue, payload_of, asks_negotiate, asks_session_setup, asks_logoff, asks_tree_connect, asks_tree_disconnect, asks_create, asks_close, asks_flush, asks_read, asks_write, asks_lock, asks_cancel, asks_echo, asks_query_directory, asks_query_info, asks_set_info}
+use Rattle.smb_body.specs.Requests.{RequestValue, payload_of, request_of, asks_negotiate, asks_session_setup, asks_logoff, asks_tree_connect, asks_tree_disconnect, asks_create, asks_close, asks_flush, asks_read, asks_write, asks_lock, asks_cancel, asks_echo, asks_query_directory, asks_query_info, asks_set_info}
 use Rattle.smb_body.specs.Replies.{answers_flush, answers_echo}
 use Rattle.smb_request.specs.declared.call.Call.{Call}
-use Rattle.smb_request.specs.declared.context.HeaderIds.{HeaderIds}
 use Rattle.smb_request.specs.declared.context.Context.{Context}
 use Rattle.smb_request.specs.declared.context.ContextOpen.{ContextOpen}
 use Rattle.smb_request.specs.declared.context.ContextOpen.TheVariants.{Nothing, Named, Refused}
 use Rattle.smb_wire.specs.declared.nt_status.NtStatus.{NtStatus}
-use Rattle.smb_wire.specs.declared.nt_status.NtStatus.TheVariants.{InvalidParameter, NotSupported, NetworkNameDeleted, FileClosed, UserSessionDeleted}
-use Rattle.smb_request.specs.Call.{body_of, call_of}
+use Rattle.smb_wire.specs.declared.nt_status.NtStatus.TheVariants.{Success, InvalidParameter, NotSupported, NetworkNameDeleted, FileClosed, UserSessionDeleted}
+use Rattle.smb_request.specs.Call.{call_of}
+use Rattle.smb_wire.specs.Commands.{code_of}
 use Rattle.smb_request.specs.Context.{open_named, open_for_next_related, named_on}
 use Rattle.smb_request.specs.Needs.{needs_of}
 use Rattle.smb_request.specs.declared.needs.Needs.TheVariants.{Session, Tree, Open}
 use Rattle.smb_request.specs.Negotiate.{negotiate_answer}
 use Rattle.smb_request.specs.State.{ServerState}
-use Rattle.smb_request.specs.Response.{CommandStep, Performed, success, refused}
+use Rattle.smb_request.specs.Response.{CommandStep, Performed, with_body, refused}
 use Rattle.smb_request.specs.Session.{session_set_up, session_logged_off, tree_joined, tree_left}
 use Rattle.smb_request.specs.Files.{file_created, file_closed}
 use Rattle.smb_request.specs.Bytes.{file_read, file_written}
@@ -35,77 +34,84 @@ use Rattle.smb_request.specs.QueryDirectory.{directory_queried}
 use Rattle.smb_request.specs.QueryInfo.{information_queried}
 use Rattle.smb_request.specs.SetInfo.{information_set}
 
--- NEGOTIATE (3.3.5.4): it is answered by the greatest dialect of the server's that its body lists
-unfoldable pub negotiated : {S : Type 0} → Meaning S → ServerState S → Call → List ℕ → CommandStep S
-negotiated authenticator server call dialects = option_map_or
-    (λ best. record {
-      server = server;
-      response = success call.ids (negotiate_answer
-          server.settings.guid
-          (authenticator.hello server.sessions.authenticator)
-          call.moment
-          (Some best)
-          (revision_of best));
-    })
-    (best_of dialects)
-    (refused server call.ids NotSupported)
-
 module _ {S : Type 0} (authenticator : Meaning S) (server : ServerState S) (call : Call) where
-  -- the table of commands: a request that passed its checks. FLUSH (3.3.5.11) finds what was written in the store
-  -- already
+  -- the table of commands: a request that passed its checks. NEGOTIATE is answered by the greatest dialect of the
+  -- server's that its body lists (3.3.5.4); FLUSH finds what was written in the store already (3.3.5.11)
   abbrev pub acted : RequestValue → CommandStep S
-  acted (asks_negotiate asked) = negotiated authenticator server call asked.dialects
+  acted (asks_negotiate asked) = option_map_or
+      (λ best. record {
+        server = server;
+        response = with_body call.ids Success (negotiate_answer
+            server.settings.guid
+            (authenticator.hello server.sessions.authenticator)
+            call.moment
+            (Some best)
+            (revision_of best));
+      })
+      (best_of asked.dialects)
+      (refused server call.ids NotSupported)
   acted (asks_session_setup asked) = session_set_up authenticator server call asked
   acted (asks_logoff asked) = session_logged_off server call
   acted (asks_tree_connect asked) = tree_joined server call asked.path
   acted (asks_tree_disconnect asked) = tree_left server call
   acted (asks_create asked) = file_created server call asked
   acted (asks_close asked) = file_closed server call asked.flags
-  acted (asks_flush asked) = record { server = server; response = success call.ids answers_flush }
+  acted (asks_flush asked) = record { server = server; response = with_body call.ids Success answers_flush }
   acted (asks_read asked) = file_read server call asked
   acted (asks_write asked) = file_written server call asked
   acted (asks_lock asked) = locks_changed server call asked.locks
   acted (asks_cancel asked) = refused server call.ids NotSupported
-  acted (asks_echo asked) = record { server = server; response = success call.ids answers_echo }
+  acted (asks_echo asked) = record { server = server; response = with_body call.ids Success answers_echo }
   acted (asks_query_directory asked) = directory_queried server call asked
   acted (asks_query_info asked) = information_queried server call asked
   acted (asks_set_info asked) = information_set server call asked
 
--- why a request that names this open is refused, by the rows of docs/PROFILE.md
-abbrev pub open_refusal : List OpenRow → HeaderIds → ContextOpen → Option NtStatus
--- P6. it inherits no open (3.3.5.2.7.2)
-open_refusal opens ids Nothing = Some InvalidParameter
--- P7. it inherits the open that a CREATE was to make, which was refused by this status (3.3.5.2.7.2)
-open_refusal opens ids (Refused status) = Some status
--- P8. the FileId is that of no open of its session and tree connect: both its halves are the open's number (3.3.5.10)
-open_refusal opens ids (Named id) =
-    if id.persistent == id.volatile
-    && option_map_or (is_held_by (Owner.Tree ids.session_id ids.tree_id)) (open_of opens id.persistent) false
-    then None else Some FileClosed
-
--- why a request whose body is read is refused
+-- why a request whose body is read is refused, by the rows of docs/PROFILE.md
 abbrev pub check_request : {S : Type 0} → ServerState S → Call → RequestValue → Option NtStatus
 check_request server call asked =
+    let ids = call.ids in
     -- P3b. it takes fewer MessageIds than it has to: 1, and 1 more for each further 65,536 bytes, begun or whole, that
     -- it sends or asks for (3.3.5.2.5)
     if nat_lt call.charge ((payload_of asked - 1) / 65536 + 1) then Some InvalidParameter else
     -- P4. it needs a session, and the SessionId is that of no finished session of the connection (3.3.5.2.9)
     let needs_session : Bool = elim (needs_of asked) [ Session ↦ true | Tree ↦ true | Open ↦ true | _ ↦ false ] in
-    if needs_session && not (knows_session server.sessions.table call.connection call.ids.session_id)
+    if needs_session && not (knows_session server.sessions.table call.connection ids.session_id)
     then Some UserSessionDeleted else
     -- P5. it needs a tree connect, and the TreeId is that of none of the session (3.3.5.2.11)
     let needs_tree : Bool = elim (needs_of asked) [ Tree ↦ true | Open ↦ true | _ ↦ false ] in
-    if needs_tree && not (knows_tree server.sessions.table call.ids.session_id call.ids.tree_id)
+    if needs_tree && not (knows_tree server.sessions.table ids.session_id ids.tree_id)
     then Some NetworkNameDeleted else
-    -- P6 to P8. by the open that its FileId names; in a related request one of all ones names that which it inherits
-    option_and_then (open_refusal server.store.opens call.ids) (option_map (open_named call.inherited) call.file_id)
+    -- by the open that its FileId names; in a related request one of all ones names that which it inherits
+    option_and_then
+    (λ (named : ContextOpen). elim named [
+      -- P6. it inherits no open (3.3.5.2.7.2)
+      | Nothing ↦ Some InvalidParameter
+      -- P7. it inherits the open that a CREATE was to make, which was refused by this status (3.3.5.2.7.2)
+      | Refused status ↦ Some status
+      -- P8. the FileId is that of no open of its session and tree connect: both its halves are the open's number
+      -- (3.3.5.10)
+      | Named id ↦
+          if id.persistent == id.volatile
+          && option_map_or
+          (is_held_by (Owner.Tree ids.session_id ids.tree_id))
+          (open_of server.store.opens id.persistent)
+          false
+          then None else Some FileClosed
+    ])
+    (option_map (open_named call.inherited) call.file_id)
 
--- a request other than CANCEL: it is refused by the first row that holds, or performed
-abbrev pub performed_by : {S : Type 0} → Meaning S → ServerState S → Call → Option RequestValue → CommandStep S
-performed_by authenticator server call body =
-    -- P2. a command that this server does not perform
+-- one request: what it leaves, and its response. It is refused by the first row that holds, or performed; but a CANCEL
+-- is passed over and not answered (3.3.5.16). The next related request acts under the ids of the response
+-- (3.3.5.2.7.2), behind a CANCEL under those of the CANCEL
+unfoldable pub performed : {S : Type 0} → Meaning S → ℕ → ℕ → ServerState S → Option Dialect → Context → List ℕ → Performed S
+performed authenticator connection moment server dialect context request =
+    let call = call_of connection moment dialect context request in
+    let body : Option RequestValue = option_and_then (λ command. request_of (code_of command) request) call.command in
     let is_unsupported : Command → Bool =
     λ command. elim command [ Ioctl ↦ true | ChangeNotify ↦ true | OplockBreak ↦ true | _ ↦ false ] in
+    let is_cancel : Bool = option_map_or (λ command. elim command [ Cancel ↦ true | _ ↦ false ]) call.command false in
+    let step =
+    -- P2. a command that this server does not perform
     if option_map_or is_unsupported call.command false then refused server call.ids NotSupported else
     option_map_or
     (λ asked. option_map_or
@@ -114,16 +120,7 @@ performed_by authenticator server call body =
     (acted authenticator server call asked))
     body
     -- P1, P3. no such command, or a body that cannot be read
-    (refused server call.ids InvalidParameter)
-
--- one request: what it leaves, and its response. A CANCEL is passed over and not answered (3.3.5.16). The next related
--- request acts under the ids of the response (3.3.5.2.7.2), behind a CANCEL under those of the CANCEL
-unfoldable pub performed : {S : Type 0} → Meaning S → ℕ → ℕ → ServerState S → Option Dialect → Context → List ℕ → Performed S
-performed authenticator connection moment server dialect context request =
-    let call = call_of connection moment dialect context request in
-    let body = body_of call.command request in
-    let step = performed_by authenticator server call body in
-    let is_cancel : Bool = option_map_or (λ command. elim command [ Cancel ↦ true | _ ↦ false ]) call.command false in
+    (refused server call.ids InvalidParameter) in
     if is_cancel
     then record {
       server = server;
@@ -133,7 +130,8 @@ performed authenticator connection moment server dialect context request =
     }
     else record {
       server = step.server;
-      -- the dialect of the connection is that by which a NEGOTIATE was answered
+      -- the dialect of the connection is that by which a NEGOTIATE was answered. No row refuses one whose body is read:
+      -- it sends and asks for no bytes, needs no session and names no open
       dialect = option_map_or
           (λ (asked : RequestValue). elim asked [
             | asks_negotiate it ↦ option_map_or (λ best. Some best) (best_of it.dialects) dialect

@@ -4,7 +4,6 @@ use Rattle.smb_wire.specs.NtStatus.{is_success}
 use Rattle.smb_body.specs.Replies.{ReplyValue, answers_error, reply_spelling}
 use Rattle.smb_wire.specs.declared.dialect.Dialect.{Dialect}
 use Rattle.smb_wire.specs.declared.nt_status.NtStatus.{NtStatus}
-use Rattle.smb_wire.specs.declared.nt_status.NtStatus.TheVariants.{Success}
 use Rattle.smb_request.specs.declared.context.HeaderIds.{HeaderIds}
 use Rattle.smb_request.specs.declared.context.Context.{Context}
 use Rattle.smb_request.specs.State.{ServerState}
@@ -27,20 +26,13 @@ pub record Performed (S : Type 0) : Type 0 where
   pub context : Context
   pub response : Option ResponseState
 
+-- the response of a status and a body under a session and a tree connect
 abbrev pub with_body : HeaderIds → NtStatus → ReplyValue → ResponseState
 with_body ids status reply = record { status = status; ids = ids; body = reply_spelling reply }
 
--- the response to a request that succeeds, under the session and tree connect of the request
-abbrev pub success : HeaderIds → ReplyValue → ResponseState
-success ids reply = with_body ids Success reply
-
--- the response to one that fails has the error body, whatever its command (2.2.2)
-abbrev pub failure : HeaderIds → NtStatus → ResponseState
-failure ids status = with_body ids status answers_error
-
--- a request that is refused changes nothing
+-- a request that is refused changes nothing, and its response has the error body, whatever its command (2.2.2)
 abbrev pub refused : {S : Type 0} → ServerState S → HeaderIds → NtStatus → CommandStep S
-refused server ids status = record { server = server; response = failure ids status }
+refused server ids status = record { server = server; response = with_body ids status answers_error }
 
 -- a request to which the store gives a status: where that is SUCCESS, what it leaves and its response
 abbrev pub by_status : {S : Type 0} → ServerState S → HeaderIds → NtStatus → CommandStep S → CommandStep S

@@ -1,102 +1,148 @@
 -- SESSION_SETUP, LOGOFF, TREE_CONNECT and TREE_DISCONNECT ([MS-SMB2] 3.3.5.5 to 3.3.5.8).
-use Rattle.std.specs.Prelude.{ℕ, ◌+◌, Bool, false, List, [], ◌∷◌, ◌++◌, Option, Some, None, option_and_then, unwrap_or, if◌then◌else◌}
-use Rattle.std.specs.Option.{option_map_or}
-use Rattle.smb_body.specs.Replies.{answers_error, answers_session_setup, answers_logoff, answers_tree_connect, answers_tree_disconnect}
+use Rattle.std.specs.Prelude.{ℕ, ◌+◌, ◌==◌, ◌||◌, Bool, false, true, not, nat_le, List, [], ◌∷◌, ◌++◌, length, filter, Option, Some, None, option_and_then, unwrap_or, if◌then◌else◌}
+use Rattle.std.specs.Option.{option_map, option_map_or}
+use Rattle.smb_wire.specs.Counters.{is_spent}
+use Rattle.smb_wire.specs.Limits.{most_tree_connects}
+use Rattle.smb_wire.specs.Names.{is_same_name}
+use Rattle.smb_body.specs.Replies.{ReplyValue, answers_error, answers_session_setup, answers_logoff, answers_tree_connect, answers_tree_disconnect}
 use Rattle.smb_body.specs.SessionSetup.{SessionSetupAsked}
 use Rattle.smb_session.specs.Authenticator.{Meaning}
-use Rattle.smb_session.specs.Setup.{SetupResult, setup_refusal}
-use Rattle.smb_session.specs.Numbers.{without_number}
-use Rattle.smb_session.specs.Table.{knows_session, session_at, read_only_of, session_ended, tree_disconnect_refusal, session_changed}
-use Rattle.smb_session.specs.Sessions.{setup_step, tree_connect_refusal}
+use Rattle.smb_session.specs.Path.{path_parts, share_in}
+use Rattle.smb_session.specs.Session.{SessionState}
+use Rattle.smb_session.specs.Setup.{setup_refusal, setup_result, table_answered}
+use Rattle.smb_session.specs.Table.{knows_session, knows_tree, session_at, session_ended, session_changed}
 use Rattle.smb_session.specs.declared.fault.SessionFault.{SessionFault}
 use Rattle.smb_session.specs.declared.fault.SessionFault.TheVariants.{UnknownSession, UnknownTree, NoShare, NotAccepted, NoDialect, NoMemory}
-use Rattle.smb_session.specs.declared.setup.SetupStatus.{SetupStatus}
-use Rattle.smb_session.specs.declared.setup.SetupStatus.TheVariants.{Success, MoreProcessingRequired, LogonFailure}
+use Rattle.smb_session.specs.declared.setup.SetupStatus.TheVariants.{MoreProcessingRequired, LogonFailure, Success as SetUp}
 use Rattle.smb_access.specs.Access.{most_allowed}
 use Rattle.smb_access.specs.declared.open_row.Owner.TheVariants.{Session, Tree}
 use Rattle.smb_opens.specs.Close.{closed_all}
 use Rattle.smb_wire.specs.declared.nt_status.NtStatus.{NtStatus}
-use Rattle.smb_wire.specs.declared.nt_status.NtStatus.TheVariants.{NotSupported, NetworkNameDeleted, BadNetworkName, RequestNotAccepted, UserSessionDeleted}
+use Rattle.smb_wire.specs.declared.nt_status.NtStatus.TheVariants.{Success, NotSupported, NetworkNameDeleted, BadNetworkName, RequestNotAccepted, UserSessionDeleted}
 use Rattle.smb_request.specs.declared.call.Call.{Call}
 use Rattle.smb_request.specs.declared.context.HeaderIds.{HeaderIds}
-use Rattle.smb_request.specs.State.{ServerState, with_table, with_store}
-use Rattle.smb_request.specs.Response.{ResponseState, CommandStep, with_body, success, refused}
+use Rattle.smb_request.specs.State.{ServerState}
+use Rattle.smb_request.specs.Response.{CommandStep, with_body, refused}
 
--- the status of a refusal (no definition refuses for being out of memory)
-abbrev pub status_of_refusal : SessionFault → Option NtStatus
-status_of_refusal UnknownSession = Some UserSessionDeleted
-status_of_refusal UnknownTree = Some NetworkNameDeleted
-status_of_refusal NoShare = Some BadNetworkName
-status_of_refusal NotAccepted = Some RequestNotAccepted
-status_of_refusal NoDialect = Some NotSupported
-status_of_refusal NoMemory = None
-
--- a request that the sessions refuse, or else what is done
+-- a request that the sessions refuse, with the status of the refusal, or else what is done (no definition refuses for
+-- being out of memory)
 abbrev pub unless_refused : {S : Type 0} → ServerState S → HeaderIds → Option SessionFault → CommandStep S → CommandStep S
 unless_refused server ids refusal step =
-    option_map_or (refused server ids) (option_and_then status_of_refusal refusal) step
+    let status_of : SessionFault → Option NtStatus =
+    λ fault. elim fault [
+      | UnknownSession ↦ Some UserSessionDeleted
+      | UnknownTree ↦ Some NetworkNameDeleted
+      | NoShare ↦ Some BadNetworkName
+      | NotAccepted ↦ Some RequestNotAccepted
+      | NoDialect ↦ Some NotSupported
+      | NoMemory ↦ None
+    ] in
+    option_map_or (refused server ids) (option_and_then status_of refusal) step
 
--- what a SESSION_SETUP is answered: flags and a token where the client goes on or is in, else a failure; either tells
--- the session's number (2.2.6)
-abbrev pub setup_response : HeaderIds → SetupResult → SetupStatus → ResponseState
-setup_response ids told Success = with_body ids NtStatus.Success
-    (answers_session_setup (record { session_flags = record { 0 = told.flags }; security_buffer = told.token }))
-setup_response ids told MoreProcessingRequired = with_body ids NtStatus.MoreProcessingRequired
-    (answers_session_setup (record { session_flags = record { 0 = told.flags }; security_buffer = told.token }))
-setup_response ids told LogonFailure = with_body ids NtStatus.LogonFailure answers_error
-
--- SESSION_SETUP (3.3.5.5): the previous session, where one ended, ends with its opens
+-- SESSION_SETUP (3.3.5.5): where no row of `setup_refusal` holds, the authenticator is asked once about the session,
+-- and its answer is performed (3.3.5.5.3). The previous session, where one ended, ends with its opens
 unfoldable pub session_set_up : {S : Type 0} → Meaning S → ServerState S → Call → SessionSetupAsked → CommandStep S
 session_set_up authenticator server call asked =
     let ids = call.ids in
-    let step = setup_step
-    authenticator
-    server.sessions
-    call.connection
-    ids.session_id
-    asked.previous_session_id
-    asked.security_buffer in
+    let sessions = server.sessions in
+    -- SessionId 0 asks for a new session, which begins with no user yet and no tree; its first tree will be 1
+    -- (3.3.5.5.1)
+    let fresh : SessionState = record {
+      connection = call.connection;
+      user = None;
+      read_only = false;
+      trees = [];
+      next_tree = 1;
+    } in
+    let number = if ids.session_id == 0 then sessions.table.next else ids.session_id in
+    let table = if ids.session_id == 0
+    then record sessions.table {
+      sessions = sessions.table.sessions ++ (sessions.table.next, fresh) ∷ [];
+      next = sessions.table.next + 1;
+    }
+    else sessions.table in
+    let answer = authenticator.answer sessions.authenticator number asked.security_buffer in
+    let setup = setup_result table number asked.previous_session_id answer in
+    let answered_ids : HeaderIds = record ids { session_id = setup.session } in
+    -- flags and a token, where the client goes on or is in (2.2.6)
+    let reply : ReplyValue = answers_session_setup (record {
+      session_flags = record { 0 = setup.flags };
+      security_buffer = setup.token;
+    }) in
     unless_refused server ids
-    (setup_refusal server.sessions.table call.connection ids.session_id asked.flags.0)
+    (setup_refusal sessions.table call.connection ids.session_id asked.flags.0)
     (record {
       server = record server {
-        sessions = step.state;
-        store = option_map_or (λ session. closed_all server.store (Session session)) step.told.ended server.store;
+        sessions = record sessions {
+          authenticator = authenticator.next sessions.authenticator number asked.security_buffer;
+          table = table_answered table number asked.previous_session_id answer;
+        };
+        store = option_map_or (λ session. closed_all server.store (Session session)) setup.ended server.store;
       };
-      response = setup_response (record ids { session_id = step.told.session }) step.told step.told.status;
+      -- each tells the session's number
+      response = elim setup.status [
+        | SetUp ↦ with_body answered_ids Success reply
+        | MoreProcessingRequired ↦ with_body answered_ids NtStatus.MoreProcessingRequired reply
+        | LogonFailure ↦ with_body answered_ids NtStatus.LogonFailure answers_error
+      ];
     })
 
 -- LOGOFF (3.3.5.6): the session ends with its trees, and their opens
 unfoldable pub session_logged_off : {S : Type 0} → ServerState S → Call → CommandStep S
-session_logged_off server call = unless_refused server call.ids
+session_logged_off server call =
+    let table = server.sessions.table in
+    unless_refused server call.ids
     -- only a finished session of the connection is logged off
-    (if knows_session server.sessions.table call.connection call.ids.session_id then None else Some UnknownSession)
+    (if knows_session table call.connection call.ids.session_id then None else Some UnknownSession)
     (record {
-      server = with_store
-          (with_table server (session_ended server.sessions.table call.ids.session_id))
-          (closed_all server.store (Session call.ids.session_id));
-      response = success call.ids answers_logoff;
+      server = record server {
+        sessions = record server.sessions { table = session_ended table call.ids.session_id };
+        store = closed_all server.store (Session call.ids.session_id);
+      };
+      response = with_body call.ids Success answers_logoff;
     })
 
--- the session that a request acts under may only read
+-- the session that a request acts under is a finished one of its connection, and may only read, as the authenticator's
+-- answer said
 abbrev pub may_only_read : {S : Type 0} → ServerState S → Call → Bool
-may_only_read server call = unwrap_or (read_only_of server.sessions.table call.connection call.ids.session_id) false
+may_only_read server call =
+    let table = server.sessions.table in
+    unwrap_or
+    (if knows_session table call.connection call.ids.session_id
+    then option_map (λ state. state.read_only) (session_at table call.ids.session_id)
+    else None)
+    false
 
 -- TREE_CONNECT (3.3.5.7): the answer tells the new tree's number, which is the session's next, and what it is: a disk,
 -- without flags and capabilities, and with all access that a session can be granted (2.2.10)
 unfoldable pub tree_joined : {S : Type 0} → ServerState S → Call → List ℕ → CommandStep S
-tree_joined server call path = unless_refused server call.ids
-    (tree_connect_refusal server.sessions call.connection call.ids.session_id path)
+tree_joined server call path =
+    let table = server.sessions.table in
+    let session = session_at table call.ids.session_id in
+    unless_refused server call.ids
+    -- the session is no finished one of the connection
+    (if not (knows_session table call.connection call.ids.session_id) then Some UnknownSession else
+    -- the path names another share
+    if not (option_map_or (λ named. is_same_name named server.sessions.share) (share_in (path_parts path)) false)
+    then Some NoShare else
+    -- the session has 16 trees, or their numbers are spent
+    if option_map_or
+    (λ (state : SessionState). nat_le most_tree_connects (length state.trees) || is_spent 32 state.next_tree)
+    session
+    true
+    then Some NotAccepted else None)
     (record {
-      server = with_table server (session_changed
-          (λ state. record state { trees = state.trees ++ state.next_tree ∷ []; next_tree = state.next_tree + 1 })
-          server.sessions.table
-          call.ids.session_id);
+      server = record server {
+        sessions = record server.sessions {
+          table = session_changed
+              (λ state. record state { trees = state.trees ++ state.next_tree ∷ []; next_tree = state.next_tree + 1 })
+              table
+              call.ids.session_id;
+        };
+      };
       response = with_body
-          (record call.ids {
-            tree_id = option_map_or (λ session. session.next_tree) (session_at server.sessions.table call.ids.session_id) 0;
-          })
-          NtStatus.Success
+          (record call.ids { tree_id = option_map_or (λ state. state.next_tree) session 0 })
+          Success
           (answers_tree_connect (record {
             share_type = record { 0 = 1 };
             share_flags = record { 0 = 0 };
@@ -107,14 +153,21 @@ tree_joined server call path = unless_refused server call.ids
 
 -- TREE_DISCONNECT (3.3.5.8): the tree is gone, with its opens
 unfoldable pub tree_left : {S : Type 0} → ServerState S → Call → CommandStep S
-tree_left server call = unless_refused server call.ids
-    (tree_disconnect_refusal server.sessions.table call.connection call.ids.session_id call.ids.tree_id)
+tree_left server call =
+    let table = server.sessions.table in
+    unless_refused server call.ids
+    -- the session is no finished one of the connection, or has no such tree
+    (if not (knows_session table call.connection call.ids.session_id) then Some UnknownSession else
+    if knows_tree table call.ids.session_id call.ids.tree_id then None else Some UnknownTree)
     (record {
-      server = with_store
-          (with_table server (session_changed
-          (λ state. record state { trees = without_number state.trees call.ids.tree_id })
-          server.sessions.table
-          call.ids.session_id))
-          (closed_all server.store (Tree call.ids.session_id call.ids.tree_id));
-      response = success call.ids answers_tree_disconnect;
+      server = record server {
+        sessions = record server.sessions {
+          table = session_changed
+              (λ state. record state { trees = filter (λ tree. not (tree == call.ids.tree_id)) state.trees })
+              table
+              call.ids.session_id;
+        };
+        store = closed_all server.store (Tree call.ids.session_id call.ids.tree_id);
+      };
+      response = with_body call.ids Success answers_tree_disconnect;
     })

@@ -1,35 +1,19 @@
 -- SET_INFO ([MS-SMB2] 3.3.5.21).
-use Rattle.std.specs.Prelude.{ℕ, ◌==◌, ◌||◌, true, false, not, nat_lt, length, Some, None, if◌then◌else◌}
+use Rattle.std.specs.Prelude.{◌==◌, ◌||◌, true, false, not, nat_lt, length, Some, None, if◌then◌else◌}
 use Rattle.std.specs.Option.{option_map_or}
 use Rattle.smb_body.specs.SetInfo.{SetInfoAsked}
 use Rattle.smb_body.specs.Replies.{answers_set_info}
 use Rattle.smb_info.specs.declared.set_info.SetInformationClass.{SetInformationClass}
-use Rattle.smb_info.specs.SetInformation.{SetAsked, asks_basic, asks_rename, asks_mark, asks_allocation, asks_end, set_class, set_length, is_readable, asked_of}
+use Rattle.smb_info.specs.SetInformation.{asks_basic, asks_rename, asks_mark, asks_allocation, asks_end, set_class, set_length, is_readable, asked_of}
 use Rattle.smb_opens.specs.Renames.{rename_status, renamed_through}
 use Rattle.smb_opens.specs.SetInfo.{delete_status, delete_set_through, size_status, size_set_through, basic_status, basic_set_through}
 use Rattle.smb_opens.specs.State.{StoreState}
 use Rattle.smb_wire.specs.declared.nt_status.NtStatus.{NtStatus}
-use Rattle.smb_wire.specs.declared.nt_status.NtStatus.TheVariants.{InvalidParameter, InvalidInfoClass, InfoLengthMismatch, NotSupported}
+use Rattle.smb_wire.specs.declared.nt_status.NtStatus.TheVariants.{Success, InvalidParameter, InvalidInfoClass, InfoLengthMismatch, NotSupported}
 use Rattle.smb_request.specs.declared.call.Call.{Call}
 use Rattle.smb_request.specs.InfoTypes.{FILE, FILESYSTEM, SECURITY, QUOTA}
-use Rattle.smb_request.specs.Response.{CommandStep, success, refused, by_status}
-use Rattle.smb_request.specs.State.{ServerState, with_store}
-
--- the status that the store gives what is asked of the entry of an open (3.3.5.21.1)
-abbrev pub set_status : StoreState → ℕ → SetAsked → NtStatus
-set_status store open_number (asks_basic ask) = basic_status store open_number ask
-set_status store open_number (asks_rename replace name) = rename_status store open_number name replace
-set_status store open_number (asks_mark mark) = delete_status store open_number mark
-set_status store open_number (asks_allocation size) = size_status store open_number size
-set_status store open_number (asks_end size) = size_status store open_number size
-
--- the store with it set at a moment
-abbrev pub set_through : StoreState → ℕ → ℕ → SetAsked → StoreState
-set_through store open_number moment (asks_basic ask) = basic_set_through store open_number ask moment
-set_through store open_number moment (asks_rename replace name) = renamed_through store open_number name moment
-set_through store open_number moment (asks_mark mark) = delete_set_through store open_number mark
-set_through store open_number moment (asks_allocation size) = size_set_through store open_number size true moment
-set_through store open_number moment (asks_end size) = size_set_through store open_number size false moment
+use Rattle.smb_request.specs.Response.{CommandStep, with_body, refused, by_status}
+use Rattle.smb_request.specs.State.{ServerState}
 
 -- SET_INFO (3.3.5.21): the first row that holds, or what is asked; a refusal changes nothing
 unfoldable pub information_set : {S : Type 0} → ServerState S → Call → SetInfoAsked → CommandStep S
@@ -47,11 +31,26 @@ information_set server call asked =
     if nat_lt (length asked.buffer) (set_length class) then refused server call.ids InfoLengthMismatch else
     -- a rename says no name ([MS-FSCC] 2.4.42)
     if not (is_readable asked.buffer class) then refused server call.ids InvalidParameter else
-    -- the class as its buffer asks ([MS-FSCC] 2.4)
+    -- the class as its buffer asks ([MS-FSCC] 2.4), of the entry of the open: the status that the store gives it, and
+    -- the store with it set (3.3.5.21.1)
     let ask = asked_of asked.buffer class in
-    by_status server call.ids (set_status server.store call.open_number ask) (record {
-      server = with_store server (set_through server.store call.open_number call.moment ask);
-      response = success call.ids answers_set_info;
+    let status : NtStatus = elim ask [
+      | asks_basic it ↦ basic_status server.store call.open_number it
+      | asks_rename replace name ↦ rename_status server.store call.open_number name replace
+      | asks_mark mark ↦ delete_status server.store call.open_number mark
+      | asks_allocation size ↦ size_status server.store call.open_number size
+      | asks_end size ↦ size_status server.store call.open_number size
+    ] in
+    let store : StoreState = elim ask [
+      | asks_basic it ↦ basic_set_through server.store call.open_number it call.moment
+      | asks_rename replace name ↦ renamed_through server.store call.open_number name call.moment
+      | asks_mark mark ↦ delete_set_through server.store call.open_number mark
+      | asks_allocation size ↦ size_set_through server.store call.open_number size true call.moment
+      | asks_end size ↦ size_set_through server.store call.open_number size false call.moment
+    ] in
+    by_status server call.ids status (record {
+      server = record server { store = store };
+      response = with_body call.ids Success answers_set_info;
     }))
     (set_class asked.file_info_class.0)
     -- no class that can be set has the number (3.3.5.21.1)

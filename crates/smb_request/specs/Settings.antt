@@ -20,18 +20,14 @@ settings_of config = record {
   created = config.created;
 }
 
--- a length from the least to the greatest
-abbrev pub is_between : ℕ → ℕ → ℕ → Bool
-is_between least greatest n = nat_le least n && nat_le n greatest
-
 -- the rules of a configuration
 abbrev pub is_lawful : Settings → Bool
 is_lawful settings =
     -- the share's name has 1 to 80 characters, none of them " * / : < > ? \ |
-    (is_between 1 80 (length settings.share)
-    && list_all (λ c. is_between 0x21 0x7E c
+    (nat_le 1 (length settings.share) && nat_le (length settings.share) 80
+    && list_all (λ c. nat_le 0x21 c && nat_le c 0x7E
     && not (list_any (λ b. b == c) (34 ∷ 42 ∷ 47 ∷ 58 ∷ 60 ∷ 62 ∷ 63 ∷ 92 ∷ 124 ∷ []))) settings.share)
     -- the label has up to 32 printable characters
-    && (nat_le (length settings.label) 32 && list_all (is_between 0x20 0x7E) settings.label)
+    && (nat_le (length settings.label) 32 && list_all (λ c. nat_le 0x20 c && nat_le c 0x7E) settings.label)
     -- the capacity is a multiple of 4,096 from 4,096 to 64 MiB
-    && (is_between 4096 67108864 settings.capacity && (settings.capacity % 4096 == 0))
+    && (nat_le 4096 settings.capacity && nat_le settings.capacity 67108864 && (settings.capacity % 4096 == 0))

@@ -1,7 +1,7 @@
 -- The state of a share ([MS-SMB2] 3.3.1).
-use Rattle.std.specs.Prelude.{ℕ, ◌==◌, not, List, [], ◌∷◌, filter}
-use Rattle.smb_session.specs.Numbers.{without_number}
-use Rattle.smb_session.specs.Table.{TableState, connected, numbers_on}
+use Rattle.std.specs.Prelude.{ℕ, ◌==◌, not, [], filter}
+use Rattle.std.specs.List.{fold}
+use Rattle.smb_session.specs.Table.{connected, numbers_on}
 use Rattle.smb_session.specs.Sessions.{SessionsState, new_sessions}
 use Rattle.smb_tree.specs.Content.{new_content}
 use Rattle.smb_access.specs.declared.open_row.Owner.TheVariants.{Session}
@@ -24,29 +24,23 @@ new_server settings authenticator = record {
   store = record { tree = new_content settings.created settings.capacity; opens = []; locks = []; next = 1 };
 }
 
-abbrev pub with_table : {S : Type 0} → ServerState S → TableState → ServerState S
-with_table server table = record server { sessions = record server.sessions { table = table } }
-
-abbrev pub with_store : {S : Type 0} → ServerState S → StoreState → ServerState S
-with_store server store = record server { store = store }
-
 -- a connection may begin sessions from now on
 abbrev pub connection_added : {S : Type 0} → ServerState S → ℕ → ServerState S
-connection_added server connection = with_table server (connected server.sessions.table connection)
-
--- sessions end one after the other: each one's opens are closed (3.3.7.1)
-abbrev pub closed_with : StoreState → List ℕ → StoreState
-closed_with store [] = store
-closed_with store (session ∷ sessions) = closed_with (closed_all store (Session session)) sessions
+connection_added server connection =
+    record server { sessions = record server.sessions { table = connected server.sessions.table connection } }
 
 -- a connection is gone, and its sessions with their trees (3.3.7.1), and with them their opens, session by session in
 -- rising number
 unfoldable pub connection_ended : {S : Type 0} → ServerState S → ℕ → ServerState S
 connection_ended server connection =
     let table = server.sessions.table in
-    record (with_table server (record table {
-      connections = without_number table.connections connection;
-      sessions = filter (λ e. not (e.1.connection == connection)) table.sessions;
-    })) {
-      store = closed_with server.store (numbers_on table.sessions connection);
+    let close : StoreState → ℕ → StoreState = λ store session. closed_all store (Session session) in
+    record server {
+      sessions = record server.sessions {
+        table = record table {
+          connections = filter (λ other. not (other == connection)) table.connections;
+          sessions = filter (λ e. not (e.1.connection == connection)) table.sessions;
+        };
+      };
+      store = fold close server.store (numbers_on table.sessions connection);
     }

@@ -8,7 +8,7 @@ ghost use Rattle.smb_opens.specs.Bytes.{part_bytes};
 ghost use Rattle.smb_request.specs.Bodies.{result_step, IsReadable, IsReadyAfter};
 ghost use Rattle.smb_request.specs.Bytes.{file_read, file_written};
 ghost use Rattle.smb_request.specs.InPlace.{answer_held, answer_behind};
-ghost use Rattle.smb_request.specs.Response.{success};
+ghost use Rattle.smb_request.specs.Parts.{success};
 
 use super::call::Call;
 use super::refusal::Refusal;

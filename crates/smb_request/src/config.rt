@@ -2,8 +2,8 @@
 
 ghost use Rattle.std.specs.Prelude.{◌≡◌};
 ghost use Rattle.std.specs.List.{list_all};
-ghost use Rattle.smb_request.specs.Settings.{settings_of, is_lawful, is_between};
-ghost use Rattle.smb_request.specs.Parts.{is_share_character, is_share_name, is_label, is_capacity};
+ghost use Rattle.smb_request.specs.Settings.{settings_of, is_lawful};
+ghost use Rattle.smb_request.specs.Parts.{is_share_character, is_share_name, is_label, is_capacity, is_between};
 
 /// What a share is told when it is made.
 #[derive(Debug, Drop)]

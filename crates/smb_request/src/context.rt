@@ -2,8 +2,8 @@
 
 ghost use Rattle.std.specs.Prelude.{◌≡◌};
 ghost use Rattle.std.specs.Option.{option_map};
-ghost use Rattle.smb_request.specs.Context.{first_context, is_all_ones, open_named, named_on, open_for_next_related};
-ghost use Rattle.smb_request.specs.Parts.{number_named, created_open};
+ghost use Rattle.smb_request.specs.Context.{first_context, open_named, named_on, open_for_next_related};
+ghost use Rattle.smb_request.specs.Parts.{number_named, created_open, is_all_ones};
 
 use smb_wire::{Command, FileId, NtStatus};
 

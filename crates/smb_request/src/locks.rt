@@ -3,8 +3,8 @@
 ghost use Rattle.std.specs.Prelude.{◌≡◌, take, IfOk, IfErr, IfSome};
 ghost use Rattle.smb_body.specs.LockLists.{locks_of};
 ghost use Rattle.smb_body.specs.Lock.{lock_asked};
-ghost use Rattle.smb_request.specs.Locks.{file_locked, file_unlocked, locks_changed};
-ghost use Rattle.smb_request.specs.Parts.{lock_asks, lock_ask, asks_unlock};
+ghost use Rattle.smb_request.specs.Locks.{locks_changed};
+ghost use Rattle.smb_request.specs.Parts.{lock_asks, lock_ask, asks_unlock, file_locked, file_unlocked};
 ghost use Rattle.smb_request.specs.Bodies.{result_step, IsReadyAfter};
 ghost use Rattle.smb_request.specs.declared.refusal.Refusal.TheVariants.{NoMemory};
 
@@ -58,7 +58,7 @@ fn asks_unlock(asks: &[LockAsk]) -> bool
 
 impl<A: Authenticator + Drop, T: Tree + Drop, O: Opens + Drop> Server<A, T, O> {
     /// A LOCK that locks ([MS-SMB2] 3.3.5.14.2).
-    #[tactic(auto, unfolding(crate::specs::Locks::file_locked), using(smb_wire::proofs::Statuses::success_yes))]
+    #[tactic(auto, using(smb_wire::proofs::Statuses::success_yes))]
     fn lock_file<'a>(&mut self, call: Call, asks: &[LockAsk]) -> Result<Response<'a>, Refusal>
         ensures ok { IfSome (result_step A.meaning self.new call result) (λ step. step ≡ file_locked self.old call asks.now) }
         ensures put { IfOk result (IsReadyAfter self.old self.new call) }
@@ -70,7 +70,7 @@ impl<A: Authenticator + Drop, T: Tree + Drop, O: Opens + Drop> Server<A, T, O> {
     }
 
     /// A LOCK that unlocks ([MS-SMB2] 3.3.5.14.1). It takes no memory.
-    #[tactic(auto, unfolding(crate::specs::Locks::file_unlocked), using(smb_wire::proofs::Statuses::success_yes))]
+    #[tactic(auto, using(smb_wire::proofs::Statuses::success_yes))]
     fn unlock_file<'a>(&mut self, call: Call, asks: &[LockAsk]) -> Result<Response<'a>, Refusal>
         ensures ok { IfSome (result_step A.meaning self.new call result) (λ step. step ≡ file_unlocked self.old call asks.now) }
         ensures put { IfOk result (IsReadyAfter self.old self.new call) }

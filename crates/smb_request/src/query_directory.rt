@@ -7,8 +7,8 @@ ghost use Rattle.smb_body.specs.QueryDirectory.{query_directory_asked};
 ghost use Rattle.smb_info.specs.Asks.{list_asked};
 ghost use Rattle.smb_opens.specs.Views.{open_view};
 ghost use Rattle.smb_request.specs.InPlace.{answer_held, answer_behind};
-ghost use Rattle.smb_request.specs.QueryDirectory.{directory_refusal, listing_refusal, directory_queried};
-ghost use Rattle.smb_request.specs.Parts.{list_asked_by, view_refusal, listed_as_asked, listing_refused};
+ghost use Rattle.smb_request.specs.QueryDirectory.{listing_refusal, directory_queried};
+ghost use Rattle.smb_request.specs.Parts.{list_asked_by, view_refusal, listed_as_asked, listing_refused, directory_refusal};
 
 use super::call::Call;
 use super::response::{Answered, put_response};

@@ -5,8 +5,8 @@ ghost use Rattle.smb_info.specs.FileSystemInformation.{fs_information};
 ghost use Rattle.smb_access.specs.Opens.{open_of};
 ghost use Rattle.smb_request.specs.Bodies.{result_step, IsReadyAfter};
 ghost use Rattle.smb_request.specs.Information.{IsToldOf, IsWhy};
-ghost use Rattle.smb_request.specs.QueryInfo.{information_asked, request_refusal, information_queried};
-ghost use Rattle.smb_request.specs.Parts.{open_information, volume_of};
+ghost use Rattle.smb_request.specs.QueryInfo.{information_queried};
+ghost use Rattle.smb_request.specs.Parts.{open_information, volume_of, information_asked, request_refusal};
 
 use super::call::Call;
 use super::information::written_status;

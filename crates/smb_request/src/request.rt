@@ -13,8 +13,8 @@ ghost use Rattle.smb_request.specs.Bodies.{result_step, is_listing, IsReadyAfter
 ghost use Rattle.smb_request.specs.Held.{is_performed, IsCallOf};
 ghost use Rattle.smb_request.specs.InPlace.{answer_held, answer_behind, performed_behind};
 ghost use Rattle.smb_request.specs.Needs.{needs_of};
-ghost use Rattle.smb_request.specs.Parts.{needs_session, needs_tree, dialect_after, check_session_tree_and_open};
-ghost use Rattle.smb_request.specs.Request.{negotiated, acted, open_refusal, check_request, performed_by, performed};
+ghost use Rattle.smb_request.specs.Parts.{needs_session, needs_tree, dialect_after, check_session_tree_and_open, open_refusal, performed_by, negotiated};
+ghost use Rattle.smb_request.specs.Request.{acted, check_request, performed};
 ghost use Rattle.smb_request.specs.declared.refusal.Refusal.TheVariants.{NoMemory};
 
 use super::call::{Call, body_of};
@@ -87,7 +87,6 @@ impl<A: Authenticator + Drop, T: Tree + Drop, O: Opens + Drop> Server<A, T, O> {
     }
 
     /// NEGOTIATE ([MS-SMB2] 3.3.5.4).
-    #[tactic(auto, unfolding(crate::specs::Request::negotiated))]
     fn negotiate<'a>(
         &self,
         call: Call,

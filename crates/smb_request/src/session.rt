@@ -5,8 +5,9 @@
 ghost use Rattle.std.specs.Prelude.{◌≡◌, IfOk, IfErr, IfSome};
 ghost use Rattle.smb_wire.specs.Units.{units_of};
 ghost use Rattle.smb_body.specs.SessionSetup.{session_setup_asked};
-ghost use Rattle.smb_request.specs.Session.{status_of_refusal, session_set_up, session_logged_off, may_only_read, tree_joined, tree_left};
+ghost use Rattle.smb_request.specs.Session.{session_set_up, session_logged_off, may_only_read, tree_joined, tree_left};
 ghost use Rattle.smb_request.specs.Parts.{closed_for, tree_response};
+ghost use Rattle.smb_request.specs.Refusals.{status_of_refusal};
 ghost use Rattle.smb_request.specs.Held.{opens_left, setup_response_of};
 ghost use Rattle.smb_request.specs.Bodies.{result_step, IsReadyAfter};
 ghost use Rattle.smb_request.specs.declared.refusal.Refusal.TheVariants.{NoMemory};

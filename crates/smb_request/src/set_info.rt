@@ -5,8 +5,8 @@ ghost use Rattle.smb_body.specs.SetInfo.{set_info_asked};
 ghost use Rattle.smb_info.specs.SetAsks.{set_asked};
 ghost use Rattle.smb_access.specs.Faults.{IsRefusal};
 ghost use Rattle.smb_request.specs.Bodies.{result_step, IsReadyAfter};
-ghost use Rattle.smb_request.specs.SetInfo.{set_status, set_through, information_set};
-ghost use Rattle.smb_request.specs.Parts.{set_type_refusal, set_as_asked};
+ghost use Rattle.smb_request.specs.SetInfo.{information_set};
+ghost use Rattle.smb_request.specs.Parts.{set_type_refusal, set_as_asked, set_status, set_through};
 
 use super::call::Call;
 use super::refusal::Refusal;

@@ -8,7 +8,7 @@ use Rattle.smb_opens.specs.Parts.{closed_each}
 use Rattle.smb_opens.specs.Good.{GoodStore}
 use Rattle.smb_opens.specs.State.{StoreState}
 use Rattle.smb_opens.proofs.Closing.{good_closed}
-use Rattle.smb_request.specs.State.{closed_with}
+use Rattle.smb_request.specs.Parts.{closed_with}
 
 module _ (P : StoreState → Type 0) (keeps : (state : StoreState) (number : ℕ) → P state → P (closed state number)) where
   pub each_keeps : (numbers : List ℕ) (state : StoreState) → P state → P (closed_each state numbers)

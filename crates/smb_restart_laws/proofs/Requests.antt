@@ -44,7 +44,7 @@ use Rattle.smb_access.specs.declared.view.View.{View}
 use Rattle.smb_locks.specs.declared.ask.LockAsk.{LockAsk}
 use Rattle.smb_locks.specs.Table.{locked, unlocked}
 use Rattle.smb_info.specs.SetInformation.{SetAsked, asks_basic, asks_rename, asks_mark, asks_allocation, asks_end}
-use Rattle.smb_entry.specs.Parts.{renamed_tree, delete_set, size_set, entry_set, changed_in}
+use Rattle.smb_entry.specs.Parts.{renamed_tree, delete_set, size_set, entry_set}
 use Rattle.smb_opens.specs.Bytes.{read_status, write_status}
 use Rattle.smb_opens.specs.Close.{closed, closed_all}
 use Rattle.smb_opens.specs.Create.{access_granted, create_status}
@@ -62,17 +62,16 @@ use Rattle.smb_request.specs.Bytes.{file_read, file_written}
 use Rattle.smb_request.specs.Call.{body_of, call_of}
 use Rattle.smb_request.specs.Context.{named_on, open_for_next_related}
 use Rattle.smb_request.specs.Files.{file_created, file_closed}
-use Rattle.smb_request.specs.Parts.{file_asked, close_response, asks_unlock, is_unsupported, is_cancel_command, only_reads, check_session_tree_and_open, dialect_after, closed_for, setup_answered, lock_asks, hello_of}
+use Rattle.smb_request.specs.Parts.{file_asked, close_response, asks_unlock, is_unsupported, is_cancel_command, only_reads, check_session_tree_and_open, dialect_after, closed_for, setup_answered, lock_asks, hello_of, performed_by, success, set_status, set_through, with_store, file_locked, file_unlocked, negotiated}
+use Rattle.smb_request.specs.Refusals.{status_of_refusal}
 use Rattle.smb_request.specs.Held.{IsCallOf, opens_left}
 use Rattle.smb_request.specs.Laws.{NumbersInOrder}
-use Rattle.smb_request.specs.Locks.{file_locked, file_unlocked}
 use Rattle.smb_request.specs.Negotiate.{negotiate_answer}
 use Rattle.smb_request.specs.Owners.{AreOwned}
-use Rattle.smb_request.specs.Request.{check_request, negotiated, acted, performed_by, performed}
-use Rattle.smb_request.specs.Response.{CommandStep, Performed, success, refused}
-use Rattle.smb_request.specs.Session.{may_only_read, status_of_refusal, session_set_up, session_logged_off, tree_joined, tree_left}
-use Rattle.smb_request.specs.SetInfo.{set_status, set_through}
-use Rattle.smb_request.specs.State.{ServerState, with_store}
+use Rattle.smb_request.specs.Request.{check_request, acted, performed}
+use Rattle.smb_request.specs.Response.{CommandStep, Performed, refused}
+use Rattle.smb_request.specs.Session.{may_only_read, session_set_up, session_logged_off, tree_joined, tree_left}
+use Rattle.smb_request.specs.State.{ServerState}
 use Rattle.smb_request.proofs.Apart.{acts_known, id_held}
 use Rattle.smb_request.proofs.Configured.{created_kept, closed_kept, all_kept, ended_kept, locks_kept, locks_opens, written_kept}
 use Rattle.smb_request.proofs.Handed.{request_passed}
@@ -329,7 +328,6 @@ module _ {S : Type 0} (call : _) (body : Option RequestValue) (read : IsCallOf c
 
   -- LOCK
   locked_keeps : (asks : List LockAsk) → Left (file_locked server call asks).server
-  unfolding file_locked
   locked_keeps asks = where_done _ _ (is_success (lock_status server.store k asks)) refl (λ done.
       stored _ (locks_kept (λ entry. locked server.store.locks entry k asks) server.store (open_view server.store k)) (good_locked server.store k asks h.store done)
       (rw (locks_opens (λ entry. locked server.store.locks entry k asks) server.store (open_view server.store k)) h.owned))
@@ -339,7 +337,6 @@ module _ {S : Type 0} (call : _) (body : Option RequestValue) (read : IsCallOf c
   unlocked_at after status false f = f
 
   unlocked_keeps : (asks : List LockAsk) → Left (file_unlocked server call asks).server
-  unfolding file_unlocked
   unlocked_keeps asks =
       unlocked_at (with_store server (unlocked_through server.store k asks)) (unlock_status server.store k asks) (is_success (unlock_status server.store k asks))
       (stored _ (locks_kept (λ entry. unlocked server.store.locks entry k asks) server.store (open_view server.store k)) (good_unlocked server.store k asks h.store)
@@ -379,7 +376,6 @@ module _ {S : Type 0} (call : _) (body : Option RequestValue) (read : IsCallOf c
   negotiated_at m (Some best) = same
 
   negotiated_keeps : (m : Meaning S) (dialects : List ℕ) → Left (negotiated m server call dialects).server
-  unfolding negotiated
   negotiated_keeps m dialects = negotiated_at m (best_of dialects)
 
   -- each command

@@ -26,7 +26,7 @@ use Rattle.smb_access.specs.declared.scan.Scan.{Scan}
 use Rattle.smb_access.specs.declared.view.View.{View}
 use Rattle.smb_access.specs.Opens.{open_of, with_scan}
 use Rattle.smb_access.specs.StatusRows.{StatusRow, first_status}
-use Rattle.smb_entry.specs.Parts.{write_rows, has_no_room, keeps_from_writing, written_tree, has_entries, has_no_space, delete_rows, size_rows, basic_rows, entry_set, delete_set, leaves_size, resized_file, rename_rows, renamed_tree, changed_in, path_numbered, locks_shown}
+use Rattle.smb_entry.specs.Parts.{write_rows, has_no_room, keeps_from_writing, written_tree, has_entries, has_no_space, delete_rows, size_rows, basic_rows, entry_set, delete_set, leaves_size, resized_file, rename_rows, renamed_tree, path_numbered, locks_shown}
 use Rattle.smb_entry.specs.Locks.{lock_fault_status, lock_status_by}
 use Rattle.smb_entry.specs.Ways.{way_between, count_replaced, name_rows, way_rows}
 use Rattle.smb_entry.specs.Rename.{path_named}

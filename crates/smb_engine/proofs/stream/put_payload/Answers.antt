@@ -1,7 +1,7 @@
 use Rattle.std.proofs.Common.{◌++◌, sym, ap, ◌∙◌, arith}
 use Rattle.std.specs.List.{flat_map}
 use Rattle.smb_engine.specs.Output.{reply_frame}
-use Rattle.smb_engine.specs.Refusals.{server_after}
+use Rattle.smb_engine.specs.Parts.{server_after}
 use Rattle.smb_engine.specs.Run.{payload_step}
 use Rattle.smb_engine.proofs.Chains.{payload_whole}
 use Rattle.smb_engine.proofs.Steps.{frame_of, no_frame}

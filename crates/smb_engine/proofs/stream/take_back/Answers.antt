@@ -1,4 +1,3 @@
-use Rattle.std.proofs.Common.{ap, ◌++◌, take, ◌-◌, drop, length}
 use Rattle.smb_engine.proofs.SoFar.{none_held, tail_is, taken_then, stopped_then}
 use Rattle.smb_engine.proofs.stream.take_back.Goals as goal
 

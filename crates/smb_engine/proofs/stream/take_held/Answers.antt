@@ -1,4 +1,3 @@
-use Rattle.std.proofs.Common.{refl, sym, ap, ◌∙◌, arith, rules}
 use Rattle.smb_engine.proofs.SoFar.{pushed}
 use Rattle.smb_engine.proofs.stream.take_held.Goals as goal
 

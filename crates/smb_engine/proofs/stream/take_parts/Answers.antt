@@ -1,7 +1,7 @@
-use Rattle.std.proofs.Common.{◌≡◌, ◌≤◌, ◌∙◌, ap, length, take, arith, rules}
+use Rattle.std.proofs.Common.{◌≤◌, length, take, arith, rules}
 use Rattle.std.proofs.lemmas.List.{length-take-le}
 use Rattle.smb_frame.specs.Unread.{lacking}
-use Rattle.smb_engine.proofs.SoFar.{parts_over, parts_stopped, parts_few, parts_far, taken_then, stopped_then, taken_rest, split_is, sound_front, sum_small}
+use Rattle.smb_engine.proofs.SoFar.{parts_over, parts_stopped, parts_far, taken_then, stopped_then, taken_rest, split_is, sound_front, sum_small}
 use Rattle.smb_engine.proofs.stream.take_parts.Goals as goal
 
 pub returns-in-Err-clause-err : goal.returns-in-Err-clause-err

@@ -1,7 +1,7 @@
 use Rattle.std.proofs.Common.{sym, ap, ◌∙◌, rules, arith}
 use Rattle.std.proofs.lemmas.Bool.{false≢true}
 use Rattle.smb_engine.proofs.Chains.{count_few, within_few}
-use Rattle.smb_engine.proofs.Steps.{steps_more, steps_over, steps_over_short, steps_refused, steps_all, steps_all_short, held_all, steps_stopped, steps_stopped_in, steps_within, steps_done, front_kept, kept_more, at_limit}
+use Rattle.smb_engine.proofs.Steps.{steps_more, steps_over, steps_over_short, steps_refused, steps_stopped, steps_stopped_in, steps_within, steps_done, front_kept, kept_more, at_limit}
 use Rattle.smb_engine.proofs.stream.take_payloads.Goals as goal
 
 pub returns-then-done-most-clause-err : goal.returns-then-done-most-clause-err

@@ -1,5 +1,5 @@
 use Rattle.std.proofs.Common.{ap, sym, ◌∙◌}
-use Rattle.smb_request.specs.QueryInfo.{information_asked, request_refusal}
+use Rattle.smb_request.specs.Parts.{information_asked, request_refusal}
 use Rattle.smb_request.proofs.Listings.{query_failed, told_short}
 use Rattle.smb_request.proofs.server.Server.query_info.Goals as goal
 

@@ -5,10 +5,9 @@ use Rattle.smb_body.specs.Requests.{RequestValue, request_value, file_id_of}
 use Rattle.smb_session.specs.Table.{knows_session, knows_tree}
 use Rattle.smb_wire.specs.declared.nt_status.NtStatus.{NtStatus}
 use Rattle.smb_wire.specs.declared.nt_status.NtStatus.TheVariants.{UserSessionDeleted, NetworkNameDeleted}
-use Rattle.smb_request.specs.Parts.{named_open, needs_session, needs_tree, is_unsupported, dialect_after}
+use Rattle.smb_request.specs.Parts.{named_open, needs_session, needs_tree, is_unsupported, dialect_after, open_refusal}
 use Rattle.smb_request.specs.Context.{open_named}
 use Rattle.smb_request.specs.Needs.{needs_of}
-use Rattle.smb_request.specs.Request.{open_refusal}
 use Rattle.smb_request.proofs.Handed.{named_there, mapped_there, request_passed}
 use Rattle.smb_request.proofs.server.Server.respond.Goals as goal
 

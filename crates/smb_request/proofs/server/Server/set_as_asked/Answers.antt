@@ -1,5 +1,5 @@
 use Rattle.smb_info.specs.SetAsks.{set_asked}
-use Rattle.smb_request.specs.SetInfo.{set_status}
+use Rattle.smb_request.specs.Parts.{set_status}
 use Rattle.smb_request.proofs.Refused.{store_failed}
 use Rattle.smb_request.proofs.server.Server.set_as_asked.Goals as goal
 

@@ -3,7 +3,6 @@ use Rattle.smb_locks.specs.Table.{unlocked}
 use Rattle.smb_access.specs.declared.open_row.OpenRow.{OpenRow}
 use Rattle.smb_opens.specs.Locks.{unlock_status}
 use Rattle.smb_opens.specs.Views.{open_view}
-use Rattle.smb_request.specs.Locks.{file_unlocked}
 use Rattle.smb_request.specs.Owners.{AreOwned}
 use Rattle.smb_request.proofs.Configured.{locks_kept, locks_opens}
 use Rattle.smb_request.proofs.Refused.{code_failed}
@@ -24,7 +23,6 @@ invariant_of-self g c =
 
 -- a refusal of the store
 pub returns-in_err-unlock-clause-ok : goal.returns-in_err-unlock-clause-ok
-unfolding file_unlocked
 returns-in_err-unlock-clause-ok g c =
     rw (c.unlock.ensures.store, ← c.self.view_is)
     (code_failed g.A.Authenticator.meaning _ c.args.call _ (unlock_status c.self.inside.store c.args.call.open_number c.args.asks.now) c.in_err-unlock.field-0.0 c.from_residual.result c.in_err-unlock.ensures.why c.in_err-unlock.ensures.refused c.from_residual.ensures.1)
