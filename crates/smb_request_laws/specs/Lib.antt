@@ -1,0 +1,5 @@
+pub mod Acting
+pub mod Doing
+pub mod Serving
+pub mod Admission
+pub mod Credits

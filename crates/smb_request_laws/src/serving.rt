@@ -1,0 +1,18 @@
+//! The laws of serving.
+
+ghost use Rattle.smb_request_laws.specs.Serving.{AnEchoIsAnswered, WhoIsAcceptedIsAnswered, AReadOfItsOwnSucceeds};
+ghost use Rattle.smb_request_laws.specs.Serving.{AWriteOfItsOwnSucceeds};
+
+use smb_session::Authenticator;
+
+/// Whoever may is served. An ECHO is answered, whoever sends it; a SESSION_SETUP whose token is accepted succeeds; and
+/// a READ or a WRITE through an open of its own tree connect and session succeeds where the store refuses it for no
+/// reason.
+///
+/// The laws hold of every authenticator: the contract is the statement, and the body does nothing.
+pub fn laws_of_serving<A: Authenticator>()
+    ensures echo { AnEchoIsAnswered A.meaning }
+    ensures accepted { WhoIsAcceptedIsAnswered A.meaning }
+    ensures read { AReadOfItsOwnSucceeds A.meaning }
+    ensures write { AWriteOfItsOwnSucceeds A.meaning }
+{}
