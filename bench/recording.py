@@ -6,12 +6,13 @@
 
 Each kind of keeping, and then each level of a log, serves one client that sends a request, waits for its answer, and so
 on, ROUNDS times in turn; each figure is the median. Then a share with so many MiB of files is begun again from its
-journal: from the start of the program until it listens. The files lie in the folder that the system gives for temporary
-ones, on its disk.
+journal: from the start of the program until it listens; and the journal is replayed. The files lie in the folder that the
+system gives for temporary ones, on its disk.
 """
 import os
 import pathlib
 import statistics
+import subprocess
 import sys
 import tempfile
 import time
@@ -82,8 +83,8 @@ def fill(client, megabytes):
 
 
 def restarts(folder):
-    print('| MiB of files | MB of journal | seconds until it listens |')
-    print('|---|---|---|')
+    print('| MiB of files | MB of journal | seconds until it listens | seconds of `replay --recording` |')
+    print('|---|---|---|---|')
     for megabytes in (1, 16, 64):
         path = os.path.join(folder, f'journal-{megabytes}')
         with Served('--journal', path) as share:
@@ -94,7 +95,10 @@ def restarts(folder):
         start = time.perf_counter()
         with Served('--journal', path):
             took = time.perf_counter() - start
-        print(f'| {megabytes} | {os.path.getsize(path) / 1e6:,.1f} | {took:.2f} |', flush=True)
+        start = time.perf_counter()
+        subprocess.run([served.PROGRAM, 'replay', '--recording', path], stdout=subprocess.DEVNULL, check=True)
+        again = time.perf_counter() - start
+        print(f'| {megabytes} | {os.path.getsize(path) / 1e6:,.1f} | {took:.2f} | {again:.2f} |', flush=True)
 
 
 if __name__ == '__main__':

@@ -3,8 +3,10 @@
 name, and those that these name.
 
 Of these it counts those behind the main theorem, which the clauses of `Share::run` name; those behind what else the
-program promises; and those for laws, authenticators and peers of tests alone. --list prints all by file, --run those of
-the first count. --check fails where docs/DEFINITIONS.md does not name one beside its file, or names a file or a
+program promises; and those for laws, authenticators and peers of tests alone, with how many of these are a law's
+statement and nothing else: a clause of a `laws_of_` function is such a name, and no other definition has it. A statement
+is proved, and no promise stands on it; a reader of the law has to read it all the same. --list prints all by file, --run
+those of the first count. --check fails where docs/DEFINITIONS.md does not name one beside its file, or names a file or a
 definition that is not there, and where a file of which nothing need be believed does not begin by saying so, or another
 one does. The page has two parts, of which the first names the definitions behind `Share::run` and no other. In each,
 under a heading with a crate's name, it has an item for each file, or for several, whose names it begins with, as
@@ -88,16 +90,32 @@ def find(specs, crate, file, name):
     return (crate, file, at.constructors.get(name, name)) if at and name in {*at.texts, *at.constructors} else None
 
 
+def used_by(specs, one):
+    """The definitions that one names, without itself."""
+    crate, file, name = one
+    at = specs[crate, file]
+    return {find(specs, *at.imports.get(it, (False, (crate, file, it)))[1]) for it in used_in(at.texts[name])} - {None, one}
+
+
 def followed(specs, roots):
     """All definitions to which some lead."""
     reached, waiting = set(), set(roots)
     while waiting:
-        crate, file, name = one = waiting.pop()
+        one = waiting.pop()
         reached.add(one)
-        at = specs[crate, file]
-        used = {find(specs, *at.imports.get(it, (False, (crate, file, it)))[1]) for it in used_in(at.texts[name])}
-        waiting |= used - reached - {None}
+        waiting |= used_by(specs, one) - reached
     return reached
+
+
+def all_roots(specs, wanted=lambda module, part: True):
+    """The definitions that public clauses of all crates name, of the wanted functions and ghost members."""
+    return {root for name in {crate for crate, _ in specs} for root in Crate(name).roots(specs, wanted)} - {None}
+
+
+def statements(specs, reached):
+    """Those of the reached definitions that clauses of laws name, and nothing else does."""
+    used = {it for one in reached for it in used_by(specs, one)}
+    return all_roots(specs, is_law) & reached - used - all_roots(specs, lambda module, part: not is_law(module, part))
 
 
 def items_of(text):
@@ -191,9 +209,14 @@ def behind_run(specs):
     return followed(specs, {find(specs, *imports[name][1]) for it in found for name in used_in(clauses_of(it)) & set(imports)} - {None})
 
 
+def is_law(module, part):
+    """Whether a function or ghost member is one whose clauses are laws."""
+    return bool(re.match(r"pub (const )?fn laws_of_", part))
+
+
 def is_of_program(module, part):
     """Whether a function or ghost member is no law, and not of the peers and clocks in memory, which serve tests."""
-    return not re.match(r"pub (const )?fn laws_of_", part) and not module.startswith("memory_")
+    return not is_law(module, part) and not module.startswith("memory_")
 
 
 def behind_program(specs):
@@ -254,21 +277,22 @@ def marks(specs, reached):
 
 def counts(specs, reached):
     """A table: by crate how many definitions are believed; of these how many behind `Share::run`, how many more behind what else the
-    program promises, and how many for laws, authenticators and peers of tests alone; and how many are not, and how many there are."""
+    program promises, and how many for laws, authenticators and peers of tests alone, and of these how many are statements of laws; and
+    how many are not, and how many there are."""
     run = behind_run(specs) & reached
     program = behind_program(specs) & reached - run
-    yield f"{'':14}" + "".join(f"{it:>10}" for it in ("believed", "run", "program", "laws", "not", "all"))
+    stated = statements(specs, reached)
+    yield f"{'':18}" + "".join(f"{it:>10}" for it in ("believed", "run", "program", "laws", "stated", "not", "all"))
     for crate in [*dict.fromkeys(crate for crate, _ in specs), "all"]:
-        some, of_run, of_program = (sum(crate in (it[0], "all") for it in them) for them in (reached, run, program))
+        some, of_run, of_program, of_laws = (sum(crate in (it[0], "all") for it in them) for them in (reached, run, program, stated))
         every = sum(len(at.texts) for key, at in specs.items() if crate in (key[0], "all"))
-        row = (some, of_run, of_program, some - of_run - of_program, every - some, every)
-        yield f"{crate:14}" + "".join(f"{it:10}" for it in row)
+        row = (some, of_run, of_program, some - of_run - of_program, of_laws, every - some, every)
+        yield f"{crate:18}" + "".join(f"{it:10}" for it in row)
 
 
 def main(words):
     specs = read_specs()
-    roots = {root for name in {crate for crate, _ in specs} for root in Crate(name).roots(specs)}
-    reached = followed(specs, roots - {None})
+    reached = followed(specs, all_roots(specs))
     if words == ["--check"]:
         first, others, quoted, wrong = told(specs)
         run = behind_run(specs)

@@ -27,9 +27,10 @@ abbrev pub most_allowed : Bool → Bool → ℕ
 most_allowed read_only on_read_only =
     if read_only then 0x1200A9 else if on_read_only then 0x1F01F9 else FILE_ALL_ACCESS
 
--- the access that is granted to a session that may only read or to another one, on a read-only file or on another
--- entry: the rights asked for, those that the generic bits stand for, and with MAXIMUM_ALLOWED all that is allowed; these
--- five bits themselves are dropped
+-- the access that is granted: the rights that are asked for by name, those that each generic bit stands for, and with
+-- MAXIMUM_ALLOWED the most that is allowed, by whether the session may only read and whether the entry is a read-only
+-- file. The four generic bits and MAXIMUM_ALLOWED stand for rights, and are none themselves. What is asked for and not
+-- allowed is granted here all the same: rows of a CREATE refuse it
 abbrev pub granted : ℕ → Bool → Bool → Access
 granted access read_only on_read_only = record {
   0 =

@@ -28,18 +28,14 @@ abbrev pub is_conflict : Access × ShareAccess → Access × ShareAccess → Boo
 is_conflict one other =
     is_shared_access one.0 && is_shared_access other.0 && (is_kept_out one.0 other.1 || is_kept_out other.0 one.1)
 
--- sharing speaks of the open's access, and the open does not share this
-abbrev pub shares_no : ℕ → OpenRow → Bool
-shares_no share row = is_shared_access row.access && not (has_any row.share.0 share)
-
--- an open uses its entry so: it may, or it does not share
+-- an open uses its entry so: it may read, write or delete; or sharing speaks of its access, and it does not share this
 abbrev pub uses : SharingUse → OpenRow → Bool
 uses Reads row = is_reading row.access
 uses Writes row = is_writing row.access
 uses Deletes row = is_deleting row.access
-uses SharesNoRead row = shares_no FILE_SHARE_READ row
-uses SharesNoWrite row = shares_no FILE_SHARE_WRITE row
-uses SharesNoDelete row = shares_no FILE_SHARE_DELETE row
+uses SharesNoRead row = is_shared_access row.access && not (has_any row.share.0 FILE_SHARE_READ)
+uses SharesNoWrite row = is_shared_access row.access && not (has_any row.share.0 FILE_SHARE_WRITE)
+uses SharesNoDelete row = is_shared_access row.access && not (has_any row.share.0 FILE_SHARE_DELETE)
 
 -- some open of an entry uses it so
 abbrev pub has_use : List OpenRow → ℕ → SharingUse → Bool

@@ -1,7 +1,8 @@
 //! What of an open may stand in another's way.
 
-ghost use Rattle.std.specs.Prelude.{◌≡◌};
-ghost use Rattle.smb_access.specs.Sharing.{shares_no, uses};
+ghost use Rattle.std.specs.Prelude.{◌≡◌, ◌&&◌, not};
+ghost use Rattle.smb_wire.specs.Access.{has_any};
+ghost use Rattle.smb_access.specs.Sharing.{is_shared_access, uses};
 
 use super::access::{is_deleting, is_reading, is_writing};
 use super::open_row::OpenRow;
@@ -45,7 +46,7 @@ impl SharingUse {
 
 // Whether sharing speaks of an open's access, and the open doesn't share this.
 fn is_shared_without(row: &OpenRow, share: ShareAccess) -> bool
-    ensures { result ≡ shares_no share.0 row.now }
+    ensures { result ≡ (is_shared_access row.now.access && not (has_any row.now.share.0 share.0)) }
 {
     is_shared_access(row.access) && !row.share.intersects(share)
 }

@@ -7,10 +7,14 @@ use Rattle.smb_wire.specs.Number.{IsBytes, spelling}
 use Rattle.smb_wire.specs.Fields.{number_in, AllStand, joined}
 use Rattle.smb_wire.proofs.Numbers.{spelling_of_number, number_below}
 use Rattle.smb_wire.proofs.FieldTables.{length-joined, stand_behind}
-use Rattle.smb_body.specs.Locks.{IsElement, AllElements, lock_fields, SaysElements, lock_bytes, AllLocksFit}
+use Rattle.smb_body.specs.Locks.{AllElements, lock_fields, SaysElements, lock_bytes, AllLocksFit}
 use Rattle.smb_body.specs.LockLists.{lock_at, EachElementIsRead}
 use Rattle.smb_body.specs.Readings.{locks_in}
 use Rattle.smb_body.specs.declared.lock_element.LockElement.{LockElement}
+
+-- 24 bytes
+abbrev IsElement : List ℕ → Type 0
+IsElement bytes = (length bytes ≡ 24) × IsBytes bytes
 
 tail_elements : (p : List ℕ) (ps : List (List ℕ)) → AllElements (p ∷ ps) → AllElements ps
 tail_elements p ps h = record { each = λ i k. h.each (suc i) (omega arith) }
@@ -39,7 +43,7 @@ pub chunks_elements : (k : ℕ) (bytes : List ℕ) → 24 * k ≤ length bytes �
 chunks_elements zero bytes e h = record { each = λ i k. absurd (omega arith) }
 chunks_elements (suc k) bytes e h =
     cons_elements (take 24 bytes) (first_chunks 24 k (drop 24 bytes))
-    (record { size = length-take-le 24 bytes (omega arith); fits = take_fits 24 bytes h })
+    (length-take-le 24 bytes (omega arith), take_fits 24 bytes h)
     (chunks_elements k (drop 24 bytes) (omega (arith, length-drop 24 bytes)) (drop_fits 24 bytes h))
 
 -- a field spells the bytes at its place
@@ -67,15 +71,15 @@ four_parts bytes e =
 
 element_bytes : (bytes : List ℕ) → IsElement bytes → joined (lock_fields (lock_at bytes)) ≡ bytes
 element_bytes bytes e =
-    let a = field_bytes 8 0 bytes (omega (arith, e.size)) e.fits in
-    let b = field_bytes 8 8 bytes (omega (arith, e.size)) e.fits in
-    let c = field_bytes 4 16 bytes (omega (arith, e.size)) e.fits in
-    let d = field_bytes 4 20 bytes (omega (arith, e.size)) e.fits in
-    rw (a, b, c, d) (four_parts bytes e.size)
+    let a = field_bytes 8 0 bytes (omega (arith, e.0)) e.1 in
+    let b = field_bytes 8 8 bytes (omega (arith, e.0)) e.1 in
+    let c = field_bytes 4 16 bytes (omega (arith, e.0)) e.1 in
+    let d = field_bytes 4 20 bytes (omega (arith, e.0)) e.1 in
+    rw (a, b, c, d) (four_parts bytes e.0)
 
 element_fits : (bytes : List ℕ) → IsElement bytes → AllLocksFit (lock_at bytes ∷ [])
 element_fits bytes e =
-    ((field_below 8 0 bytes (omega (arith, e.size)) e.fits, (field_below 8 8 bytes (omega (arith, e.size)) e.fits, (field_below 4 16 bytes (omega (arith, e.size)) e.fits, (field_below 4 20 bytes (omega (arith, e.size)) e.fits, tt)))), tt)
+    ((field_below 8 0 bytes (omega (arith, e.0)) e.1, (field_below 8 8 bytes (omega (arith, e.0)) e.1, (field_below 4 16 bytes (omega (arith, e.0)) e.1, (field_below 4 20 bytes (omega (arith, e.0)) e.1, tt)))), tt)
 
 -- the bytes of the elements that chunks spell are the chunks, one after the other
 pub elements_bytes : (chunks : List (List ℕ)) → AllElements chunks → lock_bytes (map lock_at chunks) ≡ flat_map (λ x. x) chunks

@@ -28,11 +28,6 @@ abbrev pub AllLocksFit : List LockElement → Type 0
 AllLocksFit [] = Unit {0}
 AllLocksFit (e ∷ es) = AllFit (lock_fields e) × AllLocksFit es
 
--- 24 bytes
-pub record IsElement (bytes : List ℕ) : Type 0 where
-  pub size : length bytes ≡ 24
-  pub fits : IsBytes bytes
-
 -- each item is 24 bytes
 pub record AllElements (elements : List (List ℕ)) : Type 0 where
-  pub each : (i : ℕ) → i < length elements → IsElement (slice_index_or elements i [])
+  pub each : (i : ℕ) → i < length elements → (length (slice_index_or elements i []) ≡ 24) × IsBytes (slice_index_or elements i [])

@@ -59,7 +59,7 @@ pub struct Replies<'a> {
     frames: &'a [u8],
 }
 
-/// The payload of the frame that stands first, and the frames behind it, where a whole one does.
+/// The payload of the first frame, and the frames behind it, where a whole one does.
 fn first_frame(frames: &[u8]) -> Option<(&[u8], &[u8])> {
     match frames {
         [0, high, middle, low, rest @ ..] => {

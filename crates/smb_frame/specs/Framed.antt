@@ -16,7 +16,7 @@ pub record BreaksFirstByte (rest : List ℕ) : Type 0 where
   pub whole : rest ≡ byte ∷ more
   pub wrong : byte ≢ 0
 
--- a zero byte and a length over the limit stand first
+-- it begins with a zero byte and a length over the limit
 pub record BreaksLimit (limit : ℕ) (rest : List ℕ) : Type 0 where
   pub size : ℕ
   pub more : List ℕ

@@ -6,6 +6,6 @@ use Rattle.std.specs.Prelude.{ℕ, ◌+◌, ◌*◌, List, length, drop}
 abbrev pub size : ℕ → ℕ → ℕ → ℕ
 size high middle low = 65536 * high + 256 * middle + low
 
--- the bytes after the frame of this payload, which stands first
+-- the bytes after the frame of this payload, with which they begin
 abbrev pub after : List ℕ → List ℕ → List ℕ
 after payload bytes = drop (length payload + 4) bytes

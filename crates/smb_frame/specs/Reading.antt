@@ -7,14 +7,14 @@ use Rattle.smb_frame.specs.declared.fault.FrameFault.{FrameFault}
 use Rattle.smb_frame.specs.declared.fault.FrameFault.TheVariants.{FirstByte, TooLong}
 use Rattle.smb_frame.specs.Framed.{frame, Framed}
 
--- the payload of the frame that stands first, where a whole one does
+-- the payload of the first frame, where it is whole
 abbrev pub first : ℕ → List ℕ → Option (List ℕ)
 first limit (kind ∷ high ∷ middle ∷ low ∷ bytes) =
     let size = 65536 * high + 256 * middle + low in
     if (kind == 0) && (nat_le size limit && nat_le size (length bytes)) then Some (take size bytes) else None
 first limit bytes = None
 
--- what is wrong with the frame that stands first, by its first four bytes as far as they are there
+-- what is wrong with the first frame, by its first four bytes as far as they are there
 abbrev pub fault_of : ℕ → List ℕ → Option FrameFault
 fault_of limit [] = None
 fault_of limit (kind ∷ high ∷ middle ∷ low ∷ bytes) =

@@ -20,7 +20,7 @@ abbrev pub with_piece : Unread → List ℕ → Unread
 with_piece held piece =
     if is_none (fault_of held.limit held.bytes) then record (without_done held) { bytes = held.bytes ++ piece } else without_done held
 
--- how many bytes the frame that stands first lacks, once its first four bytes say its length; before that 0
+-- how many bytes the first frame lacks, once its first four bytes say its length; before that 0
 abbrev pub lacking : List ℕ → ℕ
 lacking (kind ∷ high ∷ middle ∷ low ∷ bytes) = 65536 * high + 256 * middle + low - length bytes
 lacking bytes = 0

@@ -40,7 +40,7 @@ fn payload_length(high: u8, middle: u8, low: u8) -> usize
     65_536 * high as usize + 256 * middle as usize + low as usize
 }
 
-/// The payload of the frame that stands first in some bytes of a stream, where it is whole and at most `limit` bytes long.
+/// The payload of the first frame in some bytes of a stream, where it is whole and at most `limit` bytes long.
 pub fn first_payload(limit: u32, bytes: &[u8]) -> Option<&[u8]>
     ensures first { option_map (λ payload. payload.now) result ≡ first limit bytes.now }
     ensures long { IfSome result (λ payload. length payload.now + 4 ≤ length bytes.now) }
@@ -58,7 +58,7 @@ pub fn first_payload(limit: u32, bytes: &[u8]) -> Option<&[u8]>
     }
 }
 
-/// What is wrong with the frame that stands first, as far as it goes.
+/// What is wrong with the first frame, as far as it goes.
 fn first_fault(limit: u32, bytes: &[u8]) -> Option<FrameFault>
     ensures { result ≡ fault_of limit bytes.now }
 {
@@ -112,7 +112,7 @@ impl FrameBuffer {
         Ok(())
     }
 
-    /// How many bytes the frame that stands first lacks, once its first four bytes are there; before that 0. Where they
+    /// How many bytes the first frame lacks, once its first four bytes are there; before that 0. Where they
     /// come by themselves no unread byte is moved at the next [`push`](FrameBuffer::push).
     pub fn lacking(&self) -> usize
         ensures { result ≡ lacking self.now.bytes }
@@ -175,7 +175,7 @@ impl FrameBuffer {
         }
     }
 
-    /// What is wrong with the frame that stands first: [`FrameFault::FirstByte`] once its first byte is
+    /// What is wrong with the first frame: [`FrameFault::FirstByte`] once its first byte is
     /// there, [`FrameFault::TooLong`] once its fourth is.
     pub fn fault(&self) -> Option<FrameFault>
         ensures { result ≡ fault_of self.now.limit self.now.bytes }

@@ -3,18 +3,17 @@ use Rattle.std.proofs.Common.{◌≡◌, ℕ, ◌+◌, ◌-◌, ◌%◌, ◌<◌
 use Rattle.std.proofs.Math.Seq.{take-append-add, drop-append-add}
 use Rattle.std.proofs.lemmas.List.{take_at, drop_at, take-append-le, drop-append-le, length-replicate}
 use Rattle.smb_wire.specs.Number.{spelling}
-use Rattle.smb_wire.specs.Fields.{Field, joined, appended}
+use Rattle.smb_wire.specs.Fields.{Field, joined}
 use Rattle.smb_wire.proofs.Numbers.{length-spelling}
-use Rattle.smb_wire.proofs.FieldTables.{appended-joined}
 use Rattle.smb_head.specs.declared.header.Header.{Header}
 use Rattle.smb_head.specs.Headers.{protocol_id}
 use Rattle.smb_head.specs.Replies.{Reply, reply_bytes, rounded_up, joined_replies, last_place, so_far}
 use Rattle.smb_head.specs.Parts.{padded, padded_length}
 
 -- a header and a body put behind a front
-pub put_is : (old one two : List ℕ) (table : List Field) (body : List ℕ) → one ≡ appended old table → two ≡ one ++ body →
+pub put_is : (old one two : List ℕ) (table : List Field) (body : List ℕ) → one ≡ old ++ joined table → two ≡ one ++ body →
     two ≡ old ++ (joined table ++ body)
-put_is old one two table body a b = rw (b, a, appended-joined old table) (append_assoc old (joined table) body)
+put_is old one two table body a b = rw (b, a) (append_assoc old (joined table) body)
 
 -- a number put over 4 bytes, 20 behind a place
 abbrev pub patched : ℕ → ℕ → List ℕ → List ℕ

@@ -37,8 +37,8 @@ pub record Chained (payload : List ℕ) (requests : List (List ℕ)) : Type 0 wh
   pub unrelated : BeginsUnrelated requests
   pub linked : AreLinked requests
 
--- what is wrong with the request that stands first in the rest of a payload, the first of these; `first` says that no
--- request stands before it. A right NextCommand is 0, or a multiple of 8, at least 64, that leaves at least 64 bytes
+-- what is wrong with the first request in the rest of a payload: the first fault that holds. `first` says that no request
+-- is before it. A right NextCommand is 0, or a multiple of 8, at least 64, that leaves at least 64 bytes
 abbrev pub request_fault : Bool → List ℕ → Option HeadFault
 request_fault first rest =
     let next = (header_of rest).next_command in
@@ -57,8 +57,8 @@ AreFollowed (request ∷ requests) rest =
     ((header_of request).next_command ≡ length request) × (length request % 8 ≡ 0)
     × (64 ≤ length (concat requests ++ rest)) × AreFollowed requests rest
 
--- what is wrong with the request that stands first in the rest, behind so many others: that it is the 17th,
--- whatever it is, or its own fault
+-- what is wrong with the first request in the rest, behind so many others: that it is the 17th, whatever it is, or its own
+-- fault
 abbrev pub fault_behind : ℕ → List ℕ → Option HeadFault
 fault_behind count rest = if count == most_requests then Some TooMany else request_fault (count == 0) rest
 

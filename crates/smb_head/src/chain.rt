@@ -64,7 +64,7 @@ fn is_next_right(next: usize, left: usize) -> bool
     next == 0 || next % 8 == 0 && next >= 64 && left >= 64 && next <= left - 64
 }
 
-/// The header of the request that stands first in the rest of a payload.
+/// The header of the first request in the rest of a payload.
 fn read_request(rest: &[u8], is_first: bool) -> Result<Header, ChainFault>
     ensures ok { IfOk result (λ header. header ≡ header_of rest.now) }
     ensures lawful { IfOk result (λ _. request_fault is_first rest.now ≡ None) }

@@ -1,7 +1,7 @@
 //! The header that each request and each reply begins with ([MS-SMB2] 2.2.1).
 
-ghost use Rattle.std.specs.Prelude.{⊤, ◌≡◌, ◌≤◌, ◌+◌, ◌∷◌, [], OnOk, OnErr, IfOk, IfErr, codes, length, take};
-ghost use Rattle.smb_wire.specs.Fields.{AllFit, appended};
+ghost use Rattle.std.specs.Prelude.{⊤, ◌≡◌, ◌≤◌, ◌+◌, ◌++◌, ◌∷◌, [], OnOk, OnErr, IfOk, IfErr, codes, length, take};
+ghost use Rattle.smb_wire.specs.Fields.{AllFit, appended, joined};
 ghost use Rattle.smb_head.specs.Headers.{fields, header_of, header_fault, EachHeaderHasOneReading, AWrittenHeaderIsRead, WhatIsReadIsWritten};
 
 use super::fault::HeadFault;
@@ -155,7 +155,7 @@ fn put_fields(header: &Header, out: &mut Vec<u8>) -> Result<(), WireFault>
 ///
 /// After [`HeadFault::NoMemory`], the only refusal, `out` is as it was.
 pub fn write_header(header: &Header, out: &mut Vec<u8>) -> Result<(), HeadFault>
-    ensures ok { OnOk result (out.new.items ≡ appended out.old.items (fields header.now)) }
+    ensures ok { OnOk result (out.new.items ≡ out.old.items ++ joined (fields header.now)) }
     ensures len { OnOk result (length out.new.items ≡ length out.old.items + 64) }
     ensures memory { IfErr result (λ fault. fault ≡ HeadFault.NoMemory) }
     ensures err { OnErr result (out.new.items ≡ out.old.items) }

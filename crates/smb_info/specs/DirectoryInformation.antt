@@ -1,4 +1,4 @@
--- What is told of the entries of a directory ([MS-FSCC] 2.4). A row is a field: its offset, its width, its value.
+-- What is answered of the entries of a directory ([MS-FSCC] 2.4). A row is a field: its offset, its width, its value.
 use Rattle.std.specs.Prelude.{ℕ, ◌+◌, ◌-◌, ◌*◌, ◌/◌, List, [], ◌∷◌, ◌++◌, length, replicate, ◌==◌, if◌then◌else◌, Option, None, Some}
 use Rattle.smb_wire.specs.Fields.{Field, num, joined}
 use Rattle.smb_wire.specs.Pairs.{unit_bytes}
@@ -7,7 +7,7 @@ use Rattle.smb_info.specs.Candidates.{Candidate}
 use Rattle.smb_info.specs.declared.directory_class.DirectoryInformationClass.{DirectoryInformationClass}
 use Rattle.smb_info.specs.declared.directory_class.DirectoryInformationClass.TheVariants.{FileDirectory, FileFullDirectory, FileBothDirectory, FileNames, FileIdBothDirectory, FileIdFullDirectory}
 
--- the classes that are told, by their numbers
+-- the classes that can be asked for, by their numbers
 abbrev pub directory_class : ℕ → Option DirectoryInformationClass
 directory_class number =
     if number == 1 then Some FileDirectory else

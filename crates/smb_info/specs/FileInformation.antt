@@ -1,4 +1,4 @@
--- What is told of a file or a folder ([MS-FSCC] 2.4). A row is a field: its offset, its width, its value.
+-- What is answered of a file or a folder ([MS-FSCC] 2.4). A row is a field: its offset, its width, its value.
 use Rattle.std.specs.Prelude.{ℕ, List, [], ◌∷◌, ◌++◌, length, ◌==◌, if◌then◌else◌, Option, None, Some}
 use Rattle.std.specs.Option.{option_map}
 use Rattle.smb_wire.specs.Fields.{Field, num}
@@ -8,7 +8,7 @@ use Rattle.smb_info.specs.Information.{Information}
 use Rattle.smb_info.specs.declared.file_class.FileInformationClass.{FileInformationClass}
 use Rattle.smb_info.specs.declared.file_class.FileInformationClass.TheVariants.{FileBasic, FileStandard, FileInternal, FileEa, FileAccess, FilePosition, FileMode, FileAlignment, FileAll, FileNetworkOpen, FileAttributeTag}
 
--- the classes that are told, by their numbers
+-- the classes that can be asked for, by their numbers
 abbrev pub file_class : ℕ → Option FileInformationClass
 file_class number =
     if number == 4 then Some FileBasic else

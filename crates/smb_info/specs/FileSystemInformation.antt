@@ -1,4 +1,4 @@
--- What is told of a share as a file system ([MS-FSCC] 2.5). A row is a field: its offset, its width, its value.
+-- What is answered of a share as a file system ([MS-FSCC] 2.5). A row is a field: its offset, its width, its value.
 use Rattle.std.specs.Prelude.{ℕ, ◌-◌, ◌*◌, ◌/◌, List, [], ◌∷◌, length, Bool, nat_le, ◌==◌, ◌&&◌, if◌then◌else◌, Option, None, Some}
 use Rattle.std.specs.Option.{option_map}
 use Rattle.std.specs.List.{list_all}
@@ -20,7 +20,7 @@ pub record VolumeFacts : Type 0 where
 abbrev pub is_volume_label : List ℕ → Bool
 is_volume_label label = nat_le (length label) 32 && list_all (λ character. nat_le 0x20 character && nat_le character 0x7E) label
 
--- the classes that are told, by their numbers
+-- the classes that can be asked for, by their numbers
 abbrev pub fs_class : ℕ → Option FileSystemInformationClass
 fs_class number =
     if number == 1 then Some FileFsVolume else

@@ -1,4 +1,4 @@
--- What an information class tells: a table of fields, and for some a name behind it ([MS-FSCC] 2.4, 2.5).
+-- What an information class says: a table of fields, and for some a name behind it ([MS-FSCC] 2.4, 2.5).
 use Rattle.std.specs.Prelude.{ℕ, List, [], ◌++◌, length, take, nat_le, nat_lt, if◌then◌else◌, Option, None, Some}
 use Rattle.smb_wire.specs.Fields.{Field, joined, width_of, AllStand}
 use Rattle.smb_info.specs.declared.written.Truncation.{Truncation}
@@ -11,12 +11,12 @@ pub record Information : Type 0 where
   pub fields : List Field
   pub name : List ℕ
 
--- why nothing is told: the number is of no class that is told, or there is no room for the fixed part
+-- why nothing is answered: no class that can be asked for has the number, or there is no room for the fixed part
 abbrev pub info_fault : Option Information → ℕ → Option InfoFault
 info_fault None room = Some BadClass
 info_fault (Some info) room = if nat_lt room (width_of info.fields) then Some TooSmall else None
 
--- what is told: the first bytes of the fields and the name, as many as there is room for
+-- what is answered: the first bytes of the fields and the name, as many as there is room for
 abbrev pub told : Option Information → ℕ → List ℕ
 told None room = []
 told (Some info) room = take room (joined info.fields ++ info.name)

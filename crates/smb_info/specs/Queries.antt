@@ -47,7 +47,7 @@ module _ (rows : List Row) (folder : ℕ) (scan : Scan) (ask : ListAsked) where
       let found = matching rows folder (pattern_by scan ask) (scan_by scan ask).last in
       if has_any ask.flags RETURN_SINGLE_ENTRY then take 1 found else found
 
-  -- why nothing is listed: no class that is told has the number; the pattern has over 255 units; there is no room for
+  -- why nothing is listed: no class that can be asked for has the number; the pattern has over 255 units; there is no room for
   -- the fixed part; no name is matched, which is NO_SUCH_FILE where the query starts the scan, and the scan is kept,
   -- and else NO_MORE_FILES; or the first entry does not fit whole, though it is the only one
   abbrev pub list_fault : Option InfoFault

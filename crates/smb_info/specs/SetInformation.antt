@@ -66,12 +66,11 @@ is_readable bytes FileRename =
     && nat_le (20 + name_length) (length bytes) && (name_length % 2 == 0)
 is_readable bytes _ = true
 
--- why nothing is asked: the number is of no class that can be set, the fixed part is not whole, or a rename says no name
-abbrev pub class_fault : List ℕ → Option SetInformationClass → Option InfoFault
-class_fault bytes None = Some BadClass
-class_fault bytes (Some class) =
-    if nat_lt (length bytes) (set_length class) then Some TooSmall else
-    if is_readable bytes class then None else Some Unreadable
-
+-- why nothing is asked: no class that can be set has the number, the fixed part is not whole, or a rename says no name
 abbrev pub set_fault : ℕ → List ℕ → Option InfoFault
-set_fault number bytes = class_fault bytes (set_class number)
+set_fault number bytes = elim (set_class number) as (λ it. Option InfoFault) [
+  | None ↦ Some BadClass
+  | Some class ↦
+      if nat_lt (length bytes) (set_length class) then Some TooSmall else
+      if is_readable bytes class then None else Some Unreadable
+]

@@ -1,6 +1,7 @@
 //! Who lets clients in where it is recorded.
 
-ghost use Rattle.std.specs.Prelude.{◌≡◌, IfOk, IfSome, OnOk, OnErr};
+ghost use Rattle.std.specs.Prelude.{◌≡◌, ◌<◌, length, IfOk, IfSome, IfNone, OnOk, OnErr};
+ghost use Rattle.smb_wire.specs.Limits.{longest_token};
 ghost use Rattle.smb_session.specs.Answers.{answered_by};
 ghost use Rattle.smb_session.specs.Authenticator.{IsLawful};
 
@@ -43,7 +44,8 @@ impl<'a, A: Authenticator + Drop> RecordedLogin<'a, A> {
         behind: A,
         mailbox: &'a Mailbox,
     ) -> Option<Self>
-        ensures { IfSome result (λ login. login ≡ record { hello = hello.items; given = given.items; behind = behind }) }
+        ensures some { IfSome result (λ login. login ≡ record { hello = hello.items; given = given.items; behind = behind }) }
+        ensures none { IfNone result (longest_token < length hello.items) }
     {
         if hello.len() > LONGEST_TOKEN {
             return None;

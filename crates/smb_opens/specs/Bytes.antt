@@ -16,7 +16,8 @@ use Rattle.smb_wire.specs.Limits.{most_file_bytes}
 use Rattle.smb_wire.specs.Access.{has_any, FILE_WRITE_DATA}
 use Rattle.smb_locks.specs.Conflicts.{is_read_barred, is_write_barred}
 
--- the status of a READ of the open of a number, by the most bytes that one request may ask for
+-- the status of a READ of `count` bytes from an offset through the open of a number: `most` bytes are what one request may
+-- ask for at most, and `minimum` is its MinimumCount
 abbrev pub read_status : StoreState → ℕ → ℕ → ℕ → ℕ → ℕ → NtStatus
 read_status state most number offset count minimum = status_through state number (λ view.
     -- RD1. more is asked for than one request reads ([MS-SMB2] 3.3.5.12)
@@ -30,7 +31,8 @@ read_status state most number offset count minimum = status_through state number
       is_read_barred (locks_on state.locks view.entry) number (record { offset = offset; length = count }),
       FileLockConflict,
     )
-    -- RD5. bytes are asked for behind the last one, or fewer are there than the request wants at least ([MS-SMB2] 3.3.5.12)
+    -- RD5. bytes are asked for, and the offset is at the file's end or behind it; or fewer bytes would be read than the
+    -- request's MinimumCount, as where that is above its Length ([MS-SMB2] 3.3.5.12)
     ∷ (
       nat_lt 0 count && nat_le view.size offset || nat_lt (min count (view.size - offset)) minimum,
       EndOfFile,

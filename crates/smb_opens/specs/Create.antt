@@ -1,5 +1,5 @@
 -- The status of a CREATE ([MS-SMB2] 3.3.5.9): the rows in order, the first whose condition holds decides.
-use Rattle.std.specs.Prelude.{◌||◌, ◌&&◌, false, not, nat_lt, List, [], ◌∷◌, slice_index, Option, Some, ◌-◌, nat_le, ◌==◌, bit_and, length}
+use Rattle.std.specs.Prelude.{◌||◌, ◌&&◌, false, not, nat_lt, List, [], ◌∷◌, slice_index, Option, ◌-◌, nat_le, ◌==◌, bit_and, length}
 use Rattle.std.specs.Option.{is_none, is_some, option_map_or}
 use Rattle.smb_wire.specs.declared.access.Access.{Access}
 use Rattle.smb_wire.specs.Dispositions.{overwrites_by, must_exist_by, must_be_new_by}
@@ -30,6 +30,12 @@ abbrev pub create_rows : StoreState → FileAsked → Option Entry → List Stat
 create_rows state ask entry =
     -- the access that it is granted, by the entry (3.3.5.9)
     let access = granted ask.access ask.read_only (is_read_only_file entry) in
+    -- a file is added or overwritten, and gets FILE_ATTRIBUTE_READONLY
+    let becomes_read_only =
+    option_map_or
+    (λ found. not (is_folder_kind found.kind) && overwrites_by ask.disposition) entry
+    (not (has_any ask.options FILE_DIRECTORY_FILE))
+    && has_any ask.attributes FILE_ATTRIBUTE_READONLY in
     -- C1. no disposition ([MS-SMB2] 2.2.13)
     (nat_lt 5 ask.disposition, InvalidParameter)
     -- C2. a folder is asked for that is to be a file, or to be overwritten (2.2.13)
@@ -42,7 +48,7 @@ create_rows state ask entry =
     ∷ (is_separator (slice_index ask.name 0), InvalidParameter)
     -- C4. an entry is asked for by its number (3.3.5.9)
     ∷ (has_any ask.options FILE_OPEN_BY_FILE_ID, NotSupported)
-    -- C5. the name is no path ([MS-FSCC] 2.1.5)
+    -- C5. the name has a component that is not lawful, or more than 32 ([MS-FSCC] 2.1.5)
     ∷ (is_some (path_fault ask.name), ObjectNameInvalid)
     -- C6. no access is asked for, or a bit besides the rights, MAXIMUM_ALLOWED and the four generic ones; or
     -- FILE_DELETE_ON_CLOSE, and DELETE is not granted ([MS-SMB2] 2.2.13.1, [MS-FSA] 2.1.5.1)
@@ -65,7 +71,7 @@ create_rows state ask entry =
     ∷ (is_pending state.tree.rows (path_asked ask), DeletePending)
     -- C9. the entry is absent, and has to exist ([MS-FSA] 2.1.5.1)
     ∷ (is_none entry && must_exist_by ask.disposition, ObjectNameNotFound)
-    -- C9b. it is absent, and the session may only read ([MS-SMB2] 3.3.5.9)
+    -- C9b. the entry is absent, so it would be created, and the session may only read ([MS-SMB2] 3.3.5.9)
     ∷ (ask.read_only && is_none entry, AccessDenied)
     -- C10. it exists, and has to be new ([MS-FSA] 2.1.5.1)
     ∷ (is_some entry && must_be_new_by ask.disposition, ObjectNameCollision)
@@ -85,23 +91,20 @@ create_rows state ask entry =
           && (overwrites_by ask.disposition || is_writing access),
       AccessDenied,
     )
-    -- C14. it is to be deleted on close, and is the root (of number 1), or a file that is read-only or becomes so: that is
-    -- overwritten, or added, with FILE_ATTRIBUTE_READONLY ([MS-FSA] 2.1.5.1.1, 2.1.5.1.2)
+    -- C14. it is to be deleted on close, and is the root (of number 1), or a file that is read-only or becomes so
+    -- ([MS-FSA] 2.1.5.1.1, 2.1.5.1.2)
     ∷ (
       has_any ask.options FILE_DELETE_ON_CLOSE
-          && (option_map_or (λ found. found.number == 1) entry false || is_read_only_file entry
-          || option_map_or
-          (λ found. not (is_folder_kind found.kind) && overwrites_by ask.disposition) entry
-          (not (has_any ask.options FILE_DIRECTORY_FILE))
-          && has_any ask.attributes FILE_ATTRIBUTE_READONLY),
+          && (option_map_or (λ found. found.number == 1) entry false || is_read_only_file entry || becomes_read_only),
       CannotDelete,
     )
     -- C15. it has an open that this one conflicts with ([MS-FSA] 2.1.5.1.2)
     ∷ (
       option_map_or
           (λ found.
-          let wanted = use_asked ask (granted ask.access ask.read_only (is_read_only_file (Some found))) in
-          list_any (λ row. row.entry == found.number && is_conflict wanted (row.access, row.share)) state.opens)
+          list_any
+          (λ row. row.entry == found.number && is_conflict (use_asked ask access) (row.access, row.share))
+          state.opens)
           entry false,
       SharingViolation,
     )

@@ -36,7 +36,7 @@ created state ask moment =
       next = state.next + 1;
     }
 
--- what is told: the open's number, what was done (2.2.14), and the entry as it stands afterwards
+-- what a CREATE answers: the open's number, what was done (2.2.14), and the entry as it stands afterwards
 abbrev pub create_result : StoreState → FileAsked → ℕ → CreatedOpen
 create_result state ask moment = record {
   number = state.next;

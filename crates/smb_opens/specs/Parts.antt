@@ -54,7 +54,7 @@ created_by state ask moment access stood = record {
   next = state.next + 1;
 }
 
--- what is told of it, of an entry that stood or did not
+-- what is answered, of an entry that existed or did not
 abbrev pub create_result_by : StoreState → FileAsked → ℕ → Access → Option Entry → CreatedOpen
 create_result_by state ask moment access stood = record {
   number = state.next;

@@ -11,12 +11,14 @@ use Rattle.smb_access.specs.Views.{view_of}
 use Rattle.smb_access.specs.declared.open_row.OpenRow.{OpenRow}
 use Rattle.smb_tree.specs.Content.{numbered}
 
--- what the open of a number shows: its entry, by the access that it has
+-- what the open of a number shows: its entry as it is now, and the access that the open was granted; None where no open
+-- has this number
 abbrev pub open_view : StoreState → ℕ → Option View
 open_view state number = option_and_then
     (λ (row : OpenRow). option_map (λ found. view_of row.access found.1) (numbered state.tree.rows row.entry))
     (open_of state.opens number)
 
--- the status of what is asked through the open of a number, by the rows for what it shows; FILE_CLOSED where there is none
+-- the status of what is asked through the open of a number: that of the first row that holds of what the open shows, else
+-- SUCCESS; FILE_CLOSED where no open has this number
 abbrev pub status_through : StoreState → ℕ → (View → List StatusRow) → NtStatus
 status_through state number rows = option_map_or (λ view. first_status (rows view)) (open_view state number) FileClosed

@@ -5,12 +5,16 @@ use Rattle.std.proofs.lemmas.Bool.Decides.{nat_tests}
 use Rattle.std.proofs.lemmas.List.{map-append, length-map, take-map, drop-map, take_at, drop_at}
 use Rattle.smb_wire.specs.Names.{folded, folded_unit}
 use Rattle.smb_patterns.specs.Patterns.{symbol_of, has_dot, is_end_or_dot, Takes, Matches}
-use Rattle.smb_patterns.specs.PatternLaws.{is_literal, are_literals}
+use Rattle.smb_patterns.specs.PatternLaws.{are_literals}
 use Rattle.smb_patterns.specs.declared.symbol.Symbol.{Symbol}
 use Rattle.smb_patterns.specs.declared.symbol.Symbol.TheVariants.{Asterisk, QuestionMark, DosStar, DosQm, DosDot, Literal}
 use Rattle.smb_patterns.proofs.PatternSteps.{dots-append, folded_nil}
 
 -- ---- literals
+
+-- a symbol is no wildcard
+abbrev is_literal : Symbol → Bool
+is_literal symbol = elim symbol as (λ it. Bool) [ Literal itself ↦ true | _ ↦ false ]
 
 chosen : (b : Bool) (x y z : Symbol) → is_literal x ≡ false → (is_literal y ≡ true → y ≡ z) → is_literal (cond b x y) ≡ true → cond b x y ≡ z
 chosen true x y z n h e = absurd (false≢true (sym n ∙ e))

@@ -3,21 +3,11 @@ use Rattle.std.specs.Prelude.{◌≡◌, ◌↔◌, IsTrue, ℕ, ◌≤◌, Bool
 use Rattle.std.specs.List.{list_all}
 use Rattle.smb_wire.specs.Names.{folded}
 use Rattle.smb_patterns.specs.Patterns.{symbol_of, has_dot, Matches, is_match}
-use Rattle.smb_patterns.specs.declared.symbol.Symbol.{Symbol}
-use Rattle.smb_patterns.specs.declared.symbol.Symbol.TheVariants.{Asterisk, QuestionMark, DosStar, DosQm, DosDot, Literal}
-
--- a symbol is no wildcard
-abbrev pub is_literal : Symbol → Bool
-is_literal Asterisk = false
-is_literal QuestionMark = false
-is_literal DosStar = false
-is_literal DosQm = false
-is_literal DosDot = false
-is_literal (Literal unit) = true
+use Rattle.smb_patterns.specs.declared.symbol.Symbol.TheVariants.{Literal}
 
 -- no unit is a wildcard
 abbrev pub are_literals : List ℕ → Bool
-are_literals = list_all (λ unit. is_literal (symbol_of unit))
+are_literals = list_all (λ unit. elim (symbol_of unit) as (λ it. Bool) [ Literal itself ↦ true | _ ↦ false ])
 
 -- `*` matches every name
 abbrev pub AsteriskMatchesEveryName : Type 0

@@ -10,7 +10,8 @@ use Rattle.smb_request.specs.declared.call.Call.{Call}
 use Rattle.smb_request.specs.State.{ServerState}
 use Rattle.smb_request.specs.Response.{CommandStep, with_body, by_status}
 
--- READ (3.3.5.12) of the open of a number: it is answered by the bytes of its file
+-- READ (3.3.5.12) through the open that the request names: it is answered by the bytes of its file, from its Offset on, at
+-- most its Length; all else about a READ is in `read_status`
 unfoldable pub file_read : {S : Type 0} → ServerState S → Call → ReadRequest → CommandStep S
 file_read server call asked = by_status server call.ids
     (read_status server.store (most_at_once call.dialect) call.open_number asked.offset asked.length asked.minimum_count)
@@ -20,7 +21,7 @@ file_read server call asked = by_status server call.ids
           (answers_read (file_bytes server.store call.open_number asked.offset asked.length));
     })
 
--- WRITE (3.3.5.13) of the open of a number: it is answered by how many bytes were written
+-- WRITE (3.3.5.13) through the open that the request names: it is answered by how many bytes were written
 unfoldable pub file_written : {S : Type 0} → ServerState S → Call → WriteAsked → CommandStep S
 file_written server call asked = by_status server call.ids
     (write_status server.store (most_at_once call.dialect) call.open_number asked.offset asked.buffer)

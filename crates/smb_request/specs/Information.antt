@@ -15,12 +15,12 @@ abbrev pub fault_status : InfoFault → Option NtStatus
 fault_status Unreadable = Some InvalidParameter
 fault_status fault = option_map (λ refusal. refusal.status) (listing_refusal fault)
 
--- what is told of information
+-- what is answered of information
 pub record IsToldOf (information : Option Information) (room : ℕ) (it : InformationBytes) : Type 0 where
   pub bytes : it.bytes.items ≡ told information room
   pub written : it.written ≡ information_written information room
   pub lawful : info_fault information room ≡ None
 
--- why nothing is told of it; memory may be wanted at any time
+-- why nothing is answered; memory may be wanted at any time
 abbrev pub IsWhy : Option Information → ℕ → InfoFault → Type 0
 IsWhy information room fault = fault ≢ NoMemory → info_fault information room ≡ Some fault

@@ -327,7 +327,7 @@ request_refusal most asked =
     if not (asked.info_type.0 == FILE || asked.info_type.0 == FILESYSTEM) then Some InvalidParameter else
     if nat_lt most asked.output_buffer_length then Some InvalidParameter else None
 
--- why information is not told: there is no such class, or no room for its fixed part ([MS-FSCC] 2.4, 2.5)
+-- why information is not given: there is no such class, or no room for its fixed part ([MS-FSCC] 2.4, 2.5)
 abbrev pub room_refusal : Option Information → ℕ → Option NtStatus
 room_refusal information room = option_map_or
     (λ known. if nat_lt room (fixed_length known) then Some InfoLengthMismatch else None)

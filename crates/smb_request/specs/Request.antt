@@ -60,6 +60,7 @@ module _ {S : Type 0} (authenticator : Meaning S) (server : ServerState S) (call
   acted (asks_read asked) = file_read server call asked
   acted (asks_write asked) = file_written server call asked
   acted (asks_lock asked) = locks_changed server call asked.locks
+  -- never the step of a CANCEL, which `performed` passes over
   acted (asks_cancel asked) = refused server call.ids NotSupported
   acted (asks_echo asked) = record { server = server; response = with_body call.ids Success answers_echo }
   acted (asks_query_directory asked) = directory_queried server call asked

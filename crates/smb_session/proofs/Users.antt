@@ -4,23 +4,22 @@ use Rattle.std.specs.List.{AllByRecursion}
 use Rattle.std.specs.Option.{option_map}
 use Rattle.std.specs.Str.{bytes_eq}
 use Rattle.smb_session.specs.declared.tokens.User.{User}
-use Rattle.smb_session.specs.Tokens.{user_of}
 use Rattle.smb_session.specs.Answers.{known_user}
 
 found_at : (token : List ℕ) (user : User) (users : List User) (b : Bool) → bytes_eq user.token.items token ≡ b →
-    user_of (map known_user users) token ≡ option_map known_user (find (λ u. bytes_eq u.token.items token) users) →
-    user_of (map known_user (user ∷ users)) token ≡ option_map known_user (find (λ u. bytes_eq u.token.items token) (user ∷ users))
+    find (λ user. bytes_eq user.token token) (map known_user users) ≡ option_map known_user (find (λ u. bytes_eq u.token.items token) users) →
+    find (λ u. bytes_eq u.token token) (map known_user (user ∷ users)) ≡ option_map known_user (find (λ u. bytes_eq u.token.items token) (user ∷ users))
 found_at token user users true t ih = rw t refl
 found_at token user users false t ih = rw t ih
 
-found_in : (token : List ℕ) (users : List User) → user_of (map known_user users) token ≡ option_map known_user (find (λ u. bytes_eq u.token.items token) users)
+found_in : (token : List ℕ) (users : List User) → find (λ user. bytes_eq user.token token) (map known_user users) ≡ option_map known_user (find (λ u. bytes_eq u.token.items token) users)
 found_in token [] = refl
 found_in token (user ∷ users) = found_at token user users (bytes_eq user.token.items token) refl (found_in token users)
 
-pub known_found : (token : List ℕ) (users : List User) (user : User) → find (λ u. bytes_eq u.token.items token) users ≡ Some user → user_of (map known_user users) token ≡ Some (known_user user)
+pub known_found : (token : List ℕ) (users : List User) (user : User) → find (λ u. bytes_eq u.token.items token) users ≡ Some user → find (λ user. bytes_eq user.token token) (map known_user users) ≡ Some (known_user user)
 known_found token users user h = rw (found_in token users, h) refl
 
-pub known_absent : (token : List ℕ) (users : List User) → find (λ u. bytes_eq u.token.items token) users ≡ None → user_of (map known_user users) token ≡ None
+pub known_absent : (token : List ℕ) (users : List User) → find (λ u. bytes_eq u.token.items token) users ≡ None → find (λ user. bytes_eq user.token token) (map known_user users) ≡ None
 known_absent token users h = rw (found_in token users, h) refl
 
 name_at : (token : List ℕ) (u user : User) (users : List User) (b : Bool) → bytes_eq u.token.items token ≡ b → length u.name.items ≤ 256 →

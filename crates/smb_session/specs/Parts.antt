@@ -77,7 +77,7 @@ accepted table session user read_only previous =
     session_changed (finished_by user read_only) (option_map_or (session_ended table) (previous_ended table user previous) table) session
 
 module _ {S : Type 0} (authenticator : Meaning S) where
-  -- the authenticator is asked once about a session that stands, and its answer performed and told (3.3.5.5.3)
+  -- the authenticator is asked once about a session that stands, and its answer performed and reported (3.3.5.5.3)
   abbrev pub asked_step : SessionsState S → ℕ → ℕ → List ℕ → SetupStep S
   asked_step s session previous token = record {
     state = record s {

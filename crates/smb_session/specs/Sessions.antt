@@ -22,14 +22,14 @@ pub record SessionsState (S : Type 0) : Type 0 where
 abbrev pub new_sessions : {S : Type 0} → S → List ℕ → SessionsState S
 new_sessions authenticator share = record { authenticator = authenticator; share = share; table = no_sessions }
 
--- what a SESSION_SETUP leaves, and what it tells
+-- what a SESSION_SETUP leaves, and what it reports
 pub record SetupStep (S : Type 0) : Type 0 where
   pub state : SessionsState S
   pub told : SetupResult
 
 module _ {S : Type 0} (authenticator : Meaning S) where
   -- a SESSION_SETUP that is not refused: the authenticator is asked once about the session, and its answer performed
-  -- and told (3.3.5.5.3)
+  -- and reported (3.3.5.5.3)
   abbrev pub setup_step : SessionsState S → ℕ → ℕ → ℕ → List ℕ → SetupStep S
   setup_step s connection session previous token =
       -- SessionId 0 asks for a new session, which begins with no user yet and no tree; its first tree will be 1

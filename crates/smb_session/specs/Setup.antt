@@ -51,7 +51,7 @@ table_answered table session previous (accepts user flags read_only token) =
     session
 table_answered table session previous denies = session_ended table session
 
--- what is told of an answer: the session's number, the status, session flags, a token, and the session that ended
+-- what is reported of an answer: the session's number, the status, session flags, a token, and the session that ended
 pub record SetupResult : Type 0 where
   pub session : ℕ
   pub status : SetupStatus

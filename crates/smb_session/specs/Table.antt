@@ -73,12 +73,12 @@ tree_disconnect_refusal table connection session tree =
     if not (knows_session table connection session) then Some UnknownSession else
     if knows_tree table session tree then None else Some UnknownTree
 
--- what an end of a connection leaves, and the session that it tells
+-- what an end of a connection leaves, and the session that it reports
 pub record EndStep : Type 0 where
   pub table : TableState
   pub told : Option ℕ
 
--- the end of a connection: its least session ends and is told; where it has none, the connection is known no longer
+-- the end of a connection: its least session ends and is reported; where it has none, the connection is known no longer
 -- (3.3.7.1)
 abbrev pub end_connection_step : TableState → ℕ → EndStep
 end_connection_step table connection = option_map_or

@@ -1,5 +1,5 @@
 -- The authenticator with a list of tokens.
-use Rattle.std.specs.Prelude.{◌≡◌, ℕ, Bool, false, List, [], ◌∷◌, codes, find, Option, if◌then◌else◌}
+use Rattle.std.specs.Prelude.{◌≡◌, ℕ, Bool, false, List, [], ◌∷◌, codes, find, if◌then◌else◌}
 use Rattle.std.specs.Option.{option_map_or}
 use Rattle.std.specs.List.{AllByRecursion}
 use Rattle.std.specs.Str.{bytes_eq}
@@ -18,18 +18,12 @@ pub record TokenList : Type 0 where
   pub guest_read_only : Bool
   pub users : List KnownUser
 
--- the user of a token
-abbrev pub user_of : List KnownUser → List ℕ → Option KnownUser
-user_of users token = find (λ user. bytes_eq user.token token) users
-
--- where a token is no user's: a guest, with IS_GUEST, where guests may come (2.2.6)
-abbrev pub answer_to_stranger : Bool → Bool → Answered
-answer_to_stranger guest guest_read_only = if guest then accepts (codes "guest") 1 guest_read_only [] else denies
-
--- a user's token brings that user, and another a guest or a denial. The token answered is empty
+-- what a token is answered: a user's brings that user, any other a guest, with IS_GUEST, where guests may come, or a
+-- denial. The token answered is empty (2.2.6)
 abbrev pub token_answer : Bool → Bool → List KnownUser → List ℕ → Answered
 token_answer guest guest_read_only users token =
-    option_map_or (λ user. accepts user.name 0 user.read_only []) (user_of users token) (answer_to_stranger guest guest_read_only)
+    option_map_or (λ user. accepts user.name 0 user.read_only []) (find (λ user. bytes_eq user.token token) users)
+    (if guest then accepts (codes "guest") 1 guest_read_only [] else denies)
 
 -- answers by the list, which stays as it is
 abbrev pub by_tokens : Meaning TokenList

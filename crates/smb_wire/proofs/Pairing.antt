@@ -4,11 +4,15 @@ use Rattle.std.proofs.lemmas.List.{length-take-le, get_or-drop, take-map, drop-m
 use Rattle.std.specs.Simd.{first_chunks}
 use Rattle.std.specs.List.{flat_map, slice_range}
 use Rattle.smb_wire.specs.Number.{IsBytes, number, spelling}
-use Rattle.smb_wire.specs.Pairs.{IsPair, AllPairs, AreUnits, unit_bytes, units_in}
+use Rattle.smb_wire.specs.Pairs.{AllPairs, AreUnits, unit_bytes, units_in}
 use Rattle.smb_wire.proofs.Numbers.{spelling_of_number}
 
+-- two bytes
+abbrev pub IsPair : List ℕ → Type 0
+IsPair pair = (length pair ≡ 2) × IsBytes pair
+
 pub pair_bytes : (pair : List ℕ) → IsPair pair → spelling 2 (number pair) ≡ pair
-pair_bytes pair p = let e = spelling_of_number pair p.fits in rw p.size at e
+pair_bytes pair p = let e = spelling_of_number pair p.1 in rw p.0 at e
 
 tail_pairs : (p : List ℕ) (ps : List (List ℕ)) → AllPairs (p ∷ ps) → AllPairs ps
 tail_pairs p ps h = record { each = λ i k. h.each (suc i) (omega arith) }
@@ -29,10 +33,10 @@ all_bytes [] h = refl
 all_bytes (p ∷ ps) h = rw (pair_bytes p (head_pair p ps h), all_bytes ps (tail_pairs p ps h)) refl
 
 pub pair_fits : (pair : List ℕ) → IsPair pair → number pair < 2 ^ 16
-pair_fits [] p = absurd (omega (arith, p.size))
-pair_fits (a ∷ []) p = absurd (omega (arith, p.size))
-pair_fits (a ∷ b ∷ []) p = omega (arith, p.fits 0, p.fits 1)
-pair_fits (a ∷ b ∷ c ∷ cs) p = absurd (omega (arith, p.size))
+pair_fits [] p = absurd (omega (arith, p.0))
+pair_fits (a ∷ []) p = absurd (omega (arith, p.0))
+pair_fits (a ∷ b ∷ []) p = omega (arith, p.1 0, p.1 1)
+pair_fits (a ∷ b ∷ c ∷ cs) p = absurd (omega (arith, p.0))
 
 -- the units that pairs spell fit
 pub all_fit : (pairs : List (List ℕ)) (i : ℕ) → AllPairs pairs → get_or (map number pairs) i 0 < 2 ^ 16
@@ -55,7 +59,7 @@ pub chunks_pairs : (k : ℕ) (bytes : List ℕ) → 2 * k ≤ length bytes → I
 chunks_pairs zero bytes e h = record { each = λ i k. absurd (omega arith) }
 chunks_pairs (suc k) bytes e h =
     cons_pairs (take 2 bytes) (first_chunks 2 k (drop 2 bytes))
-    (record { size = length-take-le 2 bytes (omega arith); fits = take_fits 2 bytes h })
+    (length-take-le 2 bytes (omega arith), take_fits 2 bytes h)
     (chunks_pairs k (drop 2 bytes) (omega (arith, length-drop 2 bytes)) (λ i. rw get_or-drop (h (2 + i))))
 
 -- the units that the pairs of bytes spell are those that the bytes spell

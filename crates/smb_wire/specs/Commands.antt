@@ -1,5 +1,5 @@
 -- Commands and their codes ([MS-SMB2] 2.2.1.2).
-use Rattle.std.specs.Prelude.{◌≡◌, ℕ, [], ◌∷◌, Option, Some, slice_get}
+use Rattle.std.specs.Prelude.{◌≡◌, ◌↔◌, ℕ, [], ◌∷◌, Option, Some, slice_get}
 use Rattle.smb_wire.specs.declared.command.Command.{Command}
 use Rattle.smb_wire.specs.declared.command.Command.TheVariants.{Negotiate, SessionSetup, Logoff, TreeConnect, TreeDisconnect, Create, Close, Flush, Read, Write, Lock, Ioctl, Cancel, Echo, QueryDirectory, ChangeNotify, QueryInfo, SetInfo, OplockBreak}
 
@@ -33,10 +33,6 @@ known_command code =
     ∷ Lock ∷ Ioctl ∷ Cancel ∷ Echo ∷ QueryDirectory ∷ ChangeNotify ∷ QueryInfo ∷ SetInfo ∷ OplockBreak ∷ [])
     code
 
--- a command's code is read as the command
-abbrev pub EachCodeIsRead : Type 0
-EachCodeIsRead = (command : Command) → known_command (code_of command) ≡ Some command
-
--- a code that is read as a command is the command's code
-abbrev pub EachReadingHasItsCode : Type 0
-EachReadingHasItsCode = (code : ℕ) (command : Command) → known_command code ≡ Some command → code ≡ code_of command
+-- a code is read as a command exactly where it is the command's
+abbrev pub EachCodeIsItsCommands : Type 0
+EachCodeIsItsCommands = (code : ℕ) (command : Command) → known_command code ≡ Some command ↔ (code ≡ code_of command)

@@ -12,7 +12,7 @@ disposition_code OpenIf = 3
 disposition_code Overwrite = 4
 disposition_code OverwriteIf = 5
 
--- a disposition by its number: an entry that exists is replaced, its times too
+-- a disposition by its number: a file that exists is overwritten, and all four of its times become the moment
 abbrev pub supersedes_by : ℕ → Bool
 supersedes_by number = number == disposition_code Supersede
 

@@ -11,15 +11,13 @@ pub data Field : Type 0 where
 abbrev pub number_in : ℕ → ℕ → List ℕ → ℕ
 number_in w place bytes = number (take w (drop place bytes))
 
--- the bytes have the field at its place
-abbrev pub Stands : List ℕ → Field → Type 0
-Stands bytes (num place w n) = (place + w ≤ length bytes) × (number_in w place bytes ≡ n)
-Stands bytes (raw place w text) = (place + w ≤ length bytes) × (take w (drop place bytes) ≡ text)
-
 -- the bytes have each field of the table at its place: they are read so
 abbrev pub AllStand : List ℕ → List Field → Type 0
 AllStand bytes [] = Unit {0}
-AllStand bytes (field ∷ fields) = Stands bytes field × AllStand bytes fields
+AllStand bytes (num place w n ∷ fields) =
+    ((place + w ≤ length bytes) × (number_in w place bytes ≡ n)) × AllStand bytes fields
+AllStand bytes (raw place w text ∷ fields) =
+    ((place + w ≤ length bytes) × (take w (drop place bytes) ≡ text)) × AllStand bytes fields
 
 -- the bytes of a field
 abbrev pub spelled : Field → List ℕ
@@ -31,7 +29,7 @@ abbrev pub joined : List Field → List ℕ
 joined [] = []
 joined (field ∷ fields) = spelled field ++ joined fields
 
--- fields put behind a front, one after the other: `front ++ joined fields`
+-- fields put behind a front, one after the other, as `front ++ joined fields` is (for the proofs)
 abbrev pub appended : List ℕ → List Field → List ℕ
 appended front [] = front
 appended front (field ∷ fields) = appended (front ++ spelled field) fields
@@ -60,10 +58,6 @@ abbrev pub WhatIsJoinedStands : Type 0
 WhatIsJoinedStands =
     (front : List ℕ) (fields : List Field) (rest : List ℕ) → InOrder 0 fields → AllFit fields →
     AllStand (drop (length front) (front ++ (joined fields ++ rest))) fields
-
--- putting fields one after the other is putting them joined
-abbrev pub AppendedIsJoined : Type 0
-AppendedIsJoined = (front : List ℕ) (fields : List Field) → appended front fields ≡ front ++ joined fields
 
 -- fields that fit take the sum of their widths
 abbrev pub JoinedIsAsWide : Type 0

@@ -29,14 +29,12 @@ field_at w bytes place = if nat_le (place + w) (length bytes) then Some (take w 
 abbrev pub number_spelled : ℕ → List ℕ → ℕ → Option ℕ
 number_spelled w bytes place = if nat_le (place + w) (length bytes) then Some (number (take w (drop place bytes))) else None
 
--- each number below 256 ^ w has a spelling of w bytes, and no other one
+-- each number below 256 ^ w has a spelling of w bytes and no other one, and w bytes spell no other number
 abbrev pub EachNumberHasOneSpelling : Type 0
 EachNumberHasOneSpelling =
-    (w n : ℕ) → n < 256 ^ w → Spells w n (spelling w n) × ((bytes : List ℕ) → Spells w n bytes → bytes ≡ spelling w n)
-
--- w bytes spell a number below 256 ^ w
-abbrev pub EachSpellingIsBelow : Type 0
-EachSpellingIsBelow = (w n : ℕ) (bytes : List ℕ) → Spells w n bytes → n < 256 ^ w
+    (w n : ℕ) →
+    (n < 256 ^ w → Spells w n (spelling w n))
+    × ((bytes : List ℕ) → Spells w n bytes → (n < 256 ^ w) × (bytes ≡ spelling w n))
 
 -- what was put between any bytes is read there
 abbrev pub WhatIsPutIsRead : Type 0

@@ -17,14 +17,9 @@ unit_bytes (unit ∷ units) = spelling 2 unit ++ unit_bytes units
 abbrev pub AreUnits : List ℕ → Type 0
 AreUnits units = (i : ℕ) → slice_index units i < 2 ^ 16
 
--- two bytes
-pub record IsPair (pair : List ℕ) : Type 0 where
-  pub size : length pair ≡ 2
-  pub fits : IsBytes pair
-
 -- each item is two bytes
 pub record AllPairs (pairs : List (List ℕ)) : Type 0 where
-  pub each : (i : ℕ) → i < length pairs → IsPair (slice_index_or pairs i [])
+  pub each : (i : ℕ) → i < length pairs → (length (slice_index_or pairs i []) ≡ 2) × IsBytes (slice_index_or pairs i [])
 
 -- the bytes of units are read as these units
 abbrev pub UnitsAreRead : Type 0

@@ -28,13 +28,11 @@ without_trailing name = if is_separator (slice_index name (length name - 1)) the
 abbrev pub path_spelled : List ℕ → List (List ℕ)
 path_spelled name = components (without_trailing name)
 
--- `"`, `*`, `/`, `:`, `<`, `>`, `?` and `|`
-abbrev pub forbidden_units : List ℕ
-forbidden_units = 34 ∷ 42 ∷ 47 ∷ 58 ∷ 60 ∷ 62 ∷ 63 ∷ 124 ∷ []
-
--- a component may have this unit: it is no control unit and not forbidden
+-- a component may have this unit: it is no control unit, and none of `"`, `*`, `/`, `:`, `<`, `>`, `?` and `|`
 abbrev pub is_lawful_unit : ℕ → Bool
-is_lawful_unit unit = nat_le 32 unit && not (list_any (λ other. unit == other) forbidden_units)
+is_lawful_unit unit =
+    nat_le 32 unit
+    && not (list_any (λ other. unit == other) (34 ∷ 42 ∷ 47 ∷ 58 ∷ 60 ∷ 62 ∷ 63 ∷ 124 ∷ []))
 
 -- `.` or `..`
 abbrev pub is_dots : List ℕ → Bool

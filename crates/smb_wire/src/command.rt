@@ -1,7 +1,7 @@
 //! Commands and their codes ([MS-SMB2] 2.2.1.2).
 
 ghost use Rattle.std.specs.Prelude.{◌≡◌};
-ghost use Rattle.smb_wire.specs.Commands.{code_of, known_command, EachCodeIsRead, EachReadingHasItsCode};
+ghost use Rattle.smb_wire.specs.Commands.{code_of, known_command, EachCodeIsItsCommands};
 
 /// A command of the standard.
 #[derive(Clone, Copy, Debug, PartialEq, Eq)]
@@ -76,6 +76,5 @@ impl CommandCode {
 
 /// The laws of commands and their codes: the contract is the statement, and the body does nothing.
 pub fn laws_of_commands()
-    ensures code { EachCodeIsRead }
-    ensures known { EachReadingHasItsCode }
+    ensures { EachCodeIsItsCommands }
 {}

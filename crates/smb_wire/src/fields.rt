@@ -2,7 +2,7 @@
 
 ghost use Rattle.std.specs.Prelude.{◌≡◌, ◌++◌, ◌+◌, ◌≤◌, OnOk, OnErr, length};
 ghost use Rattle.smb_wire.specs.Number.{spelling};
-ghost use Rattle.smb_wire.specs.Fields.{number_in, WhatIsJoinedStands, AppendedIsJoined, JoinedIsAsWide};
+ghost use Rattle.smb_wire.specs.Fields.{number_in, WhatIsJoinedStands, JoinedIsAsWide};
 
 use super::fault::WireFault;
 use byteorder::{ByteOrder, LittleEndian};
@@ -63,6 +63,5 @@ pub fn put_bytes(out: &mut Vec<u8>, bytes: &[u8]) -> Result<(), WireFault>
 /// The laws of tables of fields: the contract is the statement, and the body does nothing.
 pub fn laws_of_fields()
     ensures stand { WhatIsJoinedStands }
-    ensures appended { AppendedIsJoined }
     ensures width { JoinedIsAsWide }
 {}

@@ -2,7 +2,7 @@
 
 ghost use Rattle.std.specs.Prelude.{◌≡◌, ◌++◌, ◌+◌, OnOk, OnErr, length};
 ghost use Rattle.std.specs.Option.{option_map};
-ghost use Rattle.smb_wire.specs.Number.{field_at, number_spelled, spelling, EachNumberHasOneSpelling, EachSpellingIsBelow, WhatIsPutIsRead};
+ghost use Rattle.smb_wire.specs.Number.{field_at, number_spelled, spelling, EachNumberHasOneSpelling, WhatIsPutIsRead};
 
 use super::fault::WireFault;
 use byteorder::{ByteOrder, LittleEndian};
@@ -83,6 +83,5 @@ pub fn put_u64(out: &mut Vec<u8>, number: u64) -> Result<(), WireFault>
 /// The laws of numbers and their spellings: the contract is the statement, and the body does nothing.
 pub fn laws_of_numbers()
     ensures one { EachNumberHasOneSpelling }
-    ensures below { EachSpellingIsBelow }
     ensures put { WhatIsPutIsRead }
 {}
