@@ -1,12 +1,14 @@
 -- An example: a file with one lock, or two, of its first ten bytes.
-use Rattle.std.proofs.Common.{ℕ, true, false, List, [], ◌∷◌, refl, lit<, lit≤}
-use Rattle.smb_wire.specs.LockFlags.{SHARED_LOCK, UNLOCK}
+use Rattle.std.proofs.Common.{ℕ, true, false, List, [], ◌∷◌, bit_or, refl, lit<, lit≤}
+use Rattle.smb_wire.specs.LockFlags.{SHARED_LOCK, EXCLUSIVE_LOCK, UNLOCK, FAIL_IMMEDIATELY}
 use Rattle.smb_locks.specs.declared.ask.LockAsk.{LockAsk}
 use Rattle.smb_locks.specs.declared.lock.Lock.{Lock}
 use Rattle.smb_locks.specs.declared.range.ByteRange.{ByteRange}
 use Rattle.smb_locks.specs.Good.{GoodLockTable}
 use Rattle.smb_locks.specs.Table.{Table}
-use Rattle.smb_content_laws.specs.Example.{example_lock}
+use Rattle.smb_opens.specs.Locks.{locked_through}
+use Rattle.smb_opens.specs.State.{StoreState}
+use Rattle.smb_content_laws.specs.Example.{example_open, example_store, example_lock}
 
 -- the first ten bytes of a file
 abbrev pub first_ten : ByteRange
@@ -32,6 +34,19 @@ one_lock = (2, exclusive_by 1 ∷ []) ∷ []
 
 abbrev pub two_locks : Table
 two_locks = (2, exclusive_by 1 ∷ shared_by 1 ∷ []) ∷ []
+
+-- the example store with another open of its file, of the number 2, and with locks of it
+abbrev pub two_opens : Table → StoreState
+two_opens table = record {
+  tree = example_store.tree;
+  opens = example_open ∷ record example_open { number = 2 } ∷ [];
+  locks = table;
+  next = 3;
+}
+
+-- the example store after a LOCK of the first ten bytes
+abbrev pub example_locked : StoreState
+example_locked = locked_through example_store 1 (example_lock (bit_or EXCLUSIVE_LOCK FAIL_IMMEDIATELY) ∷ [])
 
 pub one_lock_is_good : GoodLockTable one_lock
 one_lock_is_good = record {

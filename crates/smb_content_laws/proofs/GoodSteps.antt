@@ -184,7 +184,7 @@ written_good most state number offset buffer moment good h = at_length (length b
 -- LOCK and UNLOCK
 locked_good : (state : StoreState) (number : ℕ) (asks : List LockAsk) → GoodStore state → lock_status state number asks ≡ Success → GoodStore (locked_through state number asks)
 locked_good state number asks good h =
-    let l = is_locked state number asks good h in
+    let l = is_locked state number asks good.locked h in
     let s = shown_by state number l.view (sym l.shown) in
     let entry = entry_of state number l.view s in
     let free : lock_all_fault (locks_on state.locks s.held.entry) number asks ≡ None = ap (λ (n : ℕ). lock_all_fault (locks_on state.locks n) number asks) (sym entry) ∙ l.free in

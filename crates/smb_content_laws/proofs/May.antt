@@ -30,7 +30,7 @@ use Rattle.smb_opens.specs.SetInfo.{delete_status, size_status, basic_status}
 use Rattle.smb_opens.specs.State.{StoreState}
 use Rattle.smb_opens.specs.Views.{open_view, status_through}
 use Rattle.smb_opens.proofs.Passing.{pass_all}
-use Rattle.smb_content_laws.specs.Successes.{NoneHolds, MayRead, WritesAt, MayWrite, MayMark, MaySetSize, MaySetTimes}
+use Rattle.smb_content_laws.specs.Successes.{NoneHolds, MayRead, MayWrite, MayMark, MaySetSize, MaySetTimes}
 use Rattle.smb_content_laws.proofs.Rows.{none_success, request_succeeds}
 use Rattle.smb_content_laws.proofs.ThroughOpens.{lock_free, unlock_free}
 
@@ -107,6 +107,10 @@ writes_to true append before h = refl
 writes_to false append before (inl h) = absurd (let e : false ≡ true = h in cc)
 writes_to false append before (inr h) = rw (h.0, h.1) refl
 
+-- an open may write at an offset
+abbrev WritesAt : View → ℕ → Type 0
+WritesAt view offset = (has_any view.access.0 FILE_WRITE_DATA ≡ true) ⊎ ((has_any view.access.0 FILE_APPEND_DATA ≡ true) × (view.size ≤ offset))
+
 access_from : (view : View) (offset : ℕ) → may_not_write view offset ≡ false → WritesAt view offset
 access_from view offset h =
     elim (writes_from (has_any view.access.0 FILE_WRITE_DATA) (has_any view.access.0 FILE_APPEND_DATA) (nat_lt offset view.size) h) [
@@ -172,19 +176,19 @@ write_succeeds state most number offset buffer view shown = (
 status_free : (view : View) (fault : Option LockFault) → is_folder_kind view.kind ≡ false → fault ≡ None → lock_status_by (Some view) fault ≡ Success
 status_free view fault file free = rw (file, free) refl
 
-pub lock_succeeds : (state : StoreState) (number : ℕ) (asks : List LockAsk) (view : View) → open_view state number ≡ Some view → is_folder_kind view.kind ≡ false →
-    ((lock_status state number asks ≡ Success) ↔ (lock_all_fault (locks_on state.locks view.entry) number asks ≡ None))
-    × ((unlock_status state number asks ≡ Success) ↔ (unlock_all_error (locks_on state.locks view.entry) number asks ≡ None))
-lock_succeeds state number asks view shown file = (
-  (
-    λ h. lock_free state number asks view shown h,
-    λ free. ap (λ (v : Option View). lock_status_by v (lock_all_fault (locks_shown state.locks v) number asks)) shown ∙ status_free view (lock_all_fault (locks_on state.locks view.entry) number asks) file free,
-  ),
-  (
-    λ h. unlock_free state number asks view shown h,
-    λ free. ap (λ (v : Option View). lock_status_by v (option_map (λ (error : UnlockError). error.fault) (unlock_all_error (locks_shown state.locks v) number asks))) shown
-        ∙ status_free view (option_map (λ (error : UnlockError). error.fault) (unlock_all_error (locks_on state.locks view.entry) number asks)) file (ap (option_map (λ (error : UnlockError). error.fault)) free),
-  ),
+pub lock_succeeds : (state : StoreState) (number : ℕ) (view : View) → open_view state number ≡ Some view → (asks : List LockAsk) →
+    (lock_status state number asks ≡ Success) ↔ ((is_folder_kind view.kind ≡ false) × (lock_all_fault (locks_on state.locks view.entry) number asks ≡ None))
+lock_succeeds state number view shown asks = (
+  λ h. lock_free state number asks view shown h,
+  λ free. ap (λ (v : Option View). lock_status_by v (lock_all_fault (locks_shown state.locks v) number asks)) shown ∙ status_free view (lock_all_fault (locks_on state.locks view.entry) number asks) free.0 free.1,
+)
+
+pub unlock_succeeds : (state : StoreState) (number : ℕ) (view : View) → open_view state number ≡ Some view → (asks : List LockAsk) →
+    (unlock_status state number asks ≡ Success) ↔ ((is_folder_kind view.kind ≡ false) × (unlock_all_error (locks_on state.locks view.entry) number asks ≡ None))
+unlock_succeeds state number view shown asks = (
+  λ h. unlock_free state number asks view shown h,
+  λ free. ap (λ (v : Option View). lock_status_by v (option_map (λ (error : UnlockError). error.fault) (unlock_all_error (locks_shown state.locks v) number asks))) shown
+      ∙ status_free view (option_map (λ (error : UnlockError). error.fault) (unlock_all_error (locks_on state.locks view.entry) number asks)) free.0 (ap (option_map (λ (error : UnlockError). error.fault)) free.1),
 )
 
 -- SET_INFO of a mark

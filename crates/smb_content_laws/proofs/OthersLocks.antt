@@ -1,4 +1,4 @@
--- The locks of other opens are left by a LOCK, an UNLOCK and a CLOSE.
+-- The locks of other opens are left by a LOCK and an UNLOCK.
 use Rattle.std.proofs.Common.{◌≡◌, ℕ, ◌==◌, ◌&&◌, Bool, true, false, not, if◌then◌else◌, List, [], ◌∷◌, ◌++◌, is_some, append-nil, refl, sym, ap, ◌∙◌}
 use Rattle.std.proofs.lemmas.Bool.{eq-eqb, eqb-true, eqb-false, and_parts}
 use Rattle.std.proofs.lemmas.List.Elements.{filter-append}
@@ -8,9 +8,9 @@ use Rattle.smb_locks.specs.declared.range.ByteRange.{ByteRange}
 use Rattle.smb_locks.specs.Asks.{locks_asked}
 use Rattle.smb_locks.specs.Parts.{are_unlocks, range_asked, is_lock_over, without_oldest, unlock_fault, left_by}
 use Rattle.smb_locks.specs.Good.{GoodLockTable}
-use Rattle.smb_locks.specs.Table.{Table, locks_on, with_locks, locked, unlocked, without_holder}
+use Rattle.smb_locks.specs.Table.{Table, locks_on, with_locks, locked, unlocked}
 use Rattle.smb_locks.specs.Laws.{others_locks}
-use Rattle.smb_locks.proofs.Tables.{on_with, on_other, on_dropped}
+use Rattle.smb_locks.proofs.Tables.{on_with, on_other}
 use Rattle.smb_locks.proofs.Unlocked.{table_is}
 
 -- none of the locks that an open asks for is another's
@@ -92,6 +92,3 @@ module _ (table : Table) (file holder : ℕ) (good : GoodLockTable table) where
         | true ↦ others_with (left_by holder (locks_on table file) asks) (others_left holder asks (locks_on table file)) other
         | false ↦ refl
       ])
-
-  pub others_dropped : (other : ℕ) → others_locks holder (locks_on (without_holder holder table) other) ≡ others_locks holder (locks_on table other)
-  others_dropped other = ap (others_locks holder) (on_dropped holder other table good.rising) ∙ others_twice holder (locks_on table other)

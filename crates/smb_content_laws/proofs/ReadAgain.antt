@@ -1,5 +1,5 @@
 -- What a READ that succeeds gives.
-use Rattle.std.proofs.Common.{◌≡◌, ◌⊎◌, inl, inr, ℕ, ◌+◌, ◌-◌, ◌<◌, ◌≤◌, ◌==◌, ◌&&◌, min, Bool, true, false, nat_lt, nat_le, if◌then◌else◌, List, [], ◌∷◌, length, replicate, Option, None, Some, is_some, refl, sym, ap, subst, ◌∙◌, arith}
+use Rattle.std.proofs.Common.{◌≡◌, ◌⊎◌, inl, inr, ℕ, ◌+◌, ◌-◌, ◌<◌, ◌≤◌, ◌==◌, ◌&&◌, min, Bool, true, false, nat_lt, nat_le, if◌then◌else◌, List, [], ◌∷◌, length, Option, None, Some, is_some, refl, sym, ap, subst, ◌∙◌, arith}
 use Rattle.std.proofs.lemmas.Bool.{ltb-false, leb-false, or_parts, and_cases}
 use Rattle.std.proofs.lemmas.Bool.Decides.{nat_tests}
 use Rattle.std.specs.Option.{option_map, option_map_or}
@@ -36,7 +36,7 @@ use Rattle.smb_wire.specs.Dispositions.{overwrites_by}
 use Rattle.smb_access.specs.Asked.{FileAsked}
 use Rattle.smb_access.specs.Effect.{overwritten, entry_after}
 use Rattle.std.proofs.lemmas.List.{nil_from_length}
-use Rattle.smb_content_laws.specs.Reading.{AreRead, LaterRead, ReadsFile, bytes_given}
+use Rattle.smb_content_laws.specs.Reading.{IsReadLater, WhatIsWrittenIsReadAgain, ASizeLeavesTheFront}
 use Rattle.smb_content_laws.proofs.Parts.{length-part, part_each, written_part, gap_part, longer_part, rest_part, front_part}
 use Rattle.smb_content_laws.proofs.Quiet.{Stays, bytes_at, steps_stay, given_below, reads, same_end}
 
@@ -68,8 +68,8 @@ some_given size offset count h c =
     ]
 
 pub read_there : (state : StoreState) (most number offset count minimum : ℕ) (held : OpenRow) → open_of state.opens number ≡ Some held → read_status state most number offset count minimum ≡ Success →
-    AreRead (bytes_of state.tree.rows held.entry) (file_bytes state number offset count) offset count
-    × (length (file_bytes state number offset count) ≤ count)
+    (length (file_bytes state number offset count) ≡ min count (length (bytes_of state.tree.rows held.entry) - offset))
+    × ((k : ℕ) → k < length (file_bytes state number offset count) → slice_get (file_bytes state number offset count) k ≡ slice_get (bytes_of state.tree.rows held.entry) (offset + k))
     × (minimum ≤ length (file_bytes state number offset count))
     × (0 < count → 0 < length (file_bytes state number offset count))
 read_there state most number offset count minimum held opened h =
@@ -80,11 +80,8 @@ read_there state most number offset count minimum held opened h =
     let long : length (file_bytes state number offset count) ≡ min count (length bytes - offset) = ap length given ∙ length-part bytes offset count in
     let size : length bytes ≡ length r.row.1.bytes = ap length here in
     let enough = ltb-false (min count (length r.row.1.bytes - offset)) minimum r.enough in (
-      record {
-        long = long;
-        each = subst (λ (xs : List ℕ). (k : ℕ) → k < length xs → slice_get xs k ≡ slice_get bytes (offset + k)) (sym given) (part_each bytes offset count);
-      },
-      omega (arith, long),
+      long,
+      subst (λ (xs : List ℕ). (k : ℕ) → k < length xs → slice_get xs k ≡ slice_get bytes (offset + k)) (sym given) (part_each bytes offset count),
       omega (arith, long, size, enough),
       λ c. (let some = some_given (length r.row.1.bytes) offset count r.some c in omega (arith, long, size, some)),
     )
@@ -108,13 +105,12 @@ kept_bytes state steps n before after good h quiet e =
     same_row (stepped_all state steps).tree.rows n before.1.bytes after e (steps_stay state steps n before.1.bytes quiet (start state n before good h)).kept
 
 -- what is read of bytes that stay
-read_kept : (state : StoreState) (n : ℕ) (bytes : List ℕ) (read : LaterRead) → Stays n bytes state.tree → ReadsFile state n read → bytes_given state read ≡ part read.offset read.count bytes
-read_kept state n bytes read stays f =
-    let after : StoreState = stepped_all state read.steps in
-    let r = is_read after read.most read.number read.offset read.count read.minimum f.reader f.opened f.succeeds in
-    let there : is_some (numbered after.tree.rows n) ≡ true = ap (λ (k : ℕ). is_some (numbered after.tree.rows k)) (sym f.same) ∙ ap (λ (o : Option Row). is_some o) r.at_entry in
-    reads after read.number read.offset read.count f.reader n f.opened f.same
-    ∙ ap (part read.offset read.count) (same_end after.tree.rows n bytes there (steps_stay state read.steps n bytes f.quiet stays).kept)
+read_kept : (state : StoreState) (n : ℕ) (bytes : List ℕ) (offset count : ℕ) (given : List ℕ) → Stays n bytes state.tree → IsReadLater state n offset count given → given ≡ part offset count bytes
+read_kept state n bytes offset count given stays f =
+    let after : StoreState = stepped_all state f.steps in
+    sym f.gives
+    ∙ reads after f.number offset count f.reader n f.opened f.same
+    ∙ ap (part offset count) (same_end after.tree.rows n bytes f.there (steps_stay state f.steps n bytes f.quiet stays).kept)
 
 -- the bytes of an entry that was changed
 start_changed : (f : Entry → Entry) (state : StoreState) (n : ℕ) (row : Row) → GoodStore state → Keeps f → numbered state.tree.rows n ≡ Some row → Stays n (f row.1).bytes (changed_in f state.tree n)
@@ -153,46 +149,29 @@ start_unwritten state number offset moment held row good one h =
     let left : written_to state number offset [] moment ≡ state = ap (λ (o : Option OpenRow). option_map_or (λ (row : OpenRow). state) o state) one in
     subst (λ (s : StoreState). Stays held.entry row.1.bytes s.tree) (sym left) (start state held.entry row good h)
 
-pub read_part : (state : StoreState) (number offset : ℕ) (buffer : List ℕ) (moment : ℕ) (writer : OpenRow) (place : ℕ) (read : LaterRead) → GoodStore state → open_of state.opens number ≡ Some writer →
-    ReadsFile (written_to state number offset buffer moment) writer.entry read → read.offset ≡ offset + place → place + read.count ≤ length buffer →
-    bytes_given (written_to state number offset buffer moment) read ≡ part place read.count buffer
-read_part state number offset [] moment writer place read good one f at le =
-    let e = there_of state number writer good one in
-    let none : read.count ≡ 0 = omega (arith, le) in
-    read_kept (written_to state number offset [] moment) writer.entry e.0.1.bytes read (start_unwritten state number offset moment writer e.0 good one e.1) f
-    ∙ ap (λ (n : ℕ). part read.offset n e.0.1.bytes) none
-    ∙ sym (ap (λ (n : ℕ). part place n []) none)
-read_part state number offset (x ∷ xs) moment writer place read good one f at le =
-    let e = there_of state number writer good one in
-    let bytes : List ℕ = written offset (x ∷ xs) e.0.1.bytes in
-    read_kept (written_to state number offset (x ∷ xs) moment) writer.entry bytes read (start_written state number offset (x ∷ xs) moment writer e.0 good one e.1 (omega arith)) f
-    ∙ ap (λ (n : ℕ). part n read.count bytes) at
-    ∙ written_part offset place read.count (x ∷ xs) e.0.1.bytes le
+-- what is read again of what was written, and of what was there
+written_again : (state : StoreState) (number at : ℕ) (buffer : List ℕ) (moment : ℕ) (writer : OpenRow) (row : Row) (offset count : ℕ) (given : List ℕ) → GoodStore state → open_of state.opens number ≡ Some writer →
+    numbered state.tree.rows writer.entry ≡ Some row → 0 < length buffer → IsReadLater (written_to state number at buffer moment) writer.entry offset count given → given ≡ part offset count (written at buffer row.1.bytes)
+written_again state number at buffer moment writer row offset count given good one there some f =
+    read_kept (written_to state number at buffer moment) writer.entry (written at buffer row.1.bytes) offset count given (start_written state number at buffer moment writer row good one there some) f
 
-pub read_rest : (state : StoreState) (number offset : ℕ) (buffer : List ℕ) (moment : ℕ) (writer : OpenRow) (read : LaterRead) → GoodStore state → open_of state.opens number ≡ Some writer →
-    ReadsFile (written_to state number offset buffer moment) writer.entry read → read.offset + read.count ≤ length (bytes_of state.tree.rows writer.entry) →
-    (read.offset + read.count ≤ offset) ⊎ (offset + length buffer ≤ read.offset) →
-    bytes_given (written_to state number offset buffer moment) read ≡ part read.offset read.count (bytes_of state.tree.rows writer.entry)
-read_rest state number offset [] moment writer read good one f within apart =
+pub read_again : WhatIsWrittenIsReadAgain
+read_again state number at [] moment writer offset count given good one f =
     let e = there_of state number writer good one in
-    read_kept (written_to state number offset [] moment) writer.entry e.0.1.bytes read (start_unwritten state number offset moment writer e.0 good one e.1) f
-    ∙ ap (part read.offset read.count) (sym (bytes_there_are state.tree.rows writer.entry e.0 e.1))
-read_rest state number offset (x ∷ xs) moment writer read good one f within apart =
+    let same = read_kept (written_to state number at [] moment) writer.entry e.0.1.bytes offset count given (start_unwritten state number at moment writer e.0 good one e.1) f in (
+      λ place begin le. (let none : count ≡ 0 = omega (arith, le) in same ∙ ap (λ (n : ℕ). part offset n e.0.1.bytes) none ∙ sym (ap (λ (n : ℕ). part place n []) none)),
+      λ within apart. same ∙ ap (part offset count) (sym (bytes_there_are state.tree.rows writer.entry e.0 e.1)),
+      λ some front back. absurd (omega (arith, some)),
+    )
+read_again state number at (x ∷ xs) moment writer offset count given good one f =
     let e = there_of state number writer good one in
     let bytes = bytes_there_are state.tree.rows writer.entry e.0 e.1 in
     let long = ap length bytes in
-    read_kept (written_to state number offset (x ∷ xs) moment) writer.entry (written offset (x ∷ xs) e.0.1.bytes) read (start_written state number offset (x ∷ xs) moment writer e.0 good one e.1 (omega arith)) f
-    ∙ rest_part offset read.offset read.count (x ∷ xs) e.0.1.bytes (omega (arith, long, within)) apart
-    ∙ ap (part read.offset read.count) (sym bytes)
-
-pub read_gap : (state : StoreState) (number offset : ℕ) (buffer : List ℕ) (moment : ℕ) (writer : OpenRow) (read : LaterRead) → GoodStore state → open_of state.opens number ≡ Some writer → 0 < length buffer →
-    ReadsFile (written_to state number offset buffer moment) writer.entry read → length (bytes_of state.tree.rows writer.entry) ≤ read.offset → read.offset + read.count ≤ offset →
-    bytes_given (written_to state number offset buffer moment) read ≡ replicate read.count 0
-read_gap state number offset buffer moment writer read good one some f front back =
-    let e = there_of state number writer good one in
-    let long = ap length (bytes_there_are state.tree.rows writer.entry e.0 e.1) in
-    read_kept (written_to state number offset buffer moment) writer.entry (written offset buffer e.0.1.bytes) read (start_written state number offset buffer moment writer e.0 good one e.1 some) f
-    ∙ gap_part offset read.offset read.count buffer e.0.1.bytes (omega (arith, long, front)) back
+    let again = written_again state number at (x ∷ xs) moment writer e.0 offset count given good one e.1 (omega arith) f in (
+      λ place begin le. again ∙ ap (λ (n : ℕ). part n count (written at (x ∷ xs) e.0.1.bytes)) begin ∙ written_part at place count (x ∷ xs) e.0.1.bytes le,
+      λ within apart. again ∙ rest_part at offset count (x ∷ xs) e.0.1.bytes (omega (arith, long, within)) apart ∙ ap (part offset count) (sym bytes),
+      λ some front back. again ∙ gap_part at offset count (x ∷ xs) e.0.1.bytes (omega (arith, long, front)) back,
+    )
 
 -- after a size is set
 start_sized : (state : StoreState) (number size moment : ℕ) (held : OpenRow) (row : Row) → GoodStore state → open_of state.opens number ≡ Some held → numbered state.tree.rows held.entry ≡ Some row →
@@ -202,25 +181,15 @@ start_sized state number size moment held row good one h =
     ap (λ (o : Option OpenRow). option_map_or (λ (row : OpenRow). let s : StoreState = record state { tree = changed_in (size_set size false moment) state.tree row.entry } in s) o state) one in
     subst (λ (s : StoreState). Stays held.entry (resized size row.1.bytes) s.tree) (sym after) (start_changed (size_set size false moment) state held.entry row good (size_keeps size false moment) h)
 
-pub read_longer : (state : StoreState) (number size moment : ℕ) (setter : OpenRow) (read : LaterRead) → GoodStore state → open_of state.opens number ≡ Some setter →
-    ReadsFile (size_set_through state number size false moment) setter.entry read → length (bytes_of state.tree.rows setter.entry) ≤ read.offset → read.offset + read.count ≤ size →
-    bytes_given (size_set_through state number size false moment) read ≡ replicate read.count 0
-read_longer state number size moment setter read good one f front back =
-    let e = there_of state number setter good one in
-    let long = ap length (bytes_there_are state.tree.rows setter.entry e.0 e.1) in
-    read_kept (size_set_through state number size false moment) setter.entry (resized size e.0.1.bytes) read (start_sized state number size moment setter e.0 good one e.1) f
-    ∙ longer_part size read.offset read.count e.0.1.bytes (omega (arith, long, front)) back
-
-pub read_front : (state : StoreState) (number size moment : ℕ) (setter : OpenRow) (read : LaterRead) → GoodStore state → open_of state.opens number ≡ Some setter →
-    ReadsFile (size_set_through state number size false moment) setter.entry read → read.offset + read.count ≤ size → read.offset + read.count ≤ length (bytes_of state.tree.rows setter.entry) →
-    bytes_given (size_set_through state number size false moment) read ≡ part read.offset read.count (bytes_of state.tree.rows setter.entry)
-read_front state number size moment setter read good one f short within =
+pub read_front : ASizeLeavesTheFront
+read_front state number size moment setter offset count given good one f short =
     let e = there_of state number setter good one in
     let bytes = bytes_there_are state.tree.rows setter.entry e.0 e.1 in
     let long = ap length bytes in
-    read_kept (size_set_through state number size false moment) setter.entry (resized size e.0.1.bytes) read (start_sized state number size moment setter e.0 good one e.1) f
-    ∙ front_part size read.offset read.count e.0.1.bytes short (omega (arith, long, within))
-    ∙ ap (part read.offset read.count) (sym bytes)
+    let again = read_kept (size_set_through state number size false moment) setter.entry (resized size e.0.1.bytes) offset count given (start_sized state number size moment setter e.0 good one e.1) f in (
+      λ within. again ∙ front_part size offset count e.0.1.bytes short (omega (arith, long, within)) ∙ ap (part offset count) (sym bytes),
+      λ front. again ∙ longer_part size offset count e.0.1.bytes (omega (arith, long, front)) short,
+    )
 
 -- a file that is made has no bytes
 none_after : (tree : Content) (ask : FileAsked) (moment : ℕ) (found : Option Entry) → (found ≡ None) ⊎ (overwrites_by ask.disposition ≡ true) → (entry_after tree ask moment found).bytes ≡ []

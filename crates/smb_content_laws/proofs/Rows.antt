@@ -17,6 +17,8 @@ pub first_decides : (before after : List StatusRow) (status : NtStatus) → None
 first_decides [] after status h = refl
 first_decides (row ∷ before) after status h = rw (h.0) (first_decides before after status h.1)
 
+pub shown_status : (state : StoreState) (number : ℕ) (view : View) (rows : View → List StatusRow) → open_view state number ≡ Some view → status_through state number rows ≡ first_status (rows view)
+shown_status state number view rows shown = ap (λ (o : Option View). option_map_or (λ view. first_status (rows view)) o FileClosed) shown
+
 pub request_succeeds : (state : StoreState) (number : ℕ) (view : View) (rows : View → List StatusRow) → open_view state number ≡ Some view → NoneHolds (rows view) → status_through state number rows ≡ Success
-request_succeeds state number view rows shown h =
-    ap (λ (o : Option View). option_map_or (λ view. first_status (rows view)) o FileClosed) shown ∙ none_success (rows view) h
+request_succeeds state number view rows shown h = shown_status state number view rows shown ∙ none_success (rows view) h

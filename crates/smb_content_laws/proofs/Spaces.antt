@@ -1,5 +1,5 @@
 -- The space that entries use, after each change of a tree.
-use Rattle.std.proofs.Common.{◌≡◌, ◌≢◌, ℕ, ◌+◌, ◌<◌, ◌==◌, ◌&&◌, Bool, true, false, if◌then◌else◌, max, List, [], ◌∷◌, length, Option, None, Some, refl, sym, ap, ◌∙◌, arith}
+use Rattle.std.proofs.Common.{◌≡◌, ◌≢◌, ℕ, ◌+◌, ◌<◌, ◌==◌, ◌&&◌, Bool, true, false, if◌then◌else◌, max, List, [], ◌∷◌, ◌++◌, length, Option, None, Some, refl, sym, ap, ◌∙◌, arith}
 use Rattle.std.proofs.lemmas.Bool.{ne_eqb}
 use Rattle.std.proofs.lemmas.Bool.Decides.{nat_tests}
 use Rattle.std.proofs.lemmas.List.Sums.{sum_by-cons}
@@ -8,14 +8,14 @@ use Rattle.smb_wire.specs.Dispositions.{overwrites_by}
 use Rattle.smb_wire.specs.Paths.{path_spelled, folded_path}
 use Rattle.smb_tree.specs.Content.{Path, Row, Content, entry_at, numbered, changed, without, used_space, changed_in}
 use Rattle.smb_tree.specs.Parts.{removed, with_mark, renamed, without_other, moved_rows, moved_row}
-use Rattle.smb_tree.specs.Entries.{Entry, allocation_size}
+use Rattle.smb_tree.specs.Entries.{Entry, allocation_size, new_entry}
 use Rattle.smb_tree.specs.Moves.{moved}
 use Rattle.smb_tree.proofs.Apart.{numbered-from_at, numbered-changed}
 use Rattle.smb_tree.proofs.Parts.{length-written, length-resized}
 use Rattle.smb_tree.proofs.Removals.{space_without}
-use Rattle.smb_tree.proofs.Spaces.{space_changed}
+use Rattle.smb_tree.proofs.Spaces.{space_changed, space_more}
 use Rattle.smb_access.specs.declared.open_row.OpenRow.{OpenRow}
-use Rattle.smb_access.specs.Asked.{FileAsked}
+use Rattle.smb_access.specs.Asked.{FileAsked, kind_asked, attributes_asked}
 use Rattle.smb_access.specs.Close.{is_deletable}
 use Rattle.smb_access.specs.Parts.{is_due, tree_marked, tree_cleared}
 use Rattle.smb_access.specs.Effect.{overwritten, tree_after}
@@ -38,6 +38,17 @@ use Rattle.smb_content_laws.proofs.ReadAgain.{there_of, after_write}
 
 abbrev space_in : Row → ℕ
 space_in row = allocation_size (length row.1.bytes)
+
+-- a CREATE that overwrites nothing
+pub opens_free : (state : StoreState) (ask : FileAsked) (moment : ℕ) → overwrites_by ask.disposition ≡ false → space_of (created state ask moment) ≡ space_of state
+opens_free state ask moment keeps = by (entry_asked state ask)
+  where
+    by : (o : Option Entry) → used_space (tree_after state.tree ask moment o).rows ≡ used_space state.tree.rows
+    by None =
+        let new : Row = (folded_path (path_spelled ask.name), new_entry state.tree.next (path_spelled ask.name) (kind_asked ask) (attributes_asked (kind_asked ask) ask) moment) in
+        let more : used_space (state.tree.rows ++ new ∷ []) ≡ used_space state.tree.rows + 0 = space_more state.tree.rows new in
+        omega (arith, more)
+    by (Some entry) = rw keeps refl
 
 -- a CREATE that overwrites
 pub overwrite_frees : (state : StoreState) (ask : FileAsked) (moment : ℕ) (entry : Entry) → GoodStore state → overwrites_by ask.disposition ≡ true → entry_asked state ask ≡ Some entry →

@@ -16,7 +16,11 @@ use Rattle.smb_locks.specs.Table.{Table, locks_on, unlocked}
 use Rattle.smb_locks.specs.Unlocking.{unlock_all_error}
 use Rattle.smb_locks.proofs.Tables.{on_with}
 use Rattle.smb_locks.proofs.Unlocked.{error_is, table_is}
-use Rattle.smb_content_laws.specs.Locking.{IsOver, LosesOldest, LosesEach}
+use Rattle.smb_content_laws.specs.Locking.{LosesOldest, LosesEach}
+
+-- a lock is one of an open over this very range
+abbrev IsOver : ℕ → ByteRange → Lock → Type 0
+IsOver holder range lock = (lock.holder ≡ holder) × (lock.range ≡ range)
 
 -- the test of a lock over a range is the sentence
 over_from_test : (holder : ℕ) (range : ByteRange) (lock : Lock) → is_lock_over holder range lock ≡ true → IsOver holder range lock
@@ -26,13 +30,13 @@ over_from_test holder range lock h =
     let begin = eqb-true lock.range.offset range.offset front.1 in
     let long = eqb-true lock.range.length range.length parts.1 in
     let same : lock.range ≡ range = λ i. record { offset = begin i; length = long i } in
-    record { own = eqb-true lock.holder holder front.0; over = same }
+    (eqb-true lock.holder holder front.0, same)
 
 test_from_over : (holder : ℕ) (range : ByteRange) (lock : Lock) → IsOver holder range lock → is_lock_over holder range lock ≡ true
 test_from_over holder range lock o =
     and_from (lock.holder == holder && lock.range.offset == range.offset) (lock.range.length == range.length)
-    (and_from (lock.holder == holder) (lock.range.offset == range.offset) (eq-eqb lock.holder holder o.own) (eq-eqb lock.range.offset range.offset (ap (λ (r : ByteRange). r.offset) o.over)))
-    (eq-eqb lock.range.length range.length (ap (λ (r : ByteRange). r.length) o.over))
+    (and_from (lock.holder == holder) (lock.range.offset == range.offset) (eq-eqb lock.holder holder o.0) (eq-eqb lock.range.offset range.offset (ap (λ (r : ByteRange). r.offset) o.1)))
+    (eq-eqb lock.range.length range.length (ap (λ (r : ByteRange). r.length) o.1))
 
 not_over : (holder : ℕ) (range : ByteRange) (lock : Lock) → is_lock_over holder range lock ≡ false → IsOver holder range lock → ⊥
 not_over holder range lock e o = let t = test_from_over holder range lock o in absurd (cc)

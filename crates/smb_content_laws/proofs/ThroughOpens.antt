@@ -1,7 +1,6 @@
 -- LOCK and UNLOCK through an open of a store.
-use Rattle.std.proofs.Common.{◌≡◌, ◌≢◌, ℕ, Bool, true, false, not, if◌then◌else◌, List, ◌++◌, length, Option, None, Some, is_some, Contains, refl, sym, ap, subst, ◌∙◌}
+use Rattle.std.proofs.Common.{◌≡◌, ◌≢◌, ℕ, Bool, true, false, not, if◌then◌else◌, List, ◌++◌, length, take, Option, None, Some, is_some, Contains, refl, sym, ap, subst, ◌∙◌}
 use Rattle.std.specs.Prelude.{unwrap_or, option_and_then, cond}
-use Rattle.std.proofs.lemmas.List.Elements.{Contains-append_right}
 use Rattle.std.specs.Option.{option_map, option_map_or}
 use Rattle.smb_wire.specs.declared.nt_status.NtStatus.TheVariants.{Success, InvalidParameter, InvalidDeviceRequest, AccessDenied, EndOfFile, FileLockConflict, FileClosed, DiskFull}
 use Rattle.smb_tree.specs.Entries.{is_folder_kind}
@@ -12,15 +11,16 @@ use Rattle.smb_locks.specs.declared.fault.UnlockError.{UnlockError}
 use Rattle.smb_locks.specs.declared.lock.Lock.{Lock}
 use Rattle.smb_locks.specs.Asks.{locks_asked}
 use Rattle.smb_locks.specs.Parts.{are_locks}
+use Rattle.smb_locks.specs.Good.{GoodLockTable}
 use Rattle.smb_locks.specs.Laws.{others_locks}
 use Rattle.smb_locks.specs.Conflicts.{is_write_barred}
 use Rattle.smb_locks.specs.Locking.{locks_fault, lock_all_fault}
 use Rattle.smb_locks.specs.Ranges.{Overlap}
-use Rattle.smb_locks.specs.Table.{Table, locks_on, locked, unlocked}
+use Rattle.smb_locks.specs.Table.{Table, locks_on, locked, unlocked, without_holder}
 use Rattle.smb_locks.specs.Unlocking.{unlock_all_error}
 use Rattle.smb_locks.proofs.Asked.{no_memory}
 use Rattle.smb_locks.proofs.Members.{others_kept}
-use Rattle.smb_locks.proofs.Tables.{on_with}
+use Rattle.smb_locks.proofs.Tables.{on_with, on_dropped}
 use Rattle.smb_access.specs.declared.open_row.OpenRow.{OpenRow}
 use Rattle.smb_access.specs.declared.view.View.{View}
 use Rattle.smb_access.specs.Opens.{open_of}
@@ -30,17 +30,15 @@ use Rattle.smb_entry.specs.Locks.{lock_fault_status, lock_status_by}
 use Rattle.smb_opens.specs.Bytes.{read_status, write_status}
 use Rattle.smb_opens.specs.Close.{closed}
 use Rattle.smb_opens.specs.Parts.{closed_open, with_locks_of}
-use Rattle.smb_opens.specs.Good.{GoodStore}
 use Rattle.smb_opens.specs.Locks.{lock_status, unlock_status, locked_through, unlocked_through}
 use Rattle.smb_opens.specs.State.{StoreState}
 use Rattle.smb_opens.specs.Views.{open_view}
-use Rattle.smb_opens.proofs.Barred.{own_locks, kept_out, writers_out}
+use Rattle.smb_opens.proofs.Closing.{number_found}
 use Rattle.smb_opens.proofs.Locking.{has_status}
-use Rattle.smb_opens.proofs.Shows.{shown_by, entry_of}
 use Rattle.smb_content_laws.specs.Locking.{LosesEach}
 use Rattle.smb_content_laws.proofs.OthersLocks.{others_locked, others_unlocked, others_twice}
-use Rattle.smb_content_laws.proofs.Taken.{takes_asked}
-use Rattle.smb_content_laws.proofs.Granted.{own, reads_locked, writes_locked}
+use Rattle.smb_content_laws.proofs.Taken.{takes_asked, takes_before}
+use Rattle.smb_content_laws.proofs.Granted.{reads_locked, writes_locked}
 
 -- a view that is no folder's, and nothing that refuses
 record IsGrantedBy (view : Option View) (fault : Option LockFault) : Type 0 where
@@ -89,31 +87,30 @@ no_error : (o : Option UnlockError) → option_map (λ (error : UnlockError). er
 no_error None h = refl
 no_error (Some error) h = cc
 
--- what the open of a number shows is its entry
-shown_entry : (state : StoreState) (number : ℕ) (row : OpenRow) (view : View) → open_of state.opens number ≡ Some row → open_view state number ≡ Some view → view.entry ≡ row.entry
-shown_entry state number row view opened v =
-    let s = shown_by state number view (sym v) in
-    let one : Some s.held ≡ Some row = sym s.opened ∙ opened in
-    let same : s.held ≡ row = cc in
-    entry_of state number view s ∙ ap (λ (r : OpenRow). r.entry) same
-
 -- the store after a LOCK or an UNLOCK of a file
 through_is : (table : ℕ → Table) (state : StoreState) (view : Option View) (shown : View) → view ≡ Some shown → is_folder_kind shown.kind ≡ false → with_locks_of table state view ≡ record state { locks = table shown.entry }
 through_is table state view shown is file = ap (with_locks_of table state) is ∙ rw file refl
 
--- nothing is refused of what the open of a number shows
-pub lock_free : (state : StoreState) (number : ℕ) (asks : List LockAsk) (view : View) → open_view state number ≡ Some view → lock_status state number asks ≡ Success → lock_all_fault (locks_on state.locks view.entry) number asks ≡ None
-lock_free state number asks view shown h =
-    ap (λ (v : Option View). lock_all_fault (locks_shown state.locks v) number asks) (sym shown)
-    ∙ (granted_by (open_view state number) (lock_all_fault (locks_shown state.locks (open_view state number)) number asks) (lock_memory (locks_shown state.locks (open_view state number)) number asks) h).free
+-- what is granted is of what the open of a number shows
+same_shown : (state : StoreState) (number : ℕ) (view shown : View) → open_view state number ≡ Some view → open_view state number ≡ Some shown → shown ≡ view
+same_shown state number view shown one other = let both : Some shown ≡ Some view = sym other ∙ one in cc
 
-pub unlock_free : (state : StoreState) (number : ℕ) (asks : List LockAsk) (view : View) → open_view state number ≡ Some view → unlock_status state number asks ≡ Success → unlock_all_error (locks_on state.locks view.entry) number asks ≡ None
+pub lock_free : (state : StoreState) (number : ℕ) (asks : List LockAsk) (view : View) → open_view state number ≡ Some view → lock_status state number asks ≡ Success → (is_folder_kind view.kind ≡ false) × (lock_all_fault (locks_on state.locks view.entry) number asks ≡ None)
+lock_free state number asks view shown h =
+    let g = granted_by (open_view state number) (lock_all_fault (locks_shown state.locks (open_view state number)) number asks) (lock_memory (locks_shown state.locks (open_view state number)) number asks) h in (
+      ap (λ (v : View). is_folder_kind v.kind) (sym (same_shown state number view g.shown shown g.is)) ∙ g.file,
+      ap (λ (v : Option View). lock_all_fault (locks_shown state.locks v) number asks) (sym shown) ∙ g.free,
+    )
+
+pub unlock_free : (state : StoreState) (number : ℕ) (asks : List LockAsk) (view : View) → open_view state number ≡ Some view → unlock_status state number asks ≡ Success → (is_folder_kind view.kind ≡ false) × (unlock_all_error (locks_on state.locks view.entry) number asks ≡ None)
 unlock_free state number asks view shown h =
     let error = unlock_all_error (locks_shown state.locks (open_view state number)) number asks in
-    ap (λ (v : Option View). unlock_all_error (locks_shown state.locks v) number asks) (sym shown)
-    ∙ no_error error (granted_by (open_view state number) (option_map (λ (e : UnlockError). e.fault) error) (unlock_memory (locks_shown state.locks (open_view state number)) number asks) h).free
+    let g = granted_by (open_view state number) (option_map (λ (e : UnlockError). e.fault) error) (unlock_memory (locks_shown state.locks (open_view state number)) number asks) h in (
+      ap (λ (v : View). is_folder_kind v.kind) (sym (same_shown state number view g.shown shown g.is)) ∙ g.file,
+      ap (λ (v : Option View). unlock_all_error (locks_shown state.locks v) number asks) (sym shown) ∙ no_error error g.free,
+    )
 
-module _ (state : StoreState) (number : ℕ) (asks : List LockAsk) (good : GoodStore state) where
+module _ (state : StoreState) (number : ℕ) (asks : List LockAsk) (good : GoodLockTable state.locks) where
   pub record IsLocked : Type 0 where
     pub view : View
     pub shown : open_view state number ≡ Some view
@@ -132,44 +129,24 @@ module _ (state : StoreState) (number : ℕ) (asks : List LockAsk) (good : GoodS
         after = through_is (λ entry. locked state.locks entry number asks) state (open_view state number) g.shown g.is g.file;
       }
 
-  pub adds_through : (row : OpenRow) → open_of state.opens number ≡ Some row → lock_status state number asks ≡ Success →
-      (locks_on (locked_through state number asks).locks row.entry ≡ locks_on state.locks row.entry ++ locks_asked number asks)
-      × ((other : ℕ) → other ≢ row.entry → locks_on (locked_through state number asks).locks other ≡ locks_on state.locks other)
-  adds_through row opened h =
-      let l = is_locked h in
-      let entry = shown_entry state number row l.view opened l.shown in
-      let table : (locked_through state number asks).locks ≡ locked state.locks row.entry number asks = ap (λ (s : StoreState). s.locks) l.after ∙ ap (λ (n : ℕ). locked state.locks n number asks) entry in (
-        ap (λ (t : Table). locks_on t row.entry) table ∙ on_with state.locks row.entry (locks_on state.locks row.entry ++ locks_asked number asks) good.locked,
-        λ other apart. ap (λ (t : Table). locks_on t other) table ∙ (others_kept state.locks row.entry other number asks apart).0,
+  pub adds_through : (view : View) → open_view state number ≡ Some view → is_folder_kind view.kind ≡ false →
+      (locks_on (locked_through state number asks).locks view.entry ≡ locks_on state.locks view.entry ++ locks_asked number asks)
+      × ((other : ℕ) → other ≢ view.entry → locks_on (locked_through state number asks).locks other ≡ locks_on state.locks other)
+  adds_through view shown file =
+      let table : (locked_through state number asks).locks ≡ locked state.locks view.entry number asks = ap (λ (s : StoreState). s.locks) (through_is (λ entry. locked state.locks entry number asks) state (open_view state number) view shown file) in (
+        ap (λ (t : Table). locks_on t view.entry) table ∙ on_with state.locks view.entry (locks_on state.locks view.entry ++ locks_asked number asks) good,
+        λ other apart. ap (λ (t : Table). locks_on t other) table ∙ (others_kept state.locks view.entry other number asks apart).0,
       )
 
-  record IsUnlocked : Type 0 where
-    view : View
-    shown : open_view state number ≡ Some view
-    free : unlock_all_error (locks_on state.locks view.entry) number asks ≡ None
-    after : unlocked_through state number asks ≡ record state { locks = unlocked state.locks view.entry number asks }
-
-  is_unlocked : unlock_status state number asks ≡ Success → IsUnlocked
-  is_unlocked h =
-      let error = unlock_all_error (locks_shown state.locks (open_view state number)) number asks in
-      let g = granted_by (open_view state number) (option_map (λ (e : UnlockError). e.fault) error) (unlock_memory (locks_shown state.locks (open_view state number)) number asks) h in
-      record {
-        view = g.shown;
-        shown = g.is;
-        free = ap (λ (v : Option View). unlock_all_error (locks_shown state.locks v) number asks) (sym g.is) ∙ no_error error g.free;
-        after = through_is (λ entry. unlocked state.locks entry number asks) state (open_view state number) g.shown g.is g.file;
-      }
-
-  pub takes_through : (row : OpenRow) → open_of state.opens number ≡ Some row → unlock_status state number asks ≡ Success →
-      LosesEach number asks (locks_on state.locks row.entry) (locks_on (unlocked_through state number asks).locks row.entry)
-      × ((other : ℕ) → other ≢ row.entry → locks_on (unlocked_through state number asks).locks other ≡ locks_on state.locks other)
-  takes_through row opened h =
-      let l = is_unlocked h in
-      let entry = shown_entry state number row l.view opened l.shown in
-      let table : (unlocked_through state number asks).locks ≡ unlocked state.locks row.entry number asks = ap (λ (s : StoreState). s.locks) l.after ∙ ap (λ (n : ℕ). unlocked state.locks n number asks) entry in
-      let free : unlock_all_error (locks_on state.locks row.entry) number asks ≡ None = ap (λ (n : ℕ). unlock_all_error (locks_on state.locks n) number asks) (sym entry) ∙ l.free in (
-        subst (λ (t : Table). LosesEach number asks (locks_on state.locks row.entry) (locks_on t row.entry)) (sym table) (takes_asked state.locks row.entry number asks good.locked free),
-        λ other apart. ap (λ (t : Table). locks_on t other) table ∙ (others_kept state.locks row.entry other number asks apart).1,
+  pub takes_through : (view : View) → open_view state number ≡ Some view → is_folder_kind view.kind ≡ false →
+      (unlock_all_error (locks_on state.locks view.entry) number asks ≡ None → LosesEach number asks (locks_on state.locks view.entry) (locks_on (unlocked_through state number asks).locks view.entry))
+      × ((error : UnlockError) → unlock_all_error (locks_on state.locks view.entry) number asks ≡ Some error → LosesEach number (take error.done asks) (locks_on state.locks view.entry) (locks_on (unlocked_through state number asks).locks view.entry))
+      × ((other : ℕ) → other ≢ view.entry → locks_on (unlocked_through state number asks).locks other ≡ locks_on state.locks other)
+  takes_through view shown file =
+      let table : (unlocked_through state number asks).locks ≡ unlocked state.locks view.entry number asks = ap (λ (s : StoreState). s.locks) (through_is (λ entry. unlocked state.locks entry number asks) state (open_view state number) view shown file) in (
+        λ free. subst (λ (t : Table). LosesEach number asks (locks_on state.locks view.entry) (locks_on t view.entry)) (sym table) (takes_asked state.locks view.entry number asks good free),
+        λ error refused. subst (λ (t : Table). LosesEach number (take error.done asks) (locks_on state.locks view.entry) (locks_on t view.entry)) (sym table) (takes_before state.locks view.entry number asks error good refused),
+        λ other apart. ap (λ (t : Table). locks_on t other) table ∙ (others_kept state.locks view.entry other number asks apart).1,
       )
 
   -- whether the request is refused or not
@@ -182,22 +159,30 @@ module _ (state : StoreState) (number : ℕ) (asks : List LockAsk) (good : GoodS
         | false ↦ same view.entry
       ]
 
+  own_closed : (file : ℕ) (o : Option OpenRow) → open_of state.opens number ≡ o → is_some o ≡ true → locks_on (closed state number).locks file ≡ others_locks number (locks_on state.locks file)
+  own_closed file None e some = absurd (cc)
+  own_closed file (Some row) e some =
+      let dropped : (closed state number).locks ≡ without_holder row.number state.locks = ap (λ (o : Option OpenRow). (option_map_or (closed_open state) o state).locks) e in
+      let own : row.number ≡ number = number_found state.opens number row e in
+      ap (λ (t : Table). locks_on t file) (dropped ∙ ap (λ (n : ℕ). without_holder n state.locks) own) ∙ on_dropped number file state.locks good.rising
+
   others_closed : (file : ℕ) (o : Option OpenRow) → open_of state.opens number ≡ o → others_locks number (locks_on (closed state number).locks file) ≡ others_locks number (locks_on state.locks file)
   others_closed file None e =
       let left : closed state number ≡ state = ap (λ (o : Option OpenRow). option_map_or (closed_open state) o state) e in
       ap (λ (s : StoreState). others_locks number (locks_on s.locks file)) left
   others_closed file (Some row) e =
-      let there : is_some (open_of state.opens number) ≡ true = ap (λ (o : Option OpenRow). is_some o) e in
-      ap (others_locks number) (own_locks state number file good there) ∙ others_twice number (locks_on state.locks file)
+      ap (others_locks number) (own_closed file (Some row) e refl) ∙ others_twice number (locks_on state.locks file)
 
   pub other_opens : (file : ℕ) →
       (others_locks number (locks_on (locked_through state number asks).locks file) ≡ others_locks number (locks_on state.locks file))
       × (others_locks number (locks_on (unlocked_through state number asks).locks file) ≡ others_locks number (locks_on state.locks file))
       × (others_locks number (locks_on (closed state number).locks file) ≡ others_locks number (locks_on state.locks file))
+      × (is_some (open_of state.opens number) ≡ true → locks_on (closed state number).locks file ≡ others_locks number (locks_on state.locks file))
   other_opens file = (
-    others_through (λ entry. locked state.locks entry number asks) file (λ entry. others_locked state.locks entry number good.locked file asks) (open_view state number),
-    others_through (λ entry. unlocked state.locks entry number asks) file (λ entry. others_unlocked state.locks entry number good.locked file asks) (open_view state number),
+    others_through (λ entry. locked state.locks entry number asks) file (λ entry. others_locked state.locks entry number good file asks) (open_view state number),
+    others_through (λ entry. unlocked state.locks entry number asks) file (λ entry. others_unlocked state.locks entry number good file asks) (open_view state number),
     others_closed file (open_of state.opens number) refl,
+    own_closed file (open_of state.opens number) refl,
   )
 
 -- no row but that of the locks is their conflict
@@ -215,20 +200,20 @@ no_write_row false false true e h = cc
 no_write_row false false false true h = cc
 no_write_row false false false false h = cc
 
-pub read_locked : (state : StoreState) (number most minimum : ℕ) (asks : List LockAsk) (lock : Lock) → GoodStore state → lock_status state number asks ≡ Success → Contains (locks_asked number asks) lock →
+pub read_locked : (state : StoreState) (number most minimum : ℕ) (asks : List LockAsk) (lock : Lock) → GoodLockTable state.locks → lock_status state number asks ≡ Success → Contains (locks_asked number asks) lock →
     read_status (locked_through state number asks) most number lock.range.offset lock.range.length minimum ≢ FileLockConflict
 read_locked state number most minimum asks lock good h c e =
     let l = is_locked state number asks good h in
     let table : Table = locked state.locks l.view.entry number asks in
     let after : StoreState = record state { locks = table } in
-    let free : keeps_from_reading table number l.view lock.range.offset lock.range.length ≡ false = reads_locked state.locks l.view.entry number asks lock good.locked l.free c in
+    let free : keeps_from_reading table number l.view lock.range.offset lock.range.length ≡ false = reads_locked state.locks l.view.entry number asks lock good l.free c in
     let status : read_status (locked_through state number asks) most number lock.range.offset lock.range.length minimum ≡ first_status (read_rows most l.view false lock.range.offset lock.range.length minimum) =
     ap (λ (s : StoreState). read_status s most number lock.range.offset lock.range.length minimum) l.after
     ∙ ap (λ (v : Option View). option_map_or (λ view. first_status (read_rows most view (keeps_from_reading table number view lock.range.offset lock.range.length) lock.range.offset lock.range.length minimum)) v FileClosed) l.shown
     ∙ ap (λ (b : Bool). first_status (read_rows most l.view b lock.range.offset lock.range.length minimum)) free in
     no_read_row _ _ _ _ (sym status ∙ e)
 
-pub write_locked : (state : StoreState) (number most : ℕ) (buffer : List ℕ) (asks : List LockAsk) (lock : Lock) → GoodStore state → lock_status state number asks ≡ Success → Contains (locks_asked number asks) lock → lock.exclusive ≡ true →
+pub write_locked : (state : StoreState) (number most : ℕ) (buffer : List ℕ) (asks : List LockAsk) (lock : Lock) → GoodLockTable state.locks → lock_status state number asks ≡ Success → Contains (locks_asked number asks) lock → lock.exclusive ≡ true →
     ((also : Lock) → Contains (locks_asked number asks) also → also.exclusive ≡ false → Overlap also.range lock.range → ⊥) → lock.range.length ≡ length buffer →
     write_status (locked_through state number asks) most number lock.range.offset buffer ≢ FileLockConflict
 write_locked state number most buffer asks lock good h c exclusive alone long e =
@@ -236,7 +221,7 @@ write_locked state number most buffer asks lock good h c exclusive alone long e 
     let table : Table = locked state.locks l.view.entry number asks in
     let offset : ℕ = lock.range.offset in
     let full : Bool = has_no_room state.tree l.view.entry offset buffer in
-    let barred : is_write_barred (locks_on table l.view.entry) number lock.range ≡ false = writes_locked state.locks l.view.entry number asks lock good.locked l.free c exclusive alone in
+    let barred : is_write_barred (locks_on table l.view.entry) number lock.range ≡ false = writes_locked state.locks l.view.entry number asks lock good l.free c exclusive alone in
     let free : keeps_from_writing table number l.view offset (length buffer) ≡ false =
     ap (λ (n : ℕ). is_write_barred (locks_on table l.view.entry) number (record { offset = offset; length = n })) (sym long) ∙ barred in
     let status : write_status (locked_through state number asks) most number offset buffer ≡ first_status (write_rows most l.view false offset (length buffer) full) =
@@ -244,28 +229,3 @@ write_locked state number most buffer asks lock good h c exclusive alone long e 
     ∙ ap (λ (v : Option View). option_map_or (λ view. first_status (write_rows most view (keeps_from_writing table number view offset (length buffer)) offset (length buffer) (has_no_room state.tree view.entry offset buffer))) v FileClosed) l.shown
     ∙ ap (λ (b : Bool). first_status (write_rows most l.view b offset (length buffer) full)) free in
     no_write_row _ _ _ _ (sym status ∙ e)
-
--- what was locked keeps other opens out
-asked_there : (state : StoreState) (number : ℕ) (asks : List LockAsk) (lock : Lock) (row also : OpenRow) → GoodStore state → open_of state.opens number ≡ Some row → lock_status state number asks ≡ Success → Contains (locks_asked number asks) lock →
-    also.entry ≡ row.entry → Contains (locks_on (locked_through state number asks).locks also.entry) lock
-asked_there state number asks lock row also good opened h c same =
-    let after = adds_through state number asks good row opened h in
-    let whole : locks_on (locked_through state number asks).locks also.entry ≡ locks_on state.locks row.entry ++ locks_asked number asks = ap (locks_on (locked_through state number asks).locks) same ∙ after.0 in
-    subst (λ (locks : List Lock). Contains locks lock) (sym whole) (Contains-append_right (locks_on state.locks row.entry) (locks_asked number asks) lock c)
-
-opens_locked : (state : StoreState) (number : ℕ) (asks : List LockAsk) (other : ℕ) (also : OpenRow) → GoodStore state → lock_status state number asks ≡ Success → open_of state.opens other ≡ Some also → open_of (locked_through state number asks).opens other ≡ Some also
-opens_locked state number asks other also good h opened = ap (λ (s : StoreState). open_of s.opens other) (is_locked state number asks good h).after ∙ opened
-
-pub kept_from : (state : StoreState) (number : ℕ) (asks : List LockAsk) (lock : Lock) (row : OpenRow) (most other offset count minimum : ℕ) (buffer : List ℕ) (also : OpenRow) → GoodStore state →
-    open_of state.opens number ≡ Some row → lock_status state number asks ≡ Success → Contains (locks_asked number asks) lock → lock.exclusive ≡ true → open_of state.opens other ≡ Some also → also.entry ≡ row.entry → other ≢ number →
-    (Overlap lock.range (record { offset = offset; length = count }) → read_status (locked_through state number asks) most other offset count minimum ≢ Success)
-    × (Overlap lock.range (record { offset = offset; length = length buffer }) → write_status (locked_through state number asks) most other offset buffer ≢ Success)
-kept_from state number asks lock row most other offset count minimum buffer also good one h c exclusive two same apart =
-    kept_out (locked_through state number asks) most other offset count minimum buffer also lock (opens_locked state number asks other also good h two) (asked_there state number asks lock row also good one h c same) exclusive
-    (λ e. apart (sym e ∙ own number asks lock c))
-
-pub shared_keeps : (state : StoreState) (number : ℕ) (asks : List LockAsk) (lock : Lock) (row : OpenRow) (most other offset : ℕ) (buffer : List ℕ) (also : OpenRow) → GoodStore state →
-    open_of state.opens number ≡ Some row → lock_status state number asks ≡ Success → Contains (locks_asked number asks) lock → lock.exclusive ≡ false → open_of state.opens other ≡ Some also → also.entry ≡ row.entry →
-    Overlap lock.range (record { offset = offset; length = length buffer }) → write_status (locked_through state number asks) most other offset buffer ≢ Success
-shared_keeps state number asks lock row most other offset buffer also good one h c shared two same overlap =
-    writers_out (locked_through state number asks) most other offset buffer also lock (opens_locked state number asks other also good h two) (asked_there state number asks lock row also good one h c same) shared overlap

@@ -28,13 +28,12 @@ use Rattle.smb_opens.specs.Bytes.{write_status}
 use Rattle.smb_opens.specs.Close.{closed}
 use Rattle.smb_opens.specs.Parts.{closed_open, closed_each, with_locks_of}
 use Rattle.smb_opens.specs.Found.{entry_asked}
-use Rattle.smb_opens.specs.Good.{GoodStore}
 use Rattle.smb_opens.specs.SetInfo.{size_status}
 use Rattle.smb_opens.specs.State.{StoreState}
-use Rattle.smb_opens.specs.Steps.{StoreStep, creates, writes, locks, unlocks, sets_delete, sets_size, sets_basic, renames, sets_scan, closes, closes_all, stepped, stepped_all}
+use Rattle.smb_opens.specs.Steps.{StoreStep, creates, writes, locks, unlocks, sets_delete, sets_size, sets_basic, renames, sets_scan, closes, closes_all, stepped}
 use Rattle.smb_opens.specs.Views.{open_view}
 use Rattle.smb_opens.proofs.Passing.{pass_all}
-use Rattle.smb_content_laws.specs.Space.{space_of, HasSpace, EachHasSpace}
+use Rattle.smb_content_laws.specs.Space.{SpaceStaysWithinCapacity}
 use Rattle.smb_content_laws.proofs.Spaces.{space_kept, space_renamed}
 
 abbrev space_in : Row → ℕ
@@ -232,29 +231,24 @@ through_within : (f : OpenRow → StoreState) (state : StoreState) (o : Option O
 through_within f state None fits k = record { fits = fits; same = refl }
 through_within f state (Some row) fits k = k row refl
 
-step_within : (most : ℕ) (state : StoreState) (step : StoreStep) → Fits state.tree → HasSpace most state step → IsWithin state.tree (stepped state step).tree
-step_within most state (creates ask moment) fits h = created_within state.tree ask moment (entry_asked state ask) fits
-step_within most state (writes number offset buffer moment) fits h = through_within _ state (open_of state.opens number) fits (λ row e. written_within state most number offset buffer moment row fits e h)
-step_within most state (locks number asks) fits h = locks_within (λ entry. locked state.locks entry number asks) state (open_view state number) fits
-step_within most state (unlocks number asks) fits h = locks_within (λ entry. unlocked state.locks entry number asks) state (open_view state number) fits
-step_within most state (sets_delete number is_deleted) fits h = through_within _ state (open_of state.opens number) fits (λ row e. kept (delete_set is_deleted) state.tree row.entry fits (λ _. refl))
-step_within most state (sets_size number size is_allocation moment) fits h = through_within _ state (open_of state.opens number) fits (λ row e. sized_within state number size is_allocation moment row fits e h)
-step_within most state (sets_basic number ask moment) fits h = through_within _ state (open_of state.opens number) fits (λ row e. kept (entry_set ask moment) state.tree row.entry fits (λ _. refl))
-step_within most state (renames number name moment) fits h = through_within _ state (open_of state.opens number) fits (λ row e. renamed_within state.tree row.entry (path_spelled name) moment fits)
-step_within most state (sets_scan number scan) fits h = record { fits = fits; same = refl }
-step_within most state (closes number) fits h = closed_within state number fits
-step_within most state (closes_all owner) fits h = each_closed_within state (open_numbers (filter (is_held_by owner) state.opens)) fits
+step_within : (most : ℕ) (state : StoreState) (step : StoreStep) → Fits state.tree → ((number offset : ℕ) (buffer : List ℕ) (moment : ℕ) → step ≡ writes number offset buffer moment → write_status state most number offset buffer ≡ Success) →
+    ((number size : ℕ) (is_allocation : Bool) (moment : ℕ) → step ≡ sets_size number size is_allocation moment → size_status state number size ≡ Success) → IsWithin state.tree (stepped state step).tree
+step_within most state (creates ask moment) fits w s = created_within state.tree ask moment (entry_asked state ask) fits
+step_within most state (writes number offset buffer moment) fits w s = through_within _ state (open_of state.opens number) fits (λ row e. written_within state most number offset buffer moment row fits e (w number offset buffer moment refl))
+step_within most state (locks number asks) fits w s = locks_within (λ entry. locked state.locks entry number asks) state (open_view state number) fits
+step_within most state (unlocks number asks) fits w s = locks_within (λ entry. unlocked state.locks entry number asks) state (open_view state number) fits
+step_within most state (sets_delete number is_deleted) fits w s = through_within _ state (open_of state.opens number) fits (λ row e. kept (delete_set is_deleted) state.tree row.entry fits (λ _. refl))
+step_within most state (sets_size number size is_allocation moment) fits w s =
+    through_within _ state (open_of state.opens number) fits (λ row e. sized_within state number size is_allocation moment row fits e (s number size is_allocation moment refl))
+step_within most state (sets_basic number ask moment) fits w s = through_within _ state (open_of state.opens number) fits (λ row e. kept (entry_set ask moment) state.tree row.entry fits (λ _. refl))
+step_within most state (renames number name moment) fits w s = through_within _ state (open_of state.opens number) fits (λ row e. renamed_within state.tree row.entry (path_spelled name) moment fits)
+step_within most state (sets_scan number scan) fits w s = record { fits = fits; same = refl }
+step_within most state (closes number) fits w s = closed_within state number fits
+step_within most state (closes_all owner) fits w s = each_closed_within state (open_numbers (filter (is_held_by owner) state.opens)) fits
 
-steps_within : (most : ℕ) (state : StoreState) (steps : List StoreStep) → Fits state.tree → EachHasSpace most state steps → IsWithin state.tree (stepped_all state steps).tree
-steps_within most state [] fits h = record { fits = fits; same = refl }
-steps_within most state (step ∷ steps) fits h =
-    let first = step_within most state step fits h.0 in
-    joined state.tree (stepped state step).tree (stepped_all (stepped state step) steps).tree first (steps_within most (stepped state step) steps first.fits h.1)
-
-pub stays_within : (most : ℕ) (state : StoreState) (steps : List StoreStep) → GoodStore state → EachHasSpace most state steps →
-    (space_of (stepped_all state steps) ≤ state.tree.capacity) × ((stepped_all state steps).tree.capacity ≡ state.tree.capacity)
-stays_within most state steps good h =
-    let w = steps_within most state steps good.tree.fits h in
+pub stays_within : SpaceStaysWithinCapacity
+stays_within most state step within writing sizing =
+    let w = step_within most state step within writing sizing in
     let fits = w.fits in
     let same = w.same in
     (omega (arith, fits, same), same)

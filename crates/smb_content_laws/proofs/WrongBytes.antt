@@ -5,11 +5,11 @@ use Rattle.std.proofs.Common.{◌≡◌, ◌⊎◌, inr, ℕ, ◌+◌, ◌-◌, 
 use Rattle.std.proofs.Common.{List, [], ◌∷◌, ◌++◌, length, take, drop, replicate, get_or, unwrap_or, lit<, lit≤}
 use Rattle.std.proofs.Common.{Option, None, Some}
 use Rattle.std.specs.Option.{option_map_or}
+use Rattle.std.specs.Prelude.{min, slice_get}
 use Rattle.smb_wire.specs.Dispositions.{disposition_code, overwrites_by}
 use Rattle.smb_wire.specs.declared.disposition.CreateDisposition.TheVariants.{Overwrite}
 use Rattle.smb_wire.specs.declared.nt_status.NtStatus.TheVariants.{Success}
 use Rattle.smb_tree.specs.Content.{changed, bytes_of, written}
-use Rattle.smb_tree.specs.Parts.{part}
 use Rattle.smb_tree.specs.Entries.{Entry}
 use Rattle.smb_access.specs.declared.open_row.OpenRow.{OpenRow}
 use Rattle.smb_access.specs.Asked.{FileAsked}
@@ -20,21 +20,9 @@ use Rattle.smb_opens.specs.Effect.{created, create_result}
 use Rattle.smb_opens.specs.Found.{entry_asked}
 use Rattle.smb_opens.specs.Good.{GoodStore}
 use Rattle.smb_opens.specs.State.{StoreState}
-use Rattle.smb_content_laws.specs.Example.{example_store, example_open, example_written, example_ask}
-use Rattle.smb_content_laws.specs.Reading.{AReadGivesWhatIsThere, AnyPartOfAWriteIsRead, AGapIsReadAsZeros}
-use Rattle.smb_content_laws.specs.Reading.{AMadeFileIsEmpty, AreRead, LaterRead, ReadsFile, bytes_given}
-use Rattle.smb_content_laws.proofs.ExampleStore.{example_is_good, written_is_good}
-
--- a READ through open 1 right after a request: its offset, and how many bytes it asks for
-abbrev reads_next : ℕ → ℕ → LaterRead
-reads_next offset count = record {
-  steps = [];
-  most = 65536;
-  number = 1;
-  offset = offset;
-  count = count;
-  minimum = 1;
-}
+use Rattle.smb_content_laws.specs.Example.{example_store, example_open, example_ask}
+use Rattle.smb_content_laws.specs.Reading.{AReadGivesWhatIsThere, WhatIsWrittenIsReadAgain, AMadeFileIsEmpty, IsReadLater}
+use Rattle.smb_content_laws.proofs.ExampleStore.{example_written, example_is_good, written_is_good}
 
 -- a WRITE by what becomes of a file's bytes where others are put at an offset
 abbrev written_by : (ℕ → List ℕ → List ℕ → List ℕ) → StoreState → ℕ → ℕ → List ℕ → ℕ → StoreState
@@ -55,53 +43,68 @@ written_by put state number offset buffer moment = option_map_or
 right_write : written_to ≡ written_by written
 right_write = refl
 
--- any part of what a WRITE put is read again, as long as nothing changes it
-abbrev AnyPartOfAWriteIsReadBy : (StoreState → ℕ → ℕ → List ℕ → ℕ → StoreState) → Type 0
-AnyPartOfAWriteIsReadBy write =
-    (state : StoreState) (number offset : ℕ) (buffer : List ℕ) (moment : ℕ) (writer : OpenRow)
-    (place : ℕ) (read : LaterRead) → GoodStore state → open_of state.opens number ≡ Some writer →
-    let after = write state number offset buffer moment in
-    ReadsFile after writer.entry read → read.offset ≡ offset + place → place + read.count ≤ length buffer →
-    bytes_given after read ≡ part place read.count buffer
+-- what is read after a WRITE: what was put, what was there, and zeros in the gap before what was put
+abbrev WhatIsWrittenIsReadAgainBy : (StoreState → ℕ → ℕ → List ℕ → ℕ → StoreState) → Type 0
+WhatIsWrittenIsReadAgainBy write =
+    (state : StoreState) (number at : ℕ) (buffer : List ℕ) (moment : ℕ) (writer : OpenRow)
+    (offset count : ℕ) (given : List ℕ) → GoodStore state → open_of state.opens number ≡ Some writer →
+    IsReadLater (write state number at buffer moment) writer.entry offset count given →
+    let before = bytes_of state.tree.rows writer.entry in
+    ((place : ℕ) → offset ≡ at + place → place + count ≤ length buffer → given ≡ take count (drop place buffer))
+    × (offset + count ≤ length before → (offset + count ≤ at) ⊎ (at + length buffer ≤ offset) →
+    given ≡ take count (drop offset before))
+    × (0 < length buffer → length before ≤ offset → offset + count ≤ at → given ≡ replicate count 0)
 
-any_part_of_a_write_is_read : AnyPartOfAWriteIsRead ≡ AnyPartOfAWriteIsReadBy written_to
-any_part_of_a_write_is_read = refl
+what_is_written_is_read_again : WhatIsWrittenIsReadAgain ≡ WhatIsWrittenIsReadAgainBy written_to
+what_is_written_is_read_again = refl
+
+-- what a WRITE of three bytes at the offset 2 leaves is read right after it, through open 1
+abbrev IsReadNext : (ℕ → List ℕ → List ℕ → List ℕ) → ℕ → ℕ → List ℕ → Type 0
+IsReadNext put offset count given =
+    IsReadLater (written_by put example_store 1 2 (7 ∷ 8 ∷ 9 ∷ []) 5) 2 offset count given
 
 -- wrong: what is written past the end of a file is put right behind its last byte
 abbrev written_without_gap : ℕ → List ℕ → List ℕ → List ℕ
 written_without_gap offset buffer bytes = take offset bytes ++ buffer ++ drop (offset + length buffer) bytes
 
-a_write_without_gap_breaks_it : AnyPartOfAWriteIsReadBy (written_by written_without_gap) → ⊥
+read_without_gap : IsReadNext written_without_gap 2 3 (9 ∷ [])
+read_without_gap = record {
+  steps = [];
+  number = 1;
+  reader = example_open;
+  quiet = tt;
+  opened = refl;
+  same = refl;
+  there = refl;
+  gives = refl;
+}
+
+a_write_without_gap_breaks_it : WhatIsWrittenIsReadAgainBy (written_by written_without_gap) → ⊥
 a_write_without_gap_breaks_it law =
-    let same : 9 ∷ [] ≡ 7 ∷ 8 ∷ 9 ∷ [] =
-    law example_store 1 2 (7 ∷ 8 ∷ 9 ∷ []) 5 example_open 0 (reads_next 2 3) example_is_good refl
-    (record { reader = example_open; quiet = tt; opened = refl; same = refl; succeeds = refl }) refl (lit≤ tt) in
-    let long : 1 ≡ 3 = ap length same in omega (arith, long)
-
--- what is between the end of a file and some bytes that a WRITE put past it reads as zeros
-abbrev AGapIsReadAsZerosBy : (StoreState → ℕ → ℕ → List ℕ → ℕ → StoreState) → Type 0
-AGapIsReadAsZerosBy write =
-    (state : StoreState) (number offset : ℕ) (buffer : List ℕ) (moment : ℕ) (writer : OpenRow)
-    (read : LaterRead) → GoodStore state → open_of state.opens number ≡ Some writer → 0 < length buffer →
-    let before = bytes_of state.tree.rows writer.entry in
-    let after = write state number offset buffer moment in
-    ReadsFile after writer.entry read → length before ≤ read.offset → read.offset + read.count ≤ offset →
-    bytes_given after read ≡ replicate read.count 0
-
-a_gap_is_read_as_zeros : AGapIsReadAsZeros ≡ AGapIsReadAsZerosBy written_to
-a_gap_is_read_as_zeros = refl
+    let again = law example_store 1 2 (7 ∷ 8 ∷ 9 ∷ []) 5 example_open 2 3 _ example_is_good refl read_without_gap in
+    let long : 1 ≡ 3 = ap length (again.0 0 refl (lit≤ tt)) in omega (arith, long)
 
 -- wrong: the gap is filled with the byte 255
 abbrev written_with_other_gap : ℕ → List ℕ → List ℕ → List ℕ
 written_with_other_gap offset buffer bytes =
     take offset bytes ++ replicate (offset - length bytes) 255 ++ buffer ++ drop (offset + length buffer) bytes
 
-a_write_with_other_gap_breaks_it : AGapIsReadAsZerosBy (written_by written_with_other_gap) → ⊥
+read_with_other_gap : IsReadNext written_with_other_gap 0 2 (255 ∷ 255 ∷ [])
+read_with_other_gap = record {
+  steps = [];
+  number = 1;
+  reader = example_open;
+  quiet = tt;
+  opened = refl;
+  same = refl;
+  there = refl;
+  gives = refl;
+}
+
+a_write_with_other_gap_breaks_it : WhatIsWrittenIsReadAgainBy (written_by written_with_other_gap) → ⊥
 a_write_with_other_gap_breaks_it law =
-    let same : 255 ∷ 255 ∷ [] ≡ 0 ∷ 0 ∷ [] =
-    law example_store 1 2 (7 ∷ 8 ∷ 9 ∷ []) 5 example_open (reads_next 0 2) example_is_good refl (lit< tt)
-    (record { reader = example_open; quiet = tt; opened = refl; same = refl; succeeds = refl }) (lit≤ tt)
-    (lit≤ tt) in
+    let again = law example_store 1 2 (7 ∷ 8 ∷ 9 ∷ []) 5 example_open 0 2 _ example_is_good refl read_with_other_gap in
+    let same : 255 ∷ 255 ∷ [] ≡ 0 ∷ 0 ∷ [] = again.2 (lit< tt) (lit≤ tt) (lit≤ tt) in
     let first : 255 ≡ 0 = ap (λ (bytes : List ℕ). get_or bytes 0 0) same in omega (arith, first)
 
 -- a file that a CREATE adds or overwrites has no bytes
@@ -135,8 +138,10 @@ AReadGivesWhatIsThereBy read =
     (state : StoreState) (most number offset count minimum : ℕ) (row : OpenRow) →
     open_of state.opens number ≡ Some row → read_status state most number offset count minimum ≡ Success →
     let given = read state number offset count in
-    AreRead (bytes_of state.tree.rows row.entry) given offset count
-    × (length given ≤ count) × (minimum ≤ length given) × (0 < count → 0 < length given)
+    let bytes = bytes_of state.tree.rows row.entry in
+    (length given ≡ min count (length bytes - offset))
+    × ((k : ℕ) → k < length given → slice_get given k ≡ slice_get bytes (offset + k))
+    × (minimum ≤ length given) × (0 < count → 0 < length given)
 
 a_read_gives_what_is_there : AReadGivesWhatIsThere ≡ AReadGivesWhatIsThereBy file_bytes
 a_read_gives_what_is_there = refl
@@ -148,5 +153,5 @@ bytes_behind state number offset count = file_bytes state number (offset + 1) co
 a_read_behind_breaks_it : AReadGivesWhatIsThereBy bytes_behind → ⊥
 a_read_behind_breaks_it law =
     let given = law example_written 65536 1 1 1 1 example_open refl refl in
-    let first : 7 ≡ 0 = ap (λ (byte : Option ℕ). unwrap_or byte 0) (given.0.each 0 (lit< tt)) in
+    let first : 7 ≡ 0 = ap (λ (byte : Option ℕ). unwrap_or byte 0) (given.1 0 (lit< tt)) in
     omega (arith, first)

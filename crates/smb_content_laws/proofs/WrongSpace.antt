@@ -5,8 +5,8 @@ use Rattle.std.proofs.Common.{◌≡◌, ℕ, ◌+◌, ◌-◌, ◌*◌, ◌/◌
 use Rattle.std.proofs.Common.{arith}
 use Rattle.smb_tree.specs.Content.{Row, numbered, without, used_space, bytes_of}
 use Rattle.smb_tree.specs.Entries.{allocation_size}
-use Rattle.smb_content_laws.specs.Example.{example_written}
-use Rattle.smb_content_laws.specs.Space.{AllocationIsInClusters, UsedSpaceIsTheSum, ARemovalFreesItsSpace}
+use Rattle.smb_content_laws.specs.Space.{AllocationIsInClusters, UsedSpaceIsTheSum}
+use Rattle.smb_content_laws.proofs.ExampleStore.{example_written}
 
 -- the space that so many bytes take is a whole number of clusters of 4,096 bytes, the least that they fit into
 abbrev AllocationIsInClustersBy : (ℕ → ℕ) → Type 0
@@ -25,35 +25,28 @@ space_in_sectors size = (size + 511) / 512 * 512
 space_in_sectors_breaks_it : AllocationIsInClustersBy space_in_sectors → ⊥
 space_in_sectors_breaks_it law = let none : 512 ≡ 0 = (law 1).0 in omega (arith, none)
 
--- the space used is the sum of the allocation sizes of all entries
-abbrev UsedSpaceIsTheSumBy : (List Row → ℕ) → Type 0
-UsedSpaceIsTheSumBy space_used =
-    (rows : List Row) → space_used rows ≡ sum (map (λ row. allocation_size (length row.1.bytes)) rows)
+-- the space used is the sum of the allocation sizes of all entries, and a removal frees what its entry took
+abbrev UsedSpaceIsTheSumBy : (List Row → ℕ) → (List Row → ℕ → ℕ) → Type 0
+UsedSpaceIsTheSumBy space_used space_after =
+    (rows : List Row) → (space_used rows ≡ sum (map (λ row. allocation_size (length row.1.bytes)) rows))
+    × ((number : ℕ) (row : Row) → numbered rows number ≡ Some row →
+    space_after rows number + allocation_size (length row.1.bytes) ≡ space_used rows)
 
-used_space_is_the_sum : UsedSpaceIsTheSum ≡ UsedSpaceIsTheSumBy used_space
+used_space_is_the_sum :
+    UsedSpaceIsTheSum ≡ UsedSpaceIsTheSumBy used_space (λ rows number. used_space (without rows number))
 used_space_is_the_sum = refl
 
 -- wrong: the space used is how many bytes the files have
 abbrev bytes_used : List Row → ℕ
 bytes_used = sum_by (λ row. length row.1.bytes)
 
-bytes_used_breaks_it : UsedSpaceIsTheSumBy bytes_used → ⊥
-bytes_used_breaks_it law = let same : 5 ≡ 4096 = law example_written.tree.rows in omega (arith, same)
-
--- the space used after a removal, and what the removed entry took, are the space used before
-abbrev ARemovalFreesItsSpaceBy : (List Row → ℕ → ℕ) → Type 0
-ARemovalFreesItsSpaceBy space_after =
-    (rows : List Row) (number : ℕ) (row : Row) → numbered rows number ≡ Some row →
-    space_after rows number + allocation_size (length row.1.bytes) ≡ used_space rows
-
-a_removal_frees_its_space :
-    ARemovalFreesItsSpace ≡ ARemovalFreesItsSpaceBy (λ rows number. used_space (without rows number))
-a_removal_frees_its_space = refl
+bytes_used_breaks_it : UsedSpaceIsTheSumBy bytes_used (λ rows number. bytes_used (without rows number)) → ⊥
+bytes_used_breaks_it law = let same : 5 ≡ 4096 = (law example_written.tree.rows).0 in omega (arith, same)
 
 -- wrong: a removal frees as much as the removed file has bytes, and not its clusters
 abbrev space_less_bytes : List Row → ℕ → ℕ
 space_less_bytes rows number = used_space rows - length (bytes_of rows number)
 
-space_less_bytes_breaks_it : ARemovalFreesItsSpaceBy space_less_bytes → ⊥
+space_less_bytes_breaks_it : UsedSpaceIsTheSumBy used_space space_less_bytes → ⊥
 space_less_bytes_breaks_it law =
-    let same : 8187 ≡ 4096 = law example_written.tree.rows 2 _ refl in omega (arith, same)
+    let same : 8187 ≡ 4096 = (law example_written.tree.rows).1 2 _ refl in omega (arith, same)

@@ -6,14 +6,14 @@ use Rattle.smb_opens.specs.Good.{GoodStore}
 use Rattle.smb_opens.specs.State.{StoreState}
 use Rattle.smb_opens.specs.Steps.{StoreStep, creates, stepped_all}
 use Rattle.smb_content_laws.specs.Example.{example_store, example_ask}
-use Rattle.smb_content_laws.specs.GoodStores.{AllSucceed, AGoodStoreStaysGood, HasNumbersInRange, NumbersStayInRange}
+use Rattle.smb_content_laws.specs.GoodStores.{AllSucceed, AGoodStoreStaysGood, HasNumbersInRange}
 use Rattle.smb_content_laws.proofs.ExampleStore.{example_is_good}
 
--- whatever requests succeed, a good store is good afterwards
+-- whatever requests succeed, a good store is good afterwards, and no number leaves its range
 abbrev AGoodStoreStaysGoodBy : (StoreState → List StoreStep → StoreState) → Type 0
 AGoodStoreStaysGoodBy perform_all =
     (most : ℕ) (state : StoreState) (steps : List StoreStep) → GoodStore state → AllSucceed most state steps →
-    GoodStore (perform_all state steps)
+    GoodStore (perform_all state steps) × (HasNumbersInRange state → HasNumbersInRange (perform_all state steps))
 
 a_good_store_stays_good : AGoodStoreStaysGood ≡ AGoodStoreStaysGoodBy stepped_all
 a_good_store_stays_good = refl
@@ -24,17 +24,8 @@ stepped_without_count state steps = record (stepped_all state steps) { next = st
 
 steps_without_count_break_it : AGoodStoreStaysGoodBy stepped_without_count → ⊥
 steps_without_count_break_it law =
-    let good = law 65536 example_store (creates example_ask 5 ∷ []) example_is_good (refl, tt) in
+    let good = (law 65536 example_store (creates example_ask 5 ∷ []) example_is_good (refl, tt)).0 in
     let below : 2 < 2 = good.below.1.0 in omega (arith, below)
-
--- whatever requests succeed, no number of a good store leaves its range
-abbrev NumbersStayInRangeBy : (StoreState → List StoreStep → StoreState) → Type 0
-NumbersStayInRangeBy perform_all =
-    (most : ℕ) (state : StoreState) (steps : List StoreStep) → GoodStore state → HasNumbersInRange state →
-    AllSucceed most state steps → HasNumbersInRange (perform_all state steps)
-
-numbers_stay_in_range : NumbersStayInRange ≡ NumbersStayInRangeBy stepped_all
-numbers_stay_in_range = refl
 
 example_in_range : HasNumbersInRange example_store
 example_in_range = record {
@@ -48,9 +39,9 @@ example_in_range = record {
 abbrev stepped_from_zero : StoreState → List StoreStep → StoreState
 stepped_from_zero state steps = record (stepped_all state steps) { next = 0 }
 
-steps_from_zero_break_it : NumbersStayInRangeBy stepped_from_zero → ⊥
+steps_from_zero_break_it : AGoodStoreStaysGoodBy stepped_from_zero → ⊥
 steps_from_zero_break_it law =
-    let range = law 65536 example_store [] example_is_good example_in_range tt in
+    let range = (law 65536 example_store [] example_is_good tt).1 example_in_range in
     let one : 1 ≤ 0 = range.next.0 in omega (arith, one)
 
 -- wrong: two numbers are taken, where one of them is left
@@ -83,8 +74,8 @@ nearly_spent_in_range = record {
   entries = omega arith;
 }
 
-steps_by_two_break_it : NumbersStayInRangeBy stepped_by_two → ⊥
+steps_by_two_break_it : AGoodStoreStaysGoodBy stepped_by_two → ⊥
 steps_by_two_break_it law =
     let range =
-    law 65536 nearly_spent (creates example_ask 5 ∷ []) nearly_spent_is_good nearly_spent_in_range (refl, tt) in
+    (law 65536 nearly_spent (creates example_ask 5 ∷ []) nearly_spent_is_good (refl, tt)).1 nearly_spent_in_range in
     let top : 2 ^ 64 < 2 ^ 64 = range.next.1 in omega (arith, top)

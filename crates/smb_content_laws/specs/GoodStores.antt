@@ -41,12 +41,6 @@ AStoreBeginsGood =
     (content : Content) (number : ℕ) → UnmarkedTree content →
     GoodStore (record { tree = content; opens = []; locks = []; next = number })
 
--- whatever requests succeed, a good store is good afterwards
-abbrev pub AGoodStoreStaysGood : Type 0
-AGoodStoreStaysGood =
-    (most : ℕ) (state : StoreState) (steps : List StoreStep) → GoodStore state → AllSucceed most state steps →
-    GoodStore (stepped_all state steps)
-
 -- the number of each open and of the next is from 1 on and below 2 ^ 64; that of the next entry is below 2 ^ 64
 pub record HasNumbersInRange (state : StoreState) : Type 0 where
   pub next : (1 ≤ state.next) × (state.next < 2 ^ 64)
@@ -54,8 +48,9 @@ pub record HasNumbersInRange (state : StoreState) : Type 0 where
   pub below : AreAllBelow (2 ^ 64) state.opens
   pub entries : state.tree.next < 2 ^ 64
 
--- whatever requests succeed, no number of a good store leaves its range: once the numbers are spent a CREATE is refused
-abbrev pub NumbersStayInRange : Type 0
-NumbersStayInRange =
-    (most : ℕ) (state : StoreState) (steps : List StoreStep) → GoodStore state → HasNumbersInRange state →
-    AllSucceed most state steps → HasNumbersInRange (stepped_all state steps)
+-- whatever requests succeed, a good store is good afterwards, and no number leaves its range: once the numbers are spent
+-- a CREATE is refused
+abbrev pub AGoodStoreStaysGood : Type 0
+AGoodStoreStaysGood =
+    (most : ℕ) (state : StoreState) (steps : List StoreStep) → GoodStore state → AllSucceed most state steps →
+    GoodStore (stepped_all state steps) × (HasNumbersInRange state → HasNumbersInRange (stepped_all state steps))

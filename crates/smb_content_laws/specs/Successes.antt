@@ -34,27 +34,15 @@ use Rattle.smb_locks.specs.Conflicts.{is_read_barred, is_write_barred}
 abbrev pub NoneHolds : List StatusRow → Type 0
 NoneHolds = AllByRecursion (λ row. row.0 ≡ false)
 
--- where no row holds the status is STATUS_SUCCESS
-abbrev pub NoRowIsSuccess : Type 0
-NoRowIsSuccess = (rows : List StatusRow) → NoneHolds rows → first_status rows ≡ Success
-
--- and else it is that of the first row that holds
+-- the status of a table is that of its first row that holds, and STATUS_SUCCESS where none does; and the status of a
+-- request through an open that shows something is that of its table
 abbrev pub TheFirstRowDecides : Type 0
 TheFirstRowDecides =
-    (before after : List StatusRow) (status : NtStatus) → NoneHolds before →
-    first_status (before ++ (true, status) ∷ after) ≡ status
-
--- a table in which each row's status is a refusal gives STATUS_SUCCESS exactly where none holds
-abbrev pub SuccessIsWhereNoneHolds : Type 0
-SuccessIsWhereNoneHolds =
-    (rows : List StatusRow) → AllByRecursion (λ row. row.1 ≢ Success) rows →
-    (first_status rows ≡ Success) ↔ NoneHolds rows
-
--- through an open that shows something, a status by a table is STATUS_SUCCESS where none of its rows holds
-abbrev pub ARequestSucceeds : Type 0
-ARequestSucceeds =
-    (state : StoreState) (number : ℕ) (view : View) (rows : View → List StatusRow) →
-    open_view state number ≡ Some view → NoneHolds (rows view) → status_through state number rows ≡ Success
+    ((rows : List StatusRow) → NoneHolds rows → first_status rows ≡ Success)
+    × ((before after : List StatusRow) (status : NtStatus) → NoneHolds before →
+    first_status (before ++ (true, status) ∷ after) ≡ status)
+    × ((state : StoreState) (number : ℕ) (view : View) (rows : View → List StatusRow) →
+    open_view state number ≡ Some view → status_through state number rows ≡ first_status (rows view))
 
 -- a CREATE succeeds exactly where none of its rows holds ([MS-SMB2] 3.3.5.9)
 abbrev pub ACreateSucceeds : Type 0
@@ -73,47 +61,20 @@ pub record MayRead (state : StoreState) (most number offset count minimum : ℕ)
   pub there : 0 < count → offset < view.size
   pub enough : minimum ≤ min count (view.size - offset)
 
--- a READ through an open that shows a file succeeds exactly where it may
-abbrev pub AReadSucceeds : Type 0
-AReadSucceeds =
-    (state : StoreState) (most number offset count minimum : ℕ) (view : View) → open_view state number ≡ Some view →
-    (read_status state most number offset count minimum ≡ Success) ↔ MayRead state most number offset count minimum view
-
--- an open may write at an offset: it was granted FILE_WRITE_DATA, or FILE_APPEND_DATA and the offset is not before the
--- end of the file
-abbrev pub WritesAt : View → ℕ → Type 0
-WritesAt view offset =
-    (has_any view.access.0 FILE_WRITE_DATA ≡ true)
-    ⊎ ((has_any view.access.0 FILE_APPEND_DATA ≡ true) × (view.size ≤ offset))
-
--- what a WRITE needs ([MS-SMB2] 3.3.5.13): it gives no more than one request writes, to a file, through an open that
--- may write there, where no lock bars it; and if it gives some bytes, there is room for them
+-- what a WRITE needs ([MS-SMB2] 3.3.5.13): it gives no more than one request writes, to a file, through an open that was
+-- granted FILE_WRITE_DATA, or FILE_APPEND_DATA and the offset is not before the end, where no lock bars it; and if it
+-- gives some bytes, there is room for them
 pub record MayWrite (state : StoreState) (most number offset : ℕ) (buffer : List ℕ) (view : View) : Type 0 where
   pub within : length buffer ≤ most
   pub file : is_folder_kind view.kind ≡ false
-  pub access : WritesAt view offset
+  pub access : (has_any view.access.0 FILE_WRITE_DATA ≡ true)
+      ⊎ ((has_any view.access.0 FILE_APPEND_DATA ≡ true) × (view.size ≤ offset))
   pub free :
       is_write_barred (locks_on state.locks view.entry) number (record { offset = offset; length = length buffer }) ≡ false
   pub small : 0 < length buffer → offset + length buffer ≤ most_file_bytes
   pub fits : 0 < length buffer →
       let after = changed_in (λ entry. record entry { bytes = written offset buffer entry.bytes }) state.tree view.entry in
       used_space after.rows ≤ state.tree.capacity
-
--- a WRITE succeeds exactly where it may
-abbrev pub AWriteSucceeds : Type 0
-AWriteSucceeds =
-    (state : StoreState) (most number offset : ℕ) (buffer : List ℕ) (view : View) → open_view state number ≡ Some view →
-    (write_status state most number offset buffer ≡ Success) ↔ MayWrite state most number offset buffer view
-
--- a LOCK of a file succeeds exactly where the file's locks refuse none of its elements, and an UNLOCK likewise
--- ([MS-SMB2] 3.3.5.14)
-abbrev pub ALockSucceeds : Type 0
-ALockSucceeds =
-    (state : StoreState) (number : ℕ) (asks : List LockAsk) (view : View) → open_view state number ≡ Some view →
-    is_folder_kind view.kind ≡ false →
-    let held = locks_on state.locks view.entry in
-    ((lock_status state number asks ≡ Success) ↔ (lock_all_fault held number asks ≡ None))
-    × ((unlock_status state number asks ≡ Success) ↔ (unlock_all_error held number asks ≡ None))
 
 -- what a SET_INFO of an entry's mark needs ([MS-FSA] 2.1.5.15.3): the open was granted DELETE; and where the entry is
 -- to be deleted, it is not the root, no read-only file, and nothing is in it
@@ -125,12 +86,6 @@ pub record MayMark (state : StoreState) (is_deleted : Bool) (view : View) : Type
   pub empty : is_deleted ≡ true →
       option_map_or (λ row. list_any (is_child row.0) state.tree.rows) (numbered state.tree.rows view.entry) false ≡ false
 
--- a SET_INFO of a mark succeeds exactly where it may
-abbrev pub ASetOfAMarkSucceeds : Type 0
-ASetOfAMarkSucceeds =
-    (state : StoreState) (number : ℕ) (is_deleted : Bool) (view : View) → open_view state number ≡ Some view →
-    (delete_status state number is_deleted ≡ Success) ↔ MayMark state is_deleted view
-
 -- what one of a file's size needs ([MS-FSA] 2.1.5.15.4): it is a file, the open was granted FILE_WRITE_DATA, and there
 -- is room
 pub record MaySetSize (state : StoreState) (size : ℕ) (view : View) : Type 0 where
@@ -141,12 +96,6 @@ pub record MaySetSize (state : StoreState) (size : ℕ) (view : View) : Type 0 w
       let after = changed_in (λ entry. record entry { bytes = resized size entry.bytes }) state.tree view.entry in
       used_space after.rows ≤ state.tree.capacity
 
--- a SET_INFO of a size succeeds exactly where it may
-abbrev pub ASetOfASizeSucceeds : Type 0
-ASetOfASizeSucceeds =
-    (state : StoreState) (number size : ℕ) (view : View) → open_view state number ≡ Some view →
-    (size_status state number size ≡ Success) ↔ MaySetSize state size view
-
 -- what one of times and attributes needs ([MS-FSA] 2.1.5.15.2): all four times are times, a file is not to be a
 -- directory, and the open was granted FILE_WRITE_ATTRIBUTES
 pub record MaySetTimes (ask : BasicAsk) (view : View) : Type 0 where
@@ -156,8 +105,21 @@ pub record MaySetTimes (ask : BasicAsk) (view : View) : Type 0 where
   pub kind : (is_folder_kind view.kind ≡ true) ⊎ (has_any ask.attributes.0 FILE_ATTRIBUTE_DIRECTORY ≡ false)
   pub access : has_any view.access.0 FILE_WRITE_ATTRIBUTES ≡ true
 
--- a SET_INFO of times and attributes succeeds exactly where it may
-abbrev pub ASetOfTimesSucceeds : Type 0
-ASetOfTimesSucceeds =
-    (state : StoreState) (number : ℕ) (ask : BasicAsk) (view : View) → open_view state number ≡ Some view →
-    (basic_status state number ask ≡ Success) ↔ MaySetTimes ask view
+-- through an open that shows something, a READ, a WRITE, and a SET_INFO of a mark, of a size or of times succeed exactly
+-- where they may; a LOCK and an UNLOCK, exactly where it shows a file whose locks refuse none of their elements
+-- ([MS-SMB2] 3.3.5.14)
+abbrev pub RequestsSucceedWhereTheyMay : Type 0
+RequestsSucceedWhereTheyMay =
+    (state : StoreState) (number : ℕ) (view : View) → open_view state number ≡ Some view →
+    let held = locks_on state.locks view.entry in
+    ((most offset count minimum : ℕ) →
+    (read_status state most number offset count minimum ≡ Success) ↔ MayRead state most number offset count minimum view)
+    × ((most offset : ℕ) (buffer : List ℕ) →
+    (write_status state most number offset buffer ≡ Success) ↔ MayWrite state most number offset buffer view)
+    × ((is_deleted : Bool) → (delete_status state number is_deleted ≡ Success) ↔ MayMark state is_deleted view)
+    × ((size : ℕ) → (size_status state number size ≡ Success) ↔ MaySetSize state size view)
+    × ((ask : BasicAsk) → (basic_status state number ask ≡ Success) ↔ MaySetTimes ask view)
+    × ((asks : List LockAsk) → (lock_status state number asks ≡ Success)
+    ↔ ((is_folder_kind view.kind ≡ false) × (lock_all_fault held number asks ≡ None)))
+    × ((asks : List LockAsk) → (unlock_status state number asks ≡ Success)
+    ↔ ((is_folder_kind view.kind ≡ false) × (unlock_all_error held number asks ≡ None)))

@@ -1,6 +1,6 @@
 //! The laws of good stores.
 
-ghost use Rattle.smb_content_laws.specs.GoodStores.{AStoreBeginsGood, AGoodStoreStaysGood, NumbersStayInRange};
+ghost use Rattle.smb_content_laws.specs.GoodStores.{AStoreBeginsGood, AGoodStoreStaysGood};
 
 /// A store of a good tree is good before it has an open, and stays good whatever requests succeed: its tree, its opens
 /// and its locks are as `specs/Good.antt` of smb_opens says. So what is a law of a good store here holds between any
@@ -9,5 +9,4 @@ ghost use Rattle.smb_content_laws.specs.GoodStores.{AStoreBeginsGood, AGoodStore
 pub fn laws_of_good_stores()
     ensures begins { AStoreBeginsGood }
     ensures stays { AGoodStoreStaysGood }
-    ensures numbers { NumbersStayInRange }
 {}

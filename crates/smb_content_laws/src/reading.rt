@@ -1,8 +1,7 @@
 //! The laws of bytes that are read.
 
-ghost use Rattle.smb_content_laws.specs.Reading.{AReadGivesWhatIsThere, AFileKeepsItsBytes, AnyPartOfAWriteIsRead};
-ghost use Rattle.smb_content_laws.specs.Reading.{AGapIsReadAsZeros, ALongerSizeIsReadAsZeros, ASizeLeavesTheFront};
-ghost use Rattle.smb_content_laws.specs.Reading.{AWriteLeavesTheRest, AMadeFileIsEmpty};
+ghost use Rattle.smb_content_laws.specs.Reading.{AReadGivesWhatIsThere, AFileKeepsItsBytes, WhatIsWrittenIsReadAgain};
+ghost use Rattle.smb_content_laws.specs.Reading.{ASizeLeavesTheFront, AMadeFileIsEmpty};
 
 /// What a READ gives is what the file has, byte for byte. A file keeps its bytes over any requests of which none writes
 /// to it, overwrites it or sets its size. So any part of what a WRITE put is read again, through any open of the file,
@@ -12,10 +11,7 @@ ghost use Rattle.smb_content_laws.specs.Reading.{AWriteLeavesTheRest, AMadeFileI
 pub fn laws_of_reading()
     ensures there { AReadGivesWhatIsThere }
     ensures keeps { AFileKeepsItsBytes }
-    ensures parts { AnyPartOfAWriteIsRead }
-    ensures gaps { AGapIsReadAsZeros }
-    ensures longer { ALongerSizeIsReadAsZeros }
-    ensures front { ASizeLeavesTheFront }
-    ensures rest { AWriteLeavesTheRest }
+    ensures again { WhatIsWrittenIsReadAgain }
+    ensures sizes { ASizeLeavesTheFront }
     ensures made { AMadeFileIsEmpty }
 {}

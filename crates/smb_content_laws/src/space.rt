@@ -1,8 +1,7 @@
 //! The laws of space.
 
-ghost use Rattle.smb_content_laws.specs.Space.{AllocationIsInClusters, UsedSpaceIsTheSum, ARemovalFreesItsSpace};
-ghost use Rattle.smb_content_laws.specs.Space.{ACreateTakesNoSpace, AnOverwriteFreesItsSpace, AWriteTakesItsSpace};
-ghost use Rattle.smb_content_laws.specs.Space.{ASizeTakesItsSpace, ACloseFreesWhatItRemoves};
+ghost use Rattle.smb_content_laws.specs.Space.{AllocationIsInClusters, UsedSpaceIsTheSum, ACreateTakesNoSpace};
+ghost use Rattle.smb_content_laws.specs.Space.{AFileTakesTheSpaceOfItsSize, ACloseFreesWhatItRemoves};
 ghost use Rattle.smb_content_laws.specs.Space.{ARenameFreesWhatItReplaces, SpaceStaysWithinCapacity};
 
 /// A file takes whole clusters, the least that its bytes fit into, and the space used is the sum of what all files
@@ -13,11 +12,8 @@ ghost use Rattle.smb_content_laws.specs.Space.{ARenameFreesWhatItReplaces, Space
 pub fn laws_of_space()
     ensures clusters { AllocationIsInClusters }
     ensures total { UsedSpaceIsTheSum }
-    ensures removals { ARemovalFreesItsSpace }
     ensures creates { ACreateTakesNoSpace }
-    ensures overwrites { AnOverwriteFreesItsSpace }
-    ensures writes { AWriteTakesItsSpace }
-    ensures sizes { ASizeTakesItsSpace }
+    ensures sizes { AFileTakesTheSpaceOfItsSize }
     ensures closes { ACloseFreesWhatItRemoves }
     ensures renames { ARenameFreesWhatItReplaces }
     ensures within { SpaceStaysWithinCapacity }

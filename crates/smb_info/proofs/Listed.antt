@@ -1,5 +1,5 @@
 -- Whatever is listed is of the folder, and matched.
-use Rattle.std.proofs.Common.{◌≡◌, ℕ, zero, suc, Bool, true, false, cond, ◌&&◌, List, [], ◌∷◌, ◌++◌, length, take, filter, All, Option, None, Some, inl, inr, refl, sym, ap, ◌∙◌, subst}
+use Rattle.std.proofs.Common.{◌≡◌, ◌⊎◌, ℕ, zero, suc, Bool, true, false, cond, ◌&&◌, List, [], ◌∷◌, ◌++◌, length, take, filter, All, Option, None, Some, inl, inr, refl, sym, ap, ◌∙◌, subst}
 use Rattle.std.specs.List.{AllByRecursion}
 use Rattle.std.specs.Option.{option_map, option_and_then}
 use Rattle.std.proofs.lemmas.List.Elements.{All-nil, All-cons, All-append, All-map, All-take, All-same, All-head, All-tail}
@@ -18,7 +18,7 @@ use Rattle.smb_info.specs.Candidates.{Candidate, dot, dot_dot, child, children, 
 use Rattle.smb_info.specs.DirectoryInformation.{directory_class}
 use Rattle.smb_info.specs.Listing.{matching}
 use Rattle.smb_info.specs.Queries.{pattern_by, scan_by, entries_listed}
-use Rattle.smb_info.specs.ListingLaws.{IsOfFolder, OnlyWhatIsMatchedIsListed}
+use Rattle.smb_info.specs.ListingLaws.{OnlyWhatIsMatchedIsListed}
 use Rattle.smb_patterns.proofs.PatternTests.{match_decides}
 use Rattle.smb_info.proofs.Places.{dot_is, dot_dot_is, found_by_number}
 use Rattle.smb_info.proofs.ListingRuns.{listed_front}
@@ -50,6 +50,13 @@ first_holds P (row ∷ rows) first h e =
     ] refl e
 
 -- ---- each candidate is of the folder
+
+-- a candidate is the folder itself as `.`, the one around it as `..`, or a child of it as it is spelled
+abbrev IsOfFolder : List Row → Row → Candidate → Type 0
+IsOfFolder rows folder c =
+    ((c.name ≡ 46 ∷ []) × (c.entry ≡ row_shown rows folder)) ⊎
+    (((c.name ≡ 46 ∷ 46 ∷ []) × (Some c.entry ≡ entry_shown rows (row_shown rows folder).parent)) ⊎
+    ((row : Row) × (numbered rows c.entry.number ≡ Some row) × (is_child folder.0 row ≡ true) × (c ≡ child rows row)))
 
 child_of : (rows : List Row) (number : ℕ) (folder : Row) (after : Option (List ℕ)) (row : Row) → AreApart rows → numbered rows number ≡ Some folder → option_and_then (numbered rows) (child_after rows number after) ≡ Some row → IsOfFolder rows folder (child rows row)
 child_of rows number folder after row apart there e =

@@ -16,13 +16,6 @@ use Rattle.smb_info.specs.Listing.{matching}
 use Rattle.smb_info.specs.Queries.{ListAsked, is_started_by, pattern_by, scan_by, entries_listed, scan_after}
 use Rattle.smb_info.specs.declared.directory_class.DirectoryInformationClass.{DirectoryInformationClass}
 
--- a candidate is the folder itself as `.`, the one around it as `..`, or a child of it as it is spelled
-abbrev pub IsOfFolder : List Row → Row → Candidate → Type 0
-IsOfFolder rows folder c =
-    ((c.name ≡ 46 ∷ []) × (c.entry ≡ row_shown rows folder)) ⊎
-    (((c.name ≡ 46 ∷ 46 ∷ []) × (Some c.entry ≡ entry_shown rows (row_shown rows folder).parent)) ⊎
-    ((row : Row) × (numbered rows c.entry.number ≡ Some row) × (is_child folder.0 row ≡ true) × (c ≡ child rows row)))
-
 -- a query with `*` that starts a scan and has room for all of it lists `.`, `..` and then the children as they are spelled:
 -- entries that stand, in the order of their folded names, so each once, and a name is among theirs exactly where an entry
 -- stands in the folder under it
@@ -58,9 +51,17 @@ TheNextQueryGoesOn =
     ++ entries_listed content.rows number (scan_after content.rows number scan ask) next
     ≡ take n (matching content.rows number (pattern_by scan ask) (scan_by scan ask).last))
 
--- whatever a query lists is of the folder, and has a name that the pattern matches
+-- whatever a query lists has a name that the pattern matches, and is the folder itself as `.`, the one around it as `..`,
+-- or a child of it as it is spelled
 abbrev pub OnlyWhatIsMatchedIsListed : Type 0
 OnlyWhatIsMatchedIsListed =
     (content : Content) (number : ℕ) (folder : Row) (scan : Scan) (ask : ListAsked) →
     GoodContent content → numbered content.rows number ≡ Some folder →
-    All (λ c. IsOfFolder content.rows folder c × Matches (pattern_by scan ask) c.name) (entries_listed content.rows number scan ask)
+    let rows = content.rows in
+    All
+    (λ (c : Candidate).
+    (((c.name ≡ 46 ∷ []) × (c.entry ≡ row_shown rows folder)) ⊎
+    (((c.name ≡ 46 ∷ 46 ∷ []) × (Some c.entry ≡ entry_shown rows (row_shown rows folder).parent)) ⊎
+    ((row : Row) × (numbered rows c.entry.number ≡ Some row) × (is_child folder.0 row ≡ true) × (c ≡ child rows row))))
+    × Matches (pattern_by scan ask) c.name)
+    (entries_listed rows number scan ask)

@@ -9,27 +9,20 @@ use Rattle.smb_locks.specs.Locking.{lock_all_fault}
 use Rattle.smb_locks.specs.Ranges.{Overlap, overlaps}
 use Rattle.smb_locks.specs.Table.{Table, locks_on, with_locks, locked, unlocked, without_holder}
 
--- comparing the ends of two ranges says whether some number is in both: also of empty ranges, and of those up to the
--- number 2^64 - 1
+-- comparing the ends of two ranges says whether some number is in both, also of ranges up to the number 2^64 - 1; if so
+-- it is either way round; and no number is in an empty range
 abbrev pub ComparingEndsIsOverlap : Type 0
-ComparingEndsIsOverlap = (a b : ByteRange) → IsTrue (overlaps a b) ↔ Overlap a b
+ComparingEndsIsOverlap =
+    (a b : ByteRange) →
+    (IsTrue (overlaps a b) ↔ Overlap a b) × (Overlap a b → Overlap b a) × (a.length ≡ 0 → ¬ Overlap a b)
 
-abbrev pub OverlapIsSymmetric : Type 0
-OverlapIsSymmetric = (a b : ByteRange) → Overlap a b → Overlap b a
-
-abbrev pub AnEmptyRangeOverlapsNothing : Type 0
-AnEmptyRangeOverlapsNothing = (a b : ByteRange) → a.length ≡ 0 → ¬ Overlap a b
-
--- the test of a conflict is the sentence
-abbrev pub ConflictIsByOverlap : Type 0
-ConflictIsByOverlap = (asked held : Lock) → IsTrue (conflicts asked held) ↔ Conflicts asked held
-
--- a read, or a write, is barred where some lock bars it
-abbrev pub BarsAreByOverlap : Type 0
-BarsAreByOverlap =
-    (locks : List Lock) (holder : ℕ) (range : ByteRange) →
-    (IsTrue (is_read_barred locks holder range) ↔ Any (BarsRead holder range) locks) ×
-    (IsTrue (is_write_barred locks holder range) ↔ Any (BarsWrite holder range) locks)
+-- the test of a conflict is the sentence; and a read, or a write, is barred exactly where some lock bars it
+abbrev pub ConflictsAreByOverlap : Type 0
+ConflictsAreByOverlap =
+    ((asked held : Lock) → IsTrue (conflicts asked held) ↔ Conflicts asked held)
+    × ((locks : List Lock) (holder : ℕ) (range : ByteRange) →
+    (IsTrue (is_read_barred locks holder range) ↔ Any (BarsRead holder range) locks)
+    × (IsTrue (is_write_barred locks holder range) ↔ Any (BarsWrite holder range) locks))
 
 -- no two overlapping locks of different opens of a file have an exclusive one among them
 abbrev pub NoTwoConflict : Type 0
@@ -49,31 +42,21 @@ EachFileHasItsLocks =
 abbrev pub others_locks : ℕ → List Lock → List Lock
 others_locks holder = filter (λ lock. not (lock.holder == holder))
 
--- an open that is dropped holds nothing, and every other lock stays, in order
-abbrev pub ADroppedOpenHoldsNothing : Type 0
-ADroppedOpenHoldsNothing =
-    (table : Table) (holder file : ℕ) → GoodLockTable table →
-    locks_on (without_holder holder table) file ≡ others_locks holder (locks_on table file)
+-- a request on one file leaves the locks of every other file as they are; and an open that is dropped holds nothing, and
+-- every other lock stays, in order
+abbrev pub OtherLocksStay : Type 0
+OtherLocksStay =
+    (table : Table) (file holder : ℕ) →
+    ((other : ℕ) (asks : List LockAsk) → other ≢ file →
+    (locks_on (locked table file holder asks) other ≡ locks_on table other)
+    × (locks_on (unlocked table file holder asks) other ≡ locks_on table other))
+    × (GoodLockTable table → locks_on (without_holder holder table) file ≡ others_locks holder (locks_on table file))
 
--- a request on one file leaves the locks of every other file as they are
-abbrev pub RequestsLeaveOtherFiles : Type 0
-RequestsLeaveOtherFiles =
-    (table : Table) (file other holder : ℕ) (asks : List LockAsk) → other ≢ file →
-    (locks_on (locked table file holder asks) other ≡ locks_on table other) ×
-    (locks_on (unlocked table file holder asks) other ≡ locks_on table other)
-
--- a table is good at first, and stays so
-abbrev pub NoLocksAreGood : Type 0
-NoLocksAreGood = GoodLockTable []
-
-abbrev pub LockingKeepsGood : Type 0
-LockingKeepsGood =
-    (table : Table) (file holder : ℕ) (asks : List LockAsk) → GoodLockTable table →
-    lock_all_fault (locks_on table file) holder asks ≡ None → GoodLockTable (locked table file holder asks)
-
-abbrev pub UnlockingKeepsGood : Type 0
-UnlockingKeepsGood =
-    (table : Table) (file holder : ℕ) (asks : List LockAsk) → GoodLockTable table → GoodLockTable (unlocked table file holder asks)
-
-abbrev pub DroppingKeepsGood : Type 0
-DroppingKeepsGood = (table : Table) (holder : ℕ) → GoodLockTable table → GoodLockTable (without_holder holder table)
+-- a table without locks is good, and a good one stays so: after a request that locks and is not refused, after one that
+-- unlocks, and once an open is dropped
+abbrev pub TablesStayGood : Type 0
+TablesStayGood =
+    GoodLockTable []
+    × ((table : Table) (file holder : ℕ) (asks : List LockAsk) → GoodLockTable table →
+    (lock_all_fault (locks_on table file) holder asks ≡ None → GoodLockTable (locked table file holder asks))
+    × GoodLockTable (unlocked table file holder asks) × GoodLockTable (without_holder holder table))

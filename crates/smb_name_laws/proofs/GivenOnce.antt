@@ -36,12 +36,11 @@ use Rattle.smb_opens.specs.Good.{GoodStore}
 use Rattle.smb_opens.specs.State.{StoreState}
 use Rattle.smb_opens.specs.Steps.{StoreStep, creates, writes, locks, unlocks, sets_delete, sets_size, sets_basic, renames, sets_scan, closes, closes_all, stepped, stepped_all}
 use Rattle.smb_opens.specs.Views.{open_view}
-use Rattle.smb_opens.proofs.Closing.{opens_closed}
 use Rattle.smb_opens.proofs.Conflicts.{open_without, open_pushed}
 use Rattle.smb_opens.proofs.Once.{AreOnce, once_of_apart, once_changed, once_without, once_push, once_renamed, numbered-once}
 use Rattle.smb_opens.proofs.ScanLaws.{scan_leaves}
 use Rattle.smb_opens.proofs.StoreSettings.{size_keeps}
-use Rattle.smb_name_laws.specs.Numbers.{GivesEachOpenOnce, GivesEachEntryOnce}
+use Rattle.smb_name_laws.specs.Numbers.{GivesEachOpenOnce, GivesEachEntryOnce, NoNumberIsGivenTwice}
 
 -- what was found is gone, or alike
 abbrev Stays : {X Y : Type 0} → (X → Y) → Option X → Option X → Type 0
@@ -227,7 +226,7 @@ scanned_by number scan (x ∷ opens) n =
 
 scanned_opens : (state : StoreState) (number : ℕ) (scan : Scan) → AreAllBelow state.next state.opens → OpensRise state.next state.next state.opens (with_scan number scan state.opens)
 scanned_opens state number scan below = record {
-  below = subst (λ (ns : List ℕ). AllByRecursion (λ k. k < state.next) ns) (sym (scan_leaves state number scan).numbers) below;
+  below = subst (λ (ns : List ℕ). AllByRecursion (λ k. k < state.next) ns) (sym (scan_leaves state number scan).3) below;
   rise = omega arith;
   stays = λ n _. inr (scanned_by number scan state.opens n);
 }
@@ -343,23 +342,23 @@ alike : {X Y : Type 0} (f : X → Y) (before after : Option X) (one other : X) �
 alike f before after one other (inl none) b a = absurd (cc)
 alike f before after one other (inr e) b a = (let same : Some (f other) ≡ Some (f one) = sym (ap (option_map f) a) ∙ e ∙ ap (option_map f) b in cc)
 
-pub opens_once : (state : StoreState) (steps : List StoreStep) → GoodStore state → GivesEachOpenOnce state (stepped_all state steps)
+opens_once : (state : StoreState) (steps : List StoreStep) → StoreGood state → GivesEachOpenOnce state (stepped_all state steps)
 opens_once state steps good =
-    let r = (steps_rise state steps (store_good state good)).opens in
+    let r = (steps_rise state steps good).opens in
     record {
       rise = r.rise;
       below = r.below;
       ended = λ number low none. stays_none bare (open_of state.opens number) (open_of (stepped_all state steps).opens number) (r.stays number low) none;
       same = λ number one other b a. (
-          let low = given_open state.opens state.next number one good.below b in
+          let low = given_open state.opens state.next number one good.opens b in
           let e = alike bare (open_of state.opens number) (open_of (stepped_all state steps).opens number) one other (r.stays number low) b a in
           ap (λ (row : OpenRow). let x : OpenRow = record row { scan = other.scan } in x) e
           );
     }
 
-pub entries_once : (state : StoreState) (steps : List StoreStep) → GoodStore state → GivesEachEntryOnce state (stepped_all state steps)
+entries_once : (state : StoreState) (steps : List StoreStep) → StoreGood state → GivesEachEntryOnce state (stepped_all state steps)
 entries_once state steps good =
-    let r = (steps_rise state steps (store_good state good)).tree in
+    let r = (steps_rise state steps good).tree in
     record {
       rise = r.rise;
       below = r.good.below;
@@ -370,27 +369,8 @@ entries_once state steps good =
           );
     }
 
-pub stays_closed : (state : StoreState) (number : ℕ) (steps : List StoreStep) → GoodStore state → is_some (open_of state.opens number) ≡ true → open_of (stepped_all (closed state number) steps).opens number ≡ None
-stays_closed state number steps good some =
-    let first = close_rises state number (store_good state good) in
-    let r = (steps_rise (closed state number) steps (good_after state (closed state number) first)).opens in
-    let itself : number == number ≡ true = grind (arith, nat_tests) in
-    let none : open_of (closed state number).opens number ≡ None = ap (λ (os : List OpenRow). open_of os number) (opens_closed state number some) ∙ open_without state.opens number number ∙ rw itself refl in
-    let low : number < state.next = given (open_of state.opens number) refl some in
-    stays_none bare (open_of (closed state number).opens number) (open_of (stepped_all (closed state number) steps).opens number) (r.stays number (let up = first.opens.rise in omega (arith, low, up))) none
-  where
-    given : (o : Option OpenRow) → open_of state.opens number ≡ o → is_some o ≡ true → number < state.next
-    given None e s = absurd (cc)
-    given (Some row) e s = given_open state.opens state.next number row good.below e
-
-pub stays_gone : (state : StoreState) (entry : ℕ) (step : StoreStep) (steps : List StoreStep) → GoodStore state → is_some (numbered state.tree.rows entry) ≡ true → numbered (stepped state step).tree.rows entry ≡ None →
-    numbered (stepped_all state (step ∷ steps)).tree.rows entry ≡ None
-stays_gone state entry step steps good some none =
-    let first = step_rises state step (store_good state good) in
-    let r = (steps_rise (stepped state step) steps (good_after state (stepped state step) first)).tree in
-    let low : entry < state.tree.next = given (numbered state.tree.rows entry) refl some in
-    stays_none kind_of (numbered (stepped state step).tree.rows entry) (numbered (stepped_all (stepped state step) steps).tree.rows entry) (r.stays entry (let up = first.tree.rise in omega (arith, low, up))) none
-  where
-    given : (o : Option Row) → numbered state.tree.rows entry ≡ o → is_some o ≡ true → entry < state.tree.next
-    given None e s = absurd (cc)
-    given (Some row) e s = given_entry state.tree.rows state.tree.next entry row good.tree.below e
+pub once : NoNumberIsGivenTwice
+once state steps later good =
+    let between : StoreState = stepped_all state steps in
+    let left = good_after state between (steps_rise state steps (store_good state good)) in
+    (opens_once between later left, entries_once between later left)

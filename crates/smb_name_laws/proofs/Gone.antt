@@ -28,7 +28,7 @@ use Rattle.smb_opens.specs.State.{StoreState}
 use Rattle.smb_opens.proofs.Closing.{number_found, IsMarked, tree_marked_marked, goes, closed_is}
 use Rattle.smb_opens.proofs.Conflicts.{open_without}
 use Rattle.smb_opens.proofs.Elsewhere.{closed_elsewhere}
-use Rattle.smb_name_laws.specs.Deletes.{is_file_or_empty_folder, is_to_be_deleted, HasNoOtherOpen, WentWithItsLastOpen}
+use Rattle.smb_name_laws.specs.Deletes.{is_to_be_deleted, HasNoOtherOpen, ACloseDeletesWhatIsToBeDeleted, NothingElseGoes}
 
 second_of : (a b : Bool) → (a && b) ≡ true → b ≡ true
 second_of true b h = h
@@ -77,6 +77,10 @@ file_not_root content n row good h kind =
           )
       | false ↦ λ _. refl
     ] refl
+
+-- an entry is a file, or a folder other than the root in which no entry is
+abbrev pub is_file_or_empty_folder : List Row → Row → Bool
+is_file_or_empty_folder rows row = not (is_folder_kind row.1.kind) || not (row.1.number == 1) && not (list_any (is_child row.0) rows)
 
 -- what can be deleted is a file or an empty folder
 can_is : (content : Content) (n : ℕ) (row : Row) → GoodContent content → numbered content.rows n ≡ Some row → can_be_deleted content.rows row ≡ is_file_or_empty_folder content.rows row
@@ -204,19 +208,22 @@ gone state number closing path entry good s h last due =
     )
 
 -- where an entry is gone, it was due
+abbrev WentWithItsLastOpen : StoreState → ℕ → Row → Type 0
+WentWithItsLastOpen state number row =
+    (closing : OpenRow) × (open_of state.opens number ≡ Some closing) × (row.1.number ≡ closing.entry) × HasNoOtherOpen state.opens number closing.entry × (is_to_be_deleted state.tree.rows closing row ≡ true)
+
 went : (state : StoreState) (number : ℕ) (closing : OpenRow) (row : Row) → GoodStore state → open_of state.opens number ≡ Some closing → numbered state.tree.rows closing.entry ≡ Some row → numbered (closed state number).tree.rows closing.entry ≡ None →
     WentWithItsLastOpen state number row
 went state number closing row good s h none =
     let k = tree_marked_marked state.tree state.opens closing good.tree good.marked in
-    let both = goes (has_mark tree.rows closing.entry) (has_open opens closing.entry) (due k) in
-    record {
-      closing = closing;
-      opened = s;
-      own = number-from_numbered state.tree.rows row closing.entry h;
-      last = no_other state.opens number closing.entry both.1;
-      due = ap (λ (b : Bool). row.1.mark || closing.delete_on_close && b) (sym (deletable_is state.tree closing.entry row good.tree h))
-          ∙ was_marked state.tree closing.entry (closing.delete_on_close && is_deletable state.tree.rows closing.entry) row h both.0;
-    }
+    let both = goes (has_mark tree.rows closing.entry) (has_open opens closing.entry) (due k) in (
+      closing,
+      s,
+      number-from_numbered state.tree.rows row closing.entry h,
+      no_other state.opens number closing.entry both.1,
+      ap (λ (b : Bool). row.1.mark || closing.delete_on_close && b) (sym (deletable_is state.tree closing.entry row good.tree h))
+          ∙ was_marked state.tree closing.entry (closing.delete_on_close && is_deletable state.tree.rows closing.entry) row h both.0,
+    )
   where
     tree : Content
     tree = tree_marked state.tree closing
@@ -236,7 +243,7 @@ went state number closing row good s h none =
               )
         ] refl
 
-pub nothing_else : (state : StoreState) (number entry : ℕ) (row : Row) → GoodStore state → numbered state.tree.rows entry ≡ Some row → numbered (closed state number).tree.rows entry ≡ None → WentWithItsLastOpen state number row
+pub nothing_else : NothingElseGoes
 nothing_else state number entry row good h none =
     elim (open_of state.opens number) as (λ o. open_of state.opens number ≡ o → numbered (option_map_or (closed_open state) o state).tree.rows entry ≡ None → WentWithItsLastOpen state number row) [
       | None ↦ λ _ f. absurd (cc)
@@ -340,3 +347,15 @@ one_path state number closing path entry other good s h e =
     ap (λ (t : Content). entry_at t.rows other) (tree_closed state number closing s)
     ∙ other_cleared tree closing.entry (is_due tree (without_open number state.opens) closing.entry) path other k.good.apart (still_marked state.tree closing.entry b path entry h) e
     ∙ other_marked state.tree closing.entry b path entry other good.tree.apart h e
+
+pub closes : ACloseDeletesWhatIsToBeDeleted
+closes state number closing path entry good s h = (
+  λ due last. gone state number closing path entry good s h last due,
+  λ due other left o own apart. (
+    marked_then state number closing path entry other left good s h due o own (grind (arith, nat_tests, apart)),
+    waits state number closing path entry other left good s h due o own apart,
+  ),
+  λ due. tree_kept state number closing path entry good s h due,
+  λ other apart. closed_elsewhere state number closing other good s (grind (arith, nat_tests, apart)),
+  λ other apart. one_path state number closing path entry other good s h apart,
+)

@@ -3,8 +3,8 @@ use Rattle.std.proofs.Common.{◌≡◌, ◌≢◌, ◌==◌, ◌⊎◌, inl, in
 use Rattle.std.proofs.lemmas.Bool.{eqb-true}
 use Rattle.std.proofs.lemmas.Bool.Decides.{nat_tests}
 use Rattle.std.proofs.lemmas.Nat.{and_or_self}
-use Rattle.std.specs.List.{AllByRecursion}
-use Rattle.std.specs.Option.{is_none}
+use Rattle.std.specs.List.{AllByRecursion, list_any}
+use Rattle.std.specs.Option.{is_none, option_map_or}
 use Rattle.smb_wire.specs.Access.{has_any, FILE_WRITE_DATA, FILE_SHARE_READ, FILE_SHARE_WRITE, FILE_SHARE_DELETE}
 use Rattle.smb_wire.specs.Counters.{is_spent}
 use Rattle.smb_wire.specs.Dispositions.{overwrites_by}
@@ -35,7 +35,7 @@ use Rattle.smb_opens.specs.State.{StoreState}
 use Rattle.smb_opens.proofs.Closing.{closed_is, opens_closed}
 use Rattle.smb_opens.proofs.Passing.{pass_all}
 use Rattle.smb_name_laws.specs.Deletes.{is_to_be_deleted}
-use Rattle.smb_name_laws.specs.Sharing.{is_to_use, IsInUse, LetEachOtherBe, NoOtherConflicts}
+use Rattle.smb_name_laws.specs.Sharing.{is_to_use, WhatIsNotSharedIsNotGranted, WhoSharesIsNotRefused, ACreateSucceedsAfterTheClose}
 use Rattle.smb_name_laws.proofs.Gone.{any_found, left_open, tree_kept}
 
 -- of a CREATE that succeeds no row holds
@@ -45,11 +45,24 @@ no_row state ask e =
     (λ q. cc, (λ q. cc, (λ q. cc, (λ q. cc, (λ q. cc, (λ q. cc, (λ q. cc, (λ q. cc, (λ q. cc, (λ q. cc, (λ q. cc, (λ q. cc, (λ q. cc, (λ q. cc, (λ q. cc, (λ q. cc, (λ q. cc, (λ q. cc, (λ q. cc, tt)))))))))))))))))))
     e
 
+-- the open of a number is of the entry that a CREATE names, and reads, writes or deletes it
+record IsInUse (state : StoreState) (ask : FileAsked) (number : ℕ) (row : OpenRow) : Type 0 where
+  entry : Entry
+  asked : entry_asked state ask ≡ Some entry
+  opened : open_of state.opens number ≡ Some row
+  own : row.entry ≡ entry.number
+  uses : is_shared_access row.access ≡ true
+
+-- the condition of the row of conflicts, by the entry that is named
+conflict_row : (state : StoreState) (ask : FileAsked) (entry : Option Entry) → option_map_or (λ found. list_any (λ row. row.entry == found.number && is_conflict (use_asked ask (granted ask.access ask.read_only (is_read_only_file entry))) (row.access, row.share)) state.opens) entry false ≡ conflicts state ask entry
+conflict_row state ask None = refl
+conflict_row state ask (Some entry) = refl
+
 -- what conflicts with an open does not succeed
 refused : (state : StoreState) (ask : FileAsked) (number : ℕ) (row : OpenRow) → IsInUse state ask number row → is_conflict (use_asked ask (access_granted state ask)) (use_of row) ≡ true → create_status state ask ≢ Success
 refused state ask number row held c e =
     let p = no_row state ask e in
-    let off : conflicts state ask (entry_asked state ask) ≡ false = p.1.1.1.1.1.1.1.1.1.1.1.1.1.1.1.1.0 in
+    let off : conflicts state ask (entry_asked state ask) ≡ false = sym (conflict_row state ask (entry_asked state ask)) ∙ p.1.1.1.1.1.1.1.1.1.1.1.1.1.1.1.1.0 in
     let wanted : Use = use_asked ask (granted ask.access ask.read_only (is_read_only_file (Some held.entry))) in
     let same : is_conflict wanted (use_of row) ≡ true = sym (ap (λ (o : Option Entry). is_conflict (use_asked ask (granted ask.access ask.read_only (is_read_only_file o))) (use_of row)) held.asked) ∙ c in
     let own = held.own in
@@ -68,7 +81,7 @@ asked_more ask access other h =
       | false ↦ h
     ]
 
-pub not_granted : (state : StoreState) (ask : FileAsked) (number : ℕ) (row : OpenRow) → IsInUse state ask number row → is_kept_out (access_granted state ask) row.share ≡ true → create_status state ask ≢ Success
+not_granted : (state : StoreState) (ask : FileAsked) (number : ℕ) (row : OpenRow) → IsInUse state ask number row → is_kept_out (access_granted state ask) row.share ≡ true → create_status state ask ≢ Success
 not_granted state ask number row held h =
     let access : Access = access_granted state ask in
     refused state ask number row held (asked_more ask access (use_of row)
@@ -107,19 +120,32 @@ second_kept : (a b k l : Bool) → a ≡ true → b ≡ true → l ≡ true → 
 second_kept a b true l e f g = rw (e, f) refl
 second_kept a b false l e f g = rw (e, f, g) refl
 
-pub alone : (state : StoreState) (ask : FileAsked) (number : ℕ) (row : OpenRow) → IsInUse state ask number row → row.share.0 ≡ 0 → is_to_use state ask ≡ true → create_status state ask ≢ Success
+alone : (state : StoreState) (ask : FileAsked) (number : ℕ) (row : OpenRow) → IsInUse state ask number row → row.share.0 ≡ 0 → is_to_use state ask ≡ true → create_status state ask ≢ Success
 alone state ask number row held none h =
     let wanted : Use = use_asked ask (access_granted state ask) in
     let used = used_so ask (access_granted state ask) h in
     refused state ask number row held
     (first_kept (is_shared_access wanted.0) (is_shared_access row.access) (is_kept_out wanted.0 row.share) (is_kept_out row.access wanted.1) used held.uses (nothing_shared wanted.0 row.share none ∙ used))
 
-pub kept_out : (state : StoreState) (ask : FileAsked) (number : ℕ) (row : OpenRow) → IsInUse state ask number row → (share_asked ask).0 ≡ 0 → is_to_use state ask ≡ true → create_status state ask ≢ Success
+kept_out : (state : StoreState) (ask : FileAsked) (number : ℕ) (row : OpenRow) → IsInUse state ask number row → (share_asked ask).0 ≡ 0 → is_to_use state ask ≡ true → create_status state ask ≢ Success
 kept_out state ask number row held none h =
     let wanted : Use = use_asked ask (access_granted state ask) in
     let used = used_so ask (access_granted state ask) h in
     refused state ask number row held
     (second_kept (is_shared_access wanted.0) (is_shared_access row.access) (is_kept_out wanted.0 row.share) (is_kept_out row.access wanted.1) used held.uses (nothing_shared row.access (share_asked ask) none ∙ held.uses))
+
+pub refuses : WhatIsNotSharedIsNotGranted
+refuses state ask entry number row asked opened own uses =
+    let held : IsInUse state ask number row = record {
+      entry = entry;
+      asked = asked;
+      opened = opened;
+      own = own;
+      uses = uses;
+    } in (
+      λ h. not_granted state ask number row held h,
+      λ either h. elim either [ inl none ↦ alone state ask number row held none h | inr none ↦ kept_out state ask number row held none h ],
+    )
 
 -- of rows whose statuses are others, none holds before the one that decides
 before_by : (code : NtStatus) (xs ys : List StatusRow) → AllByRecursion (λ row. row.1 ≢ code) xs → first_status (xs ++ ys) ≡ code → AllByRecursion (λ row. row.0 ≡ false) xs
@@ -152,6 +178,11 @@ first_off : (a b : Bool) → (a || b) ≡ false → a ≡ false
 first_off true b h = absurd (let e : true ≡ false = h in cc)
 first_off false b h = refl
 
+-- no open of an entry conflicts with a CREATE but that of a number
+abbrev NoOtherConflicts : StoreState → FileAsked → Entry → ℕ → Type 0
+NoOtherConflicts state ask entry number =
+    (other : ℕ) (row : OpenRow) → open_of state.opens other ≡ Some row → row.entry ≡ entry.number → other ≢ number → is_conflict (use_asked ask (access_granted state ask)) (row.access, row.share) ≡ false
+
 none_conflicts : (state : StoreState) (ask : FileAsked) (entry : Entry) (number : ℕ) (wanted : Use) → GoodStore state → wanted ≡ use_asked ask (access_granted state ask) → NoOtherConflicts state ask entry number → has_conflict (without_open number state.opens) entry.number wanted ≡ false
 none_conflicts state ask entry number wanted good w others =
     elim (has_conflict (without_open number state.opens) entry.number wanted) as (λ b. has_conflict (without_open number state.opens) entry.number wanted ≡ b → b ≡ false) [
@@ -170,9 +201,7 @@ none_conflicts state ask entry number wanted good w others =
     parts : (a b : Bool) → (a && b) ≡ true → (a ≡ true) × (b ≡ true)
     parts a b h = (grind (arith, h), grind (arith, h))
 
-pub after_close : (state : StoreState) (ask : FileAsked) (entry : Entry) (number : ℕ) (row : OpenRow) → GoodStore state → create_status state ask ≡ SharingViolation → entry_asked state ask ≡ Some entry →
-    open_of state.opens number ≡ Some row → row.entry ≡ entry.number → row.delete_on_close ≡ false → NoOtherConflicts state ask entry number → is_spent 64 state.next ≡ false →
-    create_status (closed state number) ask ≡ Success
+pub after_close : ACreateSucceedsAfterTheClose
 after_close state ask entry number row good e h s own d others left =
     let front = front_false state ask entry e h in
     let pending : is_pending state.tree.rows (path_asked ask) ≡ false = front.1.1.1.1.1.1.1.1.0 in
@@ -210,10 +239,15 @@ not_given code (x ∷ rows) s h e =
 not_for_sharing : (state : StoreState) (ask : FileAsked) → conflicts state ask (entry_asked state ask) ≡ false → create_status state ask ≢ SharingViolation
 not_for_sharing state ask none =
     not_given SharingViolation (create_rows state ask (entry_asked state ask)) (λ q. cc)
-    (inr (λ q. cc), (inr (λ q. cc), (inr (λ q. cc), (inr (λ q. cc), (inr (λ q. cc), (inr (λ q. cc), (inr (λ q. cc), (inr (λ q. cc), (inr (λ q. cc), (inr (λ q. cc), (inr (λ q. cc), (inr (λ q. cc), (inr (λ q. cc), (inr (λ q. cc), (inr (λ q. cc), (inr (λ q. cc), (inl none, (inr (λ q. cc), (inr (λ q. cc), tt)))))))))))))))))))
+    (inr (λ q. cc), (inr (λ q. cc), (inr (λ q. cc), (inr (λ q. cc), (inr (λ q. cc), (inr (λ q. cc), (inr (λ q. cc), (inr (λ q. cc), (inr (λ q. cc), (inr (λ q. cc), (inr (λ q. cc), (inr (λ q. cc), (inr (λ q. cc), (inr (λ q. cc), (inr (λ q. cc), (inr (λ q. cc), (inl (conflict_row state ask (entry_asked state ask) ∙ none), (inr (λ q. cc), (inr (λ q. cc), tt)))))))))))))))))))
 
 no_conflict : (a b k l : Bool) → k ≡ false → l ≡ false → (a && b && (k || l)) ≡ false
 no_conflict a b k l e f = grind (arith, e, f)
+
+-- a CREATE and an open let each other be
+abbrev LetEachOtherBe : StoreState → FileAsked → OpenRow → Type 0
+LetEachOtherBe state ask row =
+    (is_kept_out (use_asked ask (access_granted state ask)).0 row.share ≡ false) × (is_kept_out row.access (use_asked ask (access_granted state ask)).1 ≡ false)
 
 each_lets : (state : StoreState) (ask : FileAsked) (entry : Entry) → GoodStore state → entry_asked state ask ≡ Some entry →
     ((number : ℕ) (row : OpenRow) → open_of state.opens number ≡ Some row → row.entry ≡ entry.number → LetEachOtherBe state ask row) → conflicts state ask (Some entry) ≡ false
@@ -223,8 +257,8 @@ each_lets state ask entry good h lets =
           let f = any_found (λ (r : OpenRow). is_on_entry entry.number r && is_conflict wanted (use_of r)) state.opens good.rising c in
           let both = parts (f.row.entry == entry.number) (is_conflict wanted (use_of f.row)) f.holds in
           let be = lets f.number f.row f.found (eqb-true f.row.entry entry.number both.0) in
-          let first : is_kept_out wanted.0 f.row.share ≡ false = ap (λ (u : Use). is_kept_out u.0 f.row.share) same ∙ be.asked in
-          let no : is_conflict wanted (use_of f.row) ≡ false = no_conflict (is_shared_access wanted.0) (is_shared_access f.row.access) (is_kept_out wanted.0 f.row.share) (is_kept_out f.row.access (share_asked ask)) first be.held in
+          let first : is_kept_out wanted.0 f.row.share ≡ false = ap (λ (u : Use). is_kept_out u.0 f.row.share) same ∙ be.0 in
+          let no : is_conflict wanted (use_of f.row) ≡ false = no_conflict (is_shared_access wanted.0) (is_shared_access f.row.access) (is_kept_out wanted.0 f.row.share) (is_kept_out f.row.access (share_asked ask)) first be.1 in
           let yes = both.1 in
           cc
           )
@@ -240,7 +274,7 @@ each_lets state ask entry good h lets =
     parts : (a b : Bool) → (a && b) ≡ true → (a ≡ true) × (b ≡ true)
     parts a b e = (grind (arith, e), grind (arith, e))
 
-pub shares : (state : StoreState) (ask : FileAsked) (entry : Entry) → GoodStore state → entry_asked state ask ≡ Some entry →
+shares : (state : StoreState) (ask : FileAsked) (entry : Entry) → GoodStore state → entry_asked state ask ≡ Some entry →
     ((number : ℕ) (row : OpenRow) → open_of state.opens number ≡ Some row → row.entry ≡ entry.number → LetEachOtherBe state ask row) → create_status state ask ≢ SharingViolation
 shares state ask entry good h lets = not_for_sharing state ask (ap (conflicts state ask) h ∙ each_lets state ask entry good h lets)
 
@@ -265,5 +299,8 @@ idle_of : (state : StoreState) (ask : FileAsked) (o : Option Entry) → is_share
 idle_of state ask None h = refl
 idle_of state ask (Some entry) h = idle (use_asked ask (granted ask.access ask.read_only (is_read_only_file (Some entry)))) state.opens entry.number h
 
-pub uses_nothing : (state : StoreState) (ask : FileAsked) → is_to_use state ask ≡ false → create_status state ask ≢ SharingViolation
+uses_nothing : (state : StoreState) (ask : FileAsked) → is_to_use state ask ≡ false → create_status state ask ≢ SharingViolation
 uses_nothing state ask h = not_for_sharing state ask (idle_of state ask (entry_asked state ask) (idle_by ask (access_granted state ask) h))
+
+pub not_refused : WhoSharesIsNotRefused
+not_refused state ask = (λ entry good asked lets. shares state ask entry good asked lets, uses_nothing state ask)

@@ -3,13 +3,13 @@ use Rattle.std.proofs.Common.{◌≡◌, ℕ, List, [], ◌∷◌, ◌++◌, Boo
 use Rattle.std.proofs.lemmas.Bool.Decides.{nat_tests}
 use Rattle.smb_wire.specs.Dispositions.{overwrites_by}
 use Rattle.smb_wire.specs.declared.nt_status.NtStatus.TheVariants.{Success}
-use Rattle.smb_tree.specs.Content.{Content, entry_at, numbered}
+use Rattle.smb_tree.specs.Content.{Content, entry_at}
 use Rattle.smb_tree.specs.Entries.{Entry, is_folder, is_folder_kind}
 use Rattle.smb_tree.specs.Good.{GoodContent}
-use Rattle.smb_tree.proofs.Apart.{numbered-from_at, at-push, at-changed, numbered-fresh}
+use Rattle.smb_tree.proofs.Apart.{numbered-from_at, at-push, at-changed}
 use Rattle.smb_tree.proofs.Keys.{same_path-itself}
 use Rattle.smb_access.specs.declared.open_row.OpenRow.{OpenRow}
-use Rattle.smb_access.specs.Asked.{FileAsked, kind_asked}
+use Rattle.smb_access.specs.Asked.{FileAsked}
 use Rattle.smb_access.specs.Parts.{asks_file, overwritten_tree, opened_by}
 use Rattle.smb_access.specs.Effect.{overwritten, entry_after, tree_after}
 use Rattle.smb_access.specs.Found.{path_asked}
@@ -20,7 +20,7 @@ use Rattle.smb_opens.specs.Found.{entry_asked}
 use Rattle.smb_opens.specs.Good.{GoodStore}
 use Rattle.smb_opens.specs.State.{StoreState}
 use Rattle.smb_opens.proofs.Returned.{returned_shown}
-use Rattle.smb_name_laws.specs.Creates.{FindsWhatIsOpen}
+use Rattle.smb_name_laws.specs.Creates.{ACreateFindsItsEntry}
 use Rattle.smb_name_laws.proofs.KeptOut.{no_row}
 
 -- an open that comes last is found by its number, which is above all others
@@ -42,18 +42,19 @@ found_after tree ask moment None good h =
     at-push tree.rows (path_asked ask) (path_asked ask) (entry_after tree ask moment None) ∙ rw (h, here) refl
 found_after tree ask moment (Some entry) good h = found_standing tree ask moment entry (overwrites_by ask.disposition) good h
 
-pub finds : (state : StoreState) (ask : FileAsked) (moment : ℕ) → GoodStore state → FindsWhatIsOpen (created state ask moment) (path_asked ask) state.next
+pub finds : ACreateFindsItsEntry
 finds state ask moment good =
     let entry : Entry = entry_after state.tree ask moment (entry_asked state ask) in
-    let row : OpenRow = opened_by ask state.next entry.number (access_granted state ask) in
-    record {
-      entry = entry;
-      row = row;
-      found = found_after state.tree ask moment (entry_asked state ask) good.tree refl;
-      opened = last_open state.opens row state.next good.below refl;
-      own = refl;
-      shown = returned_shown state ask moment good;
-    }
+    let row : OpenRow = opened_by ask state.next entry.number (access_granted state ask) in (
+      entry,
+      row,
+      found_after state.tree ask moment (entry_asked state ask) good.tree refl,
+      refl,
+      last_open state.opens row state.next good.below refl,
+      refl,
+      returned_shown state ask moment good,
+      refl,
+    )
 
 no_folder : (f a o : Bool) → (f && (a || o)) ≡ false → o ≡ true → f ≡ false
 no_folder f a o h e = grind (arith, h, e)
@@ -78,14 +79,3 @@ no_bytes state ask moment before good e h o =
 pub new_found : (state : StoreState) (ask : FileAsked) (moment : ℕ) → GoodStore state → entry_asked state ask ≡ None → entry_at (created state ask moment).tree.rows (path_asked ask) ≡ Some (entry_after state.tree ask moment None)
 new_found state ask moment good h =
     found_after state.tree ask moment (entry_asked state ask) good.tree refl ∙ ap (λ (o : Option Entry). Some (entry_after state.tree ask moment o)) h
-
-pub made : (state : StoreState) (ask : FileAsked) (moment : ℕ) → GoodStore state → entry_asked state ask ≡ None →
-    (made : Entry) × (entry_at (created state ask moment).tree.rows (path_asked ask) ≡ Some made) × (numbered state.tree.rows made.number ≡ None) × (made.kind ≡ kind_asked ask) × (made.bytes ≡ []) × (made.mark ≡ false)
-made state ask moment good h = (
-  entry_after state.tree ask moment None,
-  new_found state ask moment good h,
-  numbered-fresh state.tree.rows state.tree.next good.tree.below,
-  refl,
-  refl,
-  refl,
-)

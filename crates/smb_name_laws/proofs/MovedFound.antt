@@ -1,5 +1,5 @@
 -- What names find, and opens show, after a rename.
-use Rattle.std.proofs.Common.{◌≡◌, ◌==◌, ◌⊎◌, inl, inr, ℕ, List, [], ◌∷◌, ◌++◌, length, slice_index, Bool, true, false, not, ◌||◌, ◌&&◌, if◌then◌else◌, Option, None, Some, is_some, refl, sym, ap, arith, ◌∙◌}
+use Rattle.std.proofs.Common.{◌≡◌, ◌≢◌, ◌==◌, ◌⊎◌, inl, inr, ℕ, List, [], ◌∷◌, ◌++◌, length, slice_index, Bool, true, false, not, ◌||◌, ◌&&◌, if◌then◌else◌, Option, None, Some, is_some, refl, sym, ap, arith, ◌∙◌}
 use Rattle.std.proofs.lemmas.Bool.{eqb-true}
 use Rattle.std.proofs.lemmas.Bool.Decides.{nat_tests}
 use Rattle.std.specs.Option.{option_map, option_map_or}
@@ -34,7 +34,7 @@ use Rattle.smb_opens.specs.State.{StoreState}
 use Rattle.smb_opens.specs.Views.{open_view}
 use Rattle.smb_opens.proofs.Decided.{rows_by, MayReplace, passes, code_of, status_moved}
 use Rattle.smb_opens.proofs.Passing.{pass_at}
-use Rattle.smb_name_laws.specs.Names.{IsRenamed, IsSameFile, IsReplaced}
+use Rattle.smb_name_laws.specs.Names.{IsRenamed, ARenameMovesItsEntry, NamesOfOneCaseFindTheSame, ARenameDeletesWhatItReplaces}
 
 -- the first rows of those of which none decides
 front_success : (xs ys : List StatusRow) → first_status (xs ++ ys) ≡ Success → first_status xs ≡ Success
@@ -124,12 +124,7 @@ found_now state number name moment row from entry renamed =
     ap (λ (s : StoreState). entry_at s.tree.rows (path_named name)) (through state number name moment row renamed.opened)
     ∙ found_then state name moment row from entry (moves state number name row from entry renamed)
 
-pub new_name : (state : StoreState) (number : ℕ) (name : List ℕ) (moment : ℕ) (row : OpenRow) (from : Path) (entry : Entry) → IsRenamed state number name row from entry →
-    (after : Entry) × (entry_at (renamed_through state number name moment).tree.rows (path_named name) ≡ Some after) × IsSameFile after entry
-new_name state number name moment row from entry renamed =
-    (after_move name moment entry, found_now state number name moment row from entry renamed, record { number = refl; kind = refl; bytes = refl })
-
-pub old_name : (state : StoreState) (number : ℕ) (name : List ℕ) (moment : ℕ) (row : OpenRow) (from : Path) (entry : Entry) → IsRenamed state number name row from entry → is_same_path from (path_named name) ≡ false →
+old_name : (state : StoreState) (number : ℕ) (name : List ℕ) (moment : ℕ) (row : OpenRow) (from : Path) (entry : Entry) → IsRenamed state number name row from entry → is_same_path from (path_named name) ≡ false →
     entry_at (renamed_through state number name moment).tree.rows from ≡ None
 old_name state number name moment row from entry renamed apart =
     let m = moves state number name row from entry renamed in
@@ -138,11 +133,10 @@ old_name state number name moment row from entry renamed apart =
     ∙ at-changed (dated moment) (moved state.tree row.entry (path_spelled name)).rows (path_named name) from (record entry { spelling = last_part (path_spelled name) }) row.entry m.good.apart (numbered_then state name row from entry m)
     ∙ rw other (nothing_left state.tree row.entry (path_spelled name) from entry from m.can apart (within_itself from))
 
-pub one_case : (state : StoreState) (number : ℕ) (name : List ℕ) (moment : ℕ) (from : Path) → is_same_path from (path_named name) ≡ true →
-    entry_at (renamed_through state number name moment).tree.rows from ≡ entry_at (renamed_through state number name moment).tree.rows (path_named name)
-one_case state number name moment from same = ap (entry_at (renamed_through state number name moment).tree.rows) (same_path-eq from (path_named name) same)
+pub one_case : NamesOfOneCaseFindTheSame
+one_case rows one other same = ap (entry_at rows) (same_path-eq one other same)
 
-pub opens_go_on : (state : StoreState) (number : ℕ) (name : List ℕ) (moment : ℕ) (row : OpenRow) (from : Path) (entry : Entry) (other : ℕ) (held : OpenRow) (after : Entry) → IsRenamed state number name row from entry →
+opens_go_on : (state : StoreState) (number : ℕ) (name : List ℕ) (moment : ℕ) (row : OpenRow) (from : Path) (entry : Entry) (other : ℕ) (held : OpenRow) (after : Entry) → IsRenamed state number name row from entry →
     open_of state.opens other ≡ Some held → held.entry ≡ row.entry → entry_at (renamed_through state number name moment).tree.rows (path_named name) ≡ Some after →
     (open_of (renamed_through state number name moment).opens other ≡ Some held) × (open_view (renamed_through state number name moment) other ≡ Some (view_of held.access after))
 opens_go_on state number name moment row from entry other held after renamed o own found =
@@ -170,7 +164,7 @@ elsewhere state number name moment row from entry path renamed apart =
     ∙ at-changed (dated moment) (moved state.tree row.entry (path_spelled name)).rows (path_named name) path (record entry { spelling = last_part (path_spelled name) }) row.entry m.good.apart (numbered_then state name row from entry m)
     ∙ rw apart refl
 
-pub beneath : (state : StoreState) (number : ℕ) (name : List ℕ) (moment : ℕ) (row : OpenRow) (from : Path) (entry : Entry) (part : List ℕ) (rest : Path) → IsRenamed state number name row from entry →
+beneath : (state : StoreState) (number : ℕ) (name : List ℕ) (moment : ℕ) (row : OpenRow) (from : Path) (entry : Entry) (part : List ℕ) (rest : Path) → IsRenamed state number name row from entry →
     entry_at (renamed_through state number name moment).tree.rows (path_named name ++ part ∷ rest) ≡ entry_at state.tree.rows (from ++ part ∷ rest)
 beneath state number name moment row from entry part rest renamed =
     let m = moves state number name row from entry renamed in
@@ -178,13 +172,27 @@ beneath state number name moment row from entry part rest renamed =
     elsewhere state number name moment row from entry (path_named name ++ part ∷ rest) renamed apart
     ∙ beneath_moved state.tree row.entry (path_spelled name) from entry part rest m.can
 
-pub others : (state : StoreState) (number : ℕ) (name : List ℕ) (moment : ℕ) (row : OpenRow) (from : Path) (entry : Entry) (path : Path) → IsRenamed state number name row from entry → is_within from path ≡ false → is_within (path_named name) path ≡ false →
+others : (state : StoreState) (number : ℕ) (name : List ℕ) (moment : ℕ) (row : OpenRow) (from : Path) (entry : Entry) (path : Path) → IsRenamed state number name row from entry → is_within from path ≡ false → is_within (path_named name) path ≡ false →
     entry_at (renamed_through state number name moment).tree.rows path ≡ entry_at state.tree.rows path
 others state number name moment row from entry path renamed h k =
     let m = moves state number name row from entry renamed in
     let apart : is_same_path (path_named name) path ≡ false = same_path-sym (path_named name) path ∙ not_within_not_it (path_named name) path k in
     elsewhere state number name moment row from entry path renamed apart
     ∙ others_kept state.tree row.entry (path_spelled name) from entry path m.can h k
+
+pub moves_entry : ARenameMovesItsEntry
+moves_entry state number name moment row from entry renamed =
+    let found = found_now state number name moment row from entry renamed in (
+      after_move name moment entry,
+      found,
+      refl,
+      refl,
+      refl,
+      λ apart. old_name state number name moment row from entry renamed apart,
+      λ other held opened own. opens_go_on state number name moment row from entry other held (after_move name moment entry) renamed opened own found,
+      λ part rest. beneath state number name moment row from entry part rest renamed,
+      λ path apart away. others state number name moment row from entry path renamed apart away,
+    )
 
 -- an entry that is gone
 gone_of : (state : StoreState) (number : ℕ) (name : List ℕ) (moment : ℕ) (row : OpenRow) (from : Path) (entry : Entry) (gone : ℕ) → IsRenamed state number name row from entry → numbered (renamed_through state number name moment).tree.rows gone ≡ None →
@@ -225,6 +233,12 @@ replacing state name row from entry gone old m h none =
           | false ↦ λ s. absurd (there (λ q. absurd (let same : k ≡ gone = cc in let yes : k == gone ≡ true = grind (arith, nat_tests, same) in cc)))
         ] refl
 
+-- what was replaced was at the new name, a file without an open and not read-only
+abbrev IsReplaced : StoreState → List ℕ → Bool → ℕ → Path → Entry → Type 0
+IsReplaced state name replace number path entry =
+    (path ≡ path_named name) × (is_folder_kind entry.kind ≡ false) × (is_read_only_file (Some entry) ≡ false)
+    × ((other : ℕ) (held : OpenRow) → open_of state.opens other ≡ Some held → held.entry ≢ number) × (replace ≡ true)
+
 replaced_by : (state : StoreState) (name : List ℕ) (row : OpenRow) (from : Path) (entry : Entry) (replace : Bool) (gone : ℕ) (path : Path) (old : Entry) → Passes state name row from entry replace → numbered state.tree.rows gone ≡ Some (path, old) → IsReplacing state name row gone →
     IsPassed state name row from entry replace → IsReplaced state name replace gone path old
 replaced_by state name row from entry replace gone path old p h r (inl same) =
@@ -245,19 +259,18 @@ replaced_by state name row from entry replace gone path old p h r (inr may) =
     let number : old.number ≡ gone = number-from_numbered state.tree.rows (path, old) gone h in
     let kept : (is_folder_kind old.kind || is_read_only_file (Some old) || has_open state.opens old.number) ≡ false = sym (ap (is_not_replaced state.opens) there) ∙ may.kept in
     let taken : not replace ≡ false = sym (ap (λ (o : Option Entry). is_some o && not replace) there) ∙ may.taken in
-    let parts = three (is_folder_kind old.kind) (is_read_only_file (Some old)) (has_open state.opens old.number) kept in
-    record {
-      named = sym named;
-      kind = parts.0;
-      read_only = parts.1;
-      unopened = λ other held o own. (
+    let parts = three (is_folder_kind old.kind) (is_read_only_file (Some old)) (has_open state.opens old.number) kept in (
+      sym named,
+      parts.0,
+      parts.1,
+      λ other held o own. (
           let on : held.entry == old.number ≡ true = (let same : held.entry ≡ old.number = own ∙ sym number in grind (arith, nat_tests, same)) in
           let some : has_open state.opens old.number ≡ true = hit (is_on_entry old.number) state.opens other held o on in
           let none = parts.2 in
           cc
-          );
-      allowed = not_not replace taken;
-    }
+          ),
+      not_not replace taken,
+    )
   where
     three : (a b c : Bool) → (a || b || c) ≡ false → (a ≡ false) × (b ≡ false) × (c ≡ false)
     three a b c e = (grind (arith, e), grind (arith, e), grind (arith, e))
@@ -266,8 +279,7 @@ replaced_by state name row from entry replace gone path old p h r (inr may) =
     not_not true e = refl
     not_not false e = absurd (let f : true ≡ false = e in cc)
 
-pub replaced : (state : StoreState) (number : ℕ) (name : List ℕ) (moment : ℕ) (row : OpenRow) (from : Path) (entry : Entry) (gone : ℕ) (path : Path) (old : Entry) → (renamed : IsRenamed state number name row from entry) →
-    numbered state.tree.rows gone ≡ Some (path, old) → numbered (renamed_through state number name moment).tree.rows gone ≡ None → IsReplaced state name renamed.replace gone path old
+pub replaced : ARenameDeletesWhatItReplaces
 replaced state number name moment row from entry gone path old renamed h none =
     let p = passing state number name row from entry renamed in
     let r = replacing state name row from entry gone (path, old) p.moves h (gone_of state number name moment row from entry gone renamed none) in

@@ -25,7 +25,7 @@ use Rattle.smb_opens.specs.Parts.{closed_open}
 use Rattle.smb_opens.specs.State.{StoreState}
 use Rattle.smb_opens.proofs.Closing.{opens_closed}
 use Rattle.smb_opens.proofs.Conflicts.{open_without}
-use Rattle.smb_name_laws.specs.Opened.{rights_to_change}
+use Rattle.smb_name_laws.specs.Opened.{rights_to_change, RightsAreGrantedAsAskedFor}
 use Rattle.smb_name_laws.proofs.MadeFound.{last_open}
 use Rattle.smb_name_laws.proofs.KeptOut.{no_row}
 
@@ -82,7 +82,7 @@ rights_alone a r o h =
     let maximum = has_none a FILE_ALL_ACCESS MAXIMUM_ALLOWED h refl in
     rw (all, execute, write, read, maximum) (or_zero_r (bit_and a FILE_ALL_ACCESS) ∙ h)
 
-pub rights : (state : StoreState) (ask : FileAsked) (moment : ℕ) (row : OpenRow) → GoodStore state → bit_and ask.access FILE_ALL_ACCESS ≡ ask.access →
+rights : (state : StoreState) (ask : FileAsked) (moment : ℕ) (row : OpenRow) → GoodStore state → bit_and ask.access FILE_ALL_ACCESS ≡ ask.access →
     open_of (created state ask moment).opens (create_result state ask moment).number ≡ Some row → row.access.0 ≡ ask.access
 rights state ask moment row good h opened =
     sym (granted_to state ask moment row good opened) ∙ rights_alone ask.access ask.read_only (is_read_only_file (entry_asked state ask)) h
@@ -112,7 +112,7 @@ maximum_by a r o h = (
   λ writes on. ap (λ n. (granted n r o).0) h ∙ ap (λ b. (granted MAXIMUM_ALLOWED b o).0) writes ∙ ap (λ b. (granted MAXIMUM_ALLOWED false b).0) on,
 )
 
-pub maximum : (state : StoreState) (ask : FileAsked) (moment : ℕ) (row : OpenRow) → GoodStore state → ask.access ≡ MAXIMUM_ALLOWED →
+maximum : (state : StoreState) (ask : FileAsked) (moment : ℕ) (row : OpenRow) → GoodStore state → ask.access ≡ MAXIMUM_ALLOWED →
     open_of (created state ask moment).opens (create_result state ask moment).number ≡ Some row →
     (ask.read_only ≡ true → (has_any row.access.0 FILE_READ_DATA ≡ true) × (has_any row.access.0 rights_to_change ≡ false))
     × (ask.read_only ≡ false → is_read_only_file (entry_asked state ask) ≡ false → row.access.0 ≡ FILE_ALL_ACCESS)
@@ -126,7 +126,7 @@ maximum state ask moment row good h opened =
       λ writes on. sym same ∙ by.1 writes on,
     )
 
-pub generic : (state : StoreState) (ask : FileAsked) (moment : ℕ) (row : OpenRow) → GoodStore state →
+generic : (state : StoreState) (ask : FileAsked) (moment : ℕ) (row : OpenRow) → GoodStore state →
     open_of (created state ask moment).opens (create_result state ask moment).number ≡ Some row →
     (ask.access ≡ GENERIC_READ → (has_any row.access.0 FILE_READ_DATA ≡ true) × (has_any row.access.0 rights_to_change ≡ false))
     × (ask.access ≡ GENERIC_EXECUTE → (has_any row.access.0 FILE_EXECUTE ≡ true) × (has_any row.access.0 rights_to_change ≡ false))
@@ -140,6 +140,18 @@ generic state ask moment row good opened =
       λ e. (ap (λ n. has_any n FILE_EXECUTE) (is GENERIC_EXECUTE e), ap (λ n. has_any n rights_to_change) (is GENERIC_EXECUTE e)),
       λ e. (ap (λ n. has_any n FILE_WRITE_DATA) (is GENERIC_WRITE e), ap (λ n. has_any n FILE_READ_DATA) (is GENERIC_WRITE e)),
       λ e. is GENERIC_ALL e,
+    )
+
+pub rights_granted : RightsAreGrantedAsAskedFor
+rights_granted state ask moment row good opened =
+    let g = generic state ask moment row good opened in (
+      λ alone. rights state ask moment row good alone opened,
+      g.0,
+      g.1,
+      g.2,
+      g.3,
+      λ most reads. (maximum state ask moment row good most opened).0 reads,
+      λ most writes other. (maximum state ask moment row good most opened).1 writes other,
     )
 
 -- what a CLOSE ends

@@ -9,10 +9,9 @@ use Rattle.smb_access.specs.Asked.{FileAsked}
 use Rattle.smb_access.specs.Effect.{overwritten, entry_after, tree_after}
 use Rattle.smb_access.specs.Found.{path_asked}
 use Rattle.smb_access.specs.Parts.{overwritten_tree}
-use Rattle.smb_opens.specs.Effect.{created}
 use Rattle.smb_opens.specs.Found.{entry_asked}
-use Rattle.smb_opens.specs.Good.{GoodStore}
-use Rattle.smb_opens.specs.State.{StoreState}
+use Rattle.smb_opens.proofs.OnePath.{opened_leaves}
+use Rattle.smb_name_laws.specs.Creates.{ACreateChangesItsEntryAlone}
 
 left_or_none : (o : Option Entry) → (if is_some o then o else None) ≡ o
 left_or_none None = refl
@@ -33,10 +32,9 @@ others_after tree ask moment (Some entry) other good h apart = others_by tree as
 opened_by : (tree : Content) (ask : FileAsked) (moment : ℕ) (entry : Entry) (b : Bool) → b ≡ false → (let x : Content = if b then overwritten_tree tree ask moment entry.number else tree in x) ≡ tree
 opened_by tree ask moment entry b h = rw h refl
 
-pub others : (state : StoreState) (ask : FileAsked) (moment : ℕ) → GoodStore state →
-    ((other : Path) → is_same_path (path_asked ask) other ≡ false → entry_at (created state ask moment).tree.rows other ≡ entry_at state.tree.rows other)
-    × ((entry : Entry) → entry_asked state ask ≡ Some entry → overwrites_by ask.disposition ≡ false → (created state ask moment).tree ≡ state.tree)
-others state ask moment good = (
-  λ other apart. others_after state.tree ask moment (entry_asked state ask) other good.tree refl apart,
-  λ entry h leaves. ap (tree_after state.tree ask moment) h ∙ opened_by state.tree ask moment entry (overwrites_by ask.disposition) leaves,
+pub others : ACreateChangesItsEntryAlone
+others state ask moment = (
+  λ good other apart. others_after state.tree ask moment (entry_asked state ask) other good.tree refl apart,
+  λ leaves entry h. ap (tree_after state.tree ask moment) h ∙ opened_by state.tree ask moment entry (overwrites_by ask.disposition) leaves,
+  λ leaves path entry h. opened_leaves state ask moment path entry leaves h,
 )

@@ -16,15 +16,15 @@ use Rattle.smb_access.specs.Parts.{tree_marked, is_due, is_on_entry}
 use Rattle.smb_access.specs.Opens.{open_of, without_open, open_numbers, has_open, is_held_by}
 use Rattle.smb_access.proofs.Removed.{numbered-removed, deletable_removed}
 use Rattle.smb_access.proofs.Rows.{rising_without}
-use Rattle.smb_opens.specs.Close.{closed, closed_all}
+use Rattle.smb_opens.specs.Close.{closed}
 use Rattle.smb_opens.specs.Parts.{closed_open, closed_each}
 use Rattle.smb_opens.specs.Good.{GoodStore}
 use Rattle.smb_opens.specs.State.{StoreState}
 use Rattle.smb_opens.proofs.Closing.{tree_marked_marked, opens_closed, good_closed}
 use Rattle.smb_opens.proofs.Conflicts.{open_without}
 use Rattle.smb_opens.proofs.Elsewhere.{closed_elsewhere}
-use Rattle.smb_name_laws.specs.Deletes.{is_file_or_empty_folder, is_to_be_deleted, AreAllHeldBy}
-use Rattle.smb_name_laws.proofs.Gone.{deletable_is, any_found, left_open, no_other, tree_closed, gone, marked_then, tree_kept}
+use Rattle.smb_name_laws.specs.Deletes.{is_to_be_deleted, AnEntryGoesWithItsOwner}
+use Rattle.smb_name_laws.proofs.Gone.{is_file_or_empty_folder, deletable_is, any_found, left_open, no_other, tree_closed, gone, marked_then, tree_kept}
 
 -- an entry is gone, and its path finds nothing
 pub record IsGone (state : StoreState) (entry : ℕ) (path : Path) : Type 0 where
@@ -228,9 +228,7 @@ held_among owner (x ∷ opens) other row h held =
           )
     ] refl h
 
-pub owner_gone : (state : StoreState) (owner : Owner) (number : ℕ) (row : OpenRow) (path : Path) (entry : Entry) → GoodStore state → open_of state.opens number ≡ Some row → numbered state.tree.rows row.entry ≡ Some (path, entry) →
-    AreAllHeldBy owner state.opens row.entry → is_to_be_deleted state.tree.rows row (path, entry) ≡ true →
-    (numbered (closed_all state owner).tree.rows row.entry ≡ None) × (entry_at (closed_all state owner).tree.rows path ≡ None)
+pub owner_gone : AnEntryGoesWithItsOwner
 owner_gone state owner number row path entry good o h held due =
     let g = each_gone (open_numbers (filter (is_held_by owner) state.opens)) state number row path entry good o h due (λ other r q t. held_among owner state.opens other r q (held other r q t)) in
     (g.no_number, g.no_entry)

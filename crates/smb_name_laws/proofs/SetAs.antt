@@ -1,19 +1,19 @@
 -- What a SET_INFO and a WRITE set of an entry.
-use Rattle.std.proofs.Common.{◌≡◌, ◌≢◌, inl, inr, ℕ, ◌<◌, ◌^◌, ◌-◌, ◌==◌, ◌||◌, List, length, bit_and, Bool, true, false, if◌then◌else◌, Option, Some, refl, ap, arith, ◌∙◌}
+use Rattle.std.proofs.Common.{◌≡◌, ◌≢◌, inl, inr, ℕ, ◌<◌, ◌^◌, ◌-◌, ◌==◌, ◌||◌, List, length, Bool, true, false, if◌then◌else◌, Option, None, Some, is_some, subst, sym, refl, ap, arith, ◌∙◌}
 use Rattle.std.proofs.lemmas.Bool.Decides.{nat_tests}
-use Rattle.std.specs.Option.{option_map_or}
+use Rattle.std.specs.Option.{option_map, option_map_or}
 use Rattle.smb_tree.specs.Content.{Path, Row, numbered, changed}
 use Rattle.smb_tree.specs.Entries.{Entry, kept_attributes}
 use Rattle.smb_tree.proofs.Apart.{numbered-changed}
 use Rattle.smb_access.specs.declared.open_row.OpenRow.{OpenRow}
 use Rattle.smb_access.specs.Opens.{open_of}
-use Rattle.smb_entry.specs.declared.ask.BasicAsk.{BasicAsk}
-use Rattle.smb_entry.specs.Parts.{written_file, resized_file, delete_set, entry_set}
+use Rattle.smb_entry.specs.Parts.{written_file, written_tree, resized_file, size_set, delete_set, entry_set}
 use Rattle.smb_entry.specs.SetInfo.{time_set}
 use Rattle.smb_opens.specs.Bytes.{written_to}
-use Rattle.smb_opens.specs.SetInfo.{delete_set_through, size_set_through, basic_set_through}
+use Rattle.smb_opens.specs.SetInfo.{size_set_through}
 use Rattle.smb_opens.specs.State.{StoreState}
-use Rattle.smb_name_laws.specs.Settings.{IsOpenOf, IsTimeSet, HasKeptItsName}
+use Rattle.smb_opens.proofs.StoreSettings.{size_keeps}
+use Rattle.smb_name_laws.specs.Settings.{IsOpenOf, IsTimeSet, HasKeptItsName, RequestsChangeTheirEntryAlone, AMarkIsSetAsAskedFor, TimesAreSetAsAskedFor, AWriteIsTheLastOne}
 
 same_by : (n : ℕ) → n == n ≡ true
 same_by n = grind (arith, nat_tests)
@@ -36,17 +36,59 @@ rows_set : (f : Entry → Entry) (state : StoreState) (number : ℕ) (row : Open
 rows_set f state number row h = ap (λ (o : Option OpenRow). (set_by f state o).tree.rows) h
 
 set_at : (f : Entry → Entry) (state : StoreState) (number : ℕ) (row : OpenRow) (path : Path) (entry : Entry) → ((e : Entry) → (f e).number ≡ e.number) → IsOpenOf state number row path entry →
-    (numbered (set_by f state (open_of state.opens number)).tree.rows row.entry ≡ Some (path, f entry))
-    × ((other : ℕ) → other ≢ row.entry → numbered (set_by f state (open_of state.opens number)).tree.rows other ≡ numbered state.tree.rows other)
-set_at f state number row path entry k o =
-    let rows = rows_set f state number row o.opened in (
-      ap (λ (r : List Row). numbered r row.entry) rows ∙ changed_at f state.tree.rows row.entry path entry k o.found,
+    numbered (set_by f state (open_of state.opens number)).tree.rows row.entry ≡ Some (path, f entry)
+set_at f state number row path entry k o = ap (λ (r : List Row). numbered r row.entry) (rows_set f state number row o.opened) ∙ changed_at f state.tree.rows row.entry path entry k o.found
+
+-- a WRITE of no bytes
+written_none : (state : StoreState) (number offset : ℕ) (buffer : List ℕ) (moment : ℕ) (row : OpenRow) → open_of state.opens number ≡ Some row → length buffer == 0 ≡ true → written_to state number offset buffer moment ≡ state
+written_none state number offset buffer moment row opened e =
+    ap (λ (o : Option OpenRow). option_map_or (λ (row : OpenRow). if length buffer == 0 then state else record state { tree = written_tree state.tree row.entry offset buffer moment }) o state) opened ∙ rw e refl
+
+-- of an entry that is changed, whether it exists
+there_at : (f : Entry → Entry) (rows : List Row) (n : ℕ) → ((e : Entry) → (f e).number ≡ e.number) → is_some (numbered (changed f rows n) n) ≡ is_some (numbered rows n)
+there_at f rows n k = ap is_some (numbered-changed f rows n n k ∙ rw (same_by n) refl) ∙ some_by (numbered rows n)
+  where
+    some_by : (o : Option Row) → is_some (option_map (λ (x : Row). let y : Row = (x.0, f x.1) in y) o) ≡ is_some o
+    some_by None = refl
+    some_by (Some x) = refl
+
+-- one entry alone is changed
+abbrev ChangesAlone : StoreState → OpenRow → StoreState → Type 0
+ChangesAlone state row after =
+    ((other : ℕ) → other ≢ row.entry → numbered after.tree.rows other ≡ numbered state.tree.rows other)
+    × (is_some (numbered after.tree.rows row.entry) ≡ is_some (numbered state.tree.rows row.entry))
+
+alone_at : (f : Entry → Entry) (state : StoreState) (number : ℕ) (row : OpenRow) → ((e : Entry) → (f e).number ≡ e.number) → open_of state.opens number ≡ Some row → ChangesAlone state row (set_by f state (open_of state.opens number))
+alone_at f state number row k opened =
+    let rows = rows_set f state number row opened in (
       λ other apart. ap (λ (r : List Row). numbered r other) rows ∙ others_at f state.tree.rows row.entry other k apart,
+      ap (λ (r : List Row). is_some (numbered r row.entry)) rows ∙ there_at f state.tree.rows row.entry k,
     )
 
-pub marks : (state : StoreState) (number : ℕ) (is_deleted : Bool) (row : OpenRow) (path : Path) (entry : Entry) → IsOpenOf state number row path entry →
-    (numbered (delete_set_through state number is_deleted).tree.rows row.entry ≡ Some (path, delete_set is_deleted entry))
-    × ((other : ℕ) → other ≢ row.entry → numbered (delete_set_through state number is_deleted).tree.rows other ≡ numbered state.tree.rows other)
+written_alone : (state : StoreState) (number offset : ℕ) (buffer : List ℕ) (moment : ℕ) (row : OpenRow) → open_of state.opens number ≡ Some row → ChangesAlone state row (written_to state number offset buffer moment)
+written_alone state number offset buffer moment row opened = by (length buffer == 0) refl
+  where
+    by : (b : Bool) → length buffer == 0 ≡ b → ChangesAlone state row (written_to state number offset buffer moment)
+    by true e =
+        let left : written_to state number offset buffer moment ≡ state = written_none state number offset buffer moment row opened e in
+        subst (ChangesAlone state row) (sym left) (λ other apart. refl, refl)
+    by false e =
+        let whole : written_to state number offset buffer moment ≡ set_by (written_file offset buffer moment) state (open_of state.opens number) = rw e refl in
+        subst (ChangesAlone state row) (sym whole) (alone_at (written_file offset buffer moment) state number row (λ _. refl) opened)
+
+pub alone : RequestsChangeTheirEntryAlone
+alone state number offset size moment buffer is_deleted is_allocation times row opened = (
+  written_alone state number offset buffer moment row opened,
+  (
+    alone_at (delete_set is_deleted) state number row (λ _. refl) opened,
+    (
+      alone_at (size_set size is_allocation moment) state number row (size_keeps size is_allocation moment).number opened,
+      (alone_at (entry_set times moment) state number row (λ _. refl) opened, tt),
+    ),
+  ),
+)
+
+pub marks : AMarkIsSetAsAskedFor
 marks state number is_deleted row path entry o = set_at (delete_set is_deleted) state number row path entry (λ _. refl) o
 
 time_by : (asked before : ℕ) (a b c : Bool) → a ≡ false → b ≡ false → c ≡ false → (if a || b || c then before else asked) ≡ asked
@@ -76,20 +118,11 @@ change_as asked before moment =
       left = λ e. elim e [ inl h ↦ ap at h | inr h ↦ ap at h ];
     }
 
-pub times : (state : StoreState) (number : ℕ) (ask : BasicAsk) (moment : ℕ) (row : OpenRow) (path : Path) (entry : Entry) → IsOpenOf state number row path entry →
-    (after : Entry) × (numbered (basic_set_through state number ask moment).tree.rows row.entry ≡ Some (path, after))
-    × IsTimeSet ask.creation_time entry.basic.creation_time entry.basic.creation_time after.basic.creation_time
-    × IsTimeSet ask.last_access_time entry.basic.last_access_time entry.basic.last_access_time after.basic.last_access_time
-    × IsTimeSet ask.last_write_time entry.basic.last_write_time entry.basic.last_write_time after.basic.last_write_time
-    × IsTimeSet ask.change_time entry.basic.change_time moment after.basic.change_time
-    × (ask.attributes.0 ≢ 0 → after.basic.attributes.0 ≡ bit_and ask.attributes.0 0x27)
-    × (ask.attributes.0 ≡ 0 → after.basic.attributes.0 ≡ bit_and entry.basic.attributes.0 0x27)
-    × HasKeptItsName after entry × (after.bytes ≡ entry.bytes)
-    × ((other : ℕ) → other ≢ row.entry → numbered (basic_set_through state number ask moment).tree.rows other ≡ numbered state.tree.rows other)
+pub times : TimesAreSetAsAskedFor
 times state number ask moment row path entry o =
     let is = set_at (entry_set ask moment) state number row path entry (λ _. refl) o in (
       entry_set ask moment entry,
-      is.0,
+      is,
       time_as ask.creation_time entry.basic.creation_time,
       time_as ask.last_access_time entry.basic.last_access_time,
       time_as ask.last_write_time entry.basic.last_write_time,
@@ -98,48 +131,43 @@ times state number ask moment row path entry o =
       λ none. ap (λ n. kept_attributes (if n == 0 then entry.basic.attributes.0 else n)) none,
       record { number = refl; kind = refl; spelling = refl; mark = refl },
       refl,
-      is.1,
     )
 
 written_set : (state : StoreState) (number offset : ℕ) (buffer : List ℕ) (moment : ℕ) → 0 < length buffer → written_to state number offset buffer moment ≡ set_by (written_file offset buffer moment) state (open_of state.opens number)
 written_set state number offset buffer moment h =
     let some : length buffer == 0 ≡ false = grind (arith, nat_tests, h) in rw some refl
 
-pub writes : (state : StoreState) (number offset : ℕ) (buffer : List ℕ) (moment : ℕ) (row : OpenRow) (path : Path) (entry : Entry) → IsOpenOf state number row path entry → 0 < length buffer →
-    (after : Entry) × (numbered (written_to state number offset buffer moment).tree.rows row.entry ≡ Some (path, after))
+-- what is written last
+abbrev IsLastWritten : StoreState → OpenRow → Path → Entry → ℕ → Type 0
+IsLastWritten later row path entry moment =
+    (after : Entry) × (numbered later.tree.rows row.entry ≡ Some (path, after))
     × (after.basic.last_write_time ≡ moment) × (after.basic.change_time ≡ moment)
     × (after.basic.creation_time ≡ entry.basic.creation_time)
     × (after.basic.last_access_time ≡ entry.basic.last_access_time)
     × HasKeptItsName after entry
-    × ((other : ℕ) → other ≢ row.entry → numbered (written_to state number offset buffer moment).tree.rows other ≡ numbered state.tree.rows other)
-writes state number offset buffer moment row path entry o h =
-    let is = set_at (written_file offset buffer moment) state number row path entry (λ _. refl) o in
-    let whole = written_set state number offset buffer moment h in (
-      written_file offset buffer moment entry,
-      ap (λ (s : StoreState). numbered s.tree.rows row.entry) whole ∙ is.0,
-      refl,
-      refl,
-      refl,
-      refl,
-      record { number = refl; kind = refl; spelling = refl; mark = refl },
-      λ other apart. ap (λ (s : StoreState). numbered s.tree.rows other) whole ∙ is.1 other apart,
-    )
 
-pub sizes : (state : StoreState) (number size moment : ℕ) (row : OpenRow) (path : Path) (entry : Entry) → IsOpenOf state number row path entry →
-    (after : Entry) × (numbered (size_set_through state number size false moment).tree.rows row.entry ≡ Some (path, after))
-    × (after.basic.last_write_time ≡ moment) × (after.basic.change_time ≡ moment)
-    × (after.basic.creation_time ≡ entry.basic.creation_time)
-    × (after.basic.last_access_time ≡ entry.basic.last_access_time)
-    × HasKeptItsName after entry
-    × ((other : ℕ) → other ≢ row.entry → numbered (size_set_through state number size false moment).tree.rows other ≡ numbered state.tree.rows other)
-sizes state number size moment row path entry o =
-    let is = set_at (resized_file size moment) state number row path entry (λ _. refl) o in (
-      resized_file size moment entry,
-      is.0,
-      refl,
-      refl,
-      refl,
-      refl,
-      record { number = refl; kind = refl; spelling = refl; mark = refl },
-      is.1,
-    )
+writes : (state : StoreState) (number offset : ℕ) (buffer : List ℕ) (moment : ℕ) (row : OpenRow) (path : Path) (entry : Entry) → IsOpenOf state number row path entry → 0 < length buffer → IsLastWritten (written_to state number offset buffer moment) row path entry moment
+writes state number offset buffer moment row path entry o h = (
+  written_file offset buffer moment entry,
+  ap (λ (s : StoreState). numbered s.tree.rows row.entry) (written_set state number offset buffer moment h) ∙ set_at (written_file offset buffer moment) state number row path entry (λ _. refl) o,
+  refl,
+  refl,
+  refl,
+  refl,
+  record { number = refl; kind = refl; spelling = refl; mark = refl },
+)
+
+sizes : (state : StoreState) (number size moment : ℕ) (row : OpenRow) (path : Path) (entry : Entry) → IsOpenOf state number row path entry → IsLastWritten (size_set_through state number size false moment) row path entry moment
+sizes state number size moment row path entry o = (
+  resized_file size moment entry,
+  set_at (resized_file size moment) state number row path entry (λ _. refl) o,
+  refl,
+  refl,
+  refl,
+  refl,
+  record { number = refl; kind = refl; spelling = refl; mark = refl },
+)
+
+pub last_writes : AWriteIsTheLastOne
+last_writes state number offset size buffer moment row path entry o h =
+    (writes state number offset buffer moment row path entry o h, (sizes state number size moment row path entry o, tt))

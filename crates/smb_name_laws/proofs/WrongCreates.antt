@@ -11,27 +11,34 @@ use Rattle.smb_wire.specs.Names.{folded}
 use Rattle.smb_wire.specs.Paths.{path_spelled, is_separator}
 use Rattle.smb_wire.specs.declared.disposition.CreateDisposition.TheVariants.{Create, Open, Overwrite}
 use Rattle.smb_wire.specs.declared.nt_status.NtStatus.TheVariants.{Success}
-use Rattle.smb_tree.specs.Content.{Content, Path, is_same_path, entry_at, changed}
+use Rattle.smb_tree.specs.Content.{Content, Path, is_same_path, entry_at, numbered, changed}
 use Rattle.smb_tree.specs.Entries.{Entry, is_folder_kind}
-use Rattle.smb_access.specs.Asked.{FileAsked}
+use Rattle.smb_access.specs.declared.open_row.OpenRow.{OpenRow}
+use Rattle.smb_access.specs.Asked.{FileAsked, kind_asked}
 use Rattle.smb_access.specs.Effect.{entry_after, tree_after}
 use Rattle.smb_access.specs.Found.{path_asked}
+use Rattle.smb_access.specs.Opens.{open_of}
+use Rattle.smb_access.specs.Views.{view_of}
 use Rattle.smb_opens.specs.Create.{create_status}
-use Rattle.smb_opens.specs.Effect.{created}
+use Rattle.smb_opens.specs.Effect.{created, create_result}
 use Rattle.smb_opens.specs.Found.{entry_asked}
 use Rattle.smb_opens.specs.Good.{GoodStore}
 use Rattle.smb_opens.specs.State.{StoreState}
-use Rattle.smb_name_laws.specs.Creates.{FindsWhatIsOpen, ACreateFindsItsEntry, AnOverwriteLeavesNoBytes}
-use Rattle.smb_name_laws.specs.Creates.{ANewEntryIsOfItsMoment, ANewEntryIsSpelledAsAskedFor}
+use Rattle.smb_opens.specs.Views.{open_view}
+use Rattle.smb_name_laws.specs.Creates.{ACreateFindsItsEntry, AnOverwriteLeavesNoBytes, AnAbsentEntryIsMade}
 use Rattle.smb_name_laws.specs.Creates.{ACreateChangesItsEntryAlone}
 use Rattle.smb_name_laws.proofs.ExampleStore.{path, file, with_opens, file_name, new_name, asks, is_not_gone}
 use Rattle.smb_name_laws.proofs.ExampleStore.{is_good_without_opens}
 
--- once a CREATE is performed, its name finds the entry that its open shows
+-- once a CREATE is performed, its name finds an entry, its open is of this entry, and its view is what the open shows
 abbrev ACreateFindsItsEntryBy : (StoreState → FileAsked → ℕ → StoreState) → Type 0
 ACreateFindsItsEntryBy create =
     (state : StoreState) (ask : FileAsked) (moment : ℕ) → GoodStore state →
-    FindsWhatIsOpen (create state ask moment) (path_asked ask) state.next
+    let after = create state ask moment in
+    let result = create_result state ask moment in
+    (entry : Entry) × (row : OpenRow) × (entry_at after.tree.rows (path_asked ask) ≡ Some entry)
+    × (result.number ≡ state.next) × (open_of after.opens state.next ≡ Some row) × (row.entry ≡ entry.number)
+    × (open_view after state.next ≡ Some result.view) × (result.view ≡ view_of row.access entry)
 
 a_create_finds_its_entry : ACreateFindsItsEntry ≡ ACreateFindsItsEntryBy created
 a_create_finds_its_entry = refl
@@ -52,7 +59,7 @@ created_as_spelled state ask moment = record (created state ask moment) {
 a_create_as_spelled_breaks_it : ACreateFindsItsEntryBy created_as_spelled → ⊥
 a_create_as_spelled_breaks_it law =
     let finds = law (with_opens []) (asks new_name FILE_SHARE_ALL Create) 0 is_good_without_opens in
-    is_not_gone (sym finds.found) refl
+    is_not_gone (sym finds.2) refl
 
 -- a CREATE that succeeds and overwrites leaves a file under its name, of the number that was there, without bytes
 abbrev AnOverwriteLeavesNoBytesBy : (StoreState → FileAsked → ℕ → StoreState) → Type 0
@@ -81,38 +88,34 @@ a_create_over_bytes_breaks_it law =
     let found : Some file ≡ Some after.0 = after.1 in
     a_byte_is_left 7 [] (ap (λ (o : Option Entry). option_map_or (λ (e : Entry). e.bytes) o []) found ∙ after.4)
 
--- all four times of a new entry are the moment
-abbrev ANewEntryIsOfItsMomentBy : (StoreState → FileAsked → ℕ → StoreState) → Type 0
-ANewEntryIsOfItsMomentBy create =
-    (state : StoreState) (ask : FileAsked) (moment : ℕ) (made : Entry) → GoodStore state →
-    entry_asked state ask ≡ None → entry_at (create state ask moment).tree.rows (path_asked ask) ≡ Some made →
-    (made.basic.creation_time ≡ moment) × (made.basic.last_access_time ≡ moment)
+-- a CREATE of a name that finds nothing makes a new entry there, of its moment, and spelled as it was asked for
+abbrev AnAbsentEntryIsMadeBy : (StoreState → FileAsked → ℕ → StoreState) → Type 0
+AnAbsentEntryIsMadeBy create =
+    (state : StoreState) (ask : FileAsked) (moment : ℕ) → GoodStore state → entry_asked state ask ≡ None →
+    (made : Entry) × (entry_at (create state ask moment).tree.rows (path_asked ask) ≡ Some made)
+    × (numbered state.tree.rows made.number ≡ None) × (made.kind ≡ kind_asked ask) × (made.bytes ≡ [])
+    × (made.mark ≡ false)
+    × (made.basic.creation_time ≡ moment) × (made.basic.last_access_time ≡ moment)
     × (made.basic.last_write_time ≡ moment) × (made.basic.change_time ≡ moment)
+    × ((front last : List ℕ) → (ask.name ≡ last) ⊎ (ask.name ≡ front ++ 92 ∷ last) → 0 < length last →
+    All (λ unit. is_separator unit ≡ false) last → made.spelling ≡ last)
 
-a_new_entry_is_of_its_moment : ANewEntryIsOfItsMoment ≡ ANewEntryIsOfItsMomentBy created
-a_new_entry_is_of_its_moment = refl
+an_absent_entry_is_made : AnAbsentEntryIsMade ≡ AnAbsentEntryIsMadeBy created
+an_absent_entry_is_made = refl
+
+-- of two entries that are found alike each part is the same
+found_has : {T : Type 0} (of : Entry → T) (one other : Entry) → Some one ≡ Some other → of one ≡ of other
+found_has of one other h = let same : one ≡ other = cc in ap of same
 
 -- wrong: a new entry has no times
 abbrev created_at_no_time : StoreState → FileAsked → ℕ → StoreState
 created_at_no_time state ask moment = created state ask 0
 
-a_create_at_no_time_breaks_it : ANewEntryIsOfItsMomentBy created_at_no_time → ⊥
+a_create_at_no_time_breaks_it : AnAbsentEntryIsMadeBy created_at_no_time → ⊥
 a_create_at_no_time_breaks_it law =
-    let times = law (with_opens []) (asks new_name FILE_SHARE_ALL Create) 9 _ is_good_without_opens refl refl in
-    let old : 0 ≡ 9 = times.0 in
+    let made = law (with_opens []) (asks new_name FILE_SHARE_ALL Create) 9 is_good_without_opens refl in
+    let old : 0 ≡ 9 = found_has (λ entry. entry.basic.creation_time) _ made.0 made.1 ∙ made.6 in
     omega (arith, old)
-
--- a new entry is spelled as the name that was asked for, in its letters
-abbrev ANewEntryIsSpelledAsAskedForBy : (StoreState → FileAsked → ℕ → StoreState) → Type 0
-ANewEntryIsSpelledAsAskedForBy create =
-    (state : StoreState) (ask : FileAsked) (moment : ℕ) (made : Entry) (front last : List ℕ) → GoodStore state →
-    entry_asked state ask ≡ None → entry_at (create state ask moment).tree.rows (path_asked ask) ≡ Some made →
-    (ask.name ≡ last) ⊎ (ask.name ≡ front ++ 92 ∷ last) →
-    0 < length last → All (λ unit. is_separator unit ≡ false) last →
-    made.spelling ≡ last
-
-a_new_entry_is_spelled_as_asked_for : ANewEntryIsSpelledAsAskedFor ≡ ANewEntryIsSpelledAsAskedForBy created
-a_new_entry_is_spelled_as_asked_for = refl
 
 -- wrong: a new entry is spelled in large letters
 abbrev created_in_large : StoreState → FileAsked → ℕ → StoreState
@@ -123,21 +126,24 @@ new_name_is_one : All (λ unit. is_separator unit ≡ false) new_name
 new_name_is_one zero d l = refl
 new_name_is_one (suc k) d l = absurd (omega (arith, l))
 
-a_create_in_large_breaks_it : ANewEntryIsSpelledAsAskedForBy created_in_large → ⊥
+a_create_in_large_breaks_it : AnAbsentEntryIsMadeBy created_in_large → ⊥
 a_create_in_large_breaks_it law =
+    let made = law (with_opens []) (asks new_name FILE_SHARE_ALL Create) 0 is_good_without_opens refl in
     let large : 66 ∷ [] ≡ 98 ∷ [] =
-    law (with_opens []) (asks new_name FILE_SHARE_ALL Create) 0 _ [] new_name is_good_without_opens refl refl (inl refl)
-    (lit< tt) new_name_is_one in
+    found_has (λ entry. entry.spelling) _ made.0 made.1 ∙ made.10 [] new_name (inl refl) (lit< tt) new_name_is_one in
     let unit : 66 ≡ 98 = ap (λ (units : List ℕ). slice_index units 0) large in omega (arith, unit)
 
--- a CREATE changes no entry but the one that its name finds, and where it opens an entry without overwriting it, none
+-- a CREATE changes no entry but the one that its name finds, and where it does not overwrite, none
 abbrev ACreateChangesItsEntryAloneBy : (StoreState → FileAsked → ℕ → StoreState) → Type 0
 ACreateChangesItsEntryAloneBy create =
-    (state : StoreState) (ask : FileAsked) (moment : ℕ) → GoodStore state →
-    ((other : Path) → is_same_path (path_asked ask) other ≡ false →
-    entry_at (create state ask moment).tree.rows other ≡ entry_at state.tree.rows other)
-    × ((entry : Entry) → entry_asked state ask ≡ Some entry → overwrites_by ask.disposition ≡ false →
-    (create state ask moment).tree ≡ state.tree)
+    (state : StoreState) (ask : FileAsked) (moment : ℕ) →
+    let after = (create state ask moment).tree in
+    (GoodStore state → (other : Path) → is_same_path (path_asked ask) other ≡ false →
+    entry_at after.rows other ≡ entry_at state.tree.rows other)
+    × (overwrites_by ask.disposition ≡ false → (entry : Entry) → entry_asked state ask ≡ Some entry →
+    after ≡ state.tree)
+    × (overwrites_by ask.disposition ≡ false → (path : Path) (entry : Entry) →
+    entry_at state.tree.rows path ≡ Some entry → entry_at after.rows path ≡ Some entry)
 
 a_create_changes_its_entry_alone : ACreateChangesItsEntryAlone ≡ ACreateChangesItsEntryAloneBy created
 a_create_changes_its_entry_alone = refl
@@ -152,14 +158,14 @@ created_and_emptied state ask moment = record (created state ask moment) {
 
 a_create_and_emptied_breaks_it : ACreateChangesItsEntryAloneBy created_and_emptied → ⊥
 a_create_and_emptied_breaks_it law =
-    let same = (law (with_opens []) (asks new_name FILE_SHARE_ALL Create) 0 is_good_without_opens).0 path refl in
+    let same = (law (with_opens []) (asks new_name FILE_SHARE_ALL Create) 0).0 is_good_without_opens path refl in
     let lost : 0 ≡ 1 = ap (λ (o : Option Entry). option_map_or (λ (e : Entry). length e.bytes) o 0) same in
     omega (arith, lost)
 
 -- also where it opens this file itself
 a_create_that_empties_breaks_it : ACreateChangesItsEntryAloneBy created_and_emptied → ⊥
 a_create_that_empties_breaks_it law =
-    let same = (law (with_opens []) (asks file_name FILE_SHARE_ALL Open) 0 is_good_without_opens).1 file refl refl in
+    let same = (law (with_opens []) (asks file_name FILE_SHARE_ALL Open) 0).1 refl file refl in
     let lost : 0 ≡ 1 =
     ap (λ (tree : Content). option_map_or (λ (e : Entry). length e.bytes) (entry_at tree.rows path) 0) same in
     omega (arith, lost)

@@ -1,9 +1,9 @@
 -- Wrong definitions of a CLOSE and of the end of an owner's opens, each with a law of specs/Deletes that refuses it.
 -- A law whose name ends in By says of any definition what that of specs/ says of the right one, as the line below it
 -- shows; then come the wrong definition, and the proof that the law is false of it.
-use Rattle.std.proofs.Common.{◌≡◌, ℕ, [], ◌∷◌, true, None, Some, refl, sym, arith, ◌∙◌}
+use Rattle.std.proofs.Common.{◌≡◌, ◌≢◌, ℕ, [], ◌∷◌, true, false, None, Some, refl, sym, arith, ◌∙◌}
 use Rattle.std.specs.Option.{option_map_or}
-use Rattle.smb_tree.specs.Content.{Path, Row, entry_at, numbered}
+use Rattle.smb_tree.specs.Content.{Path, Row, is_same_path, entry_at, numbered}
 use Rattle.smb_tree.specs.Entries.{Entry}
 use Rattle.smb_access.specs.declared.open_row.OpenRow.{OpenRow}
 use Rattle.smb_access.specs.declared.open_row.Owner.{Owner}
@@ -14,23 +14,31 @@ use Rattle.smb_opens.specs.Close.{closed, closed_all}
 use Rattle.smb_opens.specs.Good.{GoodStore}
 use Rattle.smb_opens.specs.State.{StoreState}
 use Rattle.smb_opens.proofs.Closing.{number_found}
-use Rattle.smb_name_laws.specs.Deletes.{AnEntryGoesWithItsLastOpen, NothingElseGoes, AnEntryGoesWithItsOwner}
-use Rattle.smb_name_laws.specs.Deletes.{is_to_be_deleted, HasNoOtherOpen, WentWithItsLastOpen, AreAllHeldBy}
+use Rattle.smb_name_laws.specs.Deletes.{ACloseDeletesWhatIsToBeDeleted, NothingElseGoes, AnEntryGoesWithItsOwner}
+use Rattle.smb_name_laws.specs.Deletes.{is_to_be_deleted, HasNoOtherOpen}
 use Rattle.smb_name_laws.proofs.ExampleStore.{path, file, deleting, sharing, with_opens, open_among, is_not_gone}
 use Rattle.smb_name_laws.proofs.ExampleStore.{is_good_with_deleting, is_good_with_both}
 
--- an entry that is to be deleted is gone once its last open is closed
-abbrev AnEntryGoesWithItsLastOpenBy : (StoreState → ℕ → StoreState) → Type 0
-AnEntryGoesWithItsLastOpenBy close =
+-- an entry that is to be deleted is gone once its last open is closed; with another open it is left, and marked; an entry
+-- that is not to be deleted stays, and so does what is elsewhere
+abbrev ACloseDeletesWhatIsToBeDeletedBy : (StoreState → ℕ → StoreState) → Type 0
+ACloseDeletesWhatIsToBeDeletedBy close =
     (state : StoreState) (number : ℕ) (closing : OpenRow) (path : Path) (entry : Entry) → GoodStore state →
     open_of state.opens number ≡ Some closing → numbered state.tree.rows closing.entry ≡ Some (path, entry) →
-    HasNoOtherOpen state.opens number closing.entry →
-    is_to_be_deleted state.tree.rows closing (path, entry) ≡ true →
-    (numbered (close state number).tree.rows closing.entry ≡ None)
-    × (entry_at (close state number).tree.rows path ≡ None)
+    let due = is_to_be_deleted state.tree.rows closing (path, entry) in
+    let after = (close state number).tree in
+    (due ≡ true → HasNoOtherOpen state.opens number closing.entry →
+    (numbered after.rows closing.entry ≡ None) × (entry_at after.rows path ≡ None))
+    × (due ≡ true → (other : ℕ) (left : OpenRow) → open_of state.opens other ≡ Some left →
+    left.entry ≡ closing.entry → other ≢ number →
+    (numbered after.rows closing.entry ≡ Some (path, record entry { mark = true }))
+    × (entry_at after.rows path ≡ Some (record entry { mark = true })))
+    × (due ≡ false → after ≡ state.tree)
+    × ((other : ℕ) → other ≢ closing.entry → numbered after.rows other ≡ numbered state.tree.rows other)
+    × ((other : Path) → is_same_path path other ≡ false → entry_at after.rows other ≡ entry_at state.tree.rows other)
 
-an_entry_goes_with_its_last_open : AnEntryGoesWithItsLastOpen ≡ AnEntryGoesWithItsLastOpenBy closed
-an_entry_goes_with_its_last_open = refl
+a_close_deletes_what_is_to_be_deleted : ACloseDeletesWhatIsToBeDeleted ≡ ACloseDeletesWhatIsToBeDeletedBy closed
+a_close_deletes_what_is_to_be_deleted = refl
 
 -- wrong: an entry that is to be deleted is left, though its last open is closed
 abbrev closed_without_removal : StoreState → ℕ → StoreState
@@ -43,10 +51,10 @@ no_other_than_deleting other row found own =
     sym (number_found (deleting ∷ []) other row found)
     ∙ open_among (λ (row : OpenRow). row.number ≡ 1) (deleting ∷ []) other row (refl, tt) found
 
-a_close_without_removal_breaks_it : AnEntryGoesWithItsLastOpenBy closed_without_removal → ⊥
+a_close_without_removal_breaks_it : ACloseDeletesWhatIsToBeDeletedBy closed_without_removal → ⊥
 a_close_without_removal_breaks_it law =
-    let gone = law (with_opens (deleting ∷ [])) 1 deleting path file is_good_with_deleting refl refl
-    no_other_than_deleting refl in
+    let gone = (law (with_opens (deleting ∷ [])) 1 deleting path file is_good_with_deleting refl refl).0 refl
+    no_other_than_deleting in
     is_not_gone gone.0 refl
 
 -- no other entry goes with a CLOSE
@@ -54,7 +62,8 @@ abbrev NothingElseGoesBy : (StoreState → ℕ → StoreState) → Type 0
 NothingElseGoesBy close =
     (state : StoreState) (number entry : ℕ) (row : Row) → GoodStore state →
     numbered state.tree.rows entry ≡ Some row → numbered (close state number).tree.rows entry ≡ None →
-    WentWithItsLastOpen state number row
+    (closing : OpenRow) × (open_of state.opens number ≡ Some closing) × (row.1.number ≡ closing.entry)
+    × HasNoOtherOpen state.opens number closing.entry × (is_to_be_deleted state.tree.rows closing row ≡ true)
 
 nothing_else_goes : NothingElseGoes ≡ NothingElseGoesBy closed
 nothing_else_goes = refl
@@ -68,14 +77,16 @@ closed_beside_others state number = option_map_or
 a_close_beside_others_breaks_it : NothingElseGoesBy closed_beside_others → ⊥
 a_close_beside_others_breaks_it law =
     let went = law (with_opens (deleting ∷ sharing ∷ [])) 1 2 (path, file) is_good_with_both refl refl in
-    omega (arith, went.last 2 sharing refl went.own)
+    omega (arith, went.3 2 sharing refl went.2)
 
 -- an entry that is to be deleted is gone once all opens of an owner end, where no one else has an open of it
 abbrev AnEntryGoesWithItsOwnerBy : (StoreState → Owner → StoreState) → Type 0
 AnEntryGoesWithItsOwnerBy close_all =
     (state : StoreState) (owner : Owner) (number : ℕ) (row : OpenRow) (path : Path) (entry : Entry) → GoodStore state →
     open_of state.opens number ≡ Some row → numbered state.tree.rows row.entry ≡ Some (path, entry) →
-    AreAllHeldBy owner state.opens row.entry → is_to_be_deleted state.tree.rows row (path, entry) ≡ true →
+    ((other : ℕ) (held : OpenRow) → open_of state.opens other ≡ Some held → held.entry ≡ row.entry →
+    is_held_by owner held ≡ true) →
+    is_to_be_deleted state.tree.rows row (path, entry) ≡ true →
     (numbered (close_all state owner).tree.rows row.entry ≡ None)
     × (entry_at (close_all state owner).tree.rows path ≡ None)
 
@@ -86,7 +97,9 @@ an_entry_goes_with_its_owner = refl
 abbrev closed_first : StoreState → Owner → StoreState
 closed_first state owner = option_map_or (closed state) (first_held_by owner state.opens) state
 
-both_held : AreAllHeldBy (Session 1) (deleting ∷ sharing ∷ []) 2
+both_held :
+    (number : ℕ) (row : OpenRow) → open_of (deleting ∷ sharing ∷ []) number ≡ Some row → row.entry ≡ 2 →
+    is_held_by (Session 1) row ≡ true
 both_held number row found own =
     open_among (λ (row : OpenRow). is_held_by (Session 1) row ≡ true) (deleting ∷ sharing ∷ []) number row
     (refl, (refl, tt)) found

@@ -1,27 +1,33 @@
--- Wrong definitions of a CLOSE and of a request's step, each with a law of specs/Numbers that refuses it.
+-- Wrong definitions of a CLOSE, each with a law of specs/Numbers that refuses it.
 -- A law whose name ends in By says of any definition what that of specs/ says of the right one, as the line below it
--- shows; then come the wrong definition, and the proof that the law is false of it.
-use Rattle.std.proofs.Common.{◌≡◌, ◌==◌, ◌+◌, ◌-◌, ℕ, List, [], ◌∷◌, true, None, is_some, refl, if◌then◌else◌}
-use Rattle.smb_wire.specs.Access.{FILE_SHARE_ALL}
-use Rattle.smb_wire.specs.declared.disposition.CreateDisposition.TheVariants.{Open, Create}
-use Rattle.smb_tree.specs.Content.{numbered}
-use Rattle.smb_access.specs.Opens.{open_of}
+-- shows; then come the wrong definitions, and the proofs that the law is false of them.
+use Rattle.std.proofs.Common.{◌≡◌, ◌==◌, ◌+◌, ◌-◌, ◌≤◌, ℕ, List, [], ◌∷◌, refl, if◌then◌else◌, arith}
 use Rattle.smb_opens.specs.Close.{closed, is_removed_with}
 use Rattle.smb_opens.specs.Good.{GoodStore}
 use Rattle.smb_opens.specs.State.{StoreState}
-use Rattle.smb_opens.specs.Steps.{StoreStep, creates, closes, stepped, stepped_all}
-use Rattle.smb_name_laws.specs.Numbers.{AClosedOpenStaysClosed, AnEntryThatIsGoneStaysGone}
-use Rattle.smb_name_laws.proofs.ExampleStore.{deleting, sharing, with_opens, file_name, new_name, asks, is_not_gone}
+use Rattle.smb_opens.specs.Steps.{StoreStep, closes, stepped, stepped_all}
+use Rattle.smb_name_laws.specs.Numbers.{GivesEachOpenOnce, GivesEachEntryOnce, NoNumberIsGivenTwice}
+use Rattle.smb_name_laws.proofs.ExampleStore.{deleting, sharing, with_opens}
 use Rattle.smb_name_laws.proofs.ExampleStore.{is_good_with_deleting, is_good_with_sharing}
 
--- once an open is closed, its number names no open again, whatever requests follow
-abbrev AClosedOpenStaysClosedBy : (StoreState → ℕ → StoreState) → Type 0
-AClosedOpenStaysClosedBy close =
-    (state : StoreState) (number : ℕ) (steps : List StoreStep) → GoodStore state →
-    is_some (open_of state.opens number) ≡ true → open_of (stepped_all (close state number) steps).opens number ≡ None
+-- whatever requests are performed, and whatever later ones, no number of an open or an entry is given twice
+abbrev NoNumberIsGivenTwiceBy : (StoreState → List StoreStep → StoreState) → Type 0
+NoNumberIsGivenTwiceBy perform_all =
+    (state : StoreState) (steps later : List StoreStep) → GoodStore state →
+    let between = perform_all state steps in
+    GivesEachOpenOnce between (perform_all between later) × GivesEachEntryOnce between (perform_all between later)
 
-a_closed_open_stays_closed : AClosedOpenStaysClosed ≡ AClosedOpenStaysClosedBy closed
-a_closed_open_stays_closed = refl
+no_number_is_given_twice : NoNumberIsGivenTwice ≡ NoNumberIsGivenTwiceBy stepped_all
+no_number_is_given_twice = refl
+
+-- a store over requests, by what a CLOSE does
+abbrev stepped_by : (StoreState → ℕ → StoreState) → StoreState → StoreStep → StoreState
+stepped_by close state (closes number) = close state number
+stepped_by close state step = stepped state step
+
+abbrev stepped_all_by : (StoreState → ℕ → StoreState) → StoreState → List StoreStep → StoreState
+stepped_all_by close state [] = state
+stepped_all_by close state (step ∷ steps) = stepped_all_by close (stepped_by close state step) steps
 
 -- wrong: the number of the last open is given again, once this is closed
 abbrev closed_for_reuse : StoreState → ℕ → StoreState
@@ -29,22 +35,12 @@ closed_for_reuse state number = record (closed state number) {
   next = if number + 1 == state.next then number else state.next;
 }
 
-a_close_for_reuse_breaks_it : AClosedOpenStaysClosedBy closed_for_reuse → ⊥
+a_close_for_reuse_breaks_it : NoNumberIsGivenTwiceBy (stepped_all_by closed_for_reuse) → ⊥
 a_close_for_reuse_breaks_it law =
-    is_not_gone (law (with_opens (sharing ∷ [])) 2 (creates (asks file_name FILE_SHARE_ALL Open) 0 ∷ [])
-    is_good_with_sharing refl) refl
+    let once = (law (with_opens (sharing ∷ [])) [] (closes 2 ∷ []) is_good_with_sharing).0 in
+    let falls : 3 ≤ 2 = once.rise in omega (arith, falls)
 
--- once an entry is gone, after whatever request, its number names no entry again, whatever requests follow
-abbrev AnEntryThatIsGoneStaysGoneBy : (StoreState → StoreStep → StoreState) → Type 0
-AnEntryThatIsGoneStaysGoneBy perform =
-    (state : StoreState) (entry : ℕ) (step : StoreStep) (steps : List StoreStep) → GoodStore state →
-    is_some (numbered state.tree.rows entry) ≡ true → numbered (perform state step).tree.rows entry ≡ None →
-    numbered (stepped_all (perform state step) steps).tree.rows entry ≡ None
-
-an_entry_that_is_gone_stays_gone : AnEntryThatIsGoneStaysGone ≡ AnEntryThatIsGoneStaysGoneBy stepped
-an_entry_that_is_gone_stays_gone = refl
-
--- a CLOSE that takes one from the next number of an entry, where it removes its own
+-- wrong: the number of the last entry is given again, once this went with a CLOSE
 abbrev closed_lowering_next : StoreState → ℕ → StoreState
 closed_lowering_next state number = record (closed state number) {
   tree = record (closed state number).tree {
@@ -52,12 +48,7 @@ closed_lowering_next state number = record (closed state number) {
   };
 }
 
--- wrong: the number of the last entry is given again, once this went with a CLOSE
-abbrev stepped_for_reuse : StoreState → StoreStep → StoreState
-stepped_for_reuse state (closes number) = closed_lowering_next state number
-stepped_for_reuse state step = stepped state step
-
-a_step_for_reuse_breaks_it : AnEntryThatIsGoneStaysGoneBy stepped_for_reuse → ⊥
-a_step_for_reuse_breaks_it law =
-    is_not_gone (law (with_opens (deleting ∷ [])) 2 (closes 1) (creates (asks new_name FILE_SHARE_ALL Create) 0 ∷ [])
-    is_good_with_deleting refl refl) refl
+a_close_lowering_next_breaks_it : NoNumberIsGivenTwiceBy (stepped_all_by closed_lowering_next) → ⊥
+a_close_lowering_next_breaks_it law =
+    let once = (law (with_opens (deleting ∷ [])) [] (closes 1 ∷ []) is_good_with_deleting).1 in
+    let falls : 3 ≤ 2 = once.rise in omega (arith, falls)

@@ -19,9 +19,8 @@ use Rattle.smb_opens.specs.Effect.{created, create_result}
 use Rattle.smb_opens.specs.Found.{entry_asked}
 use Rattle.smb_opens.specs.Good.{GoodStore}
 use Rattle.smb_opens.specs.State.{StoreState}
-use Rattle.smb_name_laws.specs.Opened.{AnOpenIsAsItWasAskedFor, RightsAreGrantedAsAskedFor}
-use Rattle.smb_name_laws.specs.Opened.{AReaderGetsNoRightToChange, MaximumAllowedGivesWhatThereIs, rights_to_change}
-use Rattle.smb_name_laws.specs.Opened.{AGenericRightStandsForRights, ACloseEndsItsOpenAlone}
+use Rattle.smb_name_laws.specs.Opened.{AnOpenIsAsItWasAskedFor, RightsAreGrantedAsAskedFor, rights_to_change}
+use Rattle.smb_name_laws.specs.Opened.{AReaderGetsNoRightToChange, ACloseEndsItsOpenAlone}
 use Rattle.smb_name_laws.proofs.ExampleStore.{deleting, sharing, with_opens, file_name, asks, is_good_without_opens}
 
 -- the open of the number that a CREATE returns is as it was asked for
@@ -81,13 +80,21 @@ a_create_to_share_breaks_it law =
     let made = law (with_opens []) asks_alone 0 is_good_without_opens in
     let all : 7 ≡ 0 = found_has (λ row. row.share.0) _ made.0 made.1 ∙ made.5 in omega (arith, all)
 
--- an open for which rights alone were asked has these rights and no other
+-- an open has the rights that were asked for, and those that a generic right or MAXIMUM_ALLOWED stands for
 abbrev RightsAreGrantedAsAskedForBy : (StoreState → FileAsked → ℕ → StoreState) → Type 0
 RightsAreGrantedAsAskedForBy create =
     (state : StoreState) (ask : FileAsked) (moment : ℕ) (row : OpenRow) → GoodStore state →
-    bit_and ask.access FILE_ALL_ACCESS ≡ ask.access →
     open_of (create state ask moment).opens (create_result state ask moment).number ≡ Some row →
-    row.access.0 ≡ ask.access
+    let has : ℕ → Bool = has_any row.access.0 in
+    (bit_and ask.access FILE_ALL_ACCESS ≡ ask.access → row.access.0 ≡ ask.access)
+    × (ask.access ≡ GENERIC_READ → (has FILE_READ_DATA ≡ true) × (has rights_to_change ≡ false))
+    × (ask.access ≡ GENERIC_EXECUTE → (has FILE_EXECUTE ≡ true) × (has rights_to_change ≡ false))
+    × (ask.access ≡ GENERIC_WRITE → (has FILE_WRITE_DATA ≡ true) × (has FILE_READ_DATA ≡ false))
+    × (ask.access ≡ GENERIC_ALL → row.access.0 ≡ FILE_ALL_ACCESS)
+    × (ask.access ≡ MAXIMUM_ALLOWED → ask.read_only ≡ true →
+    (has FILE_READ_DATA ≡ true) × (has rights_to_change ≡ false))
+    × (ask.access ≡ MAXIMUM_ALLOWED → ask.read_only ≡ false → is_read_only_file (entry_asked state ask) ≡ false →
+    row.access.0 ≡ FILE_ALL_ACCESS)
 
 rights_are_granted_as_asked_for : RightsAreGrantedAsAskedFor ≡ RightsAreGrantedAsAskedForBy created
 rights_are_granted_as_asked_for = refl
@@ -99,7 +106,7 @@ created_with_all = created_with (λ ask row. record row { access = record { 0 = 
 a_create_with_all_breaks_it : RightsAreGrantedAsAskedForBy created_with_all → ⊥
 a_create_with_all_breaks_it law =
     let all : FILE_ALL_ACCESS ≡ FILE_READ_DATA =
-    law (with_opens []) asks_alone 0 _ is_good_without_opens refl refl in
+    (law (with_opens []) asks_alone 0 _ is_good_without_opens refl).0 refl in
     omega (arith, all)
 
 -- no CREATE that succeeds gives a right to change something to a session that may only read
@@ -119,57 +126,28 @@ a_create_with_all_lets_readers_change law =
     law (with_opens []) (record asks_alone { share = FILE_SHARE_ALL; read_only = true }) 0 _ is_good_without_opens
     refl refl refl in cc
 
--- MAXIMUM_ALLOWED gives a session what it may be granted
-abbrev MaximumAllowedGivesWhatThereIsBy : (StoreState → FileAsked → ℕ → StoreState) → Type 0
-MaximumAllowedGivesWhatThereIsBy create =
-    (state : StoreState) (ask : FileAsked) (moment : ℕ) (row : OpenRow) → GoodStore state →
-    ask.access ≡ MAXIMUM_ALLOWED →
-    open_of (create state ask moment).opens (create_result state ask moment).number ≡ Some row →
-    (ask.read_only ≡ true →
-    (has_any row.access.0 FILE_READ_DATA ≡ true) × (has_any row.access.0 rights_to_change ≡ false))
-    × (ask.read_only ≡ false → is_read_only_file (entry_asked state ask) ≡ false → row.access.0 ≡ FILE_ALL_ACCESS)
-
-maximum_allowed_gives_what_there_is : MaximumAllowedGivesWhatThereIs ≡ MaximumAllowedGivesWhatThereIsBy created
-maximum_allowed_gives_what_there_is = refl
-
 -- a CREATE of the file with MAXIMUM_ALLOWED, by a session that may only read or by another
 abbrev asks_maximum : Bool → FileAsked
 asks_maximum read_only = record asks_alone { access = MAXIMUM_ALLOWED; read_only = read_only }
 
-a_create_with_all_gives_readers_all : MaximumAllowedGivesWhatThereIsBy created_with_all → ⊥
+a_create_with_all_gives_readers_all : RightsAreGrantedAsAskedForBy created_with_all → ⊥
 a_create_with_all_gives_readers_all law =
-    let gives = law (with_opens []) (asks_maximum true) 0 _ is_good_without_opens refl refl in
-    let can : true ≡ false = (gives.0 refl).1 in cc
+    let gives = law (with_opens []) (asks_maximum true) 0 _ is_good_without_opens refl in
+    let can : true ≡ false = (gives.5 refl refl).1 in cc
 
 -- wrong: MAXIMUM_ALLOWED is granted as it is asked for, so that it gives no right
 abbrev created_with_none : StoreState → FileAsked → ℕ → StoreState
 created_with_none = created_with (λ ask row. record row { access = record { 0 = ask.access } })
 
-a_create_with_none_breaks_it : MaximumAllowedGivesWhatThereIsBy created_with_none → ⊥
+a_create_with_none_breaks_it : RightsAreGrantedAsAskedForBy created_with_none → ⊥
 a_create_with_none_breaks_it law =
-    let gives = law (with_opens []) (asks_maximum true) 0 _ is_good_without_opens refl refl in
-    let cannot : false ≡ true = (gives.0 refl).0 in cc
+    let gives = law (with_opens []) (asks_maximum true) 0 _ is_good_without_opens refl in
+    let cannot : false ≡ true = (gives.5 refl refl).0 in cc
 
--- an open for which one generic right was asked has what this stands for
-abbrev AGenericRightStandsForRightsBy : (StoreState → FileAsked → ℕ → StoreState) → Type 0
-AGenericRightStandsForRightsBy create =
-    (state : StoreState) (ask : FileAsked) (moment : ℕ) (row : OpenRow) → GoodStore state →
-    open_of (create state ask moment).opens (create_result state ask moment).number ≡ Some row →
-    (ask.access ≡ GENERIC_READ →
-    (has_any row.access.0 FILE_READ_DATA ≡ true) × (has_any row.access.0 rights_to_change ≡ false))
-    × (ask.access ≡ GENERIC_EXECUTE →
-    (has_any row.access.0 FILE_EXECUTE ≡ true) × (has_any row.access.0 rights_to_change ≡ false))
-    × (ask.access ≡ GENERIC_WRITE →
-    (has_any row.access.0 FILE_WRITE_DATA ≡ true) × (has_any row.access.0 FILE_READ_DATA ≡ false))
-    × (ask.access ≡ GENERIC_ALL → row.access.0 ≡ FILE_ALL_ACCESS)
-
-a_generic_right_stands_for_rights : AGenericRightStandsForRights ≡ AGenericRightStandsForRightsBy created
-a_generic_right_stands_for_rights = refl
-
-a_create_with_none_gives_no_reading : AGenericRightStandsForRightsBy created_with_none → ⊥
+a_create_with_none_gives_no_reading : RightsAreGrantedAsAskedForBy created_with_none → ⊥
 a_create_with_none_gives_no_reading law =
     let gives = law (with_opens []) (record asks_alone { access = GENERIC_READ }) 0 _ is_good_without_opens refl in
-    let cannot : false ≡ true = (gives.0 refl).0 in cc
+    let cannot : false ≡ true = (gives.1 refl).0 in cc
 
 -- a CLOSE ends the open of its number, and no other
 abbrev ACloseEndsItsOpenAloneBy : (StoreState → ℕ → StoreState) → Type 0

@@ -3,6 +3,7 @@
 -- shows; then come the wrong definitions, and the proofs that the law is false of them.
 use Rattle.std.proofs.Common.{◌≡◌, ◌≢◌, ℕ, ◌<◌, bit_and, Bool, true, false, List, [], ◌∷◌, length, Some}
 use Rattle.std.proofs.Common.{lit<, refl, ap, arith, ◌∙◌}
+use Rattle.std.specs.List.{AllByRecursion}
 use Rattle.std.specs.Option.{option_map_or}
 use Rattle.smb_tree.specs.Content.{Path, Row, numbered, changed, written, resized}
 use Rattle.smb_tree.specs.Entries.{Entry}
@@ -14,7 +15,6 @@ use Rattle.smb_opens.specs.SetInfo.{delete_set_through, size_set_through, basic_
 use Rattle.smb_opens.specs.State.{StoreState}
 use Rattle.smb_name_laws.specs.Settings.{IsOpenOf, IsTimeSet, HasKeptItsName}
 use Rattle.smb_name_laws.specs.Settings.{AMarkIsSetAsAskedFor, TimesAreSetAsAskedFor, AWriteIsTheLastOne}
-use Rattle.smb_name_laws.specs.Settings.{ASizeIsTheLastWrite}
 use Rattle.smb_name_laws.proofs.ExampleStore.{path, file, sharing, with_opens}
 
 -- the store with open 2, of the file
@@ -33,9 +33,7 @@ abbrev AMarkIsSetAsAskedForBy : (StoreState → ℕ → Bool → StoreState) →
 AMarkIsSetAsAskedForBy set =
     (state : StoreState) (number : ℕ) (is_deleted : Bool) (row : OpenRow) (path : Path) (entry : Entry) →
     IsOpenOf state number row path entry →
-    let after = (set state number is_deleted).tree.rows in
-    (numbered after row.entry ≡ Some (path, record entry { mark = is_deleted }))
-    × ((other : ℕ) → other ≢ row.entry → numbered after other ≡ numbered state.tree.rows other)
+    numbered (set state number is_deleted).tree.rows row.entry ≡ Some (path, record entry { mark = is_deleted })
 
 a_mark_is_set_as_asked_for : AMarkIsSetAsAskedFor ≡ AMarkIsSetAsAskedForBy delete_set_through
 a_mark_is_set_as_asked_for = refl
@@ -47,7 +45,7 @@ set_nothing state number is_deleted = state
 a_set_of_nothing_breaks_it : AMarkIsSetAsAskedForBy set_nothing → ⊥
 a_set_of_nothing_breaks_it law =
     let set = law with_file 2 true sharing path file file_is_open in
-    let left : false ≡ true = found_has (λ row. row.1.mark) _ _ set.0 in
+    let left : false ≡ true = found_has (λ row. row.1.mark) _ _ set in
     cc
 
 -- after a SET_INFO of times and attributes the open's entry has the times that were asked for
@@ -65,7 +63,6 @@ TimesAreSetAsAskedForBy set =
     × (ask.attributes.0 ≢ 0 → after.basic.attributes.0 ≡ bit_and ask.attributes.0 0x27)
     × (ask.attributes.0 ≡ 0 → after.basic.attributes.0 ≡ bit_and was.attributes.0 0x27)
     × HasKeptItsName after entry × (after.bytes ≡ entry.bytes)
-    × ((other : ℕ) → other ≢ row.entry → numbered rows other ≡ numbered state.tree.rows other)
 
 times_are_set_as_asked_for : TimesAreSetAsAskedFor ≡ TimesAreSetAsAskedForBy basic_set_through
 times_are_set_as_asked_for = refl
@@ -101,21 +98,23 @@ times_set_and_mark_break_it law =
     let after = law with_file 2 asks_creation 0 sharing path file file_is_open in
     let marked : true ≡ false = found_has (λ row. row.1.mark) _ (path, after.0) after.1 ∙ after.8.mark in cc
 
--- a WRITE of some bytes is the last write and the last change of its file
-abbrev AWriteIsTheLastOneBy : (StoreState → ℕ → ℕ → List ℕ → ℕ → StoreState) → Type 0
-AWriteIsTheLastOneBy write =
-    (state : StoreState) (number offset : ℕ) (buffer : List ℕ) (moment : ℕ) (row : OpenRow) (path : Path)
+-- a WRITE of some bytes, and a SET_INFO of a size, is the last write and the last change of its file
+abbrev AWriteIsTheLastOneBy :
+    (StoreState → ℕ → ℕ → List ℕ → ℕ → StoreState) → (StoreState → ℕ → ℕ → Bool → ℕ → StoreState) → Type 0
+AWriteIsTheLastOneBy write set =
+    (state : StoreState) (number offset size : ℕ) (buffer : List ℕ) (moment : ℕ) (row : OpenRow) (path : Path)
     (entry : Entry) →
     IsOpenOf state number row path entry → 0 < length buffer →
-    let rows = (write state number offset buffer moment).tree.rows in
-    (after : Entry) × (numbered rows row.entry ≡ Some (path, after))
+    AllByRecursion
+    (λ (later : StoreState).
+    (after : Entry) × (numbered later.tree.rows row.entry ≡ Some (path, after))
     × (after.basic.last_write_time ≡ moment) × (after.basic.change_time ≡ moment)
     × (after.basic.creation_time ≡ entry.basic.creation_time)
     × (after.basic.last_access_time ≡ entry.basic.last_access_time)
-    × HasKeptItsName after entry
-    × ((other : ℕ) → other ≢ row.entry → numbered rows other ≡ numbered state.tree.rows other)
+    × HasKeptItsName after entry)
+    (write state number offset buffer moment ∷ set state number size false moment ∷ [])
 
-a_write_is_the_last_one : AWriteIsTheLastOne ≡ AWriteIsTheLastOneBy written_to
+a_write_is_the_last_one : AWriteIsTheLastOne ≡ AWriteIsTheLastOneBy written_to size_set_through
 a_write_is_the_last_one = refl
 
 -- a store with other entries
@@ -129,27 +128,11 @@ written_without_times state number offset buffer moment = option_map_or
     (changed (λ entry. record entry { bytes = written offset buffer entry.bytes }) state.tree.rows row.entry))
     (open_of state.opens number) state
 
-a_write_without_times_breaks_it : AWriteIsTheLastOneBy written_without_times → ⊥
+a_write_without_times_breaks_it : AWriteIsTheLastOneBy written_without_times size_set_through → ⊥
 a_write_without_times_breaks_it law =
-    let after = law with_file 2 0 (8 ∷ []) 9 sharing path file file_is_open (lit< tt) in
+    let after = (law with_file 2 0 5 (8 ∷ []) 9 sharing path file file_is_open (lit< tt)).0 in
     let old : 0 ≡ 9 = found_has (λ row. row.1.basic.last_write_time) _ (path, after.0) after.1 ∙ after.2 in
     omega (arith, old)
-
--- a SET_INFO of a size is the last write and the last change of its file likewise
-abbrev ASizeIsTheLastWriteBy : (StoreState → ℕ → ℕ → Bool → ℕ → StoreState) → Type 0
-ASizeIsTheLastWriteBy set =
-    (state : StoreState) (number size moment : ℕ) (row : OpenRow) (path : Path) (entry : Entry) →
-    IsOpenOf state number row path entry →
-    let rows = (set state number size false moment).tree.rows in
-    (after : Entry) × (numbered rows row.entry ≡ Some (path, after))
-    × (after.basic.last_write_time ≡ moment) × (after.basic.change_time ≡ moment)
-    × (after.basic.creation_time ≡ entry.basic.creation_time)
-    × (after.basic.last_access_time ≡ entry.basic.last_access_time)
-    × HasKeptItsName after entry
-    × ((other : ℕ) → other ≢ row.entry → numbered rows other ≡ numbered state.tree.rows other)
-
-a_size_is_the_last_write : ASizeIsTheLastWrite ≡ ASizeIsTheLastWriteBy size_set_through
-a_size_is_the_last_write = refl
 
 -- wrong: a SET_INFO of a size leaves the times of its file
 abbrev size_set_without_times : StoreState → ℕ → ℕ → Bool → ℕ → StoreState
@@ -158,8 +141,8 @@ size_set_without_times state number size is_allocation moment = option_map_or
     (changed (λ entry. record entry { bytes = resized size entry.bytes }) state.tree.rows row.entry))
     (open_of state.opens number) state
 
-a_size_without_times_breaks_it : ASizeIsTheLastWriteBy size_set_without_times → ⊥
+a_size_without_times_breaks_it : AWriteIsTheLastOneBy written_to size_set_without_times → ⊥
 a_size_without_times_breaks_it law =
-    let after = law with_file 2 5 9 sharing path file file_is_open in
+    let after = (law with_file 2 0 5 (8 ∷ []) 9 sharing path file file_is_open (lit< tt)).1.0 in
     let old : 0 ≡ 9 = found_has (λ row. row.1.basic.last_write_time) _ (path, after.0) after.1 ∙ after.2 in
     omega (arith, old)

@@ -1,7 +1,7 @@
 -- Wrong rules of sharing, each with a law of specs/Sharing that refuses it.
 -- A law whose name ends in By says of any definition of a CREATE's status what that of specs/ says of the right one, as
 -- the line below it shows; then come the wrong rule, and the proof that the law is false of the status by it.
-use Rattle.std.proofs.Common.{◌≡◌, ◌≢◌, ℕ, [], ◌∷◌, ◌++◌, take, drop, Bool, true, false, ◌&&◌, Option, Some, refl}
+use Rattle.std.proofs.Common.{◌≡◌, ◌≢◌, ◌⊎◌, inl, inr, bit_and, ℕ, [], ◌∷◌, ◌++◌, take, drop, Bool, true, false, ◌&&◌, Option, Some, refl}
 use Rattle.std.specs.List.{list_any}
 use Rattle.std.specs.Option.{option_map_or}
 use Rattle.smb_wire.specs.Access.{FILE_SHARE_ALL}
@@ -14,25 +14,24 @@ use Rattle.smb_access.specs.Access.{granted}
 use Rattle.smb_access.specs.Asked.{FileAsked}
 use Rattle.smb_access.specs.Found.{is_read_only_file}
 use Rattle.smb_access.specs.Opens.{open_of}
-use Rattle.smb_access.specs.Parts.{is_on_entry, Use, use_of, share_asked}
+use Rattle.smb_access.specs.Parts.{is_on_entry, Use, use_of}
 use Rattle.smb_access.specs.Sharing.{is_shared_access, is_kept_out, is_conflict, use_asked}
 use Rattle.smb_access.specs.StatusRows.{first_status}
-use Rattle.smb_opens.specs.Create.{create_rows, create_status}
+use Rattle.smb_opens.specs.Create.{access_granted, create_rows, create_status}
 use Rattle.smb_opens.specs.Found.{entry_asked}
 use Rattle.smb_opens.specs.Good.{GoodStore}
 use Rattle.smb_opens.specs.State.{StoreState}
-use Rattle.smb_name_laws.specs.Sharing.{WhoSharesNothingIsAlone, WhoWouldShareNothingIsKeptOut, WhoSharesIsNotRefused}
-use Rattle.smb_name_laws.specs.Sharing.{is_to_use, IsInUse, LetEachOtherBe}
+use Rattle.smb_name_laws.specs.Sharing.{WhatIsNotSharedIsNotGranted, WhoSharesIsNotRefused, is_to_use}
 use Rattle.smb_name_laws.proofs.ExampleStore.{file, sharing, unsharing, with_opens, file_name, asks, open_among}
 use Rattle.smb_name_laws.proofs.ExampleStore.{is_good_with_sharing}
 
 -- a request conflicts with an open of its entry by a rule, of what the request is to do and to share, and of what the
 -- open may do and shares
 abbrev conflicts_by : (Use → Use → Bool) → StoreState → FileAsked → Option Entry → Bool
-conflicts_by rule state ask entry = option_map_or
-    (λ found.
-    let wanted : Use = use_asked ask (granted ask.access ask.read_only (is_read_only_file (Some found))) in
-    list_any (λ row. is_on_entry found.number row && rule wanted (use_of row)) state.opens)
+conflicts_by rule state ask entry =
+    let wanted : Use = use_asked ask (granted ask.access ask.read_only (is_read_only_file entry)) in
+    option_map_or
+    (λ found. list_any (λ row. is_on_entry found.number row && rule wanted (use_of row)) state.opens)
     entry false
 
 -- the status of a CREATE with such a rule in row 15 of docs/PROFILE.md, which is the seventeenth, behind 6b and 9b
@@ -50,49 +49,47 @@ right_status = refl
 abbrev opens_file : ℕ → FileAsked
 opens_file share = asks file_name share Open
 
--- while an open in use shares nothing, no CREATE that is to read, write or delete the entry succeeds
-abbrev WhoSharesNothingIsAloneBy : (StoreState → FileAsked → NtStatus) → Type 0
-WhoSharesNothingIsAloneBy status =
-    (state : StoreState) (ask : FileAsked) (number : ℕ) (row : OpenRow) → IsInUse state ask number row →
-    row.share.0 ≡ 0 → is_to_use state ask ≡ true → status state ask ≢ Success
+-- no CREATE is granted what an open in use does not share, or is to use an entry where it or such an open shares nothing
+abbrev WhatIsNotSharedIsNotGrantedBy : (StoreState → FileAsked → NtStatus) → Type 0
+WhatIsNotSharedIsNotGrantedBy status =
+    (state : StoreState) (ask : FileAsked) (entry : Entry) (number : ℕ) (row : OpenRow) →
+    entry_asked state ask ≡ Some entry → open_of state.opens number ≡ Some row → row.entry ≡ entry.number →
+    is_shared_access row.access ≡ true →
+    (is_kept_out (access_granted state ask) row.share ≡ true → status state ask ≢ Success)
+    × ((row.share.0 ≡ 0) ⊎ (bit_and ask.share FILE_SHARE_ALL ≡ 0) → is_to_use state ask ≡ true →
+    status state ask ≢ Success)
 
-who_shares_nothing_is_alone : WhoSharesNothingIsAlone ≡ WhoSharesNothingIsAloneBy create_status
-who_shares_nothing_is_alone = refl
+what_is_not_shared_is_not_granted : WhatIsNotSharedIsNotGranted ≡ WhatIsNotSharedIsNotGrantedBy create_status
+what_is_not_shared_is_not_granted = refl
 
 -- wrong: only what the new open shares counts, so an open that shares nothing keeps no one out
 abbrev conflict_by_new_share : Use → Use → Bool
 conflict_by_new_share new old = is_shared_access new.0 && is_shared_access old.0 && is_kept_out old.0 new.1
 
-a_conflict_by_new_share_breaks_it : WhoSharesNothingIsAloneBy (status_by conflict_by_new_share) → ⊥
+a_conflict_by_new_share_breaks_it : WhatIsNotSharedIsNotGrantedBy (status_by conflict_by_new_share) → ⊥
 a_conflict_by_new_share_breaks_it law =
-    law (with_opens (unsharing ∷ [])) (opens_file FILE_SHARE_ALL) 2 unsharing
-    (record { entry = file; asked = refl; opened = refl; own = refl; uses = refl }) refl refl refl
-
--- nor does one that would share nothing, while an open is in use
-abbrev WhoWouldShareNothingIsKeptOutBy : (StoreState → FileAsked → NtStatus) → Type 0
-WhoWouldShareNothingIsKeptOutBy status =
-    (state : StoreState) (ask : FileAsked) (number : ℕ) (row : OpenRow) → IsInUse state ask number row →
-    (share_asked ask).0 ≡ 0 → is_to_use state ask ≡ true → status state ask ≢ Success
-
-who_would_share_nothing_is_kept_out : WhoWouldShareNothingIsKeptOut ≡ WhoWouldShareNothingIsKeptOutBy create_status
-who_would_share_nothing_is_kept_out = refl
+    (law (with_opens (unsharing ∷ [])) (opens_file FILE_SHARE_ALL) file 2 unsharing refl refl refl refl).1
+    (inl refl) refl refl
 
 -- wrong: only what the old open shares counts, so one that would share nothing is let in beside it
 abbrev conflict_by_old_share : Use → Use → Bool
 conflict_by_old_share new old = is_shared_access new.0 && is_shared_access old.0 && is_kept_out new.0 old.1
 
-a_conflict_by_old_share_breaks_it : WhoWouldShareNothingIsKeptOutBy (status_by conflict_by_old_share) → ⊥
+a_conflict_by_old_share_breaks_it : WhatIsNotSharedIsNotGrantedBy (status_by conflict_by_old_share) → ⊥
 a_conflict_by_old_share_breaks_it law =
-    law (with_opens (sharing ∷ [])) (opens_file 0) 2 sharing
-    (record { entry = file; asked = refl; opened = refl; own = refl; uses = refl }) refl refl refl
+    (law (with_opens (sharing ∷ [])) (opens_file 0) file 2 sharing refl refl refl refl).1 (inr refl) refl refl
 
--- no CREATE is refused for sharing, where it and each open of its entry let each other be
+-- no CREATE is refused for sharing, where it and each open of its entry share what the other is to do, or where it is to
+-- do none of what is shared
 abbrev WhoSharesIsNotRefusedBy : (StoreState → FileAsked → NtStatus) → Type 0
 WhoSharesIsNotRefusedBy status =
-    (state : StoreState) (ask : FileAsked) (entry : Entry) → GoodStore state → entry_asked state ask ≡ Some entry →
+    (state : StoreState) (ask : FileAsked) →
+    let wanted = use_asked ask (access_granted state ask) in
+    ((entry : Entry) → GoodStore state → entry_asked state ask ≡ Some entry →
     ((number : ℕ) (row : OpenRow) → open_of state.opens number ≡ Some row → row.entry ≡ entry.number →
-    LetEachOtherBe state ask row) →
-    status state ask ≢ SharingViolation
+    (is_kept_out wanted.0 row.share ≡ false) × (is_kept_out row.access wanted.1 ≡ false)) →
+    status state ask ≢ SharingViolation)
+    × (is_to_use state ask ≡ false → status state ask ≢ SharingViolation)
 
 who_shares_is_not_refused : WhoSharesIsNotRefused ≡ WhoSharesIsNotRefusedBy create_status
 who_shares_is_not_refused = refl
@@ -103,6 +100,11 @@ conflict_by_use new old = is_shared_access new.0 && is_shared_access old.0
 
 a_conflict_by_use_breaks_it : WhoSharesIsNotRefusedBy (status_by conflict_by_use) → ⊥
 a_conflict_by_use_breaks_it law =
-    law (with_opens (sharing ∷ [])) (opens_file FILE_SHARE_ALL) file is_good_with_sharing refl
-    (λ number row found own. open_among (LetEachOtherBe (with_opens (sharing ∷ [])) (opens_file FILE_SHARE_ALL))
-    (sharing ∷ []) number row (record { asked = refl; held = refl }, tt) found) refl
+    (law (with_opens (sharing ∷ [])) (opens_file FILE_SHARE_ALL)).0 file is_good_with_sharing refl
+    (λ number row found own. open_among lets (sharing ∷ []) number row ((refl, refl), tt) found) refl
+  where
+    lets : OpenRow → Type 0
+    lets row =
+        let wanted = use_asked (opens_file FILE_SHARE_ALL)
+        (access_granted (with_opens (sharing ∷ [])) (opens_file FILE_SHARE_ALL)) in
+        (is_kept_out wanted.0 row.share ≡ false) × (is_kept_out row.access wanted.1 ≡ false)

@@ -1,13 +1,12 @@
 -- The numbers of opens ([MS-SMB2] 3.3.1.10) and of entries are given once, in a user's words.
-use Rattle.std.specs.Prelude.{◌≡◌, ℕ, ◌<◌, ◌≤◌, true, List, ◌∷◌, None, Some, is_some}
+use Rattle.std.specs.Prelude.{◌≡◌, ℕ, ◌<◌, ◌≤◌, List, None, Some}
 use Rattle.std.specs.List.{AllByRecursion}
 use Rattle.smb_tree.specs.Content.{Row, numbered}
 use Rattle.smb_access.specs.declared.open_row.OpenRow.{OpenRow}
 use Rattle.smb_access.specs.Opens.{open_of, AreAllBelow}
-use Rattle.smb_opens.specs.Close.{closed}
 use Rattle.smb_opens.specs.Good.{GoodStore}
 use Rattle.smb_opens.specs.State.{StoreState}
-use Rattle.smb_opens.specs.Steps.{StoreStep, stepped, stepped_all}
+use Rattle.smb_opens.specs.Steps.{StoreStep, stepped_all}
 
 -- from one store to a later one the next number of an open never falls, and each open's is below it; a number that was
 -- given, and names no open, names none later; and one that names an open names no other later: it is as it was, but for
@@ -30,27 +29,10 @@ pub record GivesEachEntryOnce (before after : StoreState) : Type 0 where
   pub same : (number : ℕ) (one other : Row) → numbered before.tree.rows number ≡ Some one →
       numbered after.tree.rows number ≡ Some other → other.1.kind ≡ one.1.kind
 
--- whatever requests are performed, no open's number is given twice
-abbrev pub NoOpensNumberIsGivenTwice : Type 0
-NoOpensNumberIsGivenTwice =
-    (state : StoreState) (steps : List StoreStep) → GoodStore state →
-    GivesEachOpenOnce state (stepped_all state steps)
-
--- and no entry's
-abbrev pub NoEntrysNumberIsGivenTwice : Type 0
-NoEntrysNumberIsGivenTwice =
-    (state : StoreState) (steps : List StoreStep) → GoodStore state →
-    GivesEachEntryOnce state (stepped_all state steps)
-
--- once an open is closed, its number names no open again
-abbrev pub AClosedOpenStaysClosed : Type 0
-AClosedOpenStaysClosed =
-    (state : StoreState) (number : ℕ) (steps : List StoreStep) → GoodStore state →
-    is_some (open_of state.opens number) ≡ true → open_of (stepped_all (closed state number) steps).opens number ≡ None
-
--- once an entry is gone, after whatever request, its number names no entry again
-abbrev pub AnEntryThatIsGoneStaysGone : Type 0
-AnEntryThatIsGoneStaysGone =
-    (state : StoreState) (entry : ℕ) (step : StoreStep) (steps : List StoreStep) → GoodStore state →
-    is_some (numbered state.tree.rows entry) ≡ true → numbered (stepped state step).tree.rows entry ≡ None →
-    numbered (stepped_all state (step ∷ steps)).tree.rows entry ≡ None
+-- whatever requests are performed, and whatever later ones, no number of an open or an entry is given twice: so the number
+-- of an open that is closed names no open again, and that of an entry that is gone no entry
+abbrev pub NoNumberIsGivenTwice : Type 0
+NoNumberIsGivenTwice =
+    (state : StoreState) (steps later : List StoreStep) → GoodStore state →
+    let between = stepped_all state steps in
+    GivesEachOpenOnce between (stepped_all between later) × GivesEachEntryOnce between (stepped_all between later)

@@ -1,5 +1,5 @@
 -- What the open is like that a CREATE makes ([MS-SMB2] 3.3.5.9), and which open a CLOSE ends, in a user's words.
-use Rattle.std.specs.Prelude.{◌≡◌, ◌≢◌, ℕ, true, false, bit_and, None, Some}
+use Rattle.std.specs.Prelude.{◌≡◌, ◌≢◌, ℕ, Bool, true, false, bit_and, None, Some}
 use Rattle.smb_wire.specs.Access.{has_any, FILE_READ_DATA, FILE_WRITE_DATA, FILE_EXECUTE}
 use Rattle.smb_wire.specs.Access.{FILE_ALL_ACCESS, FILE_SHARE_ALL}
 use Rattle.smb_wire.specs.Access.{MAXIMUM_ALLOWED, GENERIC_ALL, GENERIC_EXECUTE, GENERIC_WRITE, GENERIC_READ}
@@ -28,34 +28,31 @@ AnOpenIsAsItWasAskedFor =
     × (row.share.0 ≡ bit_and ask.share FILE_SHARE_ALL)
     × (row.delete_on_close ≡ has_any ask.options FILE_DELETE_ON_CLOSE)
 
--- an open for which rights alone were asked, and neither MAXIMUM_ALLOWED nor a generic right, has these rights and no
--- other ([MS-SMB2] 2.2.13.1)
-abbrev pub RightsAreGrantedAsAskedFor : Type 0
-RightsAreGrantedAsAskedFor =
-    (state : StoreState) (ask : FileAsked) (moment : ℕ) (row : OpenRow) → GoodStore state →
-    bit_and ask.access FILE_ALL_ACCESS ≡ ask.access →
-    open_of (created state ask moment).opens (create_result state ask moment).number ≡ Some row →
-    row.access.0 ≡ ask.access
-
 -- the rights to change something ([MS-SMB2] 2.2.13.1): FILE_WRITE_DATA 2, FILE_APPEND_DATA 4, FILE_WRITE_EA 0x10,
 -- FILE_DELETE_CHILD 0x40, FILE_WRITE_ATTRIBUTES 0x100, DELETE 0x10000, WRITE_DAC 0x40000, WRITE_OWNER 0x80000
 abbrev pub rights_to_change : ℕ
 rights_to_change = 0xD0156
 
--- an open for which one generic right was asked has what this stands for: GENERIC_READ the right to read bytes, and
+-- an open for which rights alone were asked, and neither MAXIMUM_ALLOWED nor a generic right, has these rights and no
+-- other. One for which one generic right was asked has what this stands for: GENERIC_READ the right to read bytes, and
 -- none to change something; GENERIC_EXECUTE that to execute, and none to change something; GENERIC_WRITE that to write
--- bytes, and not that to read them; GENERIC_ALL every right ([MS-SMB2] 2.2.13.1)
-abbrev pub AGenericRightStandsForRights : Type 0
-AGenericRightStandsForRights =
+-- bytes, and not that to read them; GENERIC_ALL every right. MAXIMUM_ALLOWED gives a session that may only read the right
+-- to read bytes, and none to change something; and another session every right, but of a file that is read-only
+-- ([MS-SMB2] 2.2.13.1, 3.3.5.9)
+abbrev pub RightsAreGrantedAsAskedFor : Type 0
+RightsAreGrantedAsAskedFor =
     (state : StoreState) (ask : FileAsked) (moment : ℕ) (row : OpenRow) → GoodStore state →
     open_of (created state ask moment).opens (create_result state ask moment).number ≡ Some row →
-    (ask.access ≡ GENERIC_READ →
-    (has_any row.access.0 FILE_READ_DATA ≡ true) × (has_any row.access.0 rights_to_change ≡ false))
-    × (ask.access ≡ GENERIC_EXECUTE →
-    (has_any row.access.0 FILE_EXECUTE ≡ true) × (has_any row.access.0 rights_to_change ≡ false))
-    × (ask.access ≡ GENERIC_WRITE →
-    (has_any row.access.0 FILE_WRITE_DATA ≡ true) × (has_any row.access.0 FILE_READ_DATA ≡ false))
+    let has : ℕ → Bool = has_any row.access.0 in
+    (bit_and ask.access FILE_ALL_ACCESS ≡ ask.access → row.access.0 ≡ ask.access)
+    × (ask.access ≡ GENERIC_READ → (has FILE_READ_DATA ≡ true) × (has rights_to_change ≡ false))
+    × (ask.access ≡ GENERIC_EXECUTE → (has FILE_EXECUTE ≡ true) × (has rights_to_change ≡ false))
+    × (ask.access ≡ GENERIC_WRITE → (has FILE_WRITE_DATA ≡ true) × (has FILE_READ_DATA ≡ false))
     × (ask.access ≡ GENERIC_ALL → row.access.0 ≡ FILE_ALL_ACCESS)
+    × (ask.access ≡ MAXIMUM_ALLOWED → ask.read_only ≡ true →
+    (has FILE_READ_DATA ≡ true) × (has rights_to_change ≡ false))
+    × (ask.access ≡ MAXIMUM_ALLOWED → ask.read_only ≡ false → is_read_only_file (entry_asked state ask) ≡ false →
+    row.access.0 ≡ FILE_ALL_ACCESS)
 
 -- no CREATE that succeeds gives a right to change something to a session that may only read
 abbrev pub AReaderGetsNoRightToChange : Type 0
@@ -64,17 +61,6 @@ AReaderGetsNoRightToChange =
     create_status state ask ≡ Success → ask.read_only ≡ true →
     open_of (created state ask moment).opens (create_result state ask moment).number ≡ Some row →
     has_any row.access.0 rights_to_change ≡ false
-
--- MAXIMUM_ALLOWED gives a session that may only read the right to read bytes, and none to change something; and another
--- session every right, but of a file that is read-only ([MS-SMB2] 3.3.5.9)
-abbrev pub MaximumAllowedGivesWhatThereIs : Type 0
-MaximumAllowedGivesWhatThereIs =
-    (state : StoreState) (ask : FileAsked) (moment : ℕ) (row : OpenRow) → GoodStore state →
-    ask.access ≡ MAXIMUM_ALLOWED →
-    open_of (created state ask moment).opens (create_result state ask moment).number ≡ Some row →
-    (ask.read_only ≡ true →
-    (has_any row.access.0 FILE_READ_DATA ≡ true) × (has_any row.access.0 rights_to_change ≡ false))
-    × (ask.read_only ≡ false → is_read_only_file (entry_asked state ask) ≡ false → row.access.0 ≡ FILE_ALL_ACCESS)
 
 -- a CLOSE ends the open of its number, and no other ([MS-SMB2] 3.3.5.10)
 abbrev pub ACloseEndsItsOpenAlone : Type 0

@@ -1,7 +1,6 @@
 //! The laws of creates.
 
 ghost use Rattle.smb_name_laws.specs.Creates.{ACreateFindsItsEntry, AnOverwriteLeavesNoBytes, AnAbsentEntryIsMade};
-ghost use Rattle.smb_name_laws.specs.Creates.{ANewEntryIsOfItsMoment, ANewEntryIsSpelledAsAskedFor};
 ghost use Rattle.smb_name_laws.specs.Creates.{ACreateChangesItsEntryAlone};
 
 /// Once a CREATE is performed, its name finds the entry that its open is of, and that this open shows. Where it
@@ -13,7 +12,5 @@ pub fn laws_of_creates()
     ensures finds { ACreateFindsItsEntry }
     ensures no_bytes { AnOverwriteLeavesNoBytes }
     ensures made { AnAbsentEntryIsMade }
-    ensures times { ANewEntryIsOfItsMoment }
-    ensures spelled { ANewEntryIsSpelledAsAskedFor }
     ensures others { ACreateChangesItsEntryAlone }
 {}

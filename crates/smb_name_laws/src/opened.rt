@@ -1,8 +1,7 @@
 //! The laws of opens that are made, and of their end.
 
 ghost use Rattle.smb_name_laws.specs.Opened.{AnOpenIsAsItWasAskedFor, RightsAreGrantedAsAskedFor};
-ghost use Rattle.smb_name_laws.specs.Opened.{AReaderGetsNoRightToChange, MaximumAllowedGivesWhatThereIs};
-ghost use Rattle.smb_name_laws.specs.Opened.{AGenericRightStandsForRights, ACloseEndsItsOpenAlone};
+ghost use Rattle.smb_name_laws.specs.Opened.{AReaderGetsNoRightToChange, ACloseEndsItsOpenAlone};
 
 /// The open of the number that a CREATE returns is a new one, of the session and the tree connect that asked. It shares
 /// what was asked for of reading, writing and deleting, and deletes its entry once it is closed exactly where
@@ -14,8 +13,6 @@ ghost use Rattle.smb_name_laws.specs.Opened.{AGenericRightStandsForRights, AClos
 pub fn laws_of_opens()
     ensures asked { AnOpenIsAsItWasAskedFor }
     ensures rights { RightsAreGrantedAsAskedFor }
-    ensures generic { AGenericRightStandsForRights }
     ensures readers { AReaderGetsNoRightToChange }
-    ensures maximum { MaximumAllowedGivesWhatThereIs }
     ensures ends { ACloseEndsItsOpenAlone }
 {}

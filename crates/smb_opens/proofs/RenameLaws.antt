@@ -12,10 +12,8 @@ use Rattle.smb_tree.specs.Parts.{moved_row, without_other, moved_rows}
 use Rattle.smb_tree.proofs.Apart.{numbered-changed}
 use Rattle.smb_tree.proofs.Renamed.{numbered-renamed}
 use Rattle.smb_access.specs.declared.open_row.OpenRow.{OpenRow}
-use Rattle.smb_opens.specs.Good.{GoodStore}
-use Rattle.smb_opens.specs.Laws.{kind_and_bytes}
+use Rattle.smb_opens.specs.Laws.{ARenameKeepsBytes}
 use Rattle.smb_access.specs.Opens.{open_of}
-use Rattle.smb_entry.specs.Rename.{path_named}
 use Rattle.smb_entry.specs.Parts.{dated, renamed_tree}
 use Rattle.smb_opens.specs.Renames.{renamed_through}
 use Rattle.smb_opens.specs.State.{StoreState}
@@ -23,6 +21,10 @@ use Rattle.smb_opens.proofs.Once.{AreOnce, once_of_apart, numbered-once}
 
 through : (state : StoreState) (number : ℕ) (name : List ℕ) (moment : ℕ) (row : OpenRow) → open_of state.opens number ≡ Some row → renamed_through state number name moment ≡ record state { tree = renamed_tree state.tree row.entry (path_spelled name) moment }
 through state number name moment row one = ap (λ (o : Option OpenRow). option_map_or (λ (r : OpenRow). let x : StoreState = record state { tree = renamed_tree state.tree r.entry (path_spelled name) moment } in x) o state) one
+
+-- an entry's kind and bytes, where it exists
+abbrev kind_and_bytes : Option Row → Option (Kind × List ℕ)
+kind_and_bytes = option_map (λ row. (row.1.kind, row.1.bytes))
 
 moved_by : (from : Path) (parts : List (List ℕ)) (o : Option Row) → kind_and_bytes (option_map (moved_row from parts) o) ≡ kind_and_bytes o
 moved_by from parts None = refl
@@ -63,17 +65,10 @@ moved_kept tree m k parts a other =
           ∙ ap kind_and_bytes (left_by tree.rows m k (entry_at tree.rows (folded_path parts)) a other)
     ]
 
-pub rename_keeps : (state : StoreState) (number : ℕ) (name : List ℕ) (moment : ℕ) (row : OpenRow) → GoodStore state → open_of state.opens number ≡ Some row →
-    ((renamed_through state number name moment).opens ≡ state.opens)
-    × ((renamed_through state number name moment).locks ≡ state.locks)
-    × ((entry : ℕ) → (number_at state.tree.rows (path_named name) ≡ Some entry → entry ≡ row.entry) →
-    kind_and_bytes (numbered (renamed_through state number name moment).tree.rows entry) ≡ kind_and_bytes (numbered state.tree.rows entry))
-rename_keeps state number name moment row good one =
-    let after = through state number name moment row one in (
-      ap (λ (s : StoreState). s.opens) after,
-      ap (λ (s : StoreState). s.locks) after,
-      λ entry other. ap (λ (s : StoreState). kind_and_bytes (numbered s.tree.rows entry)) after
-          ∙ ap kind_and_bytes (numbered-changed (dated moment) (moved state.tree row.entry (path_spelled name)).rows row.entry entry (λ _. refl))
-          ∙ dated_by moment (entry == row.entry) (numbered (moved state.tree row.entry (path_spelled name)).rows entry)
-          ∙ moved_kept state.tree row.entry entry (path_spelled name) (once_of_apart state.tree.rows good.tree.apart) other,
-    )
+pub rename_keeps : ARenameKeepsBytes
+rename_keeps state number name moment row entry good one other =
+    let after = through state number name moment row one in
+    ap (λ (s : StoreState). kind_and_bytes (numbered s.tree.rows entry)) after
+    ∙ ap kind_and_bytes (numbered-changed (dated moment) (moved state.tree row.entry (path_spelled name)).rows row.entry entry (λ _. refl))
+    ∙ dated_by moment (entry == row.entry) (numbered (moved state.tree row.entry (path_spelled name)).rows entry)
+    ∙ moved_kept state.tree row.entry entry (path_spelled name) (once_of_apart state.tree.rows good.tree.apart) other

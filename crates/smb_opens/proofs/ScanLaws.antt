@@ -11,7 +11,7 @@ use Rattle.smb_access.specs.Parts.{has_number, ArePresent, Use, AreCompatible, u
 use Rattle.smb_access.specs.Sharing.{is_conflict}
 use Rattle.smb_opens.specs.Good.{GoodStore, IsKept, IsMasked}
 use Rattle.smb_opens.specs.Parts.{AreMasked}
-use Rattle.smb_opens.specs.Laws.{LeavesScan}
+use Rattle.smb_opens.specs.Laws.{AScanIsOfOneOpen}
 use Rattle.smb_opens.specs.Scans.{scan_set}
 use Rattle.smb_opens.specs.State.{StoreState}
 use Rattle.smb_opens.specs.Views.{open_view}
@@ -147,11 +147,13 @@ own_scanned n scan (x ∷ rows) row h =
           rw (t, t) (own_scanned n scan rows row later))
     ] refl
 
-pub scan_leaves : (state : StoreState) (n : ℕ) (scan : Scan) → LeavesScan state n scan
-scan_leaves state n scan = record {
-  beside = (refl, refl, refl);
-  numbers = numbers_scanned n scan state.opens;
-  others = λ k d. other_same n scan state.opens k d;
-  own = λ row h. own_scanned n scan state.opens row h;
-  shown = view_same state n scan;
-}
+pub scan_leaves : AScanIsOfOneOpen
+scan_leaves state n scan = (
+  refl,
+  refl,
+  refl,
+  numbers_scanned n scan state.opens,
+  λ k d. other_same n scan state.opens k d,
+  λ row h. own_scanned n scan state.opens row h,
+  view_same state n scan,
+)

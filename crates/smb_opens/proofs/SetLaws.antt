@@ -1,63 +1,30 @@
--- What a SET_INFO leaves; and an entry that is marked isn't opened.
-use Rattle.std.proofs.Common.{◌≡◌, ◌≢◌, ◌==◌, ◌≤◌, ◌-◌, inl, inr, min, ℕ, List, [], ◌∷◌, ◌++◌, length, take, drop, replicate, slice_get, zero, suc, true, false, Bool, ◌||◌, if◌then◌else◌, Option, None, Some, refl, sym, ap, subst, arith, rules, ◌∙◌}
+-- What a SET_INFO of a size leaves; and an entry that is marked isn't opened.
+use Rattle.std.proofs.Common.{◌≡◌, ◌≢◌, ◌≤◌, ◌-◌, inl, inr, min, ℕ, List, [], ◌∷◌, ◌++◌, length, take, drop, replicate, slice_get, zero, suc, true, false, Bool, ◌||◌, if◌then◌else◌, Option, Some, refl, sym, ap, subst, arith, rules, ◌∙◌}
 use Rattle.std.proofs.lemmas.Bool.{cases_lt}
 use Rattle.std.proofs.lemmas.Bool.Decides.{nat_tests}
 use Rattle.std.proofs.lemmas.List.{take_all, drop_at, drop_all, places, same_lists}
 use Rattle.std.specs.List.{AllByRecursion, list_any}
-use Rattle.std.specs.Option.{option_map, option_map_or}
+use Rattle.std.specs.Option.{option_map_or}
 use Rattle.smb_wire.specs.declared.nt_status.NtStatus.TheVariants.{Success, DeletePending}
-use Rattle.smb_tree.specs.Content.{Path, Row, numbered, changed, resized, changed_in}
+use Rattle.smb_tree.specs.Content.{Row, numbered, changed, resized, changed_in}
 use Rattle.smb_tree.specs.Entries.{Entry}
-use Rattle.smb_tree.proofs.AfterWrites.{other_changed}
 use Rattle.smb_tree.proofs.Apart.{numbered-changed}
 use Rattle.smb_tree.proofs.Parts.{length-resized}
-use Rattle.smb_entry.specs.declared.ask.BasicAsk.{BasicAsk}
 use Rattle.smb_access.specs.declared.open_row.OpenRow.{OpenRow}
 use Rattle.smb_access.specs.Asked.{FileAsked}
 use Rattle.smb_access.specs.StatusRows.{StatusRow, first_status}
 use Rattle.smb_opens.specs.Create.{create_rows, create_status}
 use Rattle.smb_opens.specs.Found.{entry_asked}
 use Rattle.smb_access.specs.Found.{path_asked, is_pending}
-use Rattle.smb_opens.specs.Laws.{LeavesOthers, path_and_bytes}
 use Rattle.smb_access.specs.Opens.{open_of}
-use Rattle.smb_entry.specs.Parts.{delete_set, resized_file, leaves_size, size_set, entry_set}
-use Rattle.smb_opens.specs.SetInfo.{changed_through, delete_set_through, size_set_through, basic_set_through}
+use Rattle.smb_entry.specs.Parts.{resized_file, leaves_size, size_set}
+use Rattle.smb_opens.specs.SetInfo.{changed_through, size_set_through}
 use Rattle.smb_opens.specs.State.{StoreState}
 use Rattle.smb_opens.proofs.StoreSettings.{size_keeps}
 
 -- the store with the entry of an open changed
 through : (f : Entry → Entry) (state : StoreState) (number : ℕ) (row : OpenRow) → open_of state.opens number ≡ Some row → changed_through f state number ≡ record state { tree = changed_in f state.tree row.entry }
 through f state number row one = ap (λ (o : Option OpenRow). option_map_or (λ (r : OpenRow). let x : StoreState = record state { tree = changed_in f state.tree r.entry } in x) o state) one
-
--- it leaves the opens, the locks and the other entries
-pub leaves_others : (f : Entry → Entry) (state : StoreState) (number : ℕ) (row : OpenRow) → ((e : Entry) → (f e).number ≡ e.number) → open_of state.opens number ≡ Some row → LeavesOthers state (changed_through f state number) row.entry
-leaves_others f state number row k one =
-    subst (λ (s : StoreState). LeavesOthers state s row.entry) (sym (through f state number row one))
-    (record { opens = refl; locks = refl; others = λ other apart. other_changed f state.tree.rows row.entry other k apart })
-
--- and where it leaves the bytes of an entry, all of them
-bytes_by : (f : Entry → Entry) (b : Bool) (o : Option Row) → ((e : Entry) → (f e).bytes ≡ e.bytes) → path_and_bytes (if b then option_map (λ (x : Row). let y : Row = (x.0, f x.1) in y) o else o) ≡ path_and_bytes o
-bytes_by f false o s = refl
-bytes_by f true None s = refl
-bytes_by f true (Some row) s = ap (λ (bytes : List ℕ). let x : Path × List ℕ = (row.0, bytes) in Some x) (s row.1)
-
-leaves_bytes : (f : Entry → Entry) (state : StoreState) (number : ℕ) (row : OpenRow) (entry : ℕ) → ((e : Entry) → (f e).number ≡ e.number) → ((e : Entry) → (f e).bytes ≡ e.bytes) → open_of state.opens number ≡ Some row →
-    path_and_bytes (numbered (changed_through f state number).tree.rows entry) ≡ path_and_bytes (numbered state.tree.rows entry)
-leaves_bytes f state number row entry k s one =
-    ap (λ (x : StoreState). path_and_bytes (numbered x.tree.rows entry)) (through f state number row one)
-    ∙ ap path_and_bytes (numbered-changed f state.tree.rows row.entry entry k) ∙ bytes_by f (entry == row.entry) (numbered state.tree.rows entry) s
-
-pub times_set : (state : StoreState) (number : ℕ) (ask : BasicAsk) (moment : ℕ) (row : OpenRow) → open_of state.opens number ≡ Some row →
-    LeavesOthers state (basic_set_through state number ask moment) row.entry
-    × ((entry : ℕ) → path_and_bytes (numbered (basic_set_through state number ask moment).tree.rows entry) ≡ path_and_bytes (numbered state.tree.rows entry))
-times_set state number ask moment row one =
-    (leaves_others (entry_set ask moment) state number row (λ _. refl) one, λ entry. leaves_bytes (entry_set ask moment) state number row entry (λ _. refl) (λ _. refl) one)
-
-pub mark_set : (state : StoreState) (number : ℕ) (is_deleted : Bool) (row : OpenRow) → open_of state.opens number ≡ Some row →
-    LeavesOthers state (delete_set_through state number is_deleted) row.entry
-    × ((entry : ℕ) → path_and_bytes (numbered (delete_set_through state number is_deleted).tree.rows entry) ≡ path_and_bytes (numbered state.tree.rows entry))
-mark_set state number is_deleted row one =
-    (leaves_others (delete_set is_deleted) state number row (λ _. refl) one, λ entry. leaves_bytes (delete_set is_deleted) state number row entry (λ _. refl) (λ _. refl) one)
 
 -- bytes with another size
 front_resized : (size : ℕ) (bytes : List ℕ) → take (min size (length bytes)) (resized size bytes) ≡ take (min size (length bytes)) bytes

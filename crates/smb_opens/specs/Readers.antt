@@ -74,19 +74,16 @@ AReaderChangesNothing =
     (state : StoreState) (steps : List StoreStep) → AreOfReaders state steps →
     LeavesFiles state (stepped_all state steps)
 
--- through an open no WRITE and no SET_INFO succeeds
-pub record RefusesChanges (state : StoreState) (number : ℕ) : Type 0 where
-  pub writing : (most offset : ℕ) (buffer : List ℕ) → write_status state most number offset buffer ≢ Success
-  pub deleting : (is_deleted : Bool) → delete_status state number is_deleted ≢ Success
-  pub sizing : (size : ℕ) → size_status state number size ≢ Success
-  pub dating : (ask : BasicAsk) → basic_status state number ask ≢ Success
-  pub renaming : (name : List ℕ) (replace : Bool) → rename_status state number name replace ≢ Success
-
--- an open that may only read is refused each change
+-- through an open that may only read no WRITE and no SET_INFO succeeds
 abbrev pub AReadersOpenIsRefused : Type 0
 AReadersOpenIsRefused =
     (state : StoreState) (number : ℕ) (row : OpenRow) → open_of state.opens number ≡ Some row →
-    is_past_reading row.access ≡ false → RefusesChanges state number
+    is_past_reading row.access ≡ false →
+    ((most offset : ℕ) (buffer : List ℕ) → write_status state most number offset buffer ≢ Success)
+    × ((is_deleted : Bool) → delete_status state number is_deleted ≢ Success)
+    × ((size : ℕ) → size_status state number size ≢ Success)
+    × ((ask : BasicAsk) → basic_status state number ask ≢ Success)
+    × ((name : List ℕ) (replace : Bool) → rename_status state number name replace ≢ Success)
 
 -- the tree is as it was, and there is one more open, which may only read, and is not to delete its entry
 pub record OpensToRead (before after : StoreState) : Type 0 where

@@ -37,7 +37,7 @@ pub data StoreStep : Type 0 where
   closes : ℕ → StoreStep
   closes_all : Owner → StoreStep
 
--- the store after it, and after several
+-- the store after a request, and after several
 abbrev pub stepped : StoreState → StoreStep → StoreState
 stepped state (creates ask moment) = created state ask moment
 stepped state (writes number offset buffer moment) = written_to state number offset buffer moment
@@ -55,8 +55,8 @@ abbrev pub stepped_all : StoreState → List StoreStep → StoreState
 stepped_all state [] = state
 stepped_all state (step ∷ steps) = stepped_all (stepped state step) steps
 
--- it writes to the entry of a number, overwrites it, or sets its size; a rename changes no bytes, and what it replaces no
--- longer exists
+-- a request changes the bytes of the entry of a number: it writes to it, overwrites it, or sets its size; a rename changes
+-- no bytes, and what it replaces no longer exists
 abbrev pub is_change_of : ℕ → StoreState → StoreStep → Bool
 is_change_of entry state (creates ask moment) =
     overwrites_by ask.disposition && option_map_or (λ found. found.number == entry) (entry_asked state ask) false
@@ -73,7 +73,7 @@ is_change_of entry state (sets_scan number scan) = false
 is_change_of entry state (closes number) = false
 is_change_of entry state (closes_all owner) = false
 
--- none of these does, each from where the one before left the store
+-- none of some requests changes the bytes of the entry of a number, each from where the one before left the store
 abbrev pub NoneChanges : ℕ → StoreState → List StoreStep → Type 0
 NoneChanges entry state [] = Unit {0}
 NoneChanges entry state (step ∷ steps) = (is_change_of entry state step ≡ false) × NoneChanges entry (stepped state step) steps

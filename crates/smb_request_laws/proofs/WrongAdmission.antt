@@ -24,7 +24,7 @@ use Rattle.smb_request.specs.Laws.{IsInOrder, request_ids}
 use Rattle.smb_request.specs.Response.{Performed}
 use Rattle.smb_request.specs.Session.{session_set_up}
 use Rattle.smb_request_laws.specs.Acting.{command_in, IsNotRefusedBySuccess}
-use Rattle.smb_request_laws.specs.Admission.{WhoGoesOnIsNotIn, WhoIsAcceptedIsIn, WhoIsDeniedIsOut, NobodyElseIsLetIn, WasIn, IsLetIn, NobodyGetsInUnasked, ASetUpThatSucceedsLetsIn, WhoIsNotInClosesNothing}
+use Rattle.smb_request_laws.specs.Admission.{AnAnswerDecidesWhoIsIn, WasIn, IsLetIn, NobodyGetsInUnasked, ASetUpThatSucceedsLetsIn, WhoIsNotInClosesNothing}
 use Rattle.smb_request_laws.specs.Doing.{Sent, Succeeds, answered}
 use Rattle.smb_request_laws.proofs.Altered.{Rules, right, performed_by_rules}
 use Rattle.smb_request_laws.proofs.Example.{server, read_request, setup_asked, setup_request}
@@ -54,14 +54,23 @@ read_only_is a b e = let is : a ≡ b = cc in ap (λ (x : SessionState). x.read_
 not_both : true ≡ false → ⊥
 not_both e = cc
 
--- whoever is to go on is not let in yet
-abbrev WhoGoesOnIsNotInBy : Answering → Type 0
-WhoGoesOnIsNotInBy answer =
-    (table : TableState) (session previous number : ℕ) (token : List ℕ) →
-    session_at (answer table session previous (continues token)) number ≡ session_at table number
+-- whoever is to go on is not let in yet, whoever is accepted is in, whoever is denied is out, and nobody else is let in
+abbrev AnAnswerDecidesWhoIsInBy : Answering → Type 0
+AnAnswerDecidesWhoIsInBy leaves =
+    (table : TableState) (session previous : ℕ) →
+    ((number : ℕ) (token : List ℕ) →
+    session_at (leaves table session previous (continues token)) number ≡ session_at table number)
+    × ((user : List ℕ) (flags : ℕ) (read_only : Bool) (token : List ℕ) (state : SessionState) →
+    session_at table session ≡ Some state → state.user ≡ None →
+    session_at (leaves table session previous (accepts user flags read_only token)) session
+    ≡ Some (record state { user = Some user; read_only = read_only }))
+    × (IsRising (map (λ e. e.0) table.sessions) → session_at (leaves table session previous denies) session ≡ None)
+    × ((number : ℕ) (answer : Answered) (state : SessionState) → IsRising (map (λ e. e.0) table.sessions) →
+    number == session ≡ false → session_at (leaves table session previous answer) number ≡ Some state →
+    session_at table number ≡ Some state)
 
-who_goes_on_is_not_in : WhoGoesOnIsNotIn ≡ WhoGoesOnIsNotInBy table_answered
-who_goes_on_is_not_in = refl
+an_answer_decides_who_is_in : AnAnswerDecidesWhoIsIn ≡ AnAnswerDecidesWhoIsInBy table_answered
+an_answer_decides_who_is_in = refl
 
 -- wrong: whoever is to go on is let in, by a name without letters
 abbrev lets_in_who_goes_on : Answering
@@ -71,19 +80,8 @@ lets_in_who_goes_on table session previous (continues token) = session_changed (
 }) table session
 lets_in_who_goes_on table session previous answer = table_answered table session previous answer
 
-who_goes_on_is_refused : WhoGoesOnIsNotInBy lets_in_who_goes_on → ⊥
-who_goes_on_is_refused law = not_both (user_is (record begun { user = Some [] }) begun (law two_begun 1 0 1 []))
-
--- whoever is accepted is let in, and may only read where the answer says so
-abbrev WhoIsAcceptedIsInBy : Answering → Type 0
-WhoIsAcceptedIsInBy answer =
-    (table : TableState) (session previous : ℕ) (user : List ℕ) (flags : ℕ) (read_only : Bool) (token : List ℕ)
-    (state : SessionState) → session_at table session ≡ Some state → state.user ≡ None →
-    session_at (answer table session previous (accepts user flags read_only token)) session
-    ≡ Some (record state { user = Some user; read_only = read_only })
-
-who_is_accepted_is_in : WhoIsAcceptedIsIn ≡ WhoIsAcceptedIsInBy table_answered
-who_is_accepted_is_in = refl
+who_goes_on_is_refused : AnAnswerDecidesWhoIsInBy lets_in_who_goes_on → ⊥
+who_goes_on_is_refused law = not_both (user_is (record begun { user = Some [] }) begun ((law two_begun 1 0).0 1 []))
 
 -- wrong: each may write
 abbrev each_may_write : Answering
@@ -91,40 +89,21 @@ each_may_write table session previous (accepts user flags read_only token) =
     table_answered table session previous (accepts user flags false token)
 each_may_write table session previous answer = table_answered table session previous answer
 
-each_may_write_is_refused : WhoIsAcceptedIsInBy each_may_write → ⊥
+each_may_write_is_refused : AnAnswerDecidesWhoIsInBy each_may_write → ⊥
 each_may_write_is_refused law =
     not_both (sym (read_only_is (record begun { user = Some []; read_only = false }) (record begun {
       user =
           Some [];
       read_only = true;
-    }) (law two_begun 1 0 [] 0 true [] begun refl refl)))
-
--- whoever is denied is out
-abbrev WhoIsDeniedIsOutBy : Answering → Type 0
-WhoIsDeniedIsOutBy answer =
-    (table : TableState) (session previous : ℕ) → IsRising (map (λ e. e.0) table.sessions) →
-    session_at (answer table session previous denies) session ≡ None
-
-who_is_denied_is_out : WhoIsDeniedIsOut ≡ WhoIsDeniedIsOutBy table_answered
-who_is_denied_is_out = refl
+    }) ((law two_begun 1 0).1 [] 0 true [] begun refl refl)))
 
 -- wrong: whoever is denied may try again
 abbrev may_try_again : Answering
 may_try_again table session previous denies = table
 may_try_again table session previous answer = table_answered table session previous answer
 
-may_try_again_is_refused : WhoIsDeniedIsOutBy may_try_again → ⊥
-may_try_again_is_refused law = let none = law two_begun 1 0 rising in cc
-
--- no answer changes another session
-abbrev NobodyElseIsLetInBy : Answering → Type 0
-NobodyElseIsLetInBy answer =
-    (table : TableState) (session previous number : ℕ) (said : Answered) (state : SessionState) →
-    IsRising (map (λ e. e.0) table.sessions) → number == session ≡ false →
-    session_at (answer table session previous said) number ≡ Some state → session_at table number ≡ Some state
-
-nobody_else_is_let_in : NobodyElseIsLetIn ≡ NobodyElseIsLetInBy table_answered
-nobody_else_is_let_in = refl
+may_try_again_is_refused : AnAnswerDecidesWhoIsInBy may_try_again → ⊥
+may_try_again_is_refused law = let none = (law two_begun 1 0).2 rising in cc
 
 -- wrong: with one, all are let in
 abbrev all_let_in : Answering
@@ -132,12 +111,12 @@ all_let_in table session previous (accepts user flags read_only token) =
     record table { sessions = map (λ e. (e.0, record e.1 { user = Some user; read_only = read_only })) table.sessions }
 all_let_in table session previous answer = table_answered table session previous answer
 
-all_let_in_is_refused : NobodyElseIsLetInBy all_let_in → ⊥
+all_let_in_is_refused : AnAnswerDecidesWhoIsInBy all_let_in → ⊥
 all_let_in_is_refused law =
     not_both (sym (user_is begun (record begun {
       user =
           Some [];
-    }) (law two_begun 1 0 2 (accepts [] 0 false []) (record begun { user = Some [] }) rising refl refl)))
+    }) ((law two_begun 1 0).3 2 (accepts [] 0 false []) (record begun { user = Some [] }) rising refl refl)))
 
 module _ {S : Type 0} (accounts : S) where
   -- what a request leaves by these rules

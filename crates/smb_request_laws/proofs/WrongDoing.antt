@@ -42,7 +42,7 @@ use Rattle.smb_request.specs.Response.{Performed, ResponseState, with_body}
 use Rattle.smb_request.specs.Session.{session_logged_off, tree_joined, tree_left}
 use Rattle.smb_request.specs.State.{ServerState}
 use Rattle.smb_request_laws.specs.Acting.{command_in, IsNotRefusedBySuccess}
-use Rattle.smb_request_laws.specs.Doing.{Sent, Succeeds, answered, open_asked, response_body, create_ask, may_change_though_refused, ARequestNamesItsOpen, ARelatedRequestNamesTheLastOpen, AReadTellsTheFile, AWriteIsInTheFile, ACreateOpens, ACloseCloses, ATreeConnectJoins, ATreeDisconnectLeaves, ALogoffEndsItsSession, ARefusalChangesNothing}
+use Rattle.smb_request_laws.specs.Doing.{Sent, Succeeds, answered, open_asked, response_body, create_ask, may_change_though_refused, ARequestNamesItsOpen, AReadTellsTheFile, AWriteIsInTheFile, ACreateOpens, ACloseCloses, ATreeConnectJoins, ATreeDisconnectLeaves, ALogoffEndsItsSession, ARefusalChangesNothing}
 use Rattle.smb_request_laws.proofs.Altered.{Rules, right, performed_by_rules}
 use Rattle.smb_request_laws.proofs.Example.{server, session, header, read_asked, read_request, read_request_at, write_asked, write_request, create_asked, create_request, close_asked, close_request, connect_asked, connect_request, disconnect_request, nothing_asked, logoff_request, byte_is}
 
@@ -70,7 +70,9 @@ module _ {S : Type 0} (m : Meaning S) (accounts : S) where
   ARequestNamesItsOpenBy named =
       (it : Sent S) (asked : RequestValue) (file_id : FileId) →
       body_of (command_in it.request) it.request ≡ Some asked → file_id_of asked ≡ Some file_id →
-      is_related it.request ≡ false → named it ≡ file_id.persistent
+      (is_related it.request ≡ false → named it ≡ file_id.persistent)
+      × ((last : FileId) → file_id.persistent ≡ 2 ^ 64 - 1 → file_id.volatile ≡ 2 ^ 64 - 1 →
+      is_related it.request ≡ true → it.context.last_open ≡ Named last → named it ≡ last.persistent)
 
   a_request_names_its_open : ARequestNamesItsOpen S ≡ ARequestNamesItsOpenBy open_asked
   a_request_names_its_open = refl
@@ -80,20 +82,8 @@ module _ {S : Type 0} (m : Meaning S) (accounts : S) where
   unfolding header_of known_command request_of spelling
   none_named_is_refused law =
       let same : 0 ≡ 1 =
-      law (sent (read_request 1 1)) (asks_read (read_asked 0)) (read_asked 0).file_id refl refl refl in
+      (law (sent (read_request 1 1)) (asks_read (read_asked 0)) (read_asked 0).file_id refl refl).0 refl in
       omega (arith, same)
-
-  -- by a FileId of all ones a related request names the open that the one before it named or made
-  abbrev ARelatedRequestNamesTheLastOpenBy : (Sent S → ℕ) → Type 0
-  ARelatedRequestNamesTheLastOpenBy named =
-      (it : Sent S) (asked : RequestValue) (file_id last : FileId) →
-      body_of (command_in it.request) it.request ≡ Some asked → file_id_of asked ≡ Some file_id →
-      file_id.persistent ≡ 2 ^ 64 - 1 → file_id.volatile ≡ 2 ^ 64 - 1 → is_related it.request ≡ true →
-      it.context.last_open ≡ Named last → named it ≡ last.persistent
-
-  a_related_request_names_the_last_open : ARelatedRequestNamesTheLastOpen S
-      ≡ ARelatedRequestNamesTheLastOpenBy open_asked
-  a_related_request_names_the_last_open = refl
 
   -- wrong: a FileId names the open of its number, also one of all ones
   abbrev named_as_it_says : Sent S → ℕ
@@ -118,11 +108,11 @@ module _ {S : Type 0} (m : Meaning S) (accounts : S) where
     context = record { ids = record { session_id = 1; tree_id = 1 }; last_open = Named seven };
   }
 
-  named_as_it_says_is_refused : ARelatedRequestNamesTheLastOpenBy named_as_it_says → ⊥
+  named_as_it_says_is_refused : ARequestNamesItsOpenBy named_as_it_says → ⊥
   unfolding header_of known_command request_of spelling
   named_as_it_says_is_refused law =
       let same : 2 ^ 64 - 1 ≡ 7 =
-      law related (asks_read related_asked) related_asked.file_id seven refl refl refl refl refl refl in
+      (law related (asks_read related_asked) related_asked.file_id refl refl).1 seven refl refl refl refl in
       omega (arith, same)
 
   -- a READ that succeeds tells the bytes of the file

@@ -24,7 +24,7 @@ use Rattle.smb_request.specs.Parts.{needs_session}
 use Rattle.smb_request.specs.Response.{Performed, refused}
 use Rattle.smb_request.specs.Session.{session_set_up}
 use Rattle.smb_request_laws.specs.Doing.{Sent, answered}
-use Rattle.smb_request_laws.specs.Serving.{Asks, IsOfItsOwn, response_status, AnEchoIsAnswered, WhoIsAcceptedIsAnswered, AReadOfItsOwnSucceeds, AWriteOfItsOwnSucceeds}
+use Rattle.smb_request_laws.specs.Serving.{Asks, IsOfItsOwn, response_status, AnEchoIsAnswered, WhoIsAcceptedIsAnswered, WhatIsOfItsOwnSucceeds}
 use Rattle.smb_request_laws.proofs.Altered.{Rules, right, performed_by_rules}
 use Rattle.smb_request_laws.proofs.Example.{server, session, read_asked, read_request, write_asked, write_request, nothing_asked, echo_request, setup_asked, setup_request}
 
@@ -107,23 +107,27 @@ module _ {S : Type 0} (accounts : S) where
       }) refl refl in
       cc
 
-  -- a READ through an open of its own succeeds
-  abbrev AReadOfItsOwnSucceedsBy : (Sent S → Performed S) → Type 0
-  AReadOfItsOwnSucceedsBy perform =
-      (it : Sent S) (asked : ReadRequest) → Asks it (asks_read asked) → IsOfItsOwn it asked.file_id →
-      read_status it.server.store
-      (most_at_once it.dialect) asked.file_id.persistent asked.offset asked.length asked.minimum_count
+  -- a READ and a WRITE through an open of its own succeed
+  abbrev WhatIsOfItsOwnSucceedsBy : (Sent S → Performed S) → Type 0
+  WhatIsOfItsOwnSucceedsBy perform =
+      (it : Sent S) →
+      ((asked : ReadRequest) → Asks it (asks_read asked) → IsOfItsOwn it asked.file_id →
+      read_status it.server.store (most_at_once it.dialect) asked.file_id.persistent asked.offset asked.length
+      asked.minimum_count ≡ Success →
+      response_status (perform it) ≡ Some Success)
+      × ((asked : WriteAsked) → Asks it (asks_write asked) → IsOfItsOwn it asked.file_id →
+      write_status it.server.store (most_at_once it.dialect) asked.file_id.persistent asked.offset asked.buffer
       ≡ Success →
-      response_status (perform it) ≡ Some Success
+      response_status (perform it) ≡ Some Success)
 
-  a_read_of_its_own_succeeds : (m : Meaning S) → AReadOfItsOwnSucceeds m ≡ AReadOfItsOwnSucceedsBy (answered m)
-  a_read_of_its_own_succeeds m = refl
+  what_is_of_its_own_succeeds : (m : Meaning S) → WhatIsOfItsOwnSucceeds m ≡ WhatIsOfItsOwnSucceedsBy (answered m)
+  what_is_of_its_own_succeeds m = refl
 
   -- wrong: no open is anyone's
   abbrev none_hold : Rules S
   none_hold = record right { held = λ ids row. false }
 
-  none_hold_is_refused : (m : Meaning S) → AReadOfItsOwnSucceedsBy (answered_by m none_hold) → ⊥
+  none_hold_is_refused : (m : Meaning S) → WhatIsOfItsOwnSucceedsBy (answered_by m none_hold) → ⊥
   unfolding header_of known_command request_of spelling
   none_hold_is_refused m law =
       let own : IsOfItsOwn (sent (read_request 1 1)) (read_asked 0).file_id = record {
@@ -134,23 +138,12 @@ module _ {S : Type 0} (accounts : S) where
         halves = refl;
         held = refl;
       } in
-      let told = law (sent (read_request 1 1)) (read_asked 0) (record {
+      let told = (law (sent (read_request 1 1))).0 (read_asked 0) (record {
         says = refl;
         charged =
             omega arith;
       }) own refl in
       cc
-
-  -- so does a WRITE
-  abbrev AWriteOfItsOwnSucceedsBy : (Sent S → Performed S) → Type 0
-  AWriteOfItsOwnSucceedsBy perform =
-      (it : Sent S) (asked : WriteAsked) → Asks it (asks_write asked) → IsOfItsOwn it asked.file_id →
-      write_status it.server.store (most_at_once it.dialect) asked.file_id.persistent asked.offset asked.buffer
-      ≡ Success →
-      response_status (perform it) ≡ Some Success
-
-  a_write_of_its_own_succeeds : (m : Meaning S) → AWriteOfItsOwnSucceeds m ≡ AWriteOfItsOwnSucceedsBy (answered m)
-  a_write_of_its_own_succeeds m = refl
 
   -- wrong: nobody may write
   abbrev nobody_writes : Rules S
@@ -158,7 +151,7 @@ module _ {S : Type 0} (accounts : S) where
     done = λ server ids asked step. elim asked [ asks_write it ↦ refused server ids AccessDenied | _ ↦ step ];
   }
 
-  nobody_writes_is_refused : (m : Meaning S) → AWriteOfItsOwnSucceedsBy (answered_by m nobody_writes) → ⊥
+  nobody_writes_is_refused : (m : Meaning S) → WhatIsOfItsOwnSucceedsBy (answered_by m nobody_writes) → ⊥
   unfolding header_of known_command request_of spelling
   nobody_writes_is_refused m law =
       let own : IsOfItsOwn (sent (write_request 1 1)) write_asked.file_id = record {
@@ -169,5 +162,5 @@ module _ {S : Type 0} (accounts : S) where
         halves = refl;
         held = refl;
       } in
-      let told = law (sent (write_request 1 1)) write_asked (record { says = refl; charged = omega arith }) own refl in
+      let told = (law (sent (write_request 1 1))).1 write_asked (record { says = refl; charged = omega arith }) own refl in
       cc

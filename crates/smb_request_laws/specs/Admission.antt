@@ -15,34 +15,22 @@ use Rattle.smb_request.specs.Laws.{IsInOrder, request_ids}
 use Rattle.smb_request_laws.specs.Acting.{command_in}
 use Rattle.smb_request_laws.specs.Doing.{Sent, Succeeds, answered}
 
--- whoever is to go on is not let in yet: each session is as it was
-abbrev pub WhoGoesOnIsNotIn : Type 0
-WhoGoesOnIsNotIn =
-    (table : TableState) (session previous number : ℕ) (token : List ℕ) →
-    session_at (table_answered table session previous (continues token)) number ≡ session_at table number
-
--- whoever is accepted is let in: the session is finished, by exactly this user, and may only read where the answer
--- says it
-abbrev pub WhoIsAcceptedIsIn : Type 0
-WhoIsAcceptedIsIn =
-    (table : TableState) (session previous : ℕ) (user : List ℕ) (flags : ℕ) (read_only : Bool) (token : List ℕ)
-    (state : SessionState) → session_at table session ≡ Some state → state.user ≡ None →
+-- what an answer of the authenticator leaves of the sessions: whoever is to go on is not let in yet; whoever is accepted
+-- is let in: the session is finished, by exactly this user, and may only read where the answer says it; whoever is denied
+-- is out: the session is gone; and no answer changes another session, but that the previous one may be gone
+abbrev pub AnAnswerDecidesWhoIsIn : Type 0
+AnAnswerDecidesWhoIsIn =
+    (table : TableState) (session previous : ℕ) →
+    ((number : ℕ) (token : List ℕ) →
+    session_at (table_answered table session previous (continues token)) number ≡ session_at table number)
+    × ((user : List ℕ) (flags : ℕ) (read_only : Bool) (token : List ℕ) (state : SessionState) →
+    session_at table session ≡ Some state → state.user ≡ None →
     session_at (table_answered table session previous (accepts user flags read_only token)) session
-    ≡ Some (record state { user = Some user; read_only = read_only })
-
--- whoever is denied is out: the session is gone
-abbrev pub WhoIsDeniedIsOut : Type 0
-WhoIsDeniedIsOut =
-    (table : TableState) (session previous : ℕ) → IsRising (map (λ e. e.0) table.sessions) →
-    session_at (table_answered table session previous denies) session ≡ None
-
--- and no answer changes another session, but that the previous one may be gone
-abbrev pub NobodyElseIsLetIn : Type 0
-NobodyElseIsLetIn =
-    (table : TableState) (session previous number : ℕ) (answer : Answered) (state : SessionState) →
-    IsRising (map (λ e. e.0) table.sessions) → number == session ≡ false →
-    session_at (table_answered table session previous answer) number ≡ Some state →
-    session_at table number ≡ Some state
+    ≡ Some (record state { user = Some user; read_only = read_only }))
+    × (IsRising (map (λ e. e.0) table.sessions) → session_at (table_answered table session previous denies) session ≡ None)
+    × ((number : ℕ) (answer : Answered) (state : SessionState) → IsRising (map (λ e. e.0) table.sessions) →
+    number == session ≡ false → session_at (table_answered table session previous answer) number ≡ Some state →
+    session_at table number ≡ Some state)
 
 -- a session was there before, on the same connection, of the same user, with the same leave to write
 pub record WasIn (table : TableState) (number : ℕ) (after : SessionState) : Type 0 where

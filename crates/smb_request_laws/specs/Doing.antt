@@ -82,21 +82,15 @@ may_change_though_refused request = option_map_or
     (command_in request)
     false
 
--- a request that is related to none before it names the open of its FileId (3.3.5.10)
+-- a request that is related to none before it names the open of its FileId (3.3.5.10); and by a FileId of all ones a
+-- related request names the open that the one before it in its chain named or made (3.3.5.2.7.2)
 abbrev pub ARequestNamesItsOpen : Type 0 → Type 0
 ARequestNamesItsOpen S =
     (it : Sent S) (asked : RequestValue) (file_id : FileId) →
     body_of (command_in it.request) it.request ≡ Some asked → file_id_of asked ≡ Some file_id →
-    is_related it.request ≡ false → open_asked it ≡ file_id.persistent
-
--- by a FileId of all ones a related request names the open that the one before it in its chain named or made
--- (3.3.5.2.7.2)
-abbrev pub ARelatedRequestNamesTheLastOpen : Type 0 → Type 0
-ARelatedRequestNamesTheLastOpen S =
-    (it : Sent S) (asked : RequestValue) (file_id last : FileId) →
-    body_of (command_in it.request) it.request ≡ Some asked → file_id_of asked ≡ Some file_id →
-    file_id.persistent ≡ 2 ^ 64 - 1 → file_id.volatile ≡ 2 ^ 64 - 1 → is_related it.request ≡ true →
-    it.context.last_open ≡ Named last → open_asked it ≡ last.persistent
+    (is_related it.request ≡ false → open_asked it ≡ file_id.persistent)
+    × ((last : FileId) → file_id.persistent ≡ 2 ^ 64 - 1 → file_id.volatile ≡ 2 ^ 64 - 1 →
+    is_related it.request ≡ true → it.context.last_open ≡ Named last → open_asked it ≡ last.persistent)
 
 module _ {S : Type 0} (authenticator : Meaning S) where
   -- a READ that succeeds tells the bytes of the file of its open, from its offset on, at most as many as it asks for,

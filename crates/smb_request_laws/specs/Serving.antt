@@ -81,24 +81,16 @@ module _ {S : Type 0} (authenticator : Meaning S) where
       ≡ accepts user flags read_only token →
       response_status (answered authenticator it) ≡ Some Success
 
-  -- a READ through an open of its own succeeds, where the store refuses it for no reason (3.3.5.12)
-  abbrev pub AReadOfItsOwnSucceeds : Type 0
-  AReadOfItsOwnSucceeds =
-      (it : Sent S) (asked : ReadRequest) → Asks it (asks_read asked) → IsOfItsOwn it asked.file_id →
-      read_status
-      it.server.store
-      (most_at_once it.dialect)
-      asked.file_id.persistent
-      asked.offset
-      asked.length
-      asked.minimum_count
-      ≡ Success →
-      response_status (answered authenticator it) ≡ Some Success
-
-  -- so does a WRITE (3.3.5.13)
-  abbrev pub AWriteOfItsOwnSucceeds : Type 0
-  AWriteOfItsOwnSucceeds =
-      (it : Sent S) (asked : WriteAsked) → Asks it (asks_write asked) → IsOfItsOwn it asked.file_id →
+  -- a READ and a WRITE through an open of its own succeed, where the store refuses them for no reason (3.3.5.12,
+  -- 3.3.5.13)
+  abbrev pub WhatIsOfItsOwnSucceeds : Type 0
+  WhatIsOfItsOwnSucceeds =
+      (it : Sent S) →
+      ((asked : ReadRequest) → Asks it (asks_read asked) → IsOfItsOwn it asked.file_id →
+      read_status it.server.store (most_at_once it.dialect) asked.file_id.persistent asked.offset asked.length
+      asked.minimum_count ≡ Success →
+      response_status (answered authenticator it) ≡ Some Success)
+      × ((asked : WriteAsked) → Asks it (asks_write asked) → IsOfItsOwn it asked.file_id →
       write_status it.server.store (most_at_once it.dialect) asked.file_id.persistent asked.offset asked.buffer
       ≡ Success →
-      response_status (answered authenticator it) ≡ Some Success
+      response_status (answered authenticator it) ≡ Some Success)

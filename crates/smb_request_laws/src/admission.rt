@@ -1,7 +1,6 @@
 //! The laws of admission.
 
-ghost use Rattle.smb_request_laws.specs.Admission.{WhoGoesOnIsNotIn, WhoIsAcceptedIsIn, WhoIsDeniedIsOut};
-ghost use Rattle.smb_request_laws.specs.Admission.{NobodyElseIsLetIn, NobodyGetsInUnasked};
+ghost use Rattle.smb_request_laws.specs.Admission.{AnAnswerDecidesWhoIsIn, NobodyGetsInUnasked};
 ghost use Rattle.smb_request_laws.specs.Admission.{ASetUpThatSucceedsLetsIn, WhoIsNotInClosesNothing};
 
 use smb_session::Authenticator;
@@ -11,10 +10,7 @@ use smb_session::Authenticator;
 /// answer changes another session, but that the previous one may be gone. The contract is the statement, and the body
 /// does nothing.
 pub fn laws_of_answers()
-    ensures goes_on { WhoGoesOnIsNotIn }
-    ensures accepted { WhoIsAcceptedIsIn }
-    ensures denied { WhoIsDeniedIsOut }
-    ensures others { NobodyElseIsLetIn }
+    ensures decides { AnAnswerDecidesWhoIsIn }
 {}
 
 /// Whatever a client sends, a session that is finished afterwards was so before, on the same connection, by the same

@@ -1,14 +1,10 @@
 //! The laws of credits.
 
-ghost use Rattle.smb_request_laws.specs.Credits.{OneIsGranted, NoMoreThanAskedAreGranted, AWindowIsNeverTooLarge};
-ghost use Rattle.smb_request_laws.specs.Credits.{AllThatHaveRoomAreGranted};
+ghost use Rattle.smb_request_laws.specs.Credits.{CreditsAreGrantedAsAskedFor};
 
 /// At least one credit is granted while the window has fewer than 256 MessageIds and numbers are left; never more than
 /// are asked for, or 1 where none is; all of them where there is room for them; and never so many that the window has
 /// more than 256, or a number above 2^64 - 2. The contract is the statement, and the body does nothing.
 pub fn laws_of_credits()
-    ensures one { OneIsGranted }
-    ensures most { NoMoreThanAskedAreGranted }
-    ensures all { AllThatHaveRoomAreGranted }
-    ensures room { AWindowIsNeverTooLarge }
+    ensures granted { CreditsAreGrantedAsAskedFor }
 {}

@@ -2,8 +2,7 @@
 
 ghost use Rattle.smb_request_laws.specs.Doing.{AReadTellsTheFile, AWriteIsInTheFile, ACreateOpens, ACloseCloses};
 ghost use Rattle.smb_request_laws.specs.Doing.{ATreeConnectJoins, ATreeDisconnectLeaves, ALogoffEndsItsSession};
-ghost use Rattle.smb_request_laws.specs.Doing.{ARefusalChangesNothing};
-ghost use Rattle.smb_request_laws.specs.Doing.{ARequestNamesItsOpen, ARelatedRequestNamesTheLastOpen};
+ghost use Rattle.smb_request_laws.specs.Doing.{ARefusalChangesNothing, ARequestNamesItsOpen};
 
 use smb_session::Authenticator;
 
@@ -18,7 +17,6 @@ use smb_session::Authenticator;
 /// The laws hold of every authenticator: the contract is the statement, and the body does nothing.
 pub fn laws_of_doing<A: Authenticator>()
     ensures named { ARequestNamesItsOpen A }
-    ensures last { ARelatedRequestNamesTheLastOpen A }
     ensures read { AReadTellsTheFile A.meaning }
     ensures write { AWriteIsInTheFile A.meaning }
     ensures create { ACreateOpens A.meaning }

@@ -1,7 +1,6 @@
 //! The laws of serving.
 
-ghost use Rattle.smb_request_laws.specs.Serving.{AnEchoIsAnswered, WhoIsAcceptedIsAnswered, AReadOfItsOwnSucceeds};
-ghost use Rattle.smb_request_laws.specs.Serving.{AWriteOfItsOwnSucceeds};
+ghost use Rattle.smb_request_laws.specs.Serving.{AnEchoIsAnswered, WhoIsAcceptedIsAnswered, WhatIsOfItsOwnSucceeds};
 
 use smb_session::Authenticator;
 
@@ -13,6 +12,5 @@ use smb_session::Authenticator;
 pub fn laws_of_serving<A: Authenticator>()
     ensures echo { AnEchoIsAnswered A.meaning }
     ensures accepted { WhoIsAcceptedIsAnswered A.meaning }
-    ensures read { AReadOfItsOwnSucceeds A.meaning }
-    ensures write { AWriteOfItsOwnSucceeds A.meaning }
+    ensures own { WhatIsOfItsOwnSucceeds A.meaning }
 {}

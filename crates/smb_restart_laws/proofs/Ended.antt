@@ -1,16 +1,16 @@
 -- What the ends of all connections leave.
-use Rattle.std.proofs.Common.{◌≡◌, ℕ, ◌<◌, ◌≤◌, inr, Bool, true, false, List, [], ◌∷◌, map, length, Option, None, Some, refl, sym, ap, subst, ◌∙◌, arith}
+use Rattle.std.proofs.Common.{◌≡◌, ℕ, ◌<◌, ◌≤◌, inr, true, false, List, [], ◌∷◌, map, length, None, Some, refl, sym, ap, subst, ◌∙◌, arith}
 use Rattle.std.proofs.lemmas.Bool.{true≢false}
 use Rattle.std.specs.List.{AllByRecursion}
-use Rattle.smb_tree.specs.Content.{Path, Row, entry_at, numbered}
-use Rattle.smb_tree.specs.Entries.{Entry, is_folder_kind}
+use Rattle.smb_tree.specs.Content.{Path, entry_at, numbered}
+use Rattle.smb_tree.specs.Entries.{Entry}
 use Rattle.smb_tree.proofs.Apart.{numbered-from_at, at-from_numbered}
 use Rattle.smb_session.specs.Authenticator.{Meaning}
 use Rattle.smb_session.specs.Numbers.{contains, IsRising}
 use Rattle.smb_session.specs.Good.{GoodSession, GoodTable}
 use Rattle.smb_session.specs.Session.{SessionState}
 use Rattle.smb_session.specs.Table.{TableState, numbers_on}
-use Rattle.smb_access.specs.Close.{is_deletable, has_mark}
+use Rattle.smb_access.specs.Close.{is_deletable}
 use Rattle.smb_opens.specs.Close.{closed}
 use Rattle.smb_opens.specs.Good.{GoodStore}
 use Rattle.smb_opens.specs.Readers.{LeavesFiles, is_to_go}
@@ -27,8 +27,6 @@ use Rattle.smb_engine.specs.State.{StreamState, ShareState, new_share}
 use Rattle.smb_engine.proofs.Rest.{at_rest}
 use Rattle.smb_restart_laws.specs.Ends.{all_ended}
 use Rattle.smb_restart_laws.proofs.Due.{IsGoing, going_closed, gone_at_last}
-use Rattle.smb_restart_laws.proofs.Files.{file_deletable}
-use Rattle.smb_restart_laws.proofs.Found.{none_new}
 use Rattle.smb_restart_laws.proofs.Numbered.{connections_end, next_given}
 use Rattle.smb_restart_laws.proofs.Requests.{IsTableHeld}
 use Rattle.smb_restart_laws.proofs.Shares.{numbers, IsShareHeld, good_held, run_held, store_keeps}
@@ -125,18 +123,6 @@ module _ {S : Type 0} (m : Meaning S) where
       λ state number h. leaves_files_trans s.server.store state (closed state number) h (closed_leaves state number) in
       ends_keep m (λ t. P t.server.store) (λ t n h. store_keeps P keeps t.server n h) s.streams s (leaves_files_refl s.server.store)
 
-  pub no_name_new : (s : ShareState S) (path : Path) → entry_at s.server.store.tree.rows path ≡ None → entry_at (all_ended m s).state.server.store.tree.rows path ≡ None
-  no_name_new s path none = none_new s.server.store.tree.rows (all_ended m s).state.server.store.tree.rows path (no_file_lost s).going none
-
-  -- so what is gone was to go
-  to_go_by : (b : Bool) (before after : Option Row) (row : Row) → (b ≡ false → after ≡ before) → before ≡ Some row → after ≡ None → b ≡ true
-  to_go_by true before after row same here gone = refl
-  to_go_by false before after row same here gone = absurd (let both : None ≡ Some row = sym gone ∙ same refl ∙ here in cc)
-
-  pub gone_was_to_go : (s : ShareState S) (number : ℕ) (row : Row) → numbered s.server.store.tree.rows number ≡ Some row → numbered (all_ended m s).state.server.store.tree.rows number ≡ None → is_to_go s.server.store number ≡ true
-  gone_was_to_go s number row here gone =
-      to_go_by (is_to_go s.server.store number) (numbered s.server.store.tree.rows number) (numbered (all_ended m s).state.server.store.tree.rows number) row ((no_file_lost s).same number) here gone
-
   module _ (s : ShareState S) (events : List EventText) (good : GoodState s) where
     abbrev left : ShareState S
     left = (run m s events).state
@@ -145,7 +131,7 @@ module _ {S : Type 0} (m : Meaning S) where
     stays_good = let held = (run_held m s events (good_held s good)).sound.held in (held.store, held.owned)
 
     -- the share is left good, and at rest
-    pub nothing_left_open : IsAtRest (all_ended m left).state × GoodState (all_ended m left).state
+    nothing_left_open : IsAtRest (all_ended m left).state × GoodState (all_ended m left).state
     nothing_left_open =
         let after = (all_ended m left).state in
         let none = (connections_end m s events good).streams in
@@ -161,18 +147,6 @@ module _ {S : Type 0} (m : Meaning S) where
         let going = ends_keep m (λ t. IsGoing number t.server.store) (λ t n h. store_keeps (IsGoing number) (going_closed number) t.server n h) left.streams left (record { good = store; way = inr (go, d) }) in
         gone_at_last number (all_ended m left).state.server.store (rest.marks number) rest.opens going
 
-    pub file_went : (number : ℕ) (row : Row) → numbered left.server.store.tree.rows number ≡ Some row → is_folder_kind row.1.kind ≡ false → is_to_go left.server.store number ≡ true →
-        numbered (all_ended m left).state.server.store.tree.rows number ≡ None
-    file_went number row here file go =
-        let store = stays_good.0 in
-        went number go (file_deletable left.server.store.tree number row store.tree here file)
-
-    pub mark_went : (number : ℕ) → has_mark left.server.store.tree.rows number ≡ true → numbered (all_ended m left).state.server.store.tree.rows number ≡ None
-    mark_went number mark =
-        let store = stays_good.0 in
-        let go : is_to_go left.server.store number ≡ true = rw mark refl in
-        went number go (store.marked number mark).0
-
     -- a name finds what it found
     pub found_again : (path : Path) (entry : Entry) → entry_at left.server.store.tree.rows path ≡ Some entry → is_to_go left.server.store entry.number ≡ false →
         entry_at (all_ended m left).state.server.store.tree.rows path ≡ Some entry
@@ -181,3 +155,7 @@ module _ {S : Type 0} (m : Meaning S) where
         let at = numbered-from_at left.server.store.tree.rows path entry store.tree.apart here in
         let same = (no_file_lost left).same entry.number stays in
         at-from_numbered (all_ended m left).state.server.store.tree.rows path entry entry.number nothing_left_open.1.store.tree.apart (same ∙ at)
+
+    -- all connections end
+    pub all_end : ((all_ended m left).stop ≡ None) × ((all_ended m left).outputs ≡ []) × IsAtRest (all_ended m left).state × GoodState (all_ended m left).state
+    all_end = let ended = connections_end m s events good in (ended.performed, ended.outputs, nothing_left_open.0, nothing_left_open.1)

@@ -6,8 +6,6 @@ mod Requests
 mod Shares
 mod Runs
 mod Numbered
-mod Files
-mod Found
 mod Ended
 mod Restarted
 mod WrongEnds

@@ -15,8 +15,8 @@ use Rattle.smb_engine.specs.Parts.{settled}
 use Rattle.smb_engine.specs.State.{StreamState, ShareState, stream_of, new_stream}
 use Rattle.smb_engine.proofs.Order.{good_in_order, run_in_order}
 use Rattle.smb_engine.proofs.Streams.{arrived, all_set, all_remove, all_insert, bytes_step-none, bytes_step-some}
-use Rattle.smb_restart_laws.specs.Ends.{EndsAll, all_ended}
-use Rattle.smb_restart_laws.proofs.Runs.{ends_all}
+use Rattle.smb_restart_laws.specs.Ends.{all_ended}
+use Rattle.smb_restart_laws.proofs.Runs.{EndsAll, ends_all}
 
 -- the numbers are counted from 1
 record AreFromOne {S : Type 0} (s : ShareState S) : Type 0 where

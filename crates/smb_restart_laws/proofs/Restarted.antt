@@ -11,7 +11,8 @@ use Rattle.smb_engine.specs.State.{StreamState, ShareState}
 use Rattle.smb_engine.specs.Stream.{unread}
 use Rattle.smb_engine.specs.Parts.{unread_entry}
 use Rattle.smb_engine.proofs.Cuts.{run_goes_on, unread_is_enough}
-use Rattle.smb_restart_laws.specs.Ends.{EndsAll, all_ended}
+use Rattle.smb_restart_laws.specs.Ends.{all_ended}
+use Rattle.smb_restart_laws.proofs.Runs.{EndsAll}
 use Rattle.smb_restart_laws.specs.Restarts.{with_ends, restarted}
 use Rattle.smb_restart_laws.proofs.Numbered.{connections_end}
 

@@ -10,7 +10,12 @@ use Rattle.smb_engine.specs.Run.{Ran, Stop, run, event_step}
 use Rattle.smb_engine.specs.Happenings.{later, refused_at_once, then_ran}
 use Rattle.smb_engine.specs.Parts.{unknown_refusal, without_stream}
 use Rattle.smb_engine.specs.State.{StreamState, ShareState, ended}
-use Rattle.smb_restart_laws.specs.Ends.{EndsAll}
+
+-- these ends are performed, put nothing out, and leave no connection open
+pub record EndsAll {S : Type 0} (ran : Ran S) : Type 0 where
+  pub performed : ran.stop ≡ None
+  pub outputs : ran.outputs ≡ []
+  pub streams : ran.state.streams ≡ []
 
 module _ {S : Type 0} (m : Meaning S) where
   -- what an end keeps, all ends keep

@@ -1,13 +1,12 @@
 -- Wrong definitions of ends, which the laws refuse: with each the law is false.
-use Rattle.std.proofs.Common.{◌≡◌, true, List, [], ◌∷◌, take, refl, arith}
+use Rattle.std.proofs.Common.{◌≡◌, true, None, List, [], ◌∷◌, take, refl, arith}
 use Rattle.smb_session.specs.Authenticator.{Meaning}
 use Rattle.smb_request.specs.Settings.{Settings, is_lawful}
 use Rattle.smb_engine.specs.Event.{EventText, opens}
 use Rattle.smb_engine.specs.Good.{GoodState}
-use Rattle.smb_engine.specs.Rest.{ends_of}
+use Rattle.smb_engine.specs.Rest.{ends_of, IsAtRest}
 use Rattle.smb_engine.specs.Run.{Ran, run}
 use Rattle.smb_engine.specs.State.{ShareState, new_share}
-use Rattle.smb_restart_laws.specs.Ends.{EndsAll}
 use Rattle.smb_restart_laws.proofs.Ended.{new_good}
 
 -- a configuration that keeps the rules: a share named A
@@ -27,7 +26,9 @@ module _ {S : Type 0} (m : Meaning S) (accounts : S) where
   abbrev first_ended : ShareState S → Ran S
   first_ended s = run m s (take 1 (ends_of s.streams))
 
-  pub first_alone : ((s : ShareState S) (events : List EventText) → GoodState s → EndsAll (first_ended (run m s events).state)) → ⊥
+  pub first_alone : ((s : ShareState S) (events : List EventText) → GoodState s →
+      let ended = first_ended (run m s events).state in
+      (ended.stop ≡ None) × (ended.outputs ≡ []) × IsAtRest ended.state × GoodState ended.state) → ⊥
   first_alone law =
-      let left = (law (new_share settings accounts) (opens 1 ∷ opens 2 ∷ []) (new_good settings accounts lawful)).streams in
+      let left = (law (new_share settings accounts) (opens 1 ∷ opens 2 ∷ []) (new_good settings accounts lawful)).2.streams in
       cc

@@ -1,9 +1,9 @@
 -- The ends of all connections that are open.
 use Rattle.std.specs.Prelude.{◌≡◌, ℕ, true, false, List, [], None, Some}
 use Rattle.smb_session.specs.Authenticator.{Meaning}
-use Rattle.smb_tree.specs.Content.{Path, Row, entry_at, numbered}
-use Rattle.smb_tree.specs.Entries.{Entry, is_folder_kind}
-use Rattle.smb_access.specs.Close.{is_deletable, has_mark}
+use Rattle.smb_tree.specs.Content.{Path, entry_at, numbered}
+use Rattle.smb_tree.specs.Entries.{Entry}
+use Rattle.smb_access.specs.Close.{is_deletable}
 use Rattle.smb_opens.specs.Good.{GoodStore}
 use Rattle.smb_opens.specs.Readers.{LeavesFiles, is_to_go}
 use Rattle.smb_opens.specs.State.{StoreState}
@@ -18,12 +18,6 @@ use Rattle.smb_engine.specs.State.{ShareState, new_share}
 -- what the ends of all connections that are open leave and put out, in rising number
 abbrev pub all_ended : {S : Type 0} → Meaning S → ShareState S → Ran S
 all_ended authenticator s = run authenticator s (ends_of s.streams)
-
--- these ends are performed, put nothing out, and leave no connection open
-pub record EndsAll {S : Type 0} (ran : Ran S) : Type 0 where
-  pub performed : ran.stop ≡ None
-  pub outputs : ran.outputs ≡ []
-  pub streams : ran.state.streams ≡ []
 
 module _ {S : Type 0} (authenticator : Meaning S) where
   -- the files that a run leaves, with their opens and locks
@@ -47,11 +41,13 @@ module _ {S : Type 0} (authenticator : Meaning S) where
       GoodStore (files_left s events)
       × AreOwned (run authenticator s events).state.server.sessions.table (files_left s events).opens
 
-  -- and all its connections that are open can end
+  -- and all its connections that are open can end: their ends are performed, and put nothing out; the share is at rest
+  -- then, and good: no connection, session, open or lock is left of it, and no mark
   abbrev pub AllConnectionsEnd : Type 0
   AllConnectionsEnd =
       (s : ShareState S) (events : List EventText) → GoodState s →
-      EndsAll (all_ended authenticator (run authenticator s events).state)
+      let ended = all_ended authenticator (run authenticator s events).state in
+      (ended.stop ≡ None) × (ended.outputs ≡ []) × IsAtRest ended.state × GoodState ended.state
 
   -- this changes no file: a file or folder that was not to go is there, with its path, name, bytes, times and
   -- attributes; none is new; and one that was to go is gone, or is as it was but for its mark ([MS-SMB2] 3.3.7.1)
@@ -65,42 +61,10 @@ module _ {S : Type 0} (authenticator : Meaning S) where
       entry_at (files_left s events).tree.rows path ≡ Some entry → is_to_go (files_left s events) entry.number ≡ false →
       entry_at (files_kept s events).tree.rows path ≡ Some entry
 
-  -- and a name that found nothing finds nothing
-  abbrev pub NoNameIsNew : Type 0
-  NoNameIsNew =
-      (s : ShareState S) (events : List EventText) (path : Path) →
-      entry_at (files_left s events).tree.rows path ≡ None → entry_at (files_kept s events).tree.rows path ≡ None
-
-  -- an entry that is gone then was to go: it was marked, or some open of it was to delete it when it is closed
-  abbrev pub WhatIsGoneWasToGo : Type 0
-  WhatIsGoneWasToGo =
-      (s : ShareState S) (events : List EventText) (number : ℕ) (row : Row) →
-      numbered (files_left s events).tree.rows number ≡ Some row →
-      numbered (files_kept s events).tree.rows number ≡ None → is_to_go (files_left s events) number ≡ true
-
-  -- each file that was to go is gone
-  abbrev pub AFileThatWasToGoIsGone : Type 0
-  AFileThatWasToGoIsGone =
-      (s : ShareState S) (events : List EventText) → GoodState s → (number : ℕ) (row : Row) →
-      numbered (files_left s events).tree.rows number ≡ Some row → is_folder_kind row.1.kind ≡ false →
-      is_to_go (files_left s events) number ≡ true → numbered (files_kept s events).tree.rows number ≡ None
-
-  -- so is each folder, if it could be deleted: it is not the root, and no entry is in it ([MS-FSA] 2.1.5.4)
+  -- what was to go is gone, if it could be deleted: a file, or a folder other than the root in which no entry is
+  -- ([MS-FSA] 2.1.5.4)
   abbrev pub WhatWasToGoIsGone : Type 0
   WhatWasToGoIsGone =
       (s : ShareState S) (events : List EventText) → GoodState s → (number : ℕ) →
       is_to_go (files_left s events) number ≡ true → is_deletable (files_left s events).tree.rows number ≡ true →
       numbered (files_kept s events).tree.rows number ≡ None
-
-  -- and each that was marked
-  abbrev pub WhatIsMarkedIsGone : Type 0
-  WhatIsMarkedIsGone =
-      (s : ShareState S) (events : List EventText) → GoodState s → (number : ℕ) →
-      has_mark (files_left s events).tree.rows number ≡ true → numbered (files_kept s events).tree.rows number ≡ None
-
-  -- the share is at rest then, and good: no connection, session, open or lock is left of it, and no mark
-  abbrev pub NothingIsLeftOpen : Type 0
-  NothingIsLeftOpen =
-      (s : ShareState S) (events : List EventText) → GoodState s →
-      IsAtRest (all_ended authenticator (run authenticator s events).state).state
-      × GoodState (all_ended authenticator (run authenticator s events).state).state

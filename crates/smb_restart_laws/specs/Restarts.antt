@@ -36,17 +36,14 @@ module _ {S : Type 0} (authenticator : Meaning S) where
       ≡ run_after (length (with_ends authenticator s events)) (run authenticator s events).outputs
       (run authenticator (restarted authenticator s events) others)
 
-  -- a second start, nothing having come in between, has no connection to end: it performs the same events
+  -- a second start, nothing having come in between, has no connection to end: it performs the same events, and leaves the
+  -- same state
   abbrev pub TwoStartsAreOne : Type 0
   TwoStartsAreOne =
       (s : ShareState S) (events : List EventText) → GoodState s → (run authenticator s events).stop ≡ None →
-      with_ends authenticator s (with_ends authenticator s events) ≡ with_ends authenticator s events
-
-  -- and leaves the same state
-  abbrev pub ASecondStartLeavesTheSame : Type 0
-  ASecondStartLeavesTheSame =
-      (s : ShareState S) (events : List EventText) → GoodState s → (run authenticator s events).stop ≡ None →
-      restarted authenticator s (with_ends authenticator s events) ≡ restarted authenticator s events
+      let started = with_ends authenticator s events in
+      (with_ends authenticator s started ≡ started)
+      × (restarted authenticator s started ≡ restarted authenticator s events)
 
   -- a share that holds of each stream what is unread alone is left by the ends in the very same state
   abbrev pub WhatIsUnreadIsEnough : Type 0

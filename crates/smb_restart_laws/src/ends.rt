@@ -1,9 +1,7 @@
 //! The laws of ends.
 
 ghost use Rattle.smb_restart_laws.specs.Ends.{ANewShareIsGood, TheFilesStayGood, AllConnectionsEnd, NoFileIsLost};
-ghost use Rattle.smb_restart_laws.specs.Ends.{ANameFindsItsFileAgain, NoNameIsNew, WhatIsGoneWasToGo};
-ghost use Rattle.smb_restart_laws.specs.Ends.{WhatWasToGoIsGone, AFileThatWasToGoIsGone, WhatIsMarkedIsGone};
-ghost use Rattle.smb_restart_laws.specs.Ends.{NothingIsLeftOpen};
+ghost use Rattle.smb_restart_laws.specs.Ends.{ANameFindsItsFileAgain, WhatWasToGoIsGone};
 
 use smb_session::Authenticator;
 
@@ -21,10 +19,5 @@ pub fn laws_of_ends<A: Authenticator>()
     ensures end { AllConnectionsEnd A.meaning }
     ensures lost { NoFileIsLost A.meaning }
     ensures found { ANameFindsItsFileAgain A.meaning }
-    ensures new_names { NoNameIsNew A.meaning }
-    ensures gone { WhatIsGoneWasToGo A.meaning }
-    ensures file { AFileThatWasToGoIsGone A.meaning }
     ensures went { WhatWasToGoIsGone A.meaning }
-    ensures mark { WhatIsMarkedIsGone A.meaning }
-    ensures rest { NothingIsLeftOpen A.meaning }
 {}

@@ -1,7 +1,6 @@
 //! The laws of restarts.
 
-ghost use Rattle.smb_restart_laws.specs.Restarts.{AStartIsOneRun, AStartGoesOn, TwoStartsAreOne};
-ghost use Rattle.smb_restart_laws.specs.Restarts.{ASecondStartLeavesTheSame, WhatIsUnreadIsEnough};
+ghost use Rattle.smb_restart_laws.specs.Restarts.{AStartIsOneRun, AStartGoesOn, TwoStartsAreOne, WhatIsUnreadIsEnough};
 
 use smb_session::Authenticator;
 
@@ -15,6 +14,5 @@ pub fn laws_of_restarts<A: Authenticator>()
     ensures one { AStartIsOneRun A.meaning }
     ensures later { AStartGoesOn A.meaning }
     ensures two { TwoStartsAreOne A.meaning }
-    ensures second { ASecondStartLeavesTheSame A.meaning }
     ensures unread { WhatIsUnreadIsEnough A.meaning }
 {}

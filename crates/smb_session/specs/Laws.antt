@@ -37,21 +37,19 @@ pub record IsGone (table : TableState) (session : ℕ) : Type 0 where
 abbrev pub WhatEndedIsGone : Type 0
 WhatEndedIsGone = (table : TableState) (session : ℕ) → GoodTable table → session < table.next → IsGone (session_ended table session) session
 
--- whoever names what is gone is not known
-abbrev pub WhatIsGoneIsUnknown : Type 0
-WhatIsGoneIsUnknown = (table : TableState) (connection session : ℕ) → IsGone table session → knows_session table connection session ≡ false
-
--- a session's number that is gone stays gone when a connection comes, a session begins, ends or changes, a connection
--- ends, or an authenticator's answer is performed; no number is given to two sessions
+-- whoever names a session that is gone is not known; and its number stays gone when a connection comes, a session begins,
+-- ends or changes, a connection ends, or an authenticator's answer is performed: no number is given to two sessions
 abbrev pub WhatIsGoneStaysGone : Type 0
 WhatIsGoneStaysGone =
     (table : TableState) (session : ℕ) → IsGone table session →
-    ((connection : ℕ) → IsGone (connected table connection) session)
+    ((connection : ℕ) → knows_session table connection session ≡ false)
+    × ((connection : ℕ) → IsGone (connected table connection) session)
     × ((connection : ℕ) → IsGone (setup_table table connection 0) session)
     × ((other : ℕ) → IsGone (session_ended table other) session)
     × ((change : SessionState → SessionState) (other : ℕ) → IsGone (session_changed change table other) session)
     × ((connection : ℕ) → IsGone (end_connection_step table connection).table session)
-    × ((connection other previous : ℕ) (answer : Answered) → IsGone (table_answered (setup_table table connection other) (setup_number table other) previous answer) session)
+    × ((connection other previous : ℕ) (answer : Answered) →
+    IsGone (table_answered (setup_table table connection other) (setup_number table other) previous answer) session)
 
 -- A MESSAGEID IS USED ONCE
 
@@ -65,12 +63,10 @@ abbrev pub WhatIsTakenIsUsed : Type 0
 WhatIsTakenIsUsed =
     (window : Numbers) (ids : List ℕ) (id : ℕ) → GoodWindow window → may_use window ids ≡ true → contains ids id ≡ true → IsUsed (without_ids window ids) id
 
--- a used MessageId stays used, whatever MessageIds chains take and responses grant afterwards
+-- a used MessageId stays used, whatever MessageIds chains take and responses grant afterwards; and a chain that names one
+-- is not let in
 abbrev pub WhatIsUsedStaysUsed : Type 0
 WhatIsUsedStaysUsed =
     (window : Numbers) (id : ℕ) → IsUsed window id →
     ((ids : List ℕ) → IsUsed (without_ids window ids) id) × ((count : ℕ) → IsUsed (with_more window count) id)
-
--- a chain that names a used MessageId is not let in
-abbrev pub WhatIsUsedMayNotBeUsed : Type 0
-WhatIsUsedMayNotBeUsed = (window : Numbers) (ids : List ℕ) (id : ℕ) → IsUsed window id → contains ids id ≡ true → may_use window ids ≡ false
+    × ((ids : List ℕ) → contains ids id ≡ true → may_use window ids ≡ false)

@@ -1,12 +1,11 @@
 //! The laws of sessions and of windows.
 
-ghost use Rattle.smb_session.specs.Laws.{WhatEndedIsGone, WhatIsGoneIsUnknown, WhatIsGoneStaysGone, WhatIsTakenIsUsed, WhatIsUsedStaysUsed, WhatIsUsedMayNotBeUsed};
+ghost use Rattle.smb_session.specs.Laws.{WhatEndedIsGone, WhatIsGoneStaysGone, WhatIsTakenIsUsed, WhatIsUsedStaysUsed};
 
 /// A session that ended is gone for good, and its number is never given again: the contract is the statement, and the
 /// body does nothing.
 pub fn laws_of_sessions()
     ensures ended { WhatEndedIsGone }
-    ensures unknown { WhatIsGoneIsUnknown }
     ensures stays { WhatIsGoneStaysGone }
 {}
 
@@ -15,5 +14,4 @@ pub fn laws_of_sessions()
 pub fn laws_of_windows()
     ensures taken { WhatIsTakenIsUsed }
     ensures stays { WhatIsUsedStaysUsed }
-    ensures once { WhatIsUsedMayNotBeUsed }
 {}

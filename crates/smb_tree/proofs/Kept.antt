@@ -14,7 +14,7 @@ use Rattle.smb_tree.specs.Parts.{AreBelow, is_other_folder, would_be_too_deep, m
 use Rattle.smb_tree.specs.Faults.{move_fault}
 use Rattle.smb_tree.specs.Moves.{is_within, replaced, moved}
 use Rattle.smb_tree.specs.Good.{GoodContent}
-use Rattle.smb_tree.specs.MoveLaws.{CanMove, AddsNothing}
+use Rattle.smb_tree.specs.MoveLaws.{CanMove}
 use Rattle.smb_tree.proofs.Keys.{same_path-eq, same_path-itself, same_path-of_eq, same_path-sym}
 use Rattle.smb_tree.proofs.Apart.{numbered-from_at, at-from_numbered, number-from_numbered}
 use Rattle.smb_tree.proofs.Removals.{at-without, at-without_none, apart_removed}
@@ -325,6 +325,11 @@ less_gone rows n (Some e) = elim (e.number == n) as (λ b. (length (if b then ro
   | true ↦ (omega arith, omega arith)
   | false ↦ (few-without rows e.number, less-without rows e.number)
 ]
+
+-- a move makes no entry and uses no space
+pub record AddsNothing (old new : List Row) : Type 0 where
+  pub rows : length new ≤ length old
+  pub space : used_space new ≤ used_space old
 
 less_after : (rows : List Row) (n : ℕ) (parts : List (List ℕ)) (from : Path) (o : Option Entry) → AddsNothing rows (renamed from parts (without_other rows n o))
 less_after rows n parts from o =

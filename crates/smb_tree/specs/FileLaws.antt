@@ -3,29 +3,22 @@ use Rattle.std.specs.Prelude.{◌≡◌, ◌≢◌, ℕ, ◌+◌, ◌-◌, ◌<�
 use Rattle.smb_tree.specs.Entries.{Entry}
 use Rattle.smb_tree.specs.Content.{Row, Content, numbered, changed, changed_in, bytes_of, written}
 
--- what was written at an offset is read there
+-- what was written at an offset is read there; each byte that was there and was not written over stays; a gap between the
+-- end of the file and what was written behind it reads as zeros; and the size is the greater of the size before and the
+-- end of what was written
 abbrev pub WhatIsWrittenIsRead : Type 0
 WhatIsWrittenIsRead =
-    (content : Content) (number offset : ℕ) (buffer : List ℕ) (row : Row) → numbered content.rows number ≡ Some row →
+    (offset : ℕ) (buffer : List ℕ) →
+    ((content : Content) (number : ℕ) (row : Row) → numbered content.rows number ≡ Some row →
     let after = changed_in (λ entry. record entry { bytes = written offset buffer entry.bytes }) content number in
-    take (length buffer) (drop offset (bytes_of after.rows number)) ≡ buffer
-
--- each byte that was there and was not written over stays
-abbrev pub WhatIsNotWrittenStays : Type 0
-WhatIsNotWrittenStays =
-    (offset : ℕ) (buffer bytes : List ℕ) (i : ℕ) → i < length bytes → (i < offset) ⊎ (offset + length buffer ≤ i) →
-    slice_index (written offset buffer bytes) i ≡ slice_index bytes i
-
--- a gap between the end of the file and what was written behind it reads as zeros
-abbrev pub AGapReadsAsZeros : Type 0
-AGapReadsAsZeros =
-    (offset : ℕ) (buffer bytes : List ℕ) →
-    take (offset - length bytes) (drop (length bytes) (written offset buffer bytes)) ≡ replicate (offset - length bytes) 0
-
--- afterwards the size is the greater of the size before and the end of what was written
-abbrev pub TheSizeIsTheGreater : Type 0
-TheSizeIsTheGreater =
-    (offset : ℕ) (buffer bytes : List ℕ) → length (written offset buffer bytes) ≡ max (length bytes) (offset + length buffer)
+    take (length buffer) (drop offset (bytes_of after.rows number)) ≡ buffer)
+    × ((bytes : List ℕ) →
+    let after = written offset buffer bytes in
+    let gap = offset - length bytes in
+    ((i : ℕ) → i < length bytes → (i < offset) ⊎ (offset + length buffer ≤ i) →
+    slice_index after i ≡ slice_index bytes i)
+    × (take gap (drop (length bytes) after) ≡ replicate gap 0)
+    × (length after ≡ max (length bytes) (offset + length buffer)))
 
 -- a change of the entry of a number leaves the entry of each other number as it was
 abbrev pub AChangeIsOfOneNumber : Type 0

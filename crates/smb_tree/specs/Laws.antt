@@ -21,21 +21,18 @@ abbrev pub AreApart : List Row → Type 0
 AreApart [] = Unit {0}
 AreApart (row ∷ rows) = (entry_at rows row.0 ≡ None) × (numbered rows row.1.number ≡ None) × AreApart rows
 
--- the entry at a path is that of the map
-abbrev pub TheMapTells : Type 0
-TheMapTells = (rows : List Row) (path : Path) → get (as_map rows) path ≡ entry_at rows path
-
--- an entry at a path where none stood is one more in the map
-abbrev pub AnAdditionIsOneMore : Type 0
-AnAdditionIsOneMore =
-    (rows : List Row) (path : Path) (entry : Entry) → entry_at rows path ≡ None →
-    as_map (rows ++ (path, entry) ∷ []) ≡ insert (as_map rows) path entry
-
--- a change of the entry of a number is a change of the map at its path alone
-abbrev pub AChangeIsAtOnePath : Type 0
-AChangeIsAtOnePath =
-    (change : Entry → Entry) (rows : List Row) (number : ℕ) (path : Path) (entry : Entry) → AreApart rows →
-    numbered rows number ≡ Some (path, entry) → as_map (changed change rows number) ≡ insert (as_map rows) path (change entry)
+-- the entry at a path is that of the map; an entry at a path where there was none is one more in it; and where no path
+-- and no number is there twice, a change of the entry of a number is one of the map at its path alone, and a removal takes
+-- this entry out of the map, and no other
+abbrev pub EntriesAreAMap : Type 0
+EntriesAreAMap =
+    (rows : List Row) (path : Path) →
+    (get (as_map rows) path ≡ entry_at rows path)
+    × ((entry : Entry) → entry_at rows path ≡ None →
+    as_map (rows ++ (path, entry) ∷ []) ≡ insert (as_map rows) path entry)
+    × (AreApart rows → (number : ℕ) (entry : Entry) → numbered rows number ≡ Some (path, entry) →
+    ((change : Entry → Entry) → as_map (changed change rows number) ≡ insert (as_map rows) path (change entry))
+    × (as_map (without rows number) ≡ remove (as_map rows) path))
 
 -- the entry at a path is the one of its number, and the entry of a number is the one at its path
 abbrev pub PathsAndNumbersAgree : Type 0
@@ -44,25 +41,13 @@ PathsAndNumbersAgree =
     (entry_at rows path ≡ Some entry → numbered rows entry.number ≡ Some (path, entry)) ×
     ((number : ℕ) → numbered rows number ≡ Some (path, entry) → entry_at rows path ≡ Some entry)
 
--- an addition under the next number, at a path where no entry stood, leaves paths and numbers apart
-abbrev pub AnAdditionKeepsApart : Type 0
-AnAdditionKeepsApart =
-    (rows : List Row) (path : Path) (entry : Entry) → AreApart rows →
-    AllByRecursion (λ row. row.1.number < entry.number) rows → entry_at rows path ≡ None →
-    AreApart (rows ++ (path, entry) ∷ [])
-
--- a change that leaves the number leaves paths and numbers apart
-abbrev pub AChangeKeepsApart : Type 0
-AChangeKeepsApart =
-    (change : Entry → Entry) (rows : List Row) (number : ℕ) → ((entry : Entry) → (change entry).number ≡ entry.number) →
-    AreApart rows → AreApart (changed change rows number)
-
--- a removal takes the entry of a number out of the map, and no other
-abbrev pub ARemovalIsOneLess : Type 0
-ARemovalIsOneLess =
-    (rows : List Row) (number : ℕ) (path : Path) (entry : Entry) → AreApart rows →
-    numbered rows number ≡ Some (path, entry) → as_map (without rows number) ≡ remove (as_map rows) path
-
--- a removal leaves paths and numbers apart
-abbrev pub ARemovalKeepsApart : Type 0
-ARemovalKeepsApart = (rows : List Row) (number : ℕ) → AreApart rows → AreApart (without rows number)
+-- paths and numbers stay apart: with an addition under a number above all, at a path where there was no entry; with a
+-- change that leaves the number; and with a removal
+abbrev pub PathsAndNumbersStayApart : Type 0
+PathsAndNumbersStayApart =
+    (rows : List Row) → AreApart rows →
+    ((path : Path) (entry : Entry) → AllByRecursion (λ row. row.1.number < entry.number) rows →
+    entry_at rows path ≡ None → AreApart (rows ++ (path, entry) ∷ []))
+    × ((change : Entry → Entry) (number : ℕ) → ((entry : Entry) → (change entry).number ≡ entry.number) →
+    AreApart (changed change rows number))
+    × ((number : ℕ) → AreApart (without rows number))

@@ -1,54 +1,38 @@
 use Rattle.std.proofs.Common.{false, refl}
-use Rattle.smb_opens.proofs.Passing.{pass_all}
-use Rattle.smb_content_laws.proofs.May.{create_succeeds, read_succeeds, write_succeeds, lock_succeeds, mark_succeeds, size_succeeds, times_succeed}
-use Rattle.smb_content_laws.proofs.Rows.{none_success, first_decides, request_succeeds}
+use Rattle.smb_content_laws.proofs.ExampleStore.{example_is_good}
+use Rattle.smb_content_laws.proofs.May.{create_succeeds, read_succeeds, write_succeeds, lock_succeeds, unlock_succeeds, mark_succeeds, size_succeeds, times_succeed}
+use Rattle.smb_content_laws.proofs.Rows.{none_success, first_decides, shown_status}
 use Rattle.smb_content_laws.proofs.successes.laws_of_successes.Goals as goal
 
-pub returns-clause-none : goal.returns-clause-none
-returns-clause-none c = none_success
-
-pub returns-clause-first : goal.returns-clause-first
-returns-clause-first c = first_decides
-
-pub returns-clause-exactly : goal.returns-clause-exactly
-returns-clause-exactly c = λ rows refuse. (pass_all rows refuse, none_success rows)
-
-pub returns-clause-requests : goal.returns-clause-requests
-returns-clause-requests c = request_succeeds
+pub returns-clause-rows : goal.returns-clause-rows
+returns-clause-rows c = (none_success, first_decides, shown_status)
 
 pub returns-clause-creates : goal.returns-clause-creates
 returns-clause-creates c = create_succeeds
 
-pub returns-clause-reads : goal.returns-clause-reads
-returns-clause-reads c = read_succeeds
-
-pub returns-clause-writes : goal.returns-clause-writes
-returns-clause-writes c = write_succeeds
-
-pub returns-clause-locks : goal.returns-clause-locks
-returns-clause-locks c = lock_succeeds
-
-pub returns-clause-marks : goal.returns-clause-marks
-returns-clause-marks c = mark_succeeds
-
-pub returns-clause-sizes : goal.returns-clause-sizes
-returns-clause-sizes c = size_succeeds
-
-pub returns-clause-times : goal.returns-clause-times
-returns-clause-times c = times_succeed
+pub returns-clause-requests : goal.returns-clause-requests
+returns-clause-requests c = λ state number view shown. (
+  λ most offset count minimum. read_succeeds state most number offset count minimum view shown,
+  λ most offset buffer. write_succeeds state most number offset buffer view shown,
+  λ is_deleted. mark_succeeds state number is_deleted view shown,
+  λ size. size_succeeds state number size view shown,
+  λ ask. times_succeed state number ask view shown,
+  λ asks. lock_succeeds state number view shown asks,
+  λ asks. unlock_succeeds state number view shown asks,
+)
 
 pub returns-clause-examples : goal.returns-clause-examples
 returns-clause-examples c = record {
+  good = example_is_good;
   create = refl;
   write = refl;
-  read = refl;
-  lock = refl;
-  write_locked = refl;
-  unlock = refl;
+  read = (refl, refl);
+  lock = (refl, refl, refl);
   mark = refl;
   size = refl;
   times = refl;
   rename = refl;
+  close = refl;
 }
 
 pub returns-clause-session : goal.returns-clause-session

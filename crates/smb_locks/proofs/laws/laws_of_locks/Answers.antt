@@ -6,21 +6,15 @@ use Rattle.smb_locks.proofs.Tables.{good_empty, good_on, on_with, on_other, good
 use Rattle.smb_locks.proofs.laws.laws_of_locks.Goals as goal
 
 pub returns-clause-ends : goal.returns-clause-ends
-returns-clause-ends c = λ a b. (overlap_from_ends a b, ends_from_overlap a b)
+returns-clause-ends c = λ a b. ((overlap_from_ends a b, ends_from_overlap a b), overlap_turned a b, empty_apart a b)
 
-pub returns-clause-symmetric : goal.returns-clause-symmetric
-returns-clause-symmetric c = overlap_turned
-
-pub returns-clause-empty : goal.returns-clause-empty
-returns-clause-empty c = empty_apart
-
-pub returns-clause-conflict : goal.returns-clause-conflict
-returns-clause-conflict c = λ asked held. (conflict_from_test asked held, test_from_conflict asked held)
-
-pub returns-clause-bars : goal.returns-clause-bars
-returns-clause-bars c = λ locks holder range. (
-  (some_from_test (bars_read holder range) (BarsRead holder range) (bar_from_read_test holder range) locks, test_from_some (bars_read holder range) (BarsRead holder range) (read_test_from_bar holder range) locks),
-  (some_from_test (bars_write holder range) (BarsWrite holder range) (bar_from_write_test holder range) locks, test_from_some (bars_write holder range) (BarsWrite holder range) (write_test_from_bar holder range) locks),
+pub returns-clause-conflicts : goal.returns-clause-conflicts
+returns-clause-conflicts c = (
+  λ asked held. (conflict_from_test asked held, test_from_conflict asked held),
+  λ locks holder range. (
+    (some_from_test (bars_read holder range) (BarsRead holder range) (bar_from_read_test holder range) locks, test_from_some (bars_read holder range) (BarsRead holder range) (read_test_from_bar holder range) locks),
+    (some_from_test (bars_write holder range) (BarsWrite holder range) (bar_from_write_test holder range) locks, test_from_some (bars_write holder range) (BarsWrite holder range) (write_test_from_bar holder range) locks),
+  ),
 )
 
 pub returns-clause-apart : goal.returns-clause-apart
@@ -29,20 +23,15 @@ returns-clause-apart c = λ table file a b good ca cb. compatible_pair _ a b (go
 pub returns-clause-files : goal.returns-clause-files
 returns-clause-files c = λ table file locks good. (on_with table file locks good, λ other apart. on_other table file other locks apart)
 
-pub returns-clause-dropped : goal.returns-clause-dropped
-returns-clause-dropped c = λ table holder file good. on_dropped holder file table good.rising
-
 pub returns-clause-others : goal.returns-clause-others
-returns-clause-others c = others_kept
+returns-clause-others c = λ table file holder. (λ other asks apart. others_kept table file other holder asks apart, λ good. on_dropped holder file table good.rising)
 
-pub returns-clause-none_good : goal.returns-clause-none_good
-returns-clause-none_good c = good_empty
-
-pub returns-clause-locking_good : goal.returns-clause-locking_good
-returns-clause-locking_good c = good_locked
-
-pub returns-clause-unlocking_good : goal.returns-clause-unlocking_good
-returns-clause-unlocking_good c = good_unlocked
-
-pub returns-clause-dropping_good : goal.returns-clause-dropping_good
-returns-clause-dropping_good c = λ table holder good. good_dropped holder table good
+pub returns-clause-good : goal.returns-clause-good
+returns-clause-good c = (
+  good_empty,
+  λ table file holder asks good. (
+    λ free. good_locked table file holder asks good free,
+    good_unlocked table file holder asks good,
+    good_dropped holder table good,
+  ),
+)

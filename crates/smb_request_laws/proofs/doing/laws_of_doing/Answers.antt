@@ -5,10 +5,10 @@ use Rattle.smb_request_laws.proofs.Kept.{refusal_keeps}
 use Rattle.smb_request_laws.proofs.doing.laws_of_doing.Goals as goal
 
 pub returns-clause-named : goal.returns-clause-named
-returns-clause-named g c = names_own
-
-pub returns-clause-last : goal.returns-clause-last
-returns-clause-last g c = names_last
+returns-clause-named g c = λ it asked file_id says named. (
+  names_own it asked file_id says named,
+  λ last. names_last it asked file_id last says named,
+)
 
 pub returns-clause-read : goal.returns-clause-read
 returns-clause-read g c = read_tells g.A.Authenticator.meaning

@@ -5,6 +5,5 @@ pub returns : goal.returns
 returns g c = record {
   echo = echo_answered g.A.Authenticator.meaning;
   accepted = set_up_told g.A.Authenticator.meaning;
-  read = read_succeeds g.A.Authenticator.meaning;
-  write = write_succeeds g.A.Authenticator.meaning;
+  own = λ it. (read_succeeds g.A.Authenticator.meaning it, write_succeeds g.A.Authenticator.meaning it);
 }

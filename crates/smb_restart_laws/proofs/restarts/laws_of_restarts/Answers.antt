@@ -8,10 +8,7 @@ pub returns-clause-later : goal.returns-clause-later
 returns-clause-later g c = λ s events others good. goes_on g.A.Authenticator.meaning s events good others
 
 pub returns-clause-two : goal.returns-clause-two
-returns-clause-two g c = two_starts g.A.Authenticator.meaning
-
-pub returns-clause-second : goal.returns-clause-second
-returns-clause-second g c = second_start g.A.Authenticator.meaning
+returns-clause-two g c = λ s events good h. (two_starts g.A.Authenticator.meaning s events good h, second_start g.A.Authenticator.meaning s events good h)
 
 pub returns-clause-unread : goal.returns-clause-unread
 returns-clause-unread g c = unread_enough g.A.Authenticator.meaning

@@ -7,40 +7,27 @@ use Rattle.smb_tree.proofs.Siblings.{come_in_turn}
 use Rattle.smb_tree.proofs.laws.laws_of_contents.Goals as goal
 
 pub returns-clause-map : goal.returns-clause-map
-returns-clause-map c = get-as_map
-
-pub returns-clause-addition : goal.returns-clause-addition
-returns-clause-addition c = as_map-push
-
-pub returns-clause-change : goal.returns-clause-change
-returns-clause-change c = as_map-changed
-
-pub returns-clause-removal : goal.returns-clause-removal
-returns-clause-removal c = as_map-without
+returns-clause-map c = λ rows path. (
+  get-as_map rows path,
+  as_map-push rows path,
+  λ apart number entry there. (λ change. as_map-changed change rows number path entry apart there, as_map-without rows number path entry apart there),
+)
 
 pub returns-clause-numbers : goal.returns-clause-numbers
 returns-clause-numbers c = λ rows path entry a. (numbered-from_at rows path entry a, λ n. at-from_numbered rows path entry n a)
 
-pub returns-clause-added_apart : goal.returns-clause-added_apart
-returns-clause-added_apart c = apart_added
-
-pub returns-clause-changed_apart : goal.returns-clause-changed_apart
-returns-clause-changed_apart c = apart_changed
-
-pub returns-clause-removed_apart : goal.returns-clause-removed_apart
-returns-clause-removed_apart c = apart_removed
+pub returns-clause-apart : goal.returns-clause-apart
+returns-clause-apart c = λ rows apart. (
+  λ path entry above none. apart_added rows path entry apart above none,
+  λ change number keeps. apart_changed change rows number keeps apart,
+  λ number. apart_removed rows number apart,
+)
 
 pub returns-clause-written : goal.returns-clause-written
-returns-clause-written c = read_written
-
-pub returns-clause-unwritten : goal.returns-clause-unwritten
-returns-clause-unwritten c = stays_written
-
-pub returns-clause-gap : goal.returns-clause-gap
-returns-clause-gap c = gap_written
-
-pub returns-clause-size : goal.returns-clause-size
-returns-clause-size c = length-written
+returns-clause-written c = λ offset buffer. (
+  λ content number row there. read_written content number offset buffer row there,
+  λ bytes. (stays_written offset buffer bytes, gap_written offset buffer bytes, length-written offset buffer bytes),
+)
 
 pub returns-clause-others : goal.returns-clause-others
 returns-clause-others c = other_changed
