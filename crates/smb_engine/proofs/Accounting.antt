@@ -17,8 +17,9 @@ use Rattle.smb_engine.specs.Event.{brings, ends}
 use Rattle.smb_engine.specs.Happenings.{Happening, performed, cut_short, runs_out_of_memory, run_of}
 use Rattle.smb_engine.specs.Output.{output_bytes}
 use Rattle.smb_engine.specs.Record.{PeerCall, next_bytes, send, close, sent_by, taken_by, closes_of}
-use Rattle.smb_engine.specs.ServedPeers.{PeerState, dropped}
-use Rattle.smb_engine.specs.Serving.{most_owed, with_replies, stays}
+use Rattle.smb_engine.specs.ServedPeers.{PeerState}
+use Rattle.smb_engine.specs.ServingParts.{dropped, with_replies, stays}
+use Rattle.smb_engine.specs.Serving.{most_owed}
 use Rattle.smb_engine.specs.ServingLaws.{is_broken_off, brought_to, put_out_to, moments_of}
 use Rattle.smb_engine.proofs.Streams.{unread-without, stream_of-unread, bytes_step-none}
 use Rattle.smb_engine.proofs.Order.{stream_of-without, bytes_step-next, not_for}

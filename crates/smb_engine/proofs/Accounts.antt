@@ -11,9 +11,10 @@ use Rattle.smb_engine.specs.Happenings.{Happening, performed, cut_short}
 use Rattle.smb_engine.specs.Output.{Output, output_bytes}
 use Rattle.smb_engine.specs.State.{StreamState}
 use Rattle.smb_engine.specs.Laws.{receiver}
-use Rattle.smb_engine.specs.Record.{PeerCall, next_opened, next_bytes, next_ended, next_idle, send, close, sent_in, sent_by, taken_by, is_close, closes_of}
+use Rattle.smb_engine.specs.Record.{PeerCall, next_opened, next_bytes, next_ended, next_idle, send, close, sent_by, taken_by, closes_of}
+use Rattle.smb_engine.specs.ServingParts.{sent_in, is_close, opens_in, brought_by, brought_in, is_end_of, ends_in, bytes_for}
 use Rattle.smb_engine.proofs.Happenings.{concerns}
-use Rattle.smb_engine.specs.ServingLaws.{sent_when_open, opens_in, is_opened, OpensEachOnce, brought_by, brought_in, brought_to, is_end_of, ends_in, is_ended, bytes_for, put_out_to}
+use Rattle.smb_engine.specs.ServingLaws.{sent_when_open, is_opened, OpensEachOnce, brought_to, is_ended, put_out_to}
 
 heard_at : (n : ℕ) (call : PeerCall) (xs ys : List PeerCall) (b : Bool) → opens_in n call ≡ b → (is_opened n xs ≡ true → sent_when_open n (xs ++ ys) ≡ sent_when_open n xs ++ sent_by n ys) →
     is_opened n (call ∷ xs) ≡ true → sent_when_open n (call ∷ (xs ++ ys)) ≡ sent_when_open n (call ∷ xs) ++ sent_by n ys
@@ -109,7 +110,9 @@ brings_none c (cut_short (ends k) done) h = refl
 
 ends_none : (c : ℕ) (x : Happening) → concerns c x ≡ false → ends_in c x ≡ false
 ends_none c (performed event) h = end_none c event h
-ends_none c (cut_short event done) h = h
+ends_none c (cut_short (opens k) done) h = h
+ends_none c (cut_short (brings k moment piece) done) h = h
+ends_none c (cut_short (ends k) done) h = h
 
 pub brought_none : (c : ℕ) (happenings : List Happening) → AreElsewhere c happenings → brought_to c happenings ≡ []
 brought_none c [] h = refl

@@ -1,5 +1,5 @@
 -- The books of a share that is served: the run of events that serving comes to so far, and what it owes to each number.
-use Rattle.std.proofs.Common.{◌≡◌, ℕ, ◌+◌, ◌<◌, ◌≤◌, eqb, Bool, true, false, ◌||◌, List, [], ◌∷◌, ◌++◌, length, Option, None, Some, is_some, if◌then◌else◌, refl, sym, ap, subst, ◌∙◌, append_assoc, arith}
+use Rattle.std.proofs.Common.{◌≡◌, inl, inr, ℕ, ◌+◌, ◌<◌, ◌≤◌, eqb, Bool, true, false, ◌||◌, List, [], ◌∷◌, ◌++◌, length, Option, None, Some, is_some, if◌then◌else◌, refl, sym, ap, subst, ◌∙◌, append_assoc, arith}
 use Rattle.std.specs.List.{AllByRecursion, list_any}
 use Rattle.std.specs.Option.{option_map, option_map_or}
 use Rattle.std.specs.BTreeMap.{is_at}
@@ -11,14 +11,15 @@ use Rattle.std.proofs.lemmas.Bool.{eqb-true}
 use Rattle.smb_session.specs.Authenticator.{Meaning}
 use Rattle.smb_engine.specs.State.{StreamState, ShareState, stream_of}
 use Rattle.smb_engine.specs.Stream.{unread}
-use Rattle.smb_engine.specs.Parts.{unread_stream}
+use Rattle.smb_engine.specs.Parts.{unread_stream, moved}
 use Rattle.smb_engine.specs.Refusals.{run_behind}
-use Rattle.smb_engine.specs.Laws.{StreamsInOrder, moved, run_after}
-use Rattle.smb_engine.specs.Happenings.{Happening, runs_out_in, runs_out_of_memory, run_of}
-use Rattle.smb_engine.specs.Record.{PeerCall, next_opened, close, sent_by, taken_in, taken_by, closes_of}
+use Rattle.smb_engine.specs.Laws.{StreamsInOrder, run_after}
+use Rattle.smb_engine.specs.Happenings.{Happening, runs_out_of_memory, run_of}
+use Rattle.smb_engine.specs.ServingParts.{OpeningFails, runs_out_in, taken_in, opens_in, breaks_in, brought_in, ends_in, bytes_for}
+use Rattle.smb_engine.specs.Record.{PeerCall, next_opened, close, sent_by, taken_by, closes_of}
 use Rattle.smb_engine.specs.ServedPeers.{PeerState}
 use Rattle.smb_engine.specs.Serving.{most_owed}
-use Rattle.smb_engine.specs.ServingLaws.{sent_when_open, opens_in, is_opened, breaks_in, is_broken_off, brought_in, brought_to, ends_in, is_ended, bytes_for, put_out_to, moments_of, OpeningFails, is_full, finds_no_memory, IsRefused}
+use Rattle.smb_engine.specs.ServingLaws.{sent_when_open, is_opened, is_broken_off, brought_to, is_ended, put_out_to, moments_of, IsRefused}
 use Rattle.smb_engine.proofs.Streams.{stream_of-unread}
 use Rattle.smb_engine.proofs.Runs.{unread-unread}
 use Rattle.smb_engine.proofs.Happenings.{plays_on, plays_unread, plays_in_order, others_kept, moments_more, moments_same, order_unread}
@@ -61,8 +62,8 @@ abbrev pub IsOut : {S : Type 0} → Meaning S → ShareState S → ℕ → List 
 IsOut m s0 number calls events = (taken_by number calls ≡ []) × (closes_of number calls ≡ (if is_opened number calls then 1 else 0)) × (is_opened number calls ≡ true → IsRefused m s0 number calls events)
 
 fails_still : {S : Type 0} (share : ShareState S) (back evs : List Happening) → OpeningFails share back → OpeningFails share (back ++ evs)
-fails_still share back evs (is_full h) = is_full h
-fails_still share back evs (finds_no_memory done others h) = finds_no_memory done (others ++ evs) (ap (λ t. t ++ evs) h)
+fails_still share back evs (inl h) = inl h
+fails_still share back evs (inr h) = inr (h.0, h.1 ++ evs, ap (λ t. t ++ evs) h.2)
 
 -- it stays so where nothing is taken for it, and it is neither opened nor closed
 pub refused_more : {S : Type 0} (m : Meaning S) (s0 : ShareState S) (number : ℕ) (calls cs : List PeerCall) (events evs : List Happening) → taken_by number cs ≡ [] → is_opened number cs ≡ false → closes_of number cs ≡ 0 →

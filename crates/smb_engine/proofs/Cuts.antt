@@ -16,13 +16,12 @@ use Rattle.smb_engine.specs.declared.fault.ServeFault.{ServeFault}
 use Rattle.smb_engine.specs.Event.{EventText, brings}
 use Rattle.smb_request.specs.State.{ServerState}
 use Rattle.smb_engine.specs.State.{StreamState, ShareState, ended, stream_of}
-use Rattle.smb_engine.specs.Parts.{with_stream, after_step, and_then, settled, added_payloads}
+use Rattle.smb_engine.specs.Parts.{with_stream, after_step, and_then, settled, added_payloads, then_ran, later, refused_at_once, later_behind, with_one_more_at, moved, pieces_on, bytes_of_pieces}
 use Rattle.smb_engine.specs.Output.{end_of}
 use Rattle.smb_engine.specs.Stream.{unread}
 use Rattle.smb_engine.specs.Run.{Step, payload_step, payload_steps, EventStep, bytes_step, event_step, event_refusal, Stop, Ran, run}
-use Rattle.smb_engine.specs.Happenings.{then_ran, later, refused_at_once}
 use Rattle.smb_engine.specs.Refusals.{run_behind}
-use Rattle.smb_engine.specs.Laws.{StreamsInOrder, AreAlike, later_behind, with_one_more_at, moved, run_after, pieces_on, bytes_of_pieces}
+use Rattle.smb_engine.specs.Laws.{StreamsInOrder, AreAlike, run_after}
 use Rattle.smb_engine.proofs.Streams.{arrived, bytes_step-none, bytes_step-some, remove-set}
 use Rattle.smb_engine.proofs.Pieces.{added_is, steps_by, step-open, step-over}
 use Rattle.smb_engine.proofs.Order.{lookup-set, set-set, stream_of-without, bytes_step-next, order_step}

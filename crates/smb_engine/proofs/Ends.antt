@@ -1,5 +1,5 @@
 -- A connection's end is the last that is put out to it.
-use Rattle.std.proofs.Common.{◌≡◌, ℕ, ◌<◌, ◌&&◌, eqb, ltb, if◌then◌else◌, Bool, true, false, List, [], ◌∷◌, ◌++◌, Option, None, Some, is_none, refl, sym, ap, ◌∙◌, arith}
+use Rattle.std.proofs.Common.{◌≡◌, ℕ, ◌<◌, ◌&&◌, eqb, ltb, if◌then◌else◌, Bool, true, false, List, [], ◌∷◌, ◌++◌, Option, None, Some, is_none, refl, sym, ap, subst, ◌∙◌, arith}
 use Rattle.std.specs.Option.{option_map_or}
 use Rattle.std.specs.List.{AllByRecursion}
 use Rattle.std.specs.Map.{remove_entry}
@@ -14,12 +14,11 @@ use Rattle.smb_engine.specs.declared.connection.Connection.{Connection}
 use Rattle.smb_engine.specs.declared.fault.ServeFault.{ServeFault}
 use Rattle.smb_engine.specs.declared.fault.ServeFault.TheVariants.{BadEvent}
 use Rattle.smb_request.specs.State.{ServerState}
-use Rattle.smb_engine.specs.Laws.{StreamsInOrder, receiver, IsLastEnd}
+use Rattle.smb_engine.specs.Laws.{StreamsInOrder, receiver}
 use Rattle.smb_engine.specs.State.{StreamState, ShareState, stream_of}
 use Rattle.smb_engine.specs.Output.{Output, frame_to, end_of, reply_frame}
-use Rattle.smb_engine.specs.Parts.{added_payloads, and_then, closed_by, settled}
+use Rattle.smb_engine.specs.Parts.{added_payloads, and_then, closed_by, settled, then_ran, refused_at_once}
 use Rattle.smb_engine.specs.Run.{Step, payload_step, payload_steps, piece_step, EventStep, bytes_step, event_step, event_refusal, Ran, run}
-use Rattle.smb_engine.specs.Happenings.{then_ran, refused_at_once}
 use Rattle.smb_engine.specs.Event.{EventText, opens, brings, ends, connection_of}
 use Rattle.smb_engine.proofs.Chains.{payload_whole}
 use Rattle.smb_engine.proofs.Streams.{arrived, bytes_step-none, bytes_step-some}
@@ -42,12 +41,21 @@ module _ (n : ℕ) where
   no_ends [] h = tt
   no_ends (x ∷ xs) h = (not_for_no_end x h.0, no_ends xs h.1)
 
+  -- behind the connection's end nothing goes to it
+  abbrev IsLastEnd : List Output → Type 0
+  IsLastEnd [] = Unit {0}
+  IsLastEnd (output ∷ outputs) = (output ≡ end_of n → AllByRecursion IsNotFor outputs) × IsLastEnd outputs
+
+  nothing_behind : (before after : List Output) → IsLastEnd (before ++ end_of n ∷ after) → AllByRecursion IsNotFor after
+  nothing_behind [] after h = h.0 refl
+  nothing_behind (output ∷ before) after h = nothing_behind before after h.1
+
   -- what has no end, and then what is good
-  last_behind : (xs ys : List Output) → AllByRecursion IsNoEnd xs → IsLastEnd n ys → IsLastEnd n (xs ++ ys)
+  last_behind : (xs ys : List Output) → AllByRecursion IsNoEnd xs → IsLastEnd ys → IsLastEnd (xs ++ ys)
   last_behind [] ys h k = k
   last_behind (x ∷ xs) ys h k = (λ e. absurd (h.0 e), last_behind xs ys h.1 k)
 
-  all_last : (xs : List Output) → AllByRecursion IsNotFor xs → IsLastEnd n xs
+  all_last : (xs : List Output) → AllByRecursion IsNotFor xs → IsLastEnd xs
   all_last [] h = tt
   all_last (x ∷ xs) h = (λ e. h.1, all_last xs h.1)
 
@@ -173,8 +181,12 @@ module _ {S : Type 0} (m : Meaning S) (n : ℕ) where
   run_at s d r None h l q = h refl r.outputs l q
   run_at s d r (Some why) h l q = tt
 
-  pub an_end_is_the_last : (s : ShareState S) (events : List EventText) → StreamsInOrder s → IsLastEnd n (run m s events).outputs
-  an_end_is_the_last s [] o = tt
-  an_end_is_the_last s (event ∷ events) o =
+  run_is_last : (s : ShareState S) (events : List EventText) → StreamsInOrder s → IsLastEnd n (run m s events).outputs
+  run_is_last s [] o = tt
+  run_is_last s (event ∷ events) o =
       let d = event_step m s event in
-      run_at s d (run m d.state events) (event_refusal s event) (event_at s event _ refl o) (an_end_is_the_last d.state events (order_step m s event o)) (quiet_run d.state events)
+      run_at s d (run m d.state events) (event_refusal s event) (event_at s event _ refl o) (run_is_last d.state events (order_step m s event o)) (quiet_run d.state events)
+
+  pub an_end_is_the_last : (s : ShareState S) (events : List EventText) → StreamsInOrder s → (before after : List Output) → (run m s events).outputs ≡ before ++ end_of n ∷ after →
+      AllByRecursion (IsNotFor n) after
+  an_end_is_the_last s events o before after e = nothing_behind n before after (let P : List Output → Type 0 = λ outputs. IsLastEnd n outputs in subst P e (run_is_last s events o))

@@ -9,13 +9,14 @@ use Rattle.smb_session.proofs.Windows.{all-append}
 use Rattle.smb_engine.specs.declared.fault.ServeFault.{ServeFault}
 use Rattle.smb_engine.specs.State.{StreamState, ShareState, stream_of}
 use Rattle.smb_engine.specs.Stream.{unread}
-use Rattle.smb_engine.specs.Parts.{unread_stream, unread_entry}
+use Rattle.smb_engine.specs.Parts.{unread_stream, unread_entry, later, then_ran, refused_at_once}
 use Rattle.smb_engine.specs.Event.{EventText, opens, brings, ends, connection_of}
 use Rattle.smb_engine.specs.Run.{EventStep, Stop, Ran, run, event_refusal, event_step}
-use Rattle.smb_engine.specs.Happenings.{later, then_ran, refused_at_once, Happening, performed, cut_short, event_of, is_piece_of, happening_step, run_of}
+use Rattle.smb_engine.specs.Happenings.{Happening, performed, cut_short, event_of, happening_step, run_of}
+use Rattle.smb_engine.specs.ServingParts.{is_piece_of, moment_of}
 use Rattle.smb_engine.specs.Refusals.{run_behind}
 use Rattle.smb_engine.specs.Laws.{StreamsInOrder, receiver, run_after}
-use Rattle.smb_engine.specs.ServingLaws.{moment_of, moments_of, WithMemoryItIsARun}
+use Rattle.smb_engine.specs.ServingLaws.{moments_of, WithMemoryItIsARun}
 use Rattle.smb_engine.proofs.Streams.{stream_of-unread}
 use Rattle.smb_engine.proofs.Kept.{numbers_of}
 use Rattle.smb_engine.proofs.Order.{order_step, order_without, other_left, other_without, not_for}

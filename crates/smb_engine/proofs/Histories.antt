@@ -7,10 +7,11 @@ use Rattle.std.proofs.lemmas.Bool.{eqb-true, true≢false}
 use Rattle.smb_session.specs.Authenticator.{Meaning}
 use Rattle.smb_engine.specs.State.{StreamState, ShareState}
 use Rattle.smb_engine.specs.Happenings.{Happening, run_of}
-use Rattle.smb_engine.specs.Record.{PeerCall, next_opened, taken_in, taken_by}
+use Rattle.smb_engine.specs.Record.{PeerCall, next_opened, taken_by}
+use Rattle.smb_engine.specs.ServingParts.{taken_in, opens_in, breaks_in, brought_in, ends_in}
 use Rattle.smb_engine.specs.ServedPeers.{PeerState}
 use Rattle.smb_engine.specs.Serving.{most_owed}
-use Rattle.smb_engine.specs.ServingLaws.{sent_when_open, opens_in, is_opened, breaks_in, brought_in, brought_to, ends_in, is_ended, put_out_to, IsAnswered}
+use Rattle.smb_engine.specs.ServingLaws.{sent_when_open, is_opened, brought_to, is_ended, put_out_to, IsAnswered}
 use Rattle.smb_engine.proofs.Accounts.{heard_more, Fate, there, gone}
 use Rattle.smb_engine.proofs.Books.{more_none, any_none, Books}
 use Rattle.smb_engine.proofs.Moves.{some_same}

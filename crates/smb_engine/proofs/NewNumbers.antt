@@ -11,10 +11,10 @@ use Rattle.smb_engine.specs.Refusals.{opening_refusal}
 use Rattle.smb_engine.specs.Stream.{unread}
 use Rattle.smb_engine.specs.Event.{opens}
 use Rattle.smb_engine.specs.Happenings.{Happening, performed, run_of}
-use Rattle.smb_engine.specs.Record.{PeerCall, next_opened, taken_in}
-use Rattle.smb_engine.specs.ServedPeers.{PeerState, place_for, with_one_more}
-use Rattle.smb_engine.specs.Serving.{new_peer}
-use Rattle.smb_engine.specs.ServingLaws.{opens_in, is_opened, brought_in, ends_in, put_out_to, moments_of}
+use Rattle.smb_engine.specs.Record.{PeerCall, next_opened}
+use Rattle.smb_engine.specs.ServingParts.{taken_in, opens_in, brought_in, ends_in, place_for, new_peer}
+use Rattle.smb_engine.specs.ServedPeers.{PeerState, with_one_more}
+use Rattle.smb_engine.specs.ServingLaws.{is_opened, put_out_to, moments_of}
 use Rattle.smb_engine.proofs.Runs.{opened-unread}
 use Rattle.smb_engine.proofs.Order.{order_opened}
 use Rattle.smb_engine.proofs.Numbers.{found, Apart, found_same, found_other, apart_more, all_more, other_way}

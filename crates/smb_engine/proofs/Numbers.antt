@@ -1,10 +1,11 @@
 -- The served peers of a share that is served, by their numbers.
-use Rattle.std.proofs.Common.{◌≡◌, ℕ, suc, ◌+◌, eqb, ltb, Bool, true, false, if◌then◌else◌, List, [], ◌∷◌, ◌++◌, length, Option, None, Some, refl, sym, ap, ◌∙◌, arith}
+use Rattle.std.proofs.Common.{◌≡◌, ℕ, suc, ◌+◌, eqb, ltb, Bool, true, false, if◌then◌else◌, List, [], ◌∷◌, ◌++◌, length, Option, None, Some, is_some, refl, sym, ap, ◌∙◌, arith}
 use Rattle.std.specs.Prelude.{slice_get, slice_set}
 use Rattle.std.specs.Option.{option_map_or}
 use Rattle.std.specs.List.{AllByRecursion, position_or_len}
 use Rattle.std.proofs.lemmas.Bool.{eqb-true, eq-eqb, ne_eqb, true≢false, ltb-true, ltb-false, lt-ltb, le-ltb}
 use Rattle.smb_engine.specs.ServedPeers.{PeerState, peer_of, with_peer}
+use Rattle.smb_engine.specs.ServingParts.{place_of}
 
 -- the first peer of a number, and another in its place
 abbrev pub found : ℕ → List PeerState → Option PeerState
@@ -42,23 +43,60 @@ put_later x c cs k false = refl
 abbrev first_place : ℕ → List PeerState → ℕ
 first_place n cs = position_or_len (λ c. eqb c.number n) cs
 
-peer_at : (n : ℕ) (c : PeerState) (cs : List PeerState) (b : Bool) → eqb c.number n ≡ b → peer_of n cs ≡ found n cs → peer_of n (c ∷ cs) ≡ found n (c ∷ cs)
+-- the peer at the place of a number, and another in its place
+abbrev pub placed : ℕ → List PeerState → Option PeerState
+placed n cs = option_map_or (slice_get cs) (place_of n cs) None
+
+abbrev pub put_placed : ℕ → PeerState → List PeerState → List PeerState
+put_placed n x cs = option_map_or (λ place. slice_set cs place x) (place_of n cs) cs
+
+peer_at : (n : ℕ) (c : PeerState) (cs : List PeerState) (b : Bool) → eqb c.number n ≡ b → placed n cs ≡ found n cs → placed n (c ∷ cs) ≡ found n (c ∷ cs)
 peer_at n c cs true t ih = rw t (let e : ltb 0 (suc (length cs)) ≡ true = lt-ltb 0 (suc (length cs)) (omega arith) in rw e refl)
 peer_at n c cs false t ih =
     rw t (rw (one_later (first_place n cs) (length cs) _ refl) (at_later c cs (first_place n cs) (ltb (first_place n cs) (length cs)) ∙ ih))
 
-pub peer_of-found : (n : ℕ) (cs : List PeerState) → peer_of n cs ≡ found n cs
-peer_of-found n [] = refl
-peer_of-found n (c ∷ cs) = peer_at n c cs (eqb c.number n) refl (peer_of-found n cs)
+pub placed-peer : (n : ℕ) (cs : List PeerState) → placed n cs ≡ peer_of n cs
+placed-peer n [] = refl
+placed-peer n (c ∷ cs) = peer_at n c cs (eqb c.number n) refl (placed-peer n cs)
 
-with_at : (n : ℕ) (x c : PeerState) (cs : List PeerState) (b : Bool) → eqb c.number n ≡ b → with_peer n x cs ≡ put n x cs → with_peer n x (c ∷ cs) ≡ put n x (c ∷ cs)
+pub peer_of-found : (n : ℕ) (cs : List PeerState) → peer_of n cs ≡ found n cs
+peer_of-found n cs = refl
+
+with_at : (n : ℕ) (x c : PeerState) (cs : List PeerState) (b : Bool) → eqb c.number n ≡ b → put_placed n x cs ≡ put n x cs → put_placed n x (c ∷ cs) ≡ put n x (c ∷ cs)
 with_at n x c cs true t ih = rw t (let e : ltb 0 (suc (length cs)) ≡ true = lt-ltb 0 (suc (length cs)) (omega arith) in rw e refl)
 with_at n x c cs false t ih =
     rw t (rw (one_later (first_place n cs) (length cs) _ refl) (put_later x c cs (first_place n cs) (ltb (first_place n cs) (length cs)) ∙ ap (λ xs. c ∷ xs) ih))
 
+pub put_placed-with : (n : ℕ) (x : PeerState) (cs : List PeerState) → put_placed n x cs ≡ with_peer n x cs
+put_placed-with n x [] = refl
+put_placed-with n x (c ∷ cs) = with_at n x c cs (eqb c.number n) refl (put_placed-with n x cs)
+
 pub with_peer-put : (n : ℕ) (x : PeerState) (cs : List PeerState) → with_peer n x cs ≡ put n x cs
-with_peer-put n x [] = refl
-with_peer-put n x (c ∷ cs) = with_at n x c cs (eqb c.number n) refl (with_peer-put n x cs)
+with_peer-put n x cs = refl
+
+-- a number has a peer where it has a place
+some_later : (b : Bool) (j k : ℕ) → is_some (if b then Some j else None) ≡ is_some (if b then Some k else None)
+some_later true j k = refl
+some_later false j k = refl
+
+place_at : (n : ℕ) (c : PeerState) (cs : List PeerState) (b : Bool) → eqb c.number n ≡ b → is_some (place_of n cs) ≡ is_some (peer_of n cs) → is_some (place_of n (c ∷ cs)) ≡ is_some (peer_of n (c ∷ cs))
+place_at n c cs true t ih = rw t (let e : ltb 0 (suc (length cs)) ≡ true = lt-ltb 0 (suc (length cs)) (omega arith) in rw e refl)
+place_at n c cs false t ih =
+    rw t (rw (one_later (first_place n cs) (length cs) _ refl) (some_later (ltb (first_place n cs) (length cs)) (1 + first_place n cs) (first_place n cs) ∙ ih))
+
+pub known_place : (n : ℕ) (cs : List PeerState) → is_some (place_of n cs) ≡ is_some (peer_of n cs)
+known_place n [] = refl
+known_place n (c ∷ cs) = place_at n c cs (eqb c.number n) refl (known_place n cs)
+
+pub known_at : (n : ℕ) (cs : List PeerState) (o : Option ℕ) → o ≡ place_of n cs → is_some o ≡ is_some (peer_of n cs)
+known_at n cs o e = ap is_some e ∙ known_place n cs
+
+none_of : {X : Type 0} (o : Option X) → is_some o ≡ false → o ≡ None
+none_of None h = refl
+none_of (Some x) h = absurd (true≢false h)
+
+pub no_place : (n : ℕ) (cs : List PeerState) → None ≡ place_of n cs → peer_of n cs ≡ None
+no_place n cs e = none_of (peer_of n cs) (sym (known_at n cs None e))
 
 -- a peer that is found, with those before it and behind it
 pub record Split (n : ℕ) (c : PeerState) (cs : List PeerState) : Type 0 where

@@ -1,14 +1,17 @@
 -- Serving opens each number once, since its peers do.
-use Rattle.std.proofs.Common.{◌≡◌, ◌⊎◌, inl, inr, ℕ, suc, ◌+◌, eqb, Bool, true, false, ◌||◌, List, [], ◌∷◌, ◌++◌, length, Option, None, refl, sym, ap, subst, ◌∙◌, append_assoc, arith}
+use Rattle.std.proofs.Common.{◌≡◌, ◌⊎◌, inl, inr, ℕ, suc, ◌+◌, eqb, Bool, true, false, ◌||◌, List, [], ◌∷◌, ◌++◌, length, take, drop, Option, None, Some, refl, sym, ap, subst, ◌∙◌, append_assoc, arith}
+use Rattle.std.specs.Option.{option_map_or}
 use Rattle.std.specs.List.{list_any}
 use Rattle.std.proofs.lemmas.List.{append-nil, length-append}
 use Rattle.std.proofs.lemmas.List.Folds.{list_any-append}
 use Rattle.std.proofs.lemmas.Bool.{eq-eqb, true≢false}
 use Rattle.smb_session.specs.Authenticator.{Meaning}
+use Rattle.smb_engine.specs.State.{ended}
 use Rattle.smb_engine.specs.Record.{Keeping, PeerCall, next_opened, next_bytes, next_ended, next_idle, send, close}
-use Rattle.smb_engine.specs.ServedPeers.{PeerState}
-use Rattle.smb_engine.specs.Serving.{ServingState, Turns, told, OpeningFollows, is_done, is_refused, has_no_memory, is_passed_over, PieceFollows, is_for, is_for_none, Follows, Line, IsSent, takes, fails, owes_nothing, stays, closing_calls, AreServed}
-use Rattle.smb_engine.specs.ServingLaws.{opens_in, is_opened, OpensEachOnce}
+use Rattle.smb_engine.specs.ServedPeers.{PeerState, peer_of, with_peer}
+use Rattle.smb_engine.specs.Serving.{ServingState, Turns, OpeningFollows, is_done, is_refused, has_no_memory, is_passed_over, PieceFollows, is_answered, runs_out, is_left, Follows, settled, IsServed, is_sent, fails, owes_nothing, AreServed}
+use Rattle.smb_engine.specs.ServingParts.{opens_in, told, stays, dropped}
+use Rattle.smb_engine.specs.ServingLaws.{is_opened, OpensEachOnce}
 use Rattle.smb_engine.specs.Openings.{OpensIn, TurnOf, OpenedSince}
 use Rattle.smb_engine.proofs.Turning.{turns_more}
 use Rattle.smb_engine.proofs.Histories.{StandsBehind, last_part, neither}
@@ -42,32 +45,38 @@ module _ {S : Type 0} where
   opening_grows k s t (has_no_memory none room e) = rw e (grows_close s.calls k)
   opening_grows k s t (is_passed_over is e) = rw e (grows_none s.calls)
 
-  sent_grows : (peer : PeerState) (s : ServingState S) (line : Line S) → IsSent peer s.share s.calls line → Grows s.calls line.calls
-  sent_grows peer s line (takes count owes within e) = rw e (grows_send s.calls peer.number _ _)
-  sent_grows peer s line (fails owes e) = rw e (grows_send s.calls peer.number _ None)
-  sent_grows peer s line (owes_nothing owes e) = rw e (grows_none s.calls)
+  settled_grows : (peer : PeerState) (s : ServingState S) (b : Bool) → stays s.share peer ≡ b → Grows s.calls (settled peer s).calls
+  settled_grows peer s true e = rw e (grows_none s.calls)
+  settled_grows peer s false e = rw e (grows_close s.calls peer.number)
 
-  closing_grows : (line : Line S) (b : Bool) → stays line.share line.peer ≡ b → Grows line.calls (closing_calls line)
-  closing_grows line true e = rw e (grows_none line.calls)
-  closing_grows line false e = rw e (grows_close line.calls line.peer.number)
+  part_grows : (peer : PeerState) (s t : ServingState S) → IsServed peer s t → Grows s.calls t.calls
+  part_grows peer s t (is_sent count owes within e) =
+      let now : List PeerCall = s.calls ++ send peer.number (length peer.owed) (Some (take count peer.owed)) ∷ [] in
+      rw e (grows_then s.calls now _ (grows_send s.calls peer.number _ _) (settled_grows (record peer { owed = drop count peer.owed }) (record s { calls = now }) _ refl))
+  part_grows peer s t (fails owes e) =
+      let now : List PeerCall = s.calls ++ send peer.number (length peer.owed) None ∷ [] in
+      rw e (grows_then s.calls now _ (grows_send s.calls peer.number _ None) (settled_grows (dropped peer) (record s { share = ended s.share peer.connection; calls = now }) _ refl))
+  part_grows peer s t (owes_nothing owes e) = rw e (settled_grows peer s _ refl)
 
   served_grows : (peers : List PeerState) (s t : ServingState S) → AreServed peers s t → Grows s.calls t.calls
   served_grows [] s t h = rw h (grows_none s.calls)
-  served_grows (peer ∷ peers) s t h =
-      let line = h.1.line in
-      let P : List PeerCall → Type 0 = λ cs. Grows s.calls cs in
-      let one = subst P (sym (ap (λ x. x.calls) h.1.done)) (grows_then s.calls line.calls (closing_calls line) (sent_grows peer s line h.1.sent) (closing_grows line _ refl)) in
-      grows_then s.calls h.0.calls t.calls one (served_grows peers h.0 t h.2)
+  served_grows (peer ∷ peers) s t h = grows_then s.calls h.0.calls t.calls (part_grows peer s h.0 h.1) (served_grows peers h.0 t h.2)
+
+  ended_grows : (k : ℕ) (s : ServingState S) (o : Option PeerState) →
+      Grows s.calls (option_map_or (λ (peer : PeerState). record s { share = ended s.share peer.connection; served_peers = with_peer k (dropped peer) s.served_peers }) o s).calls
+  ended_grows k s None = grows_none s.calls
+  ended_grows k s (Some peer) = grows_none s.calls
 
   module _ (m : Meaning S) where
     piece_grows : (k : ℕ) (piece : List ℕ) (s t : ServingState S) → PieceFollows m k piece s t → Grows s.calls t.calls
-    piece_grows k piece s t (is_for peer fed e taken is) = rw is (grows_none s.calls)
-    piece_grows k piece s t (is_for_none none is) = rw is (grows_none s.calls)
+    piece_grows k piece s t (is_answered peer moment e open_still is) = rw is.1 (grows_none s.calls)
+    piece_grows k piece s t (runs_out peer moment done left e open_still stops is) = rw is (grows_none s.calls)
+    piece_grows k piece s t (is_left e is) = rw is (grows_none s.calls)
 
     follows_grows : (call : PeerCall) (s t : ServingState S) → Follows m call s t → Grows s.calls t.calls
     follows_grows (next_opened k) s t h = opening_grows k s t h
     follows_grows (next_bytes k piece) s t h = piece_grows k piece s t h
-    follows_grows (next_ended k) s t h = rw h (grows_none s.calls)
+    follows_grows (next_ended k) s t h = rw h (ended_grows k s (peer_of k s.served_peers))
     follows_grows next_idle s t h = rw h (grows_none s.calls)
     follows_grows (send k count taken) s t h = absurd h
     follows_grows (close k) s t h = absurd h
@@ -194,5 +203,5 @@ one_more m kept keeps keeps' i start middle after before opened opened' so_far t
     let b = so_far t.0 in
     let one = t.1.2 in (
       b.0,
-      (turns_more m i start middle after b.1.0 (one.0, (t.1.0, one.1), one.2), since_more m before opened opened' t.1.0 middle after b.1.1 t.1.1 one),
+      (turns_more m i start middle after b.1.0 (t.1.0, one.0, one.1, one.2), since_more m before opened opened' t.1.0 middle after b.1.1 t.1.1 one),
     )

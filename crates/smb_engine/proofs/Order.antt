@@ -20,9 +20,8 @@ use Rattle.smb_request.specs.State.{ServerState}
 use Rattle.smb_engine.specs.Laws.{StreamsInOrder, receiver}
 use Rattle.smb_engine.specs.State.{StreamState, ShareState, stream_of, new_stream, opened, ended}
 use Rattle.smb_engine.specs.Output.{Output, end_of, reply_frame}
-use Rattle.smb_engine.specs.Parts.{added_payloads, and_then, closed_by, settled}
+use Rattle.smb_engine.specs.Parts.{added_payloads, and_then, closed_by, settled, then_ran, refused_at_once}
 use Rattle.smb_engine.specs.Run.{Step, payload_step, payload_steps, piece_step, EventStep, bytes_step, event_step, event_refusal, Ran, run}
-use Rattle.smb_engine.specs.Happenings.{then_ran, refused_at_once}
 use Rattle.smb_engine.specs.Good.{GoodState}
 use Rattle.smb_engine.specs.Event.{EventText, opens, brings, ends, connection_of}
 use Rattle.smb_request.proofs.Numbered.{at_is, at_same}

@@ -17,11 +17,10 @@ use Rattle.smb_request.proofs.Readers.{request_reads, end_reads}
 use Rattle.smb_engine.specs.declared.connection.Connection.{Connection}
 use Rattle.smb_engine.specs.declared.fault.ServeFault.{ServeFault}
 use Rattle.smb_engine.specs.State.{StreamState, ShareState, stream_of}
-use Rattle.smb_engine.specs.Parts.{added_payloads, chain_begun, and_then, settled, framed_chain, all_performed, refused_step, first_negotiate}
+use Rattle.smb_engine.specs.Parts.{added_payloads, chain_begun, and_then, settled, framed_chain, all_performed, refused_step, first_negotiate, refused_at_once, then_ran, AreReadersRequests}
 use Rattle.smb_engine.specs.Run.{PerformedRequest, ChainState, one_performed, requests_of_chain, admitted, Step, first_step, chain_step, payload_step, payload_steps, piece_step, EventStep, bytes_step, event_step, event_refusal, Ran, run}
-use Rattle.smb_engine.specs.Happenings.{refused_at_once, then_ran}
 use Rattle.smb_engine.specs.Good.{GoodState}
-use Rattle.smb_engine.specs.Laws.{AreReadersRequests, AreOfReaders}
+use Rattle.smb_engine.specs.Laws.{AreOfReaders}
 use Rattle.smb_engine.specs.Event.{EventText, opens, brings, ends, connection_of}
 use Rattle.smb_engine.proofs.Streams.{arrived, bytes_step-none, bytes_step-some}
 use Rattle.smb_engine.proofs.Chains.{server-one_performed, first-server}
@@ -64,7 +63,7 @@ module _ {S : Type 0} (m : Meaning S) where
 
   module _ (n : ℕ) (moment : ℕ) where
     abbrev AreReads : List (PerformedRequest S) → Type 0
-    AreReads requests = AreReadersRequests m n requests
+    AreReads requests = AreReadersRequests n requests
 
     -- the requests of a chain
     one_reads : (chain : ChainState S) (request : List ℕ) → IsHeld chain.server → AllMayOnlyRead chain.server.sessions.table n → Reads chain.server (one_performed m (arrived n moment) chain request).server
@@ -131,7 +130,7 @@ module _ {S : Type 0} (m : Meaning S) where
         (settled_reads s (stream.received ++ piece) (piece_step m (arrived n moment) s.server stream piece) _ refl (piece_reads s.server stream piece held (rw (bytes_step-some m s n moment piece stream e) at all)))
 
   -- an event
-  event_reads : (s : ShareState S) (event : EventText) → IsHeld s.server → AreReadersRequests m (connection_of event) (event_step m s event).requests → Reads s.server (event_step m s event).state.server
+  event_reads : (s : ShareState S) (event : EventText) → IsHeld s.server → AreReadersRequests (connection_of event) (event_step m s event).requests → Reads s.server (event_step m s event).state.server
   event_reads s (opens n) held all = reads_start s.server s.next held
   event_reads s (brings n moment piece) held all = bytes_read n moment s piece (stream_of n s.streams) refl held all
   event_reads s (ends n) held all = reads_end s.server n held

@@ -1,12 +1,14 @@
 -- A run over whole streams and one over their rests leave and put out the same.
 use Rattle.std.proofs.Common.{◌≡◌, ℕ, zero, suc, ◌+◌, ◌<◌, ◌≤◌, Bool, true, false, get_or, List, [], ◌∷◌, ◌++◌, length, take, drop, map, Option, None, Some, is_some, refl, sym, ap, subst, ◌∙◌, append_assoc, arith}
+use Rattle.std.specs.Prelude.{nat_le, unwrap_or, ◌||◌}
 use Rattle.std.specs.Option.{option_map, option_map_or}
 use Rattle.std.proofs.lemmas.List.{append-nil, drop-map, drop_more, take_all, length-map}
 use Rattle.std.proofs.lemmas.Bool.{eq-eqb}
 use Rattle.std.proofs.lemmas.Option.{slice_get-map, slice_get_read}
 use Rattle.std.specs.BTreeMap.{is_at, insert_entry}
 use Rattle.std.specs.Ordering.{nat_cmp}
-use Rattle.smb_wire.specs.Limits.{longest_payload}
+use Rattle.smb_wire.specs.Counters.{is_spent}
+use Rattle.smb_wire.specs.Limits.{longest_payload, most_connections}
 use Rattle.smb_frame.specs.Reading.{rest, payloads}
 use Rattle.smb_frame.proofs.Streams.{rest-more}
 use Rattle.smb_engine.specs.declared.event.Event.{Event}
@@ -17,10 +19,9 @@ use Rattle.smb_request.specs.State.{ServerState, connection_added}
 use Rattle.smb_engine.specs.State.{StreamState, ShareState, stream_of, new_stream, opened}
 use Rattle.smb_engine.specs.Output.{Output}
 use Rattle.smb_engine.specs.Stream.{unread}
-use Rattle.smb_engine.specs.Parts.{added_payloads, unread_stream, unread_entry, settled, connection_at, EventStopped, events_of, can_want_memory, quiet_step}
+use Rattle.smb_engine.specs.Parts.{added_payloads, unread_stream, unread_entry, settled, connection_at, EventStopped, events_of, can_want_memory, quiet_step, later, then_ran, refused_at_once}
 use Rattle.smb_engine.specs.Run.{Step, piece_step, EventStep, bytes_step, event_step, event_refusal, Stop, Ran, run}
-use Rattle.smb_engine.specs.Happenings.{later, then_ran, refused_at_once, stopped}
-use Rattle.smb_engine.specs.Refusals.{EventOutOfMemory, OpeningRefused, run_behind, RunStopped, opening_refusal}
+use Rattle.smb_engine.specs.Refusals.{stopped, EventOutOfMemory, run_behind, RunStopped, opening_refusal}
 use Rattle.smb_engine.specs.Event.{EventText, opens, brings, ends, text_of, connection_of}
 use Rattle.smb_engine.proofs.Pieces.{added_is}
 use Rattle.smb_engine.proofs.Streams.{arrived, unread-with, unread-without, unread-insert, stream_of-unread}
@@ -234,8 +235,16 @@ module _ {S : Type 0} (m : Meaning S) where
   open_refused : (s : ShareState S) (n : ℕ) (o : Option ServeFault) → n ≡ s.next → opening_refusal s ≡ o → event_refusal s (opens n) ≡ o
   open_refused s n o e h = rw (eq-eqb n s.next e) h
 
-  pub open_stops : (s new : ShareState S) (n : ℕ) (fault : ServeFault) → s ≡ unread s → n ≡ s.next → OpeningRefused s fault → new ≡ s → EventStopped m s (opens n) fault new
-  open_stops s new n (NoMemory done) w e h k = (open_refused s n None e h.0, record { wanting = refl; within = omega (arith, h.1); state = k ∙ w })
-  open_stops s new n TooManyConnections w e h k = (open_refused s n (Some TooManyConnections) e h, k)
-  open_stops s new n BadEvent w e h k = absurd h
-  open_stops s new n BadConfig w e h k = absurd h
+  open_stops_at : (s new : ShareState S) (n : ℕ) (b : Bool) → (nat_le most_connections (length s.streams) || is_spent 64 s.next) ≡ b → s ≡ unread s → n ≡ s.next → new ≡ s →
+      EventStopped m s (opens n) (unwrap_or (opening_refusal s) (NoMemory 0)) new
+  open_stops_at s new n true t w e k =
+      let full : opening_refusal s ≡ Some TooManyConnections = rw t refl in
+      rw full (open_refused s n (Some TooManyConnections) e full, k)
+  open_stops_at s new n false t w e k =
+      let room : opening_refusal s ≡ None = rw t refl in
+      rw room (open_refused s n None e room, record { wanting = refl; within = omega arith; state = k ∙ w })
+
+  pub open_stops : (s new : ShareState S) (n : ℕ) (fault : ServeFault) → s ≡ unread s → n ≡ s.next → fault ≡ unwrap_or (opening_refusal s) (NoMemory 0) → new ≡ s → EventStopped m s (opens n) fault new
+  open_stops s new n fault w e h k =
+      let P : ServeFault → Type 0 = λ f. EventStopped m s (opens n) f new in
+      subst P (sym h) (open_stops_at s new n _ refl w e k)

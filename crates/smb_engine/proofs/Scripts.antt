@@ -6,8 +6,8 @@ use Rattle.std.proofs.lemmas.List.{append-nil}
 use Rattle.smb_engine.specs.declared.memory_peers.PeerStep.{PeerStep}
 use Rattle.smb_engine.specs.declared.memory_peers.PeerStep.TheVariants.{Opened, Bytes, Ended, Fails, Idle}
 use Rattle.smb_engine.specs.Peers.{call_of, OpensOnce}
-use Rattle.smb_engine.specs.MemoryPeers.{step_opens, opened_by, are_distinct, step_at, step_event, step_piece}
-use Rattle.smb_engine.specs.MemoryRecord.{piece_at, piece_place, step_call}
+use Rattle.smb_engine.specs.MemoryPeers.{opened_by, are_distinct}
+use Rattle.smb_engine.specs.MemoryRecord.{step_opens, step_at, step_event, step_piece, piece_at, piece_place, step_call}
 
 -- a number that a list has at a place is none of those before it
 apart : (j : ℕ) (before : List ℕ) (k : ℕ) (later : List ℕ) → list_any (λ i. j == i) (before ++ k ∷ later) ≡ false → (j == k) ≡ false

@@ -1,5 +1,5 @@
 -- Serving, turn by turn, keeps its books.
-use Rattle.std.proofs.Common.{◌≡◌, inl, inr, ℕ, zero, suc, ◌+◌, ◌<◌, Bool, true, false, ◌||◌, cond, if◌then◌else◌, eqb, List, [], ◌∷◌, ◌++◌, length, take, Option, None, Some, is_some, refl, sym, ap, subst, ◌∙◌, append_assoc, arith}
+use Rattle.std.proofs.Common.{◌≡◌, inl, inr, ℕ, zero, suc, ◌+◌, ◌<◌, Bool, true, false, ◌||◌, cond, if◌then◌else◌, eqb, List, [], ◌∷◌, ◌++◌, length, take, drop, Option, None, Some, is_some, refl, sym, ap, subst, ◌∙◌, append_assoc, arith}
 use Rattle.std.specs.Prelude.{nat_lt}
 use Rattle.std.specs.Option.{option_map_or}
 use Rattle.std.specs.List.{AllByRecursion}
@@ -15,11 +15,13 @@ use Rattle.smb_engine.specs.Run.{bytes_step, event_refusal}
 use Rattle.smb_engine.specs.Stream.{unread}
 use Rattle.smb_engine.specs.Event.{opens, brings, ends}
 use Rattle.smb_engine.specs.Refusals.{EventOutOfMemory, opening_refusal}
-use Rattle.smb_engine.specs.Happenings.{Happening, performed, cut_short, is_cut_short, times_out_of_memory, run_of}
-use Rattle.smb_engine.specs.Record.{PeerCall, next_opened, next_bytes, next_ended, next_idle, send, close, taken_in, closes_of}
-use Rattle.smb_engine.specs.ServedPeers.{PeerState, peer_of, with_peer, with_one_more, dropped}
-use Rattle.smb_engine.specs.Serving.{ServingState, told, new_peer, OpeningFollows, is_done, is_refused, has_no_memory, is_passed_over, most_owed, Fed, with_replies, piece_taken, PieceEnds, PieceTaken, takes_piece, stops_in_piece, leaves_piece, PieceFollows, is_for, is_for_none, behind_end, Follows, Line, IsSent, takes, fails, owes_nothing, stays, kept_peers, closing_calls, IsServed, AreServed, Turn, Turns}
-use Rattle.smb_engine.specs.ServingLaws.{opens_in, is_opened, OpensEachOnce, OpeningFails, is_full, finds_no_memory}
+use Rattle.smb_engine.specs.Happenings.{Happening, performed, cut_short, times_out_of_memory, run_of}
+use Rattle.smb_engine.specs.ServingParts.{OpeningFails, is_cut_short, taken_in, opens_in, dropped, told, new_peer, with_replies, piece_taken, Line, IsSent, takes, fails, owes_nothing, stays, kept_peers, closing_calls, HasPart}
+use Rattle.smb_engine.proofs.Turning.{settled_is}
+use Rattle.smb_engine.specs.Record.{PeerCall, next_opened, next_bytes, next_ended, next_idle, send, close, closes_of}
+use Rattle.smb_engine.specs.ServedPeers.{PeerState, peer_of, with_peer, with_one_more}
+use Rattle.smb_engine.specs.Serving.{ServingState, OpeningFollows, is_done, is_refused, has_no_memory, is_passed_over, most_owed, PieceFollows, is_answered, runs_out, is_left, Follows, IsServed, is_sent, fails as fails_part, owes_nothing as owes_no_part, AreServed, Turn, Turns}
+use Rattle.smb_engine.specs.ServingLaws.{is_opened, OpensEachOnce}
 use Rattle.smb_engine.specs.declared.fault.ServeFault.TheVariants.{TooManyConnections}
 use Rattle.smb_engine.proofs.Numbers.{found, peer_of-found, with_peer-put, Split, split, none_named, all_first}
 use Rattle.smb_engine.proofs.Accounts.{once_before, closes_more, quiet_idle, quiet_bytes, quiet_end, quiet_refusal, quiet_failure, no_calls}
@@ -30,9 +32,17 @@ use Rattle.smb_engine.proofs.Accounting.{is_closed, silent, unconnected, passed_
 use Rattle.smb_engine.proofs.NewNumbers.{connected, not_connected, number_opened}
 use Rattle.smb_engine.proofs.Histories.{AreAnswered, History, answered_now, events_more, call_more, opening_more, connection_more}
 
-fed_is : {S : Type 0} (fed : Fed S) (share : ShareState S) (peer : PeerState) (moments : List ℕ) (ran_out : Bool) → fed.share ≡ share → fed.peer ≡ peer → fed.moments ≡ moments → fed.ran_out ≡ ran_out →
-    fed ≡ record { share = share; peer = peer; moments = moments; ran_out = ran_out }
-fed_is fed share peer moments ran_out e f g h = rw (← e, ← f, ← g, ← h) refl
+-- a peer's part of a turn, as its send, and that it stays or is closed
+part_of : {S : Type 0} (peer : PeerState) (s t : ServingState S) → IsServed peer s t → HasPart peer s t
+part_of {S} peer s t (is_sent count owes within is) =
+    let line : Line S = record { share = s.share; peer = record peer { owed = drop count peer.owed }; calls = s.calls ++ send peer.number (length peer.owed) (Some (take count peer.owed)) ∷ [] } in
+    record { line = line; sent = takes count owes within refl; done = is ∙ sym (settled_is s line) }
+part_of {S} peer s t (fails_part owes is) =
+    let line : Line S = record { share = ended s.share peer.connection; peer = dropped peer; calls = s.calls ++ send peer.number (length peer.owed) None ∷ [] } in
+    record { line = line; sent = fails owes refl; done = is ∙ sym (settled_is s line) }
+part_of {S} peer s t (owes_no_part owes is) =
+    let line : Line S = record { share = s.share; peer = peer; calls = s.calls } in
+    record { line = line; sent = owes_nothing owes refl; done = is ∙ sym (settled_is s line) }
 
 refusal_unread : {S : Type 0} (s : ShareState S) → opening_refusal (unread s) ≡ opening_refusal s
 refusal_unread s = rw length-map refl
@@ -101,18 +111,18 @@ module _ {S : Type 0} (m : Meaning S) (s0 : ShareState S) (calls0 : List PeerCal
   )
 
   -- an end by the peers
-  end_at : (k : ℕ) (s : ServingState S) (o : Option PeerState) → peer_of k s.served_peers ≡ o → GoesAt s → GoesAt (behind_end (told s (next_ended k)) k)
+  abbrev ended_state : ℕ → ServingState S → Option PeerState → ServingState S
+  ended_state k s o = option_map_or (λ (peer : PeerState). record s { share = ended s.share peer.connection; served_peers = with_peer k (dropped peer) s.served_peers }) o s
+
+  end_at : (k : ℕ) (s : ServingState S) (o : Option PeerState) → peer_of k s.served_peers ≡ o → GoesAt s → GoesAt (ended_state k (told s (next_ended k)) o)
   end_at k s None e g =
-      same s.share _ s.served_peers _ (s.calls ++ next_ended k ∷ []) s.moments s.ran_out
-      (ap (λ o. option_map_or (λ peer. ended s.share peer.connection) o s.share) e)
-      (ap (λ o. option_map_or (λ peer. with_peer k (dropped peer) s.served_peers) o s.served_peers) e)
       (on s.share s.share s.served_peers s.served_peers s.calls (next_ended k ∷ []) s.moments s.moments s.ran_out s.ran_out g
       (λ more once b. quiet _ _ _ _ more _ _ _ _ b (silent m s0 moments0 s.share s.served_peers more s.moments b.0 b.1 b.2 (next_ended k ∷ []) (λ j. quiet_end k j))))
   end_at k s (Some peer) e g =
       let p = split k peer s.served_peers (sym (peer_of-found k s.served_peers) ∙ e) in
       same (ended s.share peer.connection) _ (p.front ++ dropped peer ∷ p.back) _ (s.calls ++ next_ended k ∷ []) s.moments s.ran_out
-      (ap (λ o. option_map_or (λ c. ended s.share c.connection) o s.share) e)
-      (ap (λ o. option_map_or (λ c. with_peer k (dropped c) s.served_peers) o s.served_peers) e ∙ with_peer-put k (dropped peer) s.served_peers ∙ p.puts (dropped peer))
+      refl
+      (with_peer-put k (dropped peer) s.served_peers ∙ p.puts (dropped peer))
       (on s.share (ended s.share peer.connection) s.served_peers (p.front ++ dropped peer ∷ p.back) s.calls (next_ended k ∷ []) s.moments s.moments s.ran_out s.ran_out g
       (λ more once b. grown _ _ _ _ more _ _ _ _ b (performed (ends peer.connection))
       (all_dropped m s0 moments0 s.share p.front p.back peer more s.moments b.0 b.1 (renamed s.share s.served_peers _ more s.moments b.0 b.1 p.whole b.2)
@@ -180,7 +190,7 @@ module _ {S : Type 0} (m : Meaning S) (s0 : ShareState S) (calls0 : List PeerCal
     refused_books full =
         let here : opening_refusal (run_of m s0 b.0).state ≡ Some TooManyConnections = sym (refusal_unread (run_of m s0 b.0).state) ∙ ap opening_refusal (sym b.2.state) ∙ full in
         closed_at_once [] s.ran_out
-        (unconnected m s0 moments0 s.share s.served_peers more s.moments b.0 b.1 b.2 k (next_opened k ∷ close k ∷ []) nobody (λ j d. quiet_refusal k j d) (out [] (is_full here)))
+        (unconnected m s0 moments0 s.share s.served_peers more s.moments b.0 b.1 b.2 k (next_opened k ∷ close k ∷ []) nobody (λ j d. quiet_refusal k j d) (out [] (inl here)))
         (b.4 ∙ ap times_out_of_memory (sym (append-nil b.0)))
 
     next_is : s.share.next ≡ (run_of m s0 b.0).state.next
@@ -192,7 +202,7 @@ module _ {S : Type 0} (m : Meaning S) (s0 : ShareState S) (calls0 : List PeerCal
         let unrefused : event_refusal s.share (opens s.share.next) ≡ None = rw (eq-eqb s.share.next s.share.next refl) room in
         let ran = run_one m s0 moments0 s.share x unrefused in
         let is_held = held m s0 moments0 s.share s.served_peers more s.moments b.0 b.1 b.2 in
-        let why : OpeningFails (run_of m s0 b.0).state (x ∷ []) = finds_no_memory 0 [] (ap (λ n. cut_short (opens n) 0 ∷ []) next_is) in
+        let why : OpeningFails (run_of m s0 b.0).state (x ∷ []) = inr (0, [], ap (λ n. cut_short (opens n) 0 ∷ []) next_is) in
         closed_at_once (x ∷ []) (s.ran_out + 1)
         (move m s0 moments0 s.share s.share s.served_peers s.served_peers more (next_opened k ∷ close k ∷ []) s.moments s.moments b.0 (x ∷ []) b.1 k b.2
         (λ c e. absurd (some_none c (sym e ∙ nobody))) (λ e r. out (x ∷ []) why) (λ j c e d. (refl, tt)) (λ j d. quiet_refusal k j d) (λ j d. refl)
@@ -278,37 +288,20 @@ module _ {S : Type 0} (m : Meaning S) (s0 : ShareState S) (calls0 : List PeerCal
         (grown _ _ _ _ more _ _ _ _ b (cut_short (brings peer.connection moment piece) done)
         (piece_cut m s0 moments0 s.share p.front p.back peer more s.moments b.0 b.1 (its_books more b) moment done piece share' open_still stops))
 
-    cut_at : (moment done : ℕ) (share' : ShareState S) (peer' : PeerState) → is_open s.share peer.connection ≡ true → PieceEnds m s.share peer moment piece done share' peer' → GoesAt s →
-        Goes share' (with_peer k peer' s.served_peers) (s.calls ++ next_bytes k piece ∷ []) (s.moments ++ moment ∷ []) (s.ran_out + 1)
-    cut_at moment done share' peer' open_still stop g =
-        same share' share' (p.front ++ dropped peer ∷ p.back) _ _ _ (s.ran_out + 1) refl (ap (λ c. with_peer k c s.served_peers) stop.drops ∙ with_is (dropped peer))
-        (on s.share share' s.served_peers _ s.calls (next_bytes k piece ∷ []) s.moments (s.moments ++ moment ∷ []) s.ran_out (s.ran_out + 1) g (λ more once. cut_books moment done share' open_still stop.stops more))
+    cut_at : (moment done : ℕ) (share' : ShareState S) → is_open s.share peer.connection ≡ true → EventOutOfMemory m s.share (brings peer.connection moment piece) done share' → GoesAt s →
+        Goes share' (with_peer k (dropped peer) s.served_peers) (s.calls ++ next_bytes k piece ∷ []) (s.moments ++ moment ∷ []) (s.ran_out + 1)
+    cut_at moment done share' open_still stops g =
+        same share' share' (p.front ++ dropped peer ∷ p.back) _ _ _ (s.ran_out + 1) refl (with_is (dropped peer))
+        (on s.share share' s.served_peers _ s.calls (next_bytes k piece ∷ []) s.moments (s.moments ++ moment ∷ []) s.ran_out (s.ran_out + 1) g (λ more once. cut_books moment done share' open_still stops more))
 
     connection_is : (more : List PeerCall) (b : Balanced s.share s.served_peers more s.moments s.ran_out) → b.1 k ≡ Some peer.connection
     connection_is more b = ap b.1 (sym p.number) ∙ own_connection b.1 p.front p.back peer (its_books more b).listed
 
-    left_out : is_open s.share peer.connection ≡ false → GoesAt s → Goes s.share (with_peer k peer s.served_peers) (s.calls ++ next_bytes k piece ∷ []) s.moments s.ran_out
+    left_out : is_open s.share peer.connection ≡ false → GoesAt s → Goes s.share s.served_peers (s.calls ++ next_bytes k piece ∷ []) s.moments s.ran_out
     left_out shut g =
-        same s.share s.share s.served_peers _ _ s.moments s.ran_out refl (with_is peer ∙ sym p.whole)
         (on s.share s.share s.served_peers s.served_peers s.calls (next_bytes k piece ∷ []) s.moments s.moments s.ran_out s.ran_out g
         (λ more once b. grown _ _ _ _ more _ _ _ _ b (performed (brings peer.connection 0 piece))
         (passed_over m s0 moments0 s.share s.served_peers more s.moments b.0 b.1 b.2 k peer.connection piece (connection_is more b) (is_closed (stream_of peer.connection s.share.streams) shut))))
-
-    abbrev fed_state : Fed S → ServingState S
-    fed_state fed = record (told s (next_bytes k piece)) { share = fed.share; served_peers = with_peer k fed.peer s.served_peers; moments = fed.moments; ran_out = if fed.ran_out then s.ran_out + 1 else s.ran_out }
-
-    fed_at : (fed : Fed S) → PieceTaken m piece s.share peer s.moments fed → GoesAt s → GoesAt (fed_state fed)
-    fed_at fed (takes_piece moment open_still short is told' kept) g =
-        let x = taken_at moment _ refl open_still g in
-        let e : fed ≡ record { share = (piece_taken m s.share peer moment piece).share; peer = (piece_taken m s.share peer moment piece).peer; moments = s.moments ++ moment ∷ []; ran_out = false } =
-        fed_is fed _ _ _ _ (ap (λ t. t.share) is) (ap (λ t. t.peer) is) told' kept in
-        let P : Fed S → Type 0 = λ f. GoesAt (fed_state f) in
-        subst P (sym e) x
-    fed_at fed (stops_in_piece moment done open_still stops told' out) g =
-        let e : fed ≡ record { share = fed.share; peer = fed.peer; moments = s.moments ++ moment ∷ []; ran_out = true } = fed_is fed _ _ _ _ refl refl told' out in
-        let P : Fed S → Type 0 = λ f. GoesAt (fed_state f) in
-        subst P (sym e) (cut_at moment done fed.share fed.peer open_still stops g)
-    fed_at fed (leaves_piece shut is) g = let P : Fed S → Type 0 = λ f. GoesAt (fed_state f) in subst P (sym is) (left_out shut g)
 
   -- a piece for no peer: its number has no connection, or one that has ended
   unknown_at : (k : ℕ) (piece : List ℕ) (s : ServingState S) (more : List PeerCall) (b : Balanced s.share s.served_peers more s.moments s.ran_out) (o : Option ℕ) → b.1 k ≡ o → found k s.served_peers ≡ None →
@@ -320,18 +313,24 @@ module _ {S : Type 0} (m : Meaning S) (s0 : ShareState S) (calls0 : List PeerCal
   unknown_at k piece s more b (Some c) e none =
       grown _ _ _ _ more _ _ _ _ b (performed (brings c 0 piece)) (passed_over m s0 moments0 s.share s.served_peers more s.moments b.0 b.1 b.2 k c piece e ((b.2.accounts k c e).closed none))
 
+  passed_at : (k : ℕ) (piece : List ℕ) (s : ServingState S) (o : Option PeerState) → peer_of k s.served_peers ≡ o → option_map_or (λ (peer : PeerState). is_open s.share peer.connection) o false ≡ false →
+      GoesAt s → Goes s.share s.served_peers (s.calls ++ next_bytes k piece ∷ []) s.moments s.ran_out
+  passed_at k piece s None e shut g =
+      on s.share s.share s.served_peers s.served_peers s.calls (next_bytes k piece ∷ []) s.moments s.moments s.ran_out s.ran_out g
+      (λ more once b. unknown_at k piece s more b (b.1 k) refl (sym (peer_of-found k s.served_peers) ∙ e))
+  passed_at k piece s (Some peer) e shut g = left_out k piece s peer e shut g
+
   bytes_at : (k : ℕ) (piece : List ℕ) (s t : ServingState S) → PieceFollows m k piece (told s (next_bytes k piece)) t → GoesAt s → GoesAt t
-  bytes_at k piece s t (is_for peer fed e taken is) g = subst GoesAt (sym is) (fed_at k piece s peer e fed taken g)
-  bytes_at k piece s t (is_for_none none is) g =
-      subst GoesAt (sym is)
-      (on s.share s.share s.served_peers s.served_peers s.calls (next_bytes k piece ∷ []) s.moments s.moments s.ran_out s.ran_out g
-      (λ more once b. unknown_at k piece s more b (b.1 k) refl (sym (peer_of-found k s.served_peers) ∙ none)))
+  bytes_at k piece s t (is_answered peer moment e open_still is) g = subst GoesAt (sym is.1) (taken_at k piece s peer e moment _ refl open_still g)
+  bytes_at k piece s t (runs_out peer moment done left e open_still stops is) g =
+      subst GoesAt (sym is) (cut_at k piece s peer e moment done left open_still stops g)
+  bytes_at k piece s t (is_left shut is) g = subst GoesAt (sym is) (passed_at k piece s (peer_of k s.served_peers) refl shut g)
 
   -- a call of `next`
   follows_at : (call : PeerCall) (s t : ServingState S) → Follows m call (told s call) t → GoesAt s → GoesAt t
   follows_at (next_opened k) s t h g = opening_at k s t h g
   follows_at (next_bytes k piece) s t h g = bytes_at k piece s t h g
-  follows_at (next_ended k) s t h g = subst GoesAt (sym h) (end_at k s _ refl g)
+  follows_at (next_ended k) s t h g = subst GoesAt (sym h) (end_at k s (peer_of k s.served_peers) refl g)
   follows_at next_idle s t h g =
       subst GoesAt (sym h)
       (on s.share s.share s.served_peers s.served_peers s.calls (next_idle ∷ []) s.moments s.moments s.ran_out s.ran_out g
@@ -412,7 +411,7 @@ module _ {S : Type 0} (m : Meaning S) (s0 : ShareState S) (calls0 : List PeerCal
         (serves_on line.share line.share front front (line.peer ∷ back) back line.calls (close line.peer.number ∷ []) moments n g
         (λ more b h. (quiet _ _ _ _ more _ _ _ _ b (peer_closed m s0 moments0 line.share front back line.peer more moments b.0 b.1 b.2 e), h))))
 
-  served_one : (peer : PeerState) (waiting : List PeerState) (s t : ServingState S) → IsServed peer s t → Serves s.share s.served_peers (peer ∷ waiting) s.calls s.moments s.ran_out →
+  served_one : (peer : PeerState) (waiting : List PeerState) (s t : ServingState S) → HasPart peer s t → Serves s.share s.served_peers (peer ∷ waiting) s.calls s.moments s.ran_out →
       Serves t.share t.served_peers waiting t.calls t.moments t.ran_out
   served_one peer waiting s t h g =
       let P : ServingState S → Type 0 = λ x. Serves x.share x.served_peers waiting x.calls x.moments x.ran_out in
@@ -421,7 +420,7 @@ module _ {S : Type 0} (m : Meaning S) (s0 : ShareState S) (calls0 : List PeerCal
 
   served_all : (waiting : List PeerState) (s t : ServingState S) → AreServed waiting s t → Serves s.share s.served_peers waiting s.calls s.moments s.ran_out → GoesOnAt t
   served_all [] s t h g = subst GoesOnAt (sym h) g
-  served_all (peer ∷ waiting) s t h g = served_all waiting h.0 t h.2 (served_one peer waiting s h.0 h.1 g)
+  served_all (peer ∷ waiting) s t h g = served_all waiting h.0 t h.2 (served_one peer waiting s h.0 (part_of peer s h.0 h.1) g)
 
   begins : (s : ServingState S) → GoesAt s → Serves s.share [] s.served_peers s.calls s.moments s.ran_out
   begins s g = (g.0, g.1, λ once. (g.2 once, tt))
@@ -432,7 +431,7 @@ module _ {S : Type 0} (m : Meaning S) (s0 : ShareState S) (calls0 : List PeerCal
       (g.0, g.1, λ once. subst P (append-nil s.served_peers) (g.2 once).0)
 
   turn_at : (s t : ServingState S) → Turn m s t → GoesOnAt s → GoesOnAt t
-  turn_at s t h g = served_all h.0.served_peers (record h.0 { served_peers = [] }) t h.2 (begins h.0 (follows_at h.1.0 s h.0 h.1.1 (goes_at s g)))
+  turn_at s t h g = served_all h.1.served_peers (record h.1 { served_peers = [] }) t h.3 (begins h.1 (follows_at h.0 s h.1 h.2 (goes_at s g)))
 
   pub turns_at : (n : ℕ) (s t : ServingState S) → Turns m n s t → GoesOnAt s → GoesOnAt t
   turns_at zero s t h g = subst GoesOnAt (sym h) g

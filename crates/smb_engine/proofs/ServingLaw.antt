@@ -12,7 +12,8 @@ use Rattle.smb_engine.specs.Parts.{unread_entry}
 use Rattle.smb_engine.specs.Happenings.{Happening, run_of}
 use Rattle.smb_engine.specs.Record.{PeerCall, taken_by, closes_of}
 use Rattle.smb_engine.specs.ServedPeers.{PeerState}
-use Rattle.smb_engine.specs.Serving.{serving, most_owed, stays}
+use Rattle.smb_engine.specs.Serving.{most_owed}
+use Rattle.smb_engine.specs.ServingParts.{serving, stays}
 use Rattle.smb_engine.specs.ServingLaws.{OpensEachOnce, owed_to, put_out_to, GoesOn, moments_of, IsRun, ServingIsARun}
 use Rattle.smb_engine.proofs.Order.{good_in_order}
 use Rattle.smb_engine.proofs.Numbers.{found, peer_of-found, split}

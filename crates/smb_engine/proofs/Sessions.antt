@@ -17,9 +17,8 @@ use Rattle.smb_request.proofs.Numbers.{order_good}
 use Rattle.smb_engine.specs.declared.connection.Connection.{Connection}
 use Rattle.smb_engine.specs.declared.fault.ServeFault.{ServeFault}
 use Rattle.smb_engine.specs.State.{StreamState, ShareState, stream_of}
-use Rattle.smb_engine.specs.Parts.{added_payloads, chain_begun, and_then, settled, framed_chain, all_performed, refused_step, first_negotiate}
+use Rattle.smb_engine.specs.Parts.{added_payloads, chain_begun, and_then, settled, framed_chain, all_performed, refused_step, first_negotiate, then_ran, refused_at_once}
 use Rattle.smb_engine.specs.Run.{PerformedRequest, ChainState, one_performed, requests_of_chain, admitted, Step, first_step, chain_step, payload_step, payload_steps, piece_step, EventStep, bytes_step, event_step, event_refusal, Ran, run}
-use Rattle.smb_engine.specs.Happenings.{then_ran, refused_at_once}
 use Rattle.smb_engine.specs.Good.{GoodState}
 use Rattle.smb_engine.specs.Laws.{requests_of_run}
 use Rattle.smb_engine.specs.Event.{EventText, opens, brings, ends, connection_of}

@@ -8,9 +8,9 @@ use Rattle.smb_engine.specs.declared.memory_peers.PeerStep.{PeerStep}
 use Rattle.smb_engine.specs.declared.memory_peers.PeerStep.TheVariants.{Opened, Bytes, Ended, Fails, Idle}
 use Rattle.smb_engine.specs.declared.memory_record.Call.{Call}
 use Rattle.smb_engine.specs.declared.memory_record.Call.TheVariants.{Next, Sent, Closed}
-use Rattle.smb_engine.specs.Record.{taken_in, taken_by, is_close, closes_of}
-use Rattle.smb_engine.specs.MemoryPeers.{step_at}
-use Rattle.smb_engine.specs.MemoryRecord.{step_call, count_in, bytes_of, call_told, calls_told, is_sending, is_closing, taken_of}
+use Rattle.smb_engine.specs.Record.{taken_by, closes_of}
+use Rattle.smb_engine.specs.ServingParts.{taken_in, is_close}
+use Rattle.smb_engine.specs.MemoryRecord.{step_at, step_call, count_in, bytes_of, call_told, calls_told, is_sending, is_closing, taken_of}
 
 -- a step takes nothing, and closes nothing
 step_takes : (number : ℕ) (step : PeerStep) → taken_in number (step_call step) ≡ []

@@ -1,5 +1,5 @@
 -- Turns of a share that is served: one step after the other.
-use Rattle.std.proofs.Common.{◌≡◌, ℕ, zero, suc, ◌+◌, ◌<◌, ◌≤◌, Bool, true, false, List, [], ◌∷◌, ◌++◌, length, take, drop, set, get_or, nat_lt, None, Some, Ok, if◌then◌else◌, refl, sym, ap, subst, ◌∙◌, append_assoc, add-one, arith}
+use Rattle.std.proofs.Common.{◌≡◌, ℕ, zero, suc, ◌+◌, ◌<◌, ◌≤◌, Bool, true, false, List, [], ◌∷◌, ◌++◌, length, take, drop, set, get_or, nat_lt, Option, None, Some, Ok, if◌then◌else◌, refl, sym, ap, subst, ◌∙◌, append_assoc, add-one, arith}
 use Rattle.std.specs.List.{slice_get}
 use Rattle.std.specs.Option.{option_map_or}
 use Rattle.std.specs.List.{remove}
@@ -7,11 +7,13 @@ use Rattle.std.proofs.lemmas.List.{append-nil, length-set, get_or-set_same, drop
 use Rattle.std.proofs.lemmas.List.Edits.{length-remove}
 use Rattle.std.proofs.lemmas.Option.{slice_get_read}
 use Rattle.smb_session.specs.Authenticator.{Meaning}
-use Rattle.smb_engine.specs.State.{ShareState}
-use Rattle.smb_engine.specs.Record.{PeerCall, send, close, Keeping}
+use Rattle.smb_engine.specs.State.{ShareState, is_open, ended}
+use Rattle.smb_engine.specs.Record.{PeerCall, next_ended, send, close, Keeping}
 use Rattle.smb_engine.specs.Peers.{send_call}
-use Rattle.smb_engine.specs.ServedPeers.{PeerState, place_of, peer_of, with_peer, dropped}
-use Rattle.smb_engine.specs.Serving.{ServingState, serving, told, PieceTaken, PieceFollows, is_for, peers_behind_end, share_behind_end, behind_end, Follows, Line, IsSent, takes, stays, kept_peers, closing_calls, IsServed, AreServed, Turn, Turns}
+use Rattle.smb_engine.specs.ServedPeers.{PeerState, peer_of, with_peer}
+use Rattle.smb_engine.specs.ServingParts.{place_of, dropped, serving, told, Fed, PieceTaken, takes_piece, stops_in_piece, leaves_piece, piece_taken, peers_behind_end, share_behind_end, Line, IsSent, takes, fails, owes_nothing, stays, kept_peers, closing_calls}
+use Rattle.smb_engine.proofs.Numbers.{placed-peer, put_placed-with, split}
+use Rattle.smb_engine.specs.Serving.{ServingState, PieceFollows, is_answered, runs_out, is_left, Follows, settled, IsServed, is_sent, fails as fails_part, owes_nothing as owes_no_part, AreServed, Turn, Turns}
 
 -- what follows on a call of `next`, from what it told
 pub follows_told : {S : Type 0} (m : Meaning S) (share share' : ShareState S) (served_peers served_peers' : List PeerState) (calls told' calls' : List PeerCall) (moments moments' : List ℕ) (n n' : ℕ)
@@ -20,6 +22,25 @@ pub follows_told : {S : Type 0} (m : Meaning S) (share share' : ShareState S) (s
 follows_told m share share' served_peers served_peers' calls told' calls' moments moments' n n' call e h =
     let P : List PeerCall → Type 0 = λ cs. Follows m call (serving share served_peers cs moments n) (serving share' served_peers' calls' moments' n') in
     subst P e h
+
+-- behind a peer's send
+module _ {S : Type 0} (s : ServingState S) (line : Line S) where
+  settled_at : (b : Bool) → stays line.share line.peer ≡ b →
+      record s { share = line.share; served_peers = s.served_peers ++ kept_peers line; calls = closing_calls line } ≡ settled line.peer (record s { share = line.share; calls = line.calls })
+  settled_at true e = rw e refl
+  settled_at false e = rw e (ap (λ (peers : List PeerState). record s { share = line.share; served_peers = peers; calls = line.calls ++ close line.peer.number ∷ [] }) (append-nil s.served_peers))
+
+  pub settled_is : record s { share = line.share; served_peers = s.served_peers ++ kept_peers line; calls = closing_calls line } ≡ settled line.peer (record s { share = line.share; calls = line.calls })
+  settled_is = settled_at (stays line.share line.peer) refl
+
+part_is : {S : Type 0} (peer : PeerState) (s t : ServingState S) (line : Line S) → IsSent peer s.share s.calls line →
+    t ≡ record s { share = line.share; served_peers = s.served_peers ++ kept_peers line; calls = closing_calls line } → IsServed peer s t
+part_is {S} peer s t line (takes count owes within is) done =
+    is_sent count owes within (done ∙ settled_is s line ∙ ap (λ (l : Line S). settled l.peer (record s { share = l.share; calls = l.calls })) is)
+part_is {S} peer s t line (fails owes is) done =
+    fails_part owes (done ∙ settled_is s line ∙ ap (λ (l : Line S). settled l.peer (record s { share = l.share; calls = l.calls })) is)
+part_is {S} peer s t line (owes_nothing owes is) done =
+    owes_no_part owes (done ∙ settled_is s line ∙ ap (λ (l : Line S). settled l.peer (record s { share = l.share; calls = l.calls })) is)
 
 -- one peer more
 AreServed-snoc : {S : Type 0} (served_peers : List PeerState) (peer : PeerState) (s middle t : ServingState S) →
@@ -58,7 +79,7 @@ sent_more {S} {kept} {keeps} {keeps'} {keeps''} {share0} {share} {served_peers0}
       let b = h.served s.0 in (
         b.0,
         λ moments n. AreServed-snoc h.before peer _ _ _ (b.1 moments n)
-            (record { line = line; sent = s.1; done = same_serving line.share (take place' served_peers') (take place served_peers ++ kept_peers line) calls' (closing_calls line) moments n front t.1 }),
+            (part_is peer (serving share (take place served_peers) calls moments n) _ line s.1 (same_serving line.share (take place' served_peers') (take place served_peers ++ kept_peers line) calls' (closing_calls line) moments n front t.1)),
       );
 }
 
@@ -137,28 +158,75 @@ goes_within xs ys i x e h =
 pub turns_more : {S : Type 0} (m : Meaning S) (i : ℕ) (s middle t : ServingState S) → Turns m i s middle → Turn m middle t → Turns m (i + 1) s t
 turns_more m i s middle t h turn = rw add-one (middle, h, turn)
 
+fed_is : {S : Type 0} (fed : Fed S) (share : ShareState S) (peer : PeerState) (moments : List ℕ) (ran_out : Bool) → fed.share ≡ share → fed.peer ≡ peer → fed.moments ≡ moments → fed.ran_out ≡ ran_out →
+    fed ≡ record { share = share; peer = peer; moments = moments; ran_out = ran_out }
+fed_is fed share peer moments ran_out e f g h = rw (← e, ← f, ← g, ← h) refl
+
 -- the peer at a place
 module _ (number place : ℕ) (served_peers : List PeerState) (peer : PeerState) (at : Some place ≡ place_of number served_peers) (within : place < length served_peers) (is : peer ≡ get_or served_peers place peer) where
-  peer_at : peer_of number served_peers ≡ Some peer
-  peer_at = ap (λ o. option_map_or (slice_get served_peers) o None) (sym at) ∙ slice_get_read served_peers (length served_peers) place peer refl within is
+  pub peer_at : peer_of number served_peers ≡ Some peer
+  peer_at = sym (placed-peer number served_peers) ∙ ap (λ o. option_map_or (slice_get served_peers) o None) (sym at) ∙ slice_get_read served_peers (length served_peers) place peer refl within is
 
   put_at : (peer' : PeerState) → set served_peers place peer' ≡ with_peer number peer' served_peers
-  put_at peer' = ap (λ o. option_map_or (λ p. set served_peers p peer') o served_peers) at
+  put_at peer' = ap (λ o. option_map_or (λ p. set served_peers p peer') o served_peers) at ∙ put_placed-with number peer' served_peers
+
+  pub share_at : {S : Type 0} (share share' : ShareState S) → share' ≡ ended share peer.connection → share' ≡ share_behind_end share served_peers number
+  share_at share share' e = e ∙ ap (λ o. option_map_or (λ (c : PeerState). ended share c.connection) o share) (sym peer_at)
 
   pub ended_at : (peer' : PeerState) → peer' ≡ dropped peer → set served_peers place peer' ≡ peers_behind_end served_peers number
   ended_at peer' e = put_at peer' ∙ ap (λ c. with_peer number c served_peers) e ∙ ap (λ o. option_map_or (λ c. with_peer number (dropped c) served_peers) o served_peers) (sym peer_at)
 
+  -- the peer itself in its place
+  put_itself : with_peer number peer served_peers ≡ served_peers
+  put_itself = let p = split number peer served_peers peer_at in p.puts peer ∙ sym p.whole
+
+  module _ {S : Type 0} (m : Meaning S) (piece : List ℕ) (share : ShareState S) (calls : List PeerCall) (moments : List ℕ) (n : ℕ) where
+    abbrev fed_state : Fed S → ServingState S
+    fed_state fed = serving fed.share (with_peer number fed.peer served_peers) calls fed.moments (if fed.ran_out then n + 1 else n)
+
+    fed_follows : (fed : Fed S) → PieceTaken m piece share peer moments fed → PieceFollows m number piece (serving share served_peers calls moments n) (fed_state fed)
+    fed_follows fed (takes_piece moment open_still short is told' kept) =
+        let e : fed ≡ record { share = (piece_taken m share peer moment piece).share; peer = (piece_taken m share peer moment piece).peer; moments = moments ++ moment ∷ []; ran_out = false } =
+        fed_is fed _ _ _ _ (ap (λ t. t.share) is) (ap (λ t. t.peer) is) told' kept in
+        is_answered peer moment peer_at open_still (short, ap fed_state e)
+    fed_follows fed (stops_in_piece moment done open_still stop told' out) =
+        let e : fed ≡ record { share = fed.share; peer = dropped peer; moments = moments ++ moment ∷ []; ran_out = true } = fed_is fed _ _ _ _ refl stop.drops told' out in
+        runs_out peer moment done fed.share peer_at open_still stop.stops (ap fed_state e)
+    fed_follows fed (leaves_piece shut is) =
+        is_left (ap (λ o. option_map_or (λ (c : PeerState). is_open share c.connection) o false) peer_at ∙ shut)
+        (ap fed_state is ∙ ap (λ cs. serving share cs calls moments n) put_itself)
+
   pub fed_at : {S : Type 0} (m : Meaning S) (piece : List ℕ) (share share' : ShareState S) (peer' : PeerState) (moments moments' : List ℕ) (ran_out : Bool) →
       PieceTaken m piece share peer moments (record { share = share'; peer = peer'; moments = moments'; ran_out = ran_out }) →
       (calls : List PeerCall) (n : ℕ) → PieceFollows m number piece (serving share served_peers calls moments n) (serving share' (set served_peers place peer') calls moments' (if ran_out then n + 1 else n))
-  fed_at m piece share share' peer' moments moments' ran_out h calls n =
-      is_for peer (record { share = share'; peer = peer'; moments = moments'; ran_out = ran_out }) peer_at h
-      (ap (λ cs. serving share' cs calls moments' (if ran_out then n + 1 else n)) (put_at peer'))
+  fed_at {S} m piece share share' peer' moments moments' ran_out h calls n =
+      let P : List PeerState → Type 0 = λ cs. PieceFollows m number piece (serving share served_peers calls moments n) (serving share' cs calls moments' (if ran_out then n + 1 else n)) in
+      subst P (sym (put_at peer')) (fed_follows m piece share calls moments n (record { share = share'; peer = peer'; moments = moments'; ran_out = ran_out }) h)
 
-pub end_follows : {S : Type 0} (number : ℕ) (share share' : ShareState S) (served_peers served_peers' : List PeerState) (calls : List PeerCall) (moments : List ℕ) (n : ℕ) →
-    share' ≡ share_behind_end share served_peers number → served_peers' ≡ peers_behind_end served_peers number → serving share' served_peers' calls moments n ≡ behind_end (serving share served_peers calls moments n) number
-end_follows number share share' served_peers served_peers' calls moments n e f =
+-- a piece of a number that has no peer
+pub unknown_piece : {S : Type 0} (m : Meaning S) (number : ℕ) (piece : List ℕ) (s : ServingState S) → peer_of number s.served_peers ≡ None → PieceFollows m number piece s s
+unknown_piece m number piece s none = is_left (ap (λ o. option_map_or (λ (c : PeerState). is_open s.share c.connection) o false) none) refl
+
+-- an end of a number that has no peer
+pub no_end : {S : Type 0} (number : ℕ) (share : ShareState S) (served_peers : List PeerState) → peer_of number served_peers ≡ None →
+    (share ≡ share_behind_end share served_peers number) × (served_peers ≡ peers_behind_end served_peers number)
+no_end number share served_peers none = (
+  ap (λ o. option_map_or (λ (c : PeerState). ended share c.connection) o share) (sym none),
+  ap (λ o. option_map_or (λ c. with_peer number (dropped c) served_peers) o served_peers) (sym none),
+)
+
+ended_whole : {S : Type 0} (number : ℕ) (s : ServingState S) (o : Option PeerState) →
+    record s { share = option_map_or (λ (c : PeerState). ended s.share c.connection) o s.share; served_peers = option_map_or (λ c. with_peer number (dropped c) s.served_peers) o s.served_peers }
+    ≡ option_map_or (λ (c : PeerState). record s { share = ended s.share c.connection; served_peers = with_peer number (dropped c) s.served_peers }) o s
+ended_whole number s None = refl
+ended_whole number s (Some c) = refl
+
+pub end_follows : {S : Type 0} (m : Meaning S) (number : ℕ) (share share' : ShareState S) (served_peers served_peers' : List PeerState) (calls : List PeerCall) (moments : List ℕ) (n : ℕ) →
+    share' ≡ share_behind_end share served_peers number → served_peers' ≡ peers_behind_end served_peers number →
+    Follows m (next_ended number) (serving share served_peers calls moments n) (serving share' served_peers' calls moments n)
+end_follows m number share share' served_peers served_peers' calls moments n e f =
     ap (λ s. serving s served_peers' calls moments n) e ∙ ap (λ cs. serving (share_behind_end share served_peers number) cs calls moments n) f
+    ∙ ended_whole number (serving share served_peers calls moments n) (peer_of number served_peers)
 
 -- a send of which a part was taken
 pub sent_part : {S : Type 0} (peer peer' : PeerState) (share : ShareState S) (calls calls' : List PeerCall) (number : ℕ) (bytes : List ℕ) (count : ℕ) → number ≡ peer.number → bytes ≡ peer.owed →

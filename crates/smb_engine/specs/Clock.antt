@@ -1,14 +1,11 @@
 -- A clock with a list of moments.
-use Rattle.std.specs.Prelude.{ℕ, zero, suc, ◌+◌, ◌-◌, min, ◌==◌, Bool, true, false, List, [], ◌∷◌, ◌++◌, length, slice_get, unwrap_or, if◌then◌else◌}
+use Rattle.std.specs.Prelude.{ℕ, zero, suc, ◌-◌, min, Bool, List, [], ◌∷◌, ◌++◌, length, slice_get, unwrap_or}
 
 -- its moments, how often it was asked, and whether its record of the moments that it gave is complete
 pub record ListClockState : Type 0 where
   pub moments : List ℕ
   pub asked : ℕ
   pub keeps : Bool
-
-abbrev pub new_clock : List ℕ → ListClockState
-new_clock moments = record { moments = moments; asked = 0; keeps = true }
 
 -- the moment that it tells after so many others: that of its place, behind the last one the last, and 0 where there is none
 abbrev pub moment_of : List ℕ → ℕ → ℕ
@@ -18,7 +15,3 @@ moment_of moments place = unwrap_or (slice_get moments (min place (length moment
 abbrev pub moments_told : List ℕ → ℕ → List ℕ
 moments_told moments zero = []
 moments_told moments (suc asked) = moments_told moments asked ++ moment_of moments asked ∷ []
-
--- a clock that was asked once more: past 2^64 - 1 calls it counts no more
-abbrev pub asked_again : ListClockState → ListClockState
-asked_again c = if c.asked == 18446744073709551615 then record c { keeps = false } else record c { asked = c.asked + 1 }

@@ -1,7 +1,7 @@
 -- What follows from the definitions, of every authenticator.
-use Rattle.std.specs.Prelude.{◌≡◌, ◌⊎◌, ℕ, ◌+◌, ◌<◌, false, ◌==◌, nat_lt, List, [], ◌∷◌, ◌++◌, length, map, None, Some, MatchOption, if◌then◌else◌}
+use Rattle.std.specs.Prelude.{◌≡◌, ◌⊎◌, ℕ, suc, ◌+◌, ◌<◌, false, ◌==◌, nat_lt, List, [], ◌∷◌, ◌++◌, length, map, None, Some, MatchOption, if◌then◌else◌}
 use Rattle.std.specs.Option.{option_map, option_map_or}
-use Rattle.std.specs.List.{AllByRecursion, Any, flat_map}
+use Rattle.std.specs.List.{AllByRecursion, Any, concat}
 use Rattle.smb_session.specs.Numbers.{IsRising}
 use Rattle.smb_session.specs.Authenticator.{Meaning}
 use Rattle.smb_session.specs.Session.{SessionState}
@@ -13,7 +13,6 @@ use Rattle.smb_engine.specs.State.{ShareState, stream_of}
 use Rattle.smb_engine.specs.Good.{GoodState}
 use Rattle.smb_engine.specs.Stream.{unread}
 use Rattle.smb_engine.specs.Run.{PerformedRequest, Stop, Ran, run, event_refusal, event_step}
-use Rattle.smb_engine.specs.Happenings.{later}
 use Rattle.smb_engine.specs.Refusals.{run_behind}
 use Rattle.smb_engine.specs.Output.{Output, frame_to, end_of}
 
@@ -22,19 +21,13 @@ pub record StreamsInOrder {S : Type 0} (s : ShareState S) : Type 0 where
   pub rising : IsRising (map (λ entry. entry.0) s.streams)
   pub given : AllByRecursion (λ entry. entry.0 < s.next) s.streams
 
--- a fault behind a place is seen one event later
-abbrev pub later_behind : ℕ → Stop → Stop
-later_behind place fault = if nat_lt place fault.place then later fault else fault
-
-abbrev pub with_one_more_at : {S : Type 0} → ℕ → Ran S → Ran S
-with_one_more_at place ran = record ran { stop = option_map (later_behind place) ran.stop }
-
 -- what a second run leaves and puts out, behind the outputs of a first one of so many events
-abbrev pub moved : ℕ → Stop → Stop
-moved count fault = record fault { place = count + fault.place }
-
 abbrev pub run_after : {S : Type 0} → ℕ → List Output → Ran S → Ran S
-run_after count before ran = record { state = ran.state; outputs = before ++ ran.outputs; stop = option_map (moved count) ran.stop }
+run_after count before ran = record {
+  state = ran.state;
+  outputs = before ++ ran.outputs;
+  stop = option_map (λ (stop : Stop). record stop { place = count + stop.place }) ran.stop;
+}
 
 -- the connection to which an output goes
 abbrev pub receiver : Output → ℕ
@@ -46,19 +39,6 @@ pub record AreAlike {S : Type 0} (one other : Ran S) : Type 0 where
   pub state : one.state ≡ other.state
   pub outputs : one.outputs ≡ other.outputs
   pub reason : option_map (λ fault. fault.fault) one.stop ≡ option_map (λ fault. fault.fault) other.stop
-
--- pieces that come at one moment, and their bytes
-abbrev pub pieces_on : ℕ → ℕ → List (List ℕ) → List EventText
-pieces_on connection moment pieces = map (brings connection moment) pieces
-
-abbrev pub bytes_of_pieces : List (List ℕ) → List ℕ
-bytes_of_pieces pieces = flat_map (λ piece. piece) pieces
-
--- behind a connection's end nothing goes to it
-abbrev pub IsLastEnd : ℕ → List Output → Type 0
-IsLastEnd connection [] = Unit {0}
-IsLastEnd connection (output ∷ outputs) =
-    (output ≡ end_of connection → AllByRecursion (λ output. (receiver output == connection) ≡ false) outputs) × IsLastEnd connection outputs
 
 module _ {S : Type 0} (authenticator : Meaning S) where
   -- the requests that a run performs, in order, up to an event that is refused
@@ -76,15 +56,20 @@ module _ {S : Type 0} (authenticator : Meaning S) where
   abbrev pub ACutDoesNotMatter : Type 0
   ACutDoesNotMatter =
       (s : ShareState S) → StreamsInOrder s → (before after : List EventText) (connection moment : ℕ) (front back : List ℕ) →
+      let whole = run authenticator s (before ++ brings connection moment (front ++ back) ∷ after) in
+      let later : Stop → Stop = λ stop.
+      if nat_lt (length before) stop.place then record stop { place = suc stop.place } else stop in
       run authenticator s (before ++ brings connection moment front ∷ brings connection moment back ∷ after)
-      ≡ with_one_more_at (length before) (run authenticator s (before ++ brings connection moment (front ++ back) ∷ after))
+      ≡ record whole { stop = option_map later whole.stop }
 
   -- it does not matter how bytes that come at one moment are cut into pieces, if there is one at all
   abbrev pub CutsDoNotMatter : Type 0
   CutsDoNotMatter =
       (s : ShareState S) → StreamsInOrder s → (before after : List EventText) (connection moment : ℕ) (pieces others : List (List ℕ)) →
-      0 < length pieces → 0 < length others → bytes_of_pieces pieces ≡ bytes_of_pieces others →
-      AreAlike (run authenticator s (before ++ (pieces_on connection moment pieces ++ after))) (run authenticator s (before ++ (pieces_on connection moment others ++ after)))
+      0 < length pieces → 0 < length others → concat pieces ≡ concat others →
+      let ran : List (List ℕ) → Ran S = λ pieces.
+      run authenticator s (before ++ (map (brings connection moment) pieces ++ after)) in
+      AreAlike (ran pieces) (ran others)
 
   -- several runs are one: the second goes on where the first stopped, unless that was at a refusal
   abbrev pub RunsAreOne : Type 0
@@ -129,17 +114,17 @@ module _ {S : Type 0} (authenticator : Meaning S) where
 
   -- the share ends a connection at most once, and puts nothing out to it afterwards
   abbrev pub AnEndIsTheLast : Type 0
-  AnEndIsTheLast = (s : ShareState S) → StreamsInOrder s → (events : List EventText) (connection : ℕ) → IsLastEnd connection (run authenticator s events).outputs
-
-  -- as each of these requests comes, no session of a connection may write
-  abbrev pub AreReadersRequests : ℕ → List (PerformedRequest S) → Type 0
-  AreReadersRequests connection = AllByRecursion (λ came. AllMayOnlyRead came.before.sessions.table connection)
+  AnEndIsTheLast =
+      (s : ShareState S) → StreamsInOrder s → (events : List EventText) (connection : ℕ) (before after : List Output) →
+      (run authenticator s events).outputs ≡ before ++ end_of connection ∷ after →
+      AllByRecursion (λ output. (receiver output == connection) ≡ false) after
 
   -- as each request of these events comes, no session of its connection may write
   abbrev pub AreOfReaders : ShareState S → List EventText → Type 0
   AreOfReaders s [] = Unit {0}
   AreOfReaders s (event ∷ events) = event_refusal s event ≡ None →
-      AreReadersRequests (connection_of event) (event_step authenticator s event).requests × AreOfReaders (event_step authenticator s event).state events
+      AllByRecursion (λ came. AllMayOnlyRead came.before.sessions.table (connection_of event)) (event_step authenticator s event).requests
+      × AreOfReaders (event_step authenticator s event).state events
 
   -- whoever may only read changes no file, whatever it sends: no entry, byte, attribute, time or name, but for what goes with its
   -- last open

@@ -21,5 +21,6 @@ pub mod ServedPeers
 pub mod Serving
 pub mod Openings
 pub mod ServingLaws
+pub mod ServingParts
 pub mod Filetime
 pub mod Parts

@@ -1,5 +1,6 @@
 -- Peers over memory: what each call on them answers, and what they are behind it.
-use Rattle.std.specs.Prelude.{ℕ, ◌+◌, ◌-◌, min, ◌==◌, Bool, true, false, not, ◌&&◌, List, [], ◌∷◌, ◌++◌, length, take, flat_map, Option, None, Some, Result, Ok, slice_get, unwrap_or, ok_or, if◌then◌else◌}
+use Rattle.std.specs.Prelude.{ℕ, ◌+◌, ◌-◌, min, ◌==◌, Bool, true, false, not, ◌&&◌, List, [], ◌∷◌, ◌++◌, length, flat_map, Option, None, Some, Result, Ok, Err, slice_get, unwrap_or, if◌then◌else◌}
+use Rattle.std.specs.Option.{option_map_or}
 use Rattle.std.specs.List.{list_any}
 use Rattle.smb_engine.specs.declared.memory_peers.PeerStep.{PeerStep}
 use Rattle.smb_engine.specs.declared.memory_peers.PeerStep.TheVariants.{Opened, Bytes, Ended, Fails, Idle}
@@ -8,20 +9,12 @@ use Rattle.smb_engine.specs.declared.memory_peers.SendStep.TheVariants.{Takes, F
 use Rattle.smb_engine.specs.declared.peers.PeerEvent.{PeerEvent}
 use Rattle.smb_engine.specs.declared.peers.PeerEvent.TheVariants.{Opened as opened_event, Bytes as bytes_event, Ended as ended_event, Idle as idle_event}
 use Rattle.smb_engine.specs.declared.peers.SendFault.{SendFault}
-use Rattle.smb_engine.specs.Record.{PeerCall, send, close}
-use Rattle.smb_engine.specs.Peers.{call_of}
-
--- the numbers that a step opens
-abbrev pub step_opens : PeerStep → List ℕ
-step_opens (Opened k) = k ∷ []
-step_opens (Bytes k piece) = []
-step_opens (Ended k) = []
-step_opens (Fails k) = []
-step_opens Idle = []
+use Rattle.smb_engine.specs.Record.{PeerCall, close}
+use Rattle.smb_engine.specs.Peers.{call_of, send_call}
 
 -- the numbers that steps open
 abbrev pub opened_by : List PeerStep → List ℕ
-opened_by steps = flat_map step_opens steps
+opened_by steps = flat_map (λ step. elim step as (λ s. List ℕ) [ Opened number ↦ number ∷ [] | _ ↦ [] ]) steps
 
 -- whether no number is in a list twice
 abbrev pub are_distinct : List ℕ → Bool
@@ -50,81 +43,54 @@ abbrev pub new_peers : List PeerStep → List SendStep → ℕ → ℕ → Memor
 new_peers script sends calls room =
     record { script = script; place = 0; piece = []; sends = sends; sent = 0; calls = []; calls_left = calls; bytes_left = room; keeps = true; failures = 0 }
 
--- a call more in the record
-abbrev pub with_call : PeerCall → MemoryPeersState → MemoryPeersState
-with_call call p = record p { calls = p.calls ++ call ∷ []; calls_left = p.calls_left - 1 }
+-- a call of `next`: what it answers, and the peers behind it. It brings the next step of the script, Idle behind the last
+-- one; a read that fails is an end. Without room for the call the answer is Idle, and the call is not in the record
+abbrev pub next_of : MemoryPeersState → PeerEvent × MemoryPeersState
+next_of p =
+    let recorded : PeerEvent → MemoryPeersState → PeerEvent × MemoryPeersState = λ event after. (
+      event,
+      record after {
+        place = p.place + 1;
+        calls = p.calls ++ call_of event after.piece ∷ [];
+        calls_left = p.calls_left - 1;
+      },
+    ) in
+    if p.calls_left == 0 then (idle_event, record p { keeps = false }) else
+    elim (unwrap_or (slice_get p.script p.place) Idle) [
+      | Opened number ↦ recorded (opened_event number) p
+      | Bytes number piece ↦ recorded (bytes_event number) (record p { piece = piece.items })
+      | Ended number ↦ recorded (ended_event number) p
+      | Fails number ↦ recorded (ended_event number) (record p { failures = p.failures + 1 })
+      | Idle ↦ recorded idle_event p
+    ]
 
--- a call for which there is no room
-abbrev pub without_call : MemoryPeersState → MemoryPeersState
-without_call p = record p { keeps = false }
+-- a send of some bytes to a number: what it answers, and the peers behind it. Its step says how many are taken at most, of
+-- those for which there is room, or that it is refused; behind the last step all are. Without room for the call none is
+-- taken, and the call is not in the record
+abbrev pub send_of : ℕ → List ℕ → MemoryPeersState → Result ℕ SendFault × MemoryPeersState
+send_of number bytes p =
+    let recorded : Result ℕ SendFault → MemoryPeersState → Result ℕ SendFault × MemoryPeersState = λ answer after. (
+      answer,
+      record after {
+        sent = p.sent + 1;
+        calls = p.calls ++ send_call number bytes answer ∷ [];
+        calls_left = p.calls_left - 1;
+      },
+    ) in
+    let room = min (length bytes) p.bytes_left in
+    let taken : Option ℕ = elim (slice_get p.sends p.sent) [
+      | None ↦ Some room
+      | Some (Takes most) ↦ Some (min most room)
+      | Some Refuses ↦ None
+    ] in
+    if p.calls_left == 0 then (Ok 0, record p { keeps = false }) else
+    option_map_or
+    (λ count. recorded (Ok count) (record p { bytes_left = p.bytes_left - count }))
+    taken
+    (recorded (Err (record {})) (record p { failures = p.failures + 1 }))
 
--- the step at a place of a script: behind the last one Idle
-abbrev pub step_at : List PeerStep → ℕ → PeerStep
-step_at script place = unwrap_or (slice_get script place) Idle
-
--- the event of a step: a read that fails is an end
-abbrev pub step_event : PeerStep → PeerEvent
-step_event (Opened k) = opened_event k
-step_event (Bytes k piece) = bytes_event k
-step_event (Ended k) = ended_event k
-step_event (Fails k) = ended_event k
-step_event Idle = idle_event
-
--- the piece that came last, behind a step
-abbrev pub step_piece : PeerStep → List ℕ → List ℕ
-step_piece (Opened k) before = before
-step_piece (Bytes k piece) before = piece.items
-step_piece (Ended k) before = before
-step_piece (Fails k) before = before
-step_piece Idle before = before
-
--- how many calls fail in a step
-abbrev pub step_failures : PeerStep → ℕ
-step_failures (Opened k) = 0
-step_failures (Bytes k piece) = 0
-step_failures (Ended k) = 0
-step_failures (Fails k) = 1
-step_failures Idle = 0
-
--- what `next` answers
-abbrev pub next_result : MemoryPeersState → PeerEvent
-next_result p = if p.calls_left == 0 then idle_event else step_event (step_at p.script p.place)
-
--- behind a step
-abbrev pub behind_step : PeerStep → MemoryPeersState → MemoryPeersState
-behind_step step p =
-    with_call (call_of (step_event step) (step_piece step p.piece))
-    (record p { place = p.place + 1; piece = step_piece step p.piece; failures = p.failures + step_failures step })
-
--- behind a call of `next`
-abbrev pub behind_next : MemoryPeersState → MemoryPeersState
-behind_next p = if p.calls_left == 0 then without_call p else behind_step (step_at p.script p.place) p
-
--- how many bytes a send takes where there is room for so many, None where it is refused: behind the last step all
-abbrev pub send_count : Option SendStep → ℕ → Option ℕ
-send_count None room = Some room
-send_count (Some (Takes most)) room = Some (min most room)
-send_count (Some Refuses) room = None
-
--- how many of some bytes the next send takes
-abbrev pub count_at : MemoryPeersState → List ℕ → Option ℕ
-count_at p bytes = send_count (slice_get p.sends p.sent) (min (length bytes) p.bytes_left)
-
--- what a send of some bytes answers
-abbrev pub send_result : MemoryPeersState → List ℕ → Result ℕ SendFault
-send_result p bytes = if p.calls_left == 0 then Ok 0 else ok_or (count_at p bytes) (record {})
-
--- behind a send that takes so many bytes, or is refused
-abbrev pub behind_count : ℕ → List ℕ → Option ℕ → MemoryPeersState → MemoryPeersState
-behind_count number bytes None p =
-    with_call (send number (length bytes) None) (record p { sent = p.sent + 1; failures = p.failures + 1 })
-behind_count number bytes (Some count) p =
-    with_call (send number (length bytes) (Some (take count bytes))) (record p { sent = p.sent + 1; bytes_left = p.bytes_left - count })
-
--- behind a send
-abbrev pub behind_send : ℕ → List ℕ → MemoryPeersState → MemoryPeersState
-behind_send number bytes p = if p.calls_left == 0 then without_call p else behind_count number bytes (count_at p bytes) p
-
--- behind a close
+-- the peers behind a close
 abbrev pub behind_close : ℕ → MemoryPeersState → MemoryPeersState
-behind_close number p = if p.calls_left == 0 then without_call p else with_call (close number) p
+behind_close number p =
+    if p.calls_left == 0 then record p { keeps = false }
+    else record p { calls = p.calls ++ close number ∷ []; calls_left = p.calls_left - 1 }

@@ -10,7 +10,8 @@ use Rattle.smb_engine.specs.State.{ShareState, opened}
 use Rattle.smb_engine.specs.Refusals.{opening_refusal}
 use Rattle.smb_engine.specs.ServedPeers.{PeerState, with_one_more}
 use Rattle.smb_engine.specs.Record.{PeerCall, next_opened, next_bytes, next_ended, next_idle, send, close}
-use Rattle.smb_engine.specs.Serving.{new_peer, ServingState, told, Follows, AreServed}
+use Rattle.smb_engine.specs.Serving.{ServingState, Follows, AreServed}
+use Rattle.smb_engine.specs.ServingParts.{new_peer, told}
 use Rattle.smb_engine.specs.ServingLaws.{is_opened, OpensEachOnce}
 
 -- what an opening leaves of the share and of its peers

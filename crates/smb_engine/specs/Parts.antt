@@ -1,6 +1,6 @@
 -- For the proofs; nothing here need be believed.
 -- Parts of the definitions that the proofs and private functions speak of.
-use Rattle.std.specs.Prelude.{ℕ, Bool, true, ◌&&◌, ◌==◌, not, nat_lt, List, [], ◌∷◌, ◌++◌, filter, map, replicate, Option, Some, None, is_none, if◌then◌else◌, slice_get, ◌+◌, ◌*◌, ◌≤◌, length, ◌≡◌, take, drop, false}
+use Rattle.std.specs.Prelude.{ℕ, Bool, true, ◌&&◌, ◌==◌, not, nat_lt, List, [], ◌∷◌, ◌++◌, filter, map, replicate, Option, Some, None, is_none, if◌then◌else◌, slice_get, ◌+◌, ◌*◌, ◌≤◌, length, ◌≡◌, take, drop, false, suc}
 use Rattle.std.specs.Option.{option_map_or, option_map}
 use Rattle.smb_wire.specs.Limits.{longest_payload, most_requests, longest_response}
 use Rattle.smb_wire.specs.Commands.{code_of}
@@ -23,9 +23,10 @@ use Rattle.smb_head.specs.Chains.{is_related}
 use Rattle.smb_wire.specs.NtStatus.{status_code}
 use Rattle.smb_body.specs.Smb1.{smb1_of}
 use Rattle.smb_body.specs.declared.smb1.Smb1Dialects.{Smb1Dialects}
-use Rattle.std.specs.List.{fold}
+use Rattle.std.specs.List.{fold, concat, AllByRecursion}
+use Rattle.smb_request.specs.Laws.{AllMayOnlyRead}
 use Rattle.smb_engine.specs.declared.arrival.Arrival.{Arrival}
-use Rattle.smb_engine.specs.Run.{PerformedRequest, one_performed, requests_of_chain, ChainState, EventStep, Step, message_ids, event_refusal}
+use Rattle.smb_engine.specs.Run.{PerformedRequest, one_performed, requests_of_chain, ChainState, EventStep, Step, message_ids, event_refusal, Stop, Ran}
 use Rattle.smb_engine.specs.Event.{EventText, connection_of, text_of, opens, brings, ends}
 use Rattle.smb_engine.specs.declared.output.Answer.{Answer}
 use Rattle.smb_engine.specs.declared.output.Answer.TheVariants.{Frame, End}
@@ -202,3 +203,35 @@ can_want_memory s event = elim event as (λ e. Bool) [
   | brings connection moment piece ↦ is_open s connection
   | ends connection ↦ false
 ]
+
+-- a step, and a run behind it; a stop is seen one event earlier; and a run that is refused at its first event
+abbrev pub later : Stop → Stop
+later stop = record stop { place = suc stop.place }
+
+abbrev pub then_ran : {S : Type 0} → EventStep S → Ran S → Ran S
+then_ran step ran = record { state = ran.state; outputs = step.outputs ++ ran.outputs; stop = option_map later ran.stop }
+
+abbrev pub refused_at_once : {S : Type 0} → ShareState S → ServeFault → Ran S
+refused_at_once s fault = record { state = s; outputs = []; stop = Some (record { place = 0; fault = fault }) }
+
+-- a stop behind a place is seen one event later
+abbrev pub later_behind : ℕ → Stop → Stop
+later_behind place stop = if nat_lt place stop.place then later stop else stop
+
+abbrev pub with_one_more_at : {S : Type 0} → ℕ → Ran S → Ran S
+with_one_more_at place ran = record ran { stop = option_map (later_behind place) ran.stop }
+
+-- a stop of a second run, behind a first one of so many events
+abbrev pub moved : ℕ → Stop → Stop
+moved count stop = record stop { place = count + stop.place }
+
+-- pieces that come at one moment, and their bytes
+abbrev pub pieces_on : ℕ → ℕ → List (List ℕ) → List EventText
+pieces_on connection moment pieces = map (brings connection moment) pieces
+
+abbrev pub bytes_of_pieces : List (List ℕ) → List ℕ
+bytes_of_pieces pieces = concat pieces
+
+-- as each of these requests comes, no session of a connection may write
+abbrev pub AreReadersRequests : {S : Type 0} → ℕ → List (PerformedRequest S) → Type 0
+AreReadersRequests connection = AllByRecursion (λ came. AllMayOnlyRead came.before.sessions.table connection)

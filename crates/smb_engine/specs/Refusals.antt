@@ -4,18 +4,30 @@ use Rattle.std.specs.List.{fold}
 use Rattle.smb_wire.specs.Counters.{is_spent}
 use Rattle.smb_wire.specs.Limits.{most_connections}
 use Rattle.smb_session.specs.Authenticator.{Meaning}
-use Rattle.smb_request.specs.Settings.{Settings, is_lawful}
 use Rattle.smb_request.specs.State.{ServerState}
 use Rattle.smb_engine.specs.declared.fault.ServeFault.{ServeFault}
-use Rattle.smb_engine.specs.declared.fault.ServeFault.TheVariants.{TooManyConnections, NoMemory, BadEvent, BadConfig}
+use Rattle.smb_engine.specs.declared.fault.ServeFault.TheVariants.{TooManyConnections, NoMemory, BadConfig}
 use Rattle.smb_engine.specs.State.{ShareState, stream_of, ended}
 use Rattle.smb_engine.specs.Stream.{unread}
 use Rattle.smb_engine.specs.Event.{EventText, opens, brings, ends}
 use Rattle.smb_engine.specs.Output.{Output}
 use Rattle.smb_engine.specs.Run.{PerformedRequest, Ran, event_refusal, bytes_step, event_step, run}
 
--- memory ran out after so many requests of an event, of which it has so many or more: each whose change is left is
--- among them. Where the last of them change nothing, as ECHO and READ, the state does not tell their number.
+-- the share where memory ran out after the first `done` requests of an event: those of a piece were performed, and then
+-- its connection ended; an opening changed nothing; and at an end memory never runs out
+abbrev pub stopped : {S : Type 0} → Meaning S → ShareState S → EventText → ℕ → ShareState S
+stopped {S} authenticator s event done = elim event as (λ e. ShareState S) [
+  | opens connection ↦ s
+  | brings connection moment piece ↦
+      let step = bytes_step authenticator s connection moment piece in
+      let after : ServerState S → PerformedRequest S → ServerState S = λ before request. request.after in
+      ended (record s { server = fold after s.server (take done step.requests) }) connection
+  | ends connection ↦ s
+]
+
+-- memory ran out after the first `done` requests of an event, and this state is left: that of the server is the one
+-- behind these requests, and nothing of a later one is in it. `done` is at most the number of the event's requests.
+-- Several numbers may fit one state, since requests as ECHO and READ change nothing.
 pub record EventOutOfMemory {S : Type 0} (authenticator : Meaning S) (s : ShareState S) (event : EventText) (done : ℕ) (left : ShareState S) : Type 0 where
   -- memory can be wanting at no end, and at a piece only where its connection is open
   pub wanting :
@@ -25,42 +37,12 @@ pub record EventOutOfMemory {S : Type 0} (authenticator : Meaning S) (s : ShareS
         | ends connection ↦ false
       ] ≡ true
   pub within : done ≤ length (event_step authenticator s event).requests
-  -- the first `done` requests of a piece were performed, and then its connection ended; an opening changed nothing
-  pub state :
-      left ≡ unread (elim event as (λ e. ShareState S) [
-        | opens connection ↦ s
-        | brings connection moment piece ↦
-            let step = bytes_step authenticator s connection moment piece in
-            let after : ServerState S → PerformedRequest S → ServerState S = λ before request. request.after in
-            ended (record s { server = fold after s.server (take done step.requests) }) connection
-        | ends connection ↦ s
-      ])
-
--- why a share is not made: the configuration breaks its rules; else memory may be wanting
-abbrev pub MakingRefused : Settings → ServeFault → Type 0
-MakingRefused settings (NoMemory done) = (is_lawful settings ≡ true) × (done ≡ 0)
-MakingRefused settings BadConfig = is_lawful settings ≡ false
-MakingRefused settings TooManyConnections = ⊥
-MakingRefused settings BadEvent = ⊥
+  pub state : left ≡ unread (stopped authenticator s event done)
 
 -- why no connection opens: 64 are open, or the numbers are spent (3.3.5.1)
 abbrev pub opening_refusal : {S : Type 0} → ShareState S → Option ServeFault
 opening_refusal s =
     if nat_le most_connections (length s.streams) || is_spent 64 s.next then Some TooManyConnections else None
-
--- why opening a connection is refused
-abbrev pub OpeningRefused : {S : Type 0} → ShareState S → ServeFault → Type 0
-OpeningRefused s (NoMemory done) = (opening_refusal s ≡ None) × (done ≡ 0)
-OpeningRefused s TooManyConnections = opening_refusal s ≡ Some TooManyConnections
-OpeningRefused s BadEvent = ⊥
-OpeningRefused s BadConfig = ⊥
-
--- where a piece stops: only memory can run out
-abbrev pub PieceStopped : {S : Type 0} → Meaning S → ShareState S → ℕ → ℕ → List ℕ → ServeFault → ShareState S → Type 0
-PieceStopped authenticator s connection moment piece (NoMemory done) left = EventOutOfMemory authenticator s (brings connection moment piece) done left
-PieceStopped authenticator s connection moment piece TooManyConnections left = ⊥
-PieceStopped authenticator s connection moment piece BadEvent left = ⊥
-PieceStopped authenticator s connection moment piece BadConfig left = ⊥
 
 -- a run as the code holds its state, behind what was put out before
 abbrev pub run_behind : {S : Type 0} → List Output → Ran S → Ran S

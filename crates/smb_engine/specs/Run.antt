@@ -295,8 +295,8 @@ event_step authenticator s (ends connection) = record { state = ended s connecti
 
 -- A RUN OF EVENTS
 
--- why an event is refused: an opening has to bear the next number, and then no more than 63 connections may be open,
--- nor the numbers be spent (3.3.5.1); another event is on a number that was opened
+-- why an event is refused: an opening has to bear the next number, and even then it is refused where 64 connections are
+-- open, as a 65th one would be, or the numbers are spent (3.3.5.1); another event is on a number that was opened
 abbrev pub event_refusal : {S : Type 0} → ShareState S → EventText → Option ServeFault
 event_refusal s (opens connection) =
     if connection == s.next then

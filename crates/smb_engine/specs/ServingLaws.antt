@@ -1,88 +1,76 @@
 -- Serving is a run of events for its peers.
-use Rattle.std.specs.Prelude.{◌≡◌, ℕ, ◌+◌, ◌≤◌, Bool, true, false, ◌||◌, ◌==◌, nat_lt, List, [], ◌∷◌, ◌++◌, length, map, Option, None, Some, is_some, if◌then◌else◌}
+use Rattle.std.specs.Prelude.{◌≡◌, ◌⊎◌, ℕ, ◌+◌, ◌≤◌, Bool, true, false, ◌||◌, ◌==◌, nat_lt, List, [], ◌∷◌, ◌++◌, length, map, Option, None, Some, if◌then◌else◌}
 use Rattle.std.specs.Option.{option_map_or}
 use Rattle.std.specs.List.{flat_map, list_any}
 use Rattle.smb_engine.specs.declared.fault.ServeFault.TheVariants.{TooManyConnections}
 use Rattle.smb_session.specs.Authenticator.{Meaning}
-use Rattle.smb_engine.specs.State.{ShareState, stream_of, is_open}
+use Rattle.smb_engine.specs.State.{ShareState, is_open}
 use Rattle.smb_engine.specs.Good.{GoodState}
 use Rattle.smb_engine.specs.Run.{run}
 use Rattle.smb_engine.specs.Refusals.{opening_refusal}
 use Rattle.smb_engine.specs.Stream.{unread}
 use Rattle.smb_engine.specs.Laws.{receiver}
 use Rattle.smb_engine.specs.Event.{EventText, opens, brings, ends}
-use Rattle.smb_engine.specs.Happenings.{Happening, performed, cut_short, event_of, times_out_of_memory, runs_out_in, runs_out_of_memory, happening_step, run_of}
+use Rattle.smb_engine.specs.Happenings.{Happening, performed, cut_short, event_of, times_out_of_memory, runs_out_of_memory, happening_step, run_of}
 use Rattle.smb_engine.specs.Output.{Output, output_bytes}
 use Rattle.smb_engine.specs.Record.{PeerCall, next_opened, next_ended, send, close, sent_by, taken_by, closes_of}
 use Rattle.smb_engine.specs.ServedPeers.{PeerState, peer_of}
 use Rattle.smb_engine.specs.Serving.{most_owed, Served}
 
--- whether a number is opened in a call, and in calls
-abbrev pub opens_in : ℕ → PeerCall → Bool
-opens_in number (next_opened other) = other == number
-opens_in number call = false
-
+-- whether calls open a number
 abbrev pub is_opened : ℕ → List PeerCall → Bool
-is_opened number calls = list_any (opens_in number) calls
+is_opened number calls = list_any
+    (λ call. elim call as (λ c. Bool) [ next_opened other ↦ other == number | _ ↦ false ])
+    calls
 
 -- no number is opened twice: where one is opened, it was not opened before
 abbrev pub OpensEachOnce : List PeerCall → Type 0
 OpensEachOnce calls = (before after : List PeerCall) (number : ℕ) → calls ≡ before ++ next_opened number ∷ after → is_opened number before ≡ false
 
--- whether a number is broken off in a call, and in calls: its peers end it, or a send to it fails
-abbrev pub breaks_in : ℕ → PeerCall → Bool
-breaks_in number (next_ended other) = other == number
-breaks_in number (send other offered None) = other == number
-breaks_in number call = false
-
+-- whether a number is broken off: its peers end it, or a send to it fails
 abbrev pub is_broken_off : ℕ → List PeerCall → Bool
-is_broken_off number calls = list_any (breaks_in number) calls
+is_broken_off number calls = list_any
+    (λ call. elim call as (λ c. Bool) [
+      | next_ended other ↦ other == number
+      | send other offered None ↦ other == number
+      | _ ↦ false
+    ])
+    calls
 
 -- the bytes that came of a number behind its opening
 abbrev pub sent_when_open : ℕ → List PeerCall → List ℕ
 sent_when_open number [] = []
-sent_when_open number (call ∷ calls) = if opens_in number call then sent_by number calls else sent_when_open number calls
+sent_when_open number (call ∷ calls) =
+    if is_opened number (call ∷ []) then sent_by number calls else sent_when_open number calls
 
--- the bytes that happenings bring to a connection, and whether one of them is its end
-abbrev pub brought_by : ℕ → EventText → List ℕ
-brought_by connection (opens other) = []
-brought_by connection (brings other moment piece) = if other == connection then piece else []
-brought_by connection (ends other) = []
-
-abbrev pub brought_in : ℕ → Happening → List ℕ
-brought_in connection happening = brought_by connection (event_of happening)
-
+-- the bytes that happenings bring to a connection
 abbrev pub brought_to : ℕ → List Happening → List ℕ
-brought_to connection happenings = flat_map (brought_in connection) happenings
+brought_to connection happenings = flat_map
+    (λ happening. elim (event_of happening) as (λ e. List ℕ) [
+      | brings other moment piece ↦ if other == connection then piece else []
+      | _ ↦ []
+    ])
+    happenings
 
-abbrev pub is_end_of : ℕ → EventText → Bool
-is_end_of connection (opens other) = false
-is_end_of connection (brings other moment piece) = false
-is_end_of connection (ends other) = other == connection
-
-abbrev pub ends_in : ℕ → Happening → Bool
-ends_in connection (performed event) = is_end_of connection event
-ends_in connection (cut_short event done) = runs_out_in connection (cut_short event done)
-
+-- whether happenings end a connection: one is its end, or memory ran out in a piece of it
 abbrev pub is_ended : ℕ → List Happening → Bool
-is_ended connection happenings = list_any (ends_in connection) happenings
+is_ended connection happenings = list_any
+    (λ happening. elim happening as (λ h. Bool) [
+      | performed (ends other) ↦ other == connection
+      | cut_short (brings other moment piece) done ↦ other == connection
+      | _ ↦ false
+    ])
+    happenings
 
 -- the bytes that outputs have for a connection
-abbrev pub bytes_for : ℕ → Output → List ℕ
-bytes_for connection output = if receiver output == connection then output_bytes output else []
-
 abbrev pub put_out_to : ℕ → List Output → List ℕ
-put_out_to connection outputs = flat_map (bytes_for connection) outputs
+put_out_to connection outputs = flat_map
+    (λ output. if receiver output == connection then output_bytes output else [])
+    outputs
 
 -- the bytes that a number is owed; one that has no peer is owed none
 abbrev pub owed_to : ℕ → List PeerState → List ℕ
 owed_to number served_peers = option_map_or (λ peer. peer.owed) (peer_of number served_peers) []
-
--- the moment of a piece on an open connection
-abbrev pub moment_of : {S : Type 0} → ShareState S → EventText → List ℕ
-moment_of share (opens connection) = []
-moment_of share (brings connection moment piece) = if is_some (stream_of connection share.streams) then moment ∷ [] else []
-moment_of share (ends connection) = []
 
 -- a number was not broken off, memory ran out in none of its pieces, and of what was put out for it no more is left than may
 -- be owed
@@ -99,18 +87,19 @@ pub record IsAnswered (number connection : ℕ) (calls : List PeerCall) (happeni
   pub beginning : (left : List ℕ) × (taken_by number calls ++ left ≡ put_out_to connection outputs)
   pub unended : GoesOn number connection calls happenings outputs → is_ended connection happenings ≡ false
 
--- why an opening gets no connection: the share refuses it, or memory runs out at it
-pub data OpeningFails {S : Type 0} (share : ShareState S) (behind : List Happening) : Type 0 where
-  is_full : opening_refusal share ≡ Some TooManyConnections → OpeningFails share behind
-  finds_no_memory : (done : ℕ) (others : List Happening) → behind ≡ cut_short (opens share.next) done ∷ others → OpeningFails share behind
-
 module _ {S : Type 0} (authenticator : Meaning S) where
   -- the moments of all pieces on open connections, in order
   abbrev pub moments_of : ShareState S → List Happening → List ℕ
   moments_of share [] = []
-  moments_of share (happening ∷ happenings) = moment_of share (event_of happening) ++ moments_of (happening_step authenticator share happening).state happenings
+  moments_of share (happening ∷ happenings) =
+      elim (event_of happening) as (λ e. List ℕ) [
+        | brings connection moment piece ↦ if is_open share connection then moment ∷ [] else []
+        | _ ↦ []
+      ]
+      ++ moments_of (happening_step authenticator share happening).state happenings
 
-  -- a number was closed at its opening, at a point of the run at which it could not get a connection
+  -- a number was closed at its opening, at a point of the run at which it could not get a connection: the share refuses it
+  -- there, or memory runs out at it
   pub record IsRefused (share : ShareState S) (number : ℕ) (calls : List PeerCall) (happenings : List Happening) : Type 0 where
     pub before : List PeerCall
     pub after : List PeerCall
@@ -118,7 +107,10 @@ module _ {S : Type 0} (authenticator : Meaning S) where
     pub front : List Happening
     pub back : List Happening
     pub point : happenings ≡ front ++ back
-    pub reason : OpeningFails (run_of authenticator share front).state back
+    pub reason :
+        let left = (run_of authenticator share front).state in
+        (opening_refusal left ≡ Some TooManyConnections)
+        ⊎ ((done : ℕ) × (others : List Happening) × (back ≡ cut_short (opens left.next) done ∷ others))
 
   -- a record of calls is that of a run of happenings, none of them refused, which leaves the share as it is now; memory ran out
   -- so often; the clock gave the moments of its pieces. Numbers have connections of their own. At each point of the record there

@@ -1,8 +1,7 @@
 //! What tells the time.
 
-ghost use Rattle.std.specs.Prelude.{◌≡◌, IfOk, true};
-ghost use Rattle.smb_engine.specs.Record.{Told};
-ghost use Rattle.smb_engine.specs.Clock.{new_clock};
+ghost use Rattle.std.specs.Prelude.{◌≡◌, ◌++◌, ◌∷◌, [], IfOk, true};
+ghost use Rattle.smb_engine.specs.Record.{Keeping};
 
 use std::alloc::{AllocError, Global};
 use std::marker::Model;
@@ -19,7 +18,7 @@ pub trait Clock {
 
     /// The moment, in units of 100 ns since 1601.
     fn moment(&mut self) -> u64
-        ensures { Told (keeps self.old) (moments self.old) (keeps self.new) (moments self.new) result };
+        ensures { Keeping (keeps self.old) (keeps self.new) (moments self.new ≡ moments self.old ++ result ∷ []) };
 }
 
 /// A clock that tells the moments of a list, for trials: one after the other, then the last again; 0 where the list is empty.
@@ -43,7 +42,7 @@ impl Model for ListClock {
 impl ListClock {
     /// A clock that tells these moments. It was asked for none yet.
     pub fn new(alloc: Global, moments: &[u64]) -> Result<Self, AllocError>
-        ensures { IfOk result (λ clock. clock ≡ new_clock moments.now) }
+        ensures { IfOk result (λ clock. clock ≡ record { moments = moments.now; asked = 0; keeps = true }) }
     {
         Ok(ListClock {
             moments: Vec::from_slice(alloc, moments)?,
@@ -54,16 +53,19 @@ impl ListClock {
 }
 
 impl Clock for ListClock {
-    ghost use Rattle.smb_engine.specs.Clock.{moments_told, moment_of, asked_again};
+    ghost use Rattle.std.specs.Prelude.{◌==◌, ◌+◌, false, if◌then◌else◌};
+    ghost use Rattle.smb_engine.specs.Clock.{moments_told, moment_of};
 
     ghost moments = { λ c. moments_told c.moments c.asked };
 
     ghost keeps = { λ c. c.keeps };
 
     fn moment(&mut self) -> u64
-        ensures told { Told self.old.keeps (moments_told self.old.moments self.old.asked) self.new.keeps (moments_told self.new.moments self.new.asked) result }
+        ensures told { Keeping self.old.keeps self.new.keeps
+            (moments_told self.new.moments self.new.asked ≡ moments_told self.old.moments self.old.asked ++ result ∷ []) }
         ensures value { result ≡ moment_of self.old.moments self.old.asked }
-        ensures after { self.new ≡ asked_again self.old }
+        ensures after { self.new ≡ (if self.old.asked == 18446744073709551615 then record self.old { keeps = false }
+            else record self.old { asked = self.old.asked + 1 }) }
     {
         let asked = self.asked;
         if asked == u64::MAX {

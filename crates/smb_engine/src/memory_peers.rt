@@ -1,10 +1,10 @@
 //! Peers over memory, for trials.
 
-ghost use Rattle.std.specs.Prelude.{◌≡◌, ◌<◌, ◌≤◌, length, take, IsTrue, IfSome, IfOk, OnErr, slice_get};
-ghost use Rattle.smb_engine.specs.Record.{Told, close, taken_by, closes_of};
+ghost use Rattle.std.specs.Prelude.{◌≡◌, ◌<◌, ◌≤◌, ◌++◌, ◌∷◌, [], length, take, IsTrue, IfSome, IfOk, OnErr, slice_get};
+ghost use Rattle.smb_engine.specs.Record.{Keeping, close, taken_by, closes_of};
 ghost use Rattle.smb_engine.specs.Peers.{call_of, send_call, OpensOnce};
-ghost use Rattle.smb_engine.specs.MemoryPeers.{are_distinct, opened_by, new_peers, step_at, step_event, step_failures, send_count};
-ghost use Rattle.smb_engine.specs.MemoryRecord.{piece_at, piece_place};
+ghost use Rattle.smb_engine.specs.MemoryPeers.{are_distinct, opened_by, new_peers};
+ghost use Rattle.smb_engine.specs.MemoryRecord.{piece_at, piece_place, step_at, step_event, step_failures, send_count};
 
 use super::memory_record::{Call, closes_in, keep_bytes, keep_call, taken_at};
 use super::peers::{PeerEvent, Peers, SendFault};
@@ -119,7 +119,7 @@ impl MemoryPeers {
 
 impl Peers for MemoryPeers {
     ghost use Rattle.std.specs.Prelude.{take};
-    ghost use Rattle.smb_engine.specs.MemoryPeers.{opened_by, next_result, behind_next, send_result, behind_send, behind_close};
+    ghost use Rattle.smb_engine.specs.MemoryPeers.{opened_by, next_of, send_of, behind_close};
 
     ghost calls = { λ p. p.calls };
 
@@ -132,10 +132,10 @@ impl Peers for MemoryPeers {
     ghost failed = { λ p. p.failures };
 
     fn next(&mut self) -> PeerEvent
-        ensures told { Told self.old.keeps self.old.calls self.new.keeps self.new.calls (call_of result self.new.piece) }
+        ensures told { Keeping self.old.keeps self.new.keeps (self.new.calls ≡ self.old.calls ++ call_of result self.new.piece ∷ []) }
         ensures once { OpensOnce result (opened_by (take self.old.place self.old.script)) (opened_by (take self.new.place self.new.script)) }
-        ensures value { result ≡ next_result self.old }
-        ensures after { self.new ≡ behind_next self.old }
+        ensures value { result ≡ (next_of self.old).0 }
+        ensures after { self.new ≡ (next_of self.old).1 }
     {
         if self.calls_left == 0 {
             self.keeps = false;
@@ -157,12 +157,12 @@ impl Peers for MemoryPeers {
     }
 
     fn send(&mut self, number: u64, bytes: &[u8]) -> Result<usize, SendFault>
-        ensures told { Told self.old.keeps self.old.calls self.new.keeps self.new.calls (send_call number bytes.now result) }
+        ensures told { Keeping self.old.keeps self.new.keeps (self.new.calls ≡ self.old.calls ++ send_call number bytes.now result ∷ []) }
         ensures within { IfOk result (λ count. count ≤ length bytes.now) }
         ensures failed { OnErr result (self.old.failures < self.new.failures) }
         ensures opened { opened_by (take self.new.place self.new.script) ≡ opened_by (take self.old.place self.old.script) }
-        ensures value { result ≡ send_result self.old bytes.now }
-        ensures after { self.new ≡ behind_send number bytes.now self.old }
+        ensures value { result ≡ (send_of number bytes.now self.old).0 }
+        ensures after { self.new ≡ (send_of number bytes.now self.old).1 }
     {
         if self.calls_left == 0 {
             self.keeps = false;
@@ -194,7 +194,7 @@ impl Peers for MemoryPeers {
     }
 
     fn close(&mut self, number: u64)
-        ensures told { Told self.old.keeps self.old.calls self.new.keeps self.new.calls (close number) }
+        ensures told { Keeping self.old.keeps self.new.keeps (self.new.calls ≡ self.old.calls ++ close number ∷ []) }
         ensures opened { opened_by (take self.new.place self.new.script) ≡ opened_by (take self.old.place self.old.script) }
         ensures after { self.new ≡ behind_close number self.old }
     {

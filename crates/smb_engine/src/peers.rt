@@ -1,7 +1,7 @@
 //! The peers that a share is served to.
 
-ghost use Rattle.std.specs.Prelude.{◌≡◌, ◌<◌, ◌≤◌, length, IfOk, OnErr};
-ghost use Rattle.smb_engine.specs.Record.{Told, Keeping, close};
+ghost use Rattle.std.specs.Prelude.{◌≡◌, ◌<◌, ◌≤◌, ◌++◌, ◌∷◌, [], length, IfOk, OnErr};
+ghost use Rattle.smb_engine.specs.Record.{Keeping, close};
 ghost use Rattle.smb_engine.specs.Peers.{call_of, send_call, OpensOnce};
 
 use smb_request::Usage;
@@ -48,7 +48,7 @@ pub trait Peers {
 
     /// Waits a while for the next event. Each number is opened at most once.
     fn next(&mut self) -> PeerEvent
-        ensures told { Told (keeps self.old) (calls self.old) (keeps self.new) (calls self.new) (call_of result (piece_of self.new)) }
+        ensures told { Keeping (keeps self.old) (keeps self.new) (calls self.new ≡ calls self.old ++ call_of result (piece_of self.new) ∷ []) }
         ensures once { OpensOnce result (opened self.old) (opened self.new) };
 
     /// The bytes of the last [`PeerEvent::Bytes`], until the next call of `next`.
@@ -58,14 +58,14 @@ pub trait Peers {
     /// Sends what can be sent at once of these bytes to a connection, from the first on, and tells how many. It is refused
     /// only where a call of the system failed, which `failures` counts.
     fn send(&mut self, number: u64, bytes: &[u8]) -> Result<usize, SendFault>
-        ensures told { Told (keeps self.old) (calls self.old) (keeps self.new) (calls self.new) (send_call number bytes.now result) }
+        ensures told { Keeping (keeps self.old) (keeps self.new) (calls self.new ≡ calls self.old ++ send_call number bytes.now result ∷ []) }
         ensures within { IfOk result (λ count. count ≤ length bytes.now) }
         ensures failed { OnErr result (failed self.old < failed self.new) }
         ensures opened { opened self.new ≡ opened self.old };
 
     /// Ends a connection, where it is there.
     fn close(&mut self, number: u64)
-        ensures told { Told (keeps self.old) (calls self.old) (keeps self.new) (calls self.new) (close number) }
+        ensures told { Keeping (keeps self.old) (keeps self.new) (calls self.new ≡ calls self.old ++ close number ∷ []) }
         ensures opened { opened self.new ≡ opened self.old };
 
     /// Takes note that memory ran out in the piece that came last, of a connection's stream, after so many of its requests. The

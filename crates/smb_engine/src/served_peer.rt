@@ -1,11 +1,10 @@
 //! A peer of a share that is served, and the bytes that it is owed.
 
 ghost use Rattle.std.specs.Prelude.{◌≡◌, ◌≤◌, [], drop, length, nat_lt, OnOk, IfErr};
-ghost use Rattle.smb_engine.specs.ServedPeers.{dropped};
+ghost use Rattle.smb_engine.specs.ServingParts.{dropped, piece_taken, with_replies, PieceEnds};
 ghost use Rattle.smb_engine.specs.Run.{bytes_step};
 ghost use Rattle.smb_engine.specs.Stream.{unread};
 ghost use Rattle.smb_engine.specs.Output.{AreShort};
-ghost use Rattle.smb_engine.specs.Serving.{piece_taken, with_replies, PieceEnds};
 
 use super::fault::{CutShort, ServeFault};
 use super::share::Share;

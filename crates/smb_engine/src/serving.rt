@@ -2,10 +2,11 @@
 
 ghost use Rattle.std.specs.Prelude.{◌≡◌, ◌&&◌, ◌+◌, ◌++◌, ◌∷◌, [], ◌<◌, ◌≤◌, ℕ, List, length, nat_lt, true, is_some, IfSome, if◌then◌else◌};
 ghost use Rattle.std.specs.List.{position};
-ghost use Rattle.smb_engine.specs.Record.{Keeping, PeerCall, Told, close};
+ghost use Rattle.smb_engine.specs.Record.{Keeping, PeerCall, close};
 ghost use Rattle.smb_engine.specs.Peers.{call_of, OpensOnce};
-ghost use Rattle.smb_engine.specs.ServedPeers.{place_of, place_for};
-ghost use Rattle.smb_engine.specs.Serving.{serving, told, OpeningFollows, PieceTaken, PieceFollows, share_behind_end, peers_behind_end, Follows, IsSent, stays, AreServed, Served};
+ghost use Rattle.smb_engine.specs.ServedPeers.{peer_of};
+ghost use Rattle.smb_engine.specs.ServingParts.{place_of, place_for, serving, told, PieceTaken, IsSent, stays, share_behind_end, peers_behind_end};
+ghost use Rattle.smb_engine.specs.Serving.{OpeningFollows, PieceFollows, Follows, AreServed, Served};
 ghost use Rattle.smb_engine.specs.Openings.{Begins, OpensIn, TurnOf};
 ghost use Rattle.smb_engine.specs.ServingLaws.{OpensEachOnce};
 
@@ -23,6 +24,14 @@ fn find_peer(served_peers: &[ServedPeer], number: u64) -> Option<usize>
     ensures within { IfSome result (λ place. place < length served_peers.now) }
 {
     served_peers.iter().position(|peer| peer.number == number)
+}
+
+/// Whether a number has a peer.
+#[tactic(auto, using(crate::proofs::Numbers::known_at))]
+fn has_peer(served_peers: &[ServedPeer], number: u64) -> bool
+    ensures { result ≡ is_some (peer_of number served_peers.now) }
+{
+    find_peer(served_peers, number).is_some()
 }
 
 /// The place of the first peer that has a greater number.
@@ -89,7 +98,7 @@ fn open_peer<A: Authenticator + Drop, T: Tree + Drop, O: Opens + Drop, P: Peers>
         (serving share.new served_peers.new.items (P.calls peers.new) moments (if result then n + 1 else n))) }
     ensures opened { P.opened peers.new ≡ P.opened peers.old }
 {
-    if find_peer(served_peers, number).is_some() {
+    if has_peer(served_peers, number) {
         return false;
     }
     match begin(share, served_peers, number) {
@@ -164,7 +173,8 @@ fn next_event<A: Authenticator + Drop, T: Tree + Drop, O: Opens + Drop, P: Peers
     share: &Share<A, T, O>,
     peers: &mut P,
 ) -> PeerEvent
-    ensures told { Told (P.keeps peers.old) (P.calls peers.old) (P.keeps peers.new) (P.calls peers.new) (call_of result (P.piece_of peers.new)) }
+    ensures told { Keeping (P.keeps peers.old) (P.keeps peers.new)
+        (P.calls peers.new ≡ P.calls peers.old ++ call_of result (P.piece_of peers.new) ∷ []) }
     ensures once { OpensOnce result (P.opened peers.old) (P.opened peers.new) }
 {
     peers.note_usage(share.usage());

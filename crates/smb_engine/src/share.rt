@@ -1,6 +1,6 @@
 //! The share over its connections.
 
-ghost use Rattle.std.specs.Prelude.{◌≡◌, ◌<◌, ◌+◌, ◌-◌, ◌^◌, ◌++◌, [], true, false, Some, None, OnOk, OnErr, IfOk, IfErr, IfSome, IfNone, length, map, slice_get, if◌then◌else◌};
+ghost use Rattle.std.specs.Prelude.{◌≡◌, ◌<◌, ◌+◌, ◌-◌, ◌^◌, ◌++◌, [], true, false, Some, None, OnOk, OnErr, IfOk, IfErr, IfSome, IfNone, length, map, slice_get, unwrap_or, ℕ, if◌then◌else◌};
 ghost use Rattle.std.specs.Bool.{OnTrue};
 ghost use Rattle.std.specs.Option.{option_map};
 ghost use Rattle.std.specs.List.{AllByRecursion, flat_map};
@@ -15,7 +15,7 @@ ghost use Rattle.smb_request.specs.State.{connection_added};
 ghost use Rattle.smb_engine.specs.Event.{brings, text_of, connection_of};
 ghost use Rattle.smb_engine.specs.Parts.{events_of, unknown_refusal, EventStopped};
 ghost use Rattle.smb_engine.specs.Output.{AreShort, output_bytes, outputs_of};
-ghost use Rattle.smb_engine.specs.Refusals.{MakingRefused, EventOutOfMemory, OpeningRefused, PieceStopped, run_behind, RunStopped, opening_refusal};
+ghost use Rattle.smb_engine.specs.Refusals.{EventOutOfMemory, run_behind, RunStopped, opening_refusal};
 ghost use Rattle.smb_engine.specs.Rest.{ends_of, IsAtRest};
 ghost use Rattle.smb_engine.specs.State.{StreamState, new_share, new_stream, stream_of, is_open, opened, ended};
 ghost use Rattle.smb_engine.specs.Run.{bytes_step, event_refusal, event_step, run};
@@ -136,7 +136,7 @@ impl<A: Authenticator + Drop> Share<A, NodeTree, HandleTable> {
     pub fn in_memory(alloc: Global, config: Config, authenticator: A) -> Result<Self, ServeFault>
         ensures lawful { OnOk result (is_lawful (settings_of config) ≡ true) }
         ensures state { IfOk result (λ share. share ≡ new_share (settings_of config) authenticator) }
-        ensures err { IfErr result (MakingRefused (settings_of config)) }
+        ensures err { IfErr result (λ fault. fault ≡ (if is_lawful (settings_of config) then ServeFault.NoMemory 0 else ServeFault.BadConfig)) }
     {
         if !config.is_lawful() {
             return Err(ServeFault::BadConfig);
@@ -166,7 +166,7 @@ impl<A: Authenticator + Drop, T: Tree + Drop, O: Opens + Drop> Share<A, T, O> {
         requires opens { O.content opens ≡ [] }
         ensures lawful { OnOk result (is_lawful (settings_of config) ≡ true) }
         ensures state { IfOk result (λ share. share ≡ new_share (settings_of config) authenticator) }
-        ensures err { IfErr result (MakingRefused (settings_of config)) }
+        ensures err { IfErr result (λ fault. fault ≡ (if is_lawful (settings_of config) then ServeFault.NoMemory 0 else ServeFault.BadConfig)) }
     {
         if !config.is_lawful() {
             return Err(ServeFault::BadConfig);
@@ -220,7 +220,7 @@ impl<A: Authenticator + Drop, T: Tree + Drop, O: Opens + Drop> Share<A, T, O> {
         ensures number { IfOk result (λ number. number ≡ self.old.next) }
         ensures state { OnOk result (self.new ≡ opened self.old) }
         ensures room { OnOk result (opening_refusal self.old ≡ None) }
-        ensures err { IfErr result (OpeningRefused self.old) }
+        ensures err { IfErr result (λ fault. fault ≡ unwrap_or (opening_refusal self.old) (ServeFault.NoMemory 0)) }
         ensures kept { OnErr result (self.new ≡ self.old) }
     {
         if !self.has_room() {
@@ -255,8 +255,7 @@ impl<A: Authenticator + Drop, T: Tree + Drop, O: Opens + Drop> Share<A, T, O> {
         most: usize,
         out: &mut K,
     ) -> Result<Fate, CutShort>
-        ensures state { OnOk result (self.new ≡ unread
-            (bytes_step A.meaning self.old connection moment piece.now).state) }
+        ensures state { OnOk result (self.new ≡ unread (bytes_step A.meaning self.old connection moment piece.now).state) }
         ensures outputs { OnOk result (K.content out.new ≡ K.content out.old ++ flat_map K.hears
             (bytes_step A.meaning self.old connection moment piece.now).outputs) }
         ensures fate { IfOk result (λ fate. fate ≡ (if is_open self.new connection then Fate.Open else Fate.Ended)) }
@@ -317,13 +316,13 @@ impl<A: Authenticator + Drop, T: Tree + Drop, O: Opens + Drop> Share<A, T, O> {
         piece: &[u8],
         out: &mut Vec<u8>,
     ) -> Result<Fate, ServeFault>
-        ensures state { OnOk result (self.new ≡ unread
-            (bytes_step A.meaning self.old connection moment piece.now).state) }
+        ensures state { OnOk result (self.new ≡ unread (bytes_step A.meaning self.old connection moment piece.now).state) }
         ensures outputs { OnOk result (out.new.items ≡ out.old.items ++ flat_map output_bytes
             (bytes_step A.meaning self.old connection moment piece.now).outputs) }
         ensures fate { IfOk result (λ fate. fate ≡ (if is_open self.new connection then Fate.Open else Fate.Ended)) }
         ensures short { OnOk result (AreShort (bytes_step A.meaning self.old connection moment piece.now).outputs) }
-        ensures err { IfErr result (λ fault. PieceStopped A.meaning self.old connection moment piece.now fault self.new) }
+        ensures err { IfErr result (λ fault. (done : ℕ) × (fault ≡ ServeFault.NoMemory done)
+            × EventOutOfMemory A.meaning self.old (brings connection moment piece.now) done self.new) }
         ensures kept { OnErr result (out.new.items ≡ out.old.items) }
         ensures passed { OnOk result (stream_of connection self.old.streams ≡ None → self.new ≡ self.old) }
         ensures good { GoodState self.new }

@@ -10,8 +10,7 @@ use Rattle.smb_engine.specs.Event.{EventText, opens, brings, ends}
 use Rattle.smb_engine.specs.Good.{GoodState}
 use Rattle.smb_engine.specs.Rest.{ends_of}
 use Rattle.smb_engine.specs.Run.{Step, EventStep, Ran, bytes_step, piece_step, event_step, event_refusal, run}
-use Rattle.smb_engine.specs.Happenings.{refused_at_once, then_ran}
-use Rattle.smb_engine.specs.Parts.{settled}
+use Rattle.smb_engine.specs.Parts.{refused_at_once, then_ran, settled}
 use Rattle.smb_engine.specs.State.{StreamState, ShareState, stream_of, new_stream}
 use Rattle.smb_engine.proofs.Order.{good_in_order, run_in_order}
 use Rattle.smb_engine.proofs.Streams.{arrived, all_set, all_remove, all_insert, bytes_step-none, bytes_step-some}

@@ -7,8 +7,7 @@ use Rattle.smb_engine.specs.declared.fault.ServeFault.{ServeFault}
 use Rattle.smb_engine.specs.Event.{ends}
 use Rattle.smb_engine.specs.Rest.{ends_of}
 use Rattle.smb_engine.specs.Run.{Ran, Stop, run, event_step}
-use Rattle.smb_engine.specs.Happenings.{later, refused_at_once, then_ran}
-use Rattle.smb_engine.specs.Parts.{unknown_refusal, without_stream}
+use Rattle.smb_engine.specs.Parts.{later, refused_at_once, then_ran, unknown_refusal, without_stream}
 use Rattle.smb_engine.specs.State.{StreamState, ShareState, ended}
 
 -- these ends are performed, put nothing out, and leave no connection open

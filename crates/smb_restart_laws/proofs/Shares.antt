@@ -26,9 +26,8 @@ use Rattle.smb_request.proofs.Readers.{end_reads}
 use Rattle.smb_engine.specs.declared.connection.Connection.{Connection}
 use Rattle.smb_engine.specs.declared.fault.ServeFault.{ServeFault}
 use Rattle.smb_engine.specs.State.{StreamState, ShareState, stream_of, new_stream, opened, ended}
-use Rattle.smb_engine.specs.Parts.{added_payloads, chain_begun, and_then, settled, framed_chain, all_performed, refused_step, first_negotiate}
+use Rattle.smb_engine.specs.Parts.{added_payloads, chain_begun, and_then, settled, framed_chain, all_performed, refused_step, first_negotiate, refused_at_once, then_ran}
 use Rattle.smb_engine.specs.Run.{ChainState, one_performed, admitted, Step, first_step, chain_step, payload_step, payload_steps, piece_step, EventStep, bytes_step, event_step, event_refusal, Ran, run}
-use Rattle.smb_engine.specs.Happenings.{refused_at_once, then_ran}
 use Rattle.smb_engine.specs.Good.{GoodState}
 use Rattle.smb_engine.specs.Event.{EventText, opens, brings, ends}
 use Rattle.smb_engine.specs.Laws.{StreamsInOrder}

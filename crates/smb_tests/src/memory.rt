@@ -1,7 +1,8 @@
 //! A share that is served to peers over memory.
 
 ghost use Rattle.std.specs.Prelude.{◌≡◌, [], IfSome, IsTrue};
-ghost use Rattle.smb_engine.specs.MemoryPeers.{are_distinct, opened_by, step_opens};
+ghost use Rattle.smb_engine.specs.MemoryPeers.{are_distinct, opened_by};
+ghost use Rattle.smb_engine.specs.MemoryRecord.{step_opens};
 
 use super::calls::{Served, built_in};
 use smb_engine::{ListClock, MemoryPeers, PeerStep, Peers, SendStep, serve};

@@ -33,7 +33,7 @@ pub returns-clause-over : goal.returns-clause-over
 returns-clause-over g c = over_stays g.A.Authenticator.meaning
 
 pub returns-clause-last : goal.returns-clause-last
-returns-clause-last g c = λ s o events connection. an_end_is_the_last g.A.Authenticator.meaning connection s events o
+returns-clause-last g c = λ s o events connection before after e. an_end_is_the_last g.A.Authenticator.meaning connection s events o before after e
 
 pub returns-clause-readers : goal.returns-clause-readers
 returns-clause-readers g c = reader_changes_no_file g.A.Authenticator.meaning

@@ -1,5 +1,5 @@
 use Rattle.std.proofs.Common.{rules, refl}
-use Rattle.smb_engine.specs.Serving.{takes_piece, stops_in_piece}
+use Rattle.smb_engine.specs.ServingParts.{takes_piece, stops_in_piece}
 use Rattle.smb_engine.proofs.serving.feed_peer.Goals as goal
 
 pub returns-in-Ok : goal.returns-in-Ok

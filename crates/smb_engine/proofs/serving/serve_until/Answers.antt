@@ -1,7 +1,8 @@
 use Rattle.std.proofs.Common.{◌≡◌, ◌&&◌, ℕ, List, ◌+◌, [], if◌then◌else◌, sym, ap, subst, ◌∙◌, arith}
 use Rattle.std.proofs.lemmas.List.{append_cancel_left}
 use Rattle.smb_engine.specs.Record.{PeerCall}
-use Rattle.smb_engine.specs.Serving.{serving, Turns}
+use Rattle.smb_engine.specs.Serving.{Turns}
+use Rattle.smb_engine.specs.ServingParts.{serving}
 use Rattle.smb_engine.specs.ServingLaws.{OpensEachOnce}
 use Rattle.smb_engine.specs.Openings.{TurnOf}
 use Rattle.smb_engine.proofs.Once.{since_none, one_more}

@@ -1,6 +1,7 @@
 use Rattle.std.proofs.Common.{◌≤◌, ◌&&◌, []}
 use Rattle.smb_engine.specs.Record.{Keeping}
-use Rattle.smb_engine.specs.Serving.{serving, Turns}
+use Rattle.smb_engine.specs.Serving.{Turns}
+use Rattle.smb_engine.specs.ServingParts.{serving}
 use Rattle.smb_engine.specs.Openings.{OpenedSince}
 use Rattle.smb_engine.proofs.serving.serve_until.Given as goal
 

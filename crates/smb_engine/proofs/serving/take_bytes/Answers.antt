@@ -1,6 +1,8 @@
-use Rattle.std.proofs.Common.{List, ◌<◌, length, is_some, ap, subst, ◌∙◌}
-use Rattle.smb_engine.specs.ServedPeers.{PeerState, place_of}
-use Rattle.smb_engine.proofs.Turning.{fed_at}
+use Rattle.std.proofs.Common.{List, ◌<◌, length, is_some, sym, ap, subst, ◌∙◌}
+use Rattle.smb_engine.specs.ServedPeers.{PeerState}
+use Rattle.smb_engine.specs.ServingParts.{place_of, serving}
+use Rattle.smb_engine.proofs.Turning.{fed_at, unknown_piece}
+use Rattle.smb_engine.proofs.Numbers.{no_place}
 use Rattle.smb_engine.proofs.serving.take_bytes.Goals as goal
 
 pub returns-in-Some : goal.returns-in-Some
@@ -12,3 +14,10 @@ returns-in-Some g c = λ k.
           (subst P c.deref.ensures.value c.in-Some.ensures.within) c.index_mut.ensures.value
           g.A.Authenticator.meaning c.args.piece.now c.args.share.now c.feed_peer.new.share c.feed_peer.new.peer (g.C.Clock.moments c.args.clock.now) (g.C.Clock.moments c.feed_peer.new.clock) (is_some c.feed_peer.result) t.1,
     )
+
+pub returns-in-None : goal.returns-in-None
+returns-in-None g c = λ k. (
+  k,
+  λ calls n. unknown_piece g.A.Authenticator.meaning c.args.number c.args.piece.now (serving c.args.share.now c.args.served_peers.now.items calls (g.C.Clock.moments c.args.clock.now) n)
+      (no_place c.args.number c.args.served_peers.now.items (sym c.in-None.is ∙ c.find_peer.ensures.place ∙ ap (place_of c.args.number) c.deref.ensures.value)),
+)

@@ -65,6 +65,6 @@ returns-in-Ended g c = λ k.
         λ n. follows_told g.A.Authenticator.meaning c.args.share.now c.end_peer.new.share c.args.served_peers.now.items c.end_peer.new.served_peers.items
             (g.P.Peers.calls c.args.peers.now) (g.P.Peers.calls c.next_event.new.peers) (g.P.Peers.calls c.next_event.new.peers) (g.C.Clock.moments c.args.clock.now) (g.C.Clock.moments c.args.clock.now) n n
             (next_ended c.in-Ended.number) t.1
-            (end_follows c.in-Ended.number c.args.share.now c.end_peer.new.share c.args.served_peers.now.items c.end_peer.new.served_peers.items (g.P.Peers.calls c.next_event.new.peers) (g.C.Clock.moments c.args.clock.now) n c.end_peer.ensures.share c.end_peer.ensures.served_peers),
+            (end_follows g.A.Authenticator.meaning c.in-Ended.number c.args.share.now c.end_peer.new.share c.args.served_peers.now.items c.end_peer.new.served_peers.items (g.P.Peers.calls c.next_event.new.peers) (g.C.Clock.moments c.args.clock.now) n c.end_peer.ensures.share c.end_peer.ensures.served_peers),
       ),
     )

@@ -1,6 +1,6 @@
 use Rattle.std.proofs.Common.{ℕ, List, ◌+◌, if◌then◌else◌, sym, subst}
 use Rattle.std.proofs.lemmas.Bool.{and_parts, and_from}
-use Rattle.smb_engine.specs.Serving.{serving}
+use Rattle.smb_engine.specs.ServingParts.{serving}
 use Rattle.smb_engine.specs.Openings.{OpensIn}
 use Rattle.smb_engine.proofs.serving.turn.Goals as goal
 

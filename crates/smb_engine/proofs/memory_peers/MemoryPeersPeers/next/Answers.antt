@@ -3,11 +3,10 @@ use Rattle.smb_engine.specs.declared.memory_peers.PeerStep.{PeerStep}
 use Rattle.smb_engine.specs.declared.memory_record.Call.TheVariants.{Next}
 use Rattle.smb_engine.specs.Record.{PeerCall}
 use Rattle.smb_engine.specs.Peers.{call_of}
-use Rattle.smb_engine.specs.MemoryPeers.{step_at, step_event, step_piece, step_failures}
-use Rattle.smb_engine.specs.MemoryRecord.{piece_at, piece_place, step_call, calls_told}
+use Rattle.smb_engine.specs.MemoryRecord.{step_at, step_event, step_piece, step_failures, piece_at, piece_place, step_call, calls_told}
 use Rattle.smb_engine.proofs.HeldCalls.{bytes_same, one_told}
 use Rattle.smb_engine.proofs.Scripts.{piece_more}
-use Rattle.smb_engine.proofs.MemoryCalls.{told_here, step_told, opens_here, stepped_here}
+use Rattle.smb_engine.proofs.MemoryCalls.{told_here, step_told, opens_here, stepped_here, brought_here}
 use Rattle.smb_engine.proofs.memory_peers.MemoryPeersPeers.next.Goals as goal
 use Rattle.smb_engine.proofs.memory_peers.MemoryPeersPeers.next.Goals.{After-event_at}
 
@@ -45,6 +44,9 @@ returns-clause-told c =
 
 pub returns-clause-once : goal.returns-clause-once
 returns-clause-once c = opens_here c.self.view_is (event_here c) c.self.invariant.0
+
+pub returns-clause-value : goal.returns-clause-value
+returns-clause-value c = brought_here c.self.view_is c.if-self-eq0.false (event_here c)
 
 pub returns-clause-after : goal.returns-clause-after
 returns-clause-after c =

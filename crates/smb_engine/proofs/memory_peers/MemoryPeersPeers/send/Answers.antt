@@ -45,7 +45,7 @@ returns-in-Some-clause-told c =
 
 pub returns-in-Some-clause-value : goal.returns-in-Some-clause-value
 returns-in-Some-clause-value c =
-    answer_here c.args.bytes.now (Some c.in-Some.count) c.self.view_is c.if-self-eq0.false
+    answer_here c.args.number c.args.bytes.now (Some c.in-Some.count) c.self.view_is c.if-self-eq0.false
     (count_here c.self.inside.sent c.in-Some.ensures.count c.deref.ensures.value c.min-room.ensures)
 
 pub returns-in-Some-clause-after : goal.returns-in-Some-clause-after
@@ -63,7 +63,7 @@ returns-in-None-clause-told c =
 
 pub returns-in-None-clause-value : goal.returns-in-None-clause-value
 returns-in-None-clause-value c =
-    answer_here c.args.bytes.now None c.self.view_is c.if-self-eq0.false
+    answer_here c.args.number c.args.bytes.now None c.self.view_is c.if-self-eq0.false
     (count_here c.self.inside.sent c.in-None.ensures.count c.deref.ensures.value c.min-room.ensures)
 
 pub returns-in-None-clause-after : goal.returns-in-None-clause-after
