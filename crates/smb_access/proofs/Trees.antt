@@ -1,5 +1,5 @@
 -- What stands in a good tree: paths and numbers lead to the same entries, and the nearest folder decides.
-use Rattle.std.proofs.Common.{◌≡◌, ◌==◌, ◌≤◌, ℕ, ◌+◌, ◌-◌, List, [], ◌∷◌, ◌++◌, length, take, Bool, true, false, cond, ◌&&◌, Option, None, Some, map, refl, sym, ap, subst, arith, suc, zero, ◌∙◌, length-take, length-append, zero-add, suc-add}
+use Rattle.std.proofs.Common.{◌≡◌, ◌==◌, ◌≤◌, ℕ, ◌+◌, ◌-◌, List, [], ◌∷◌, ◌++◌, length, take, Bool, true, false, cond, ◌&&◌, Option, None, Some, unwrap_or, map, refl, sym, ap, subst, arith, suc, zero, ◌∙◌, length-take, length-append, zero-add, suc-add}
 use Rattle.std.proofs.lemmas.Grind.{common_steps}
 use Rattle.std.proofs.lemmas.List.{length-map, append-nil, take-map}
 use Rattle.std.specs.List.{AllByRecursion, list_all}
@@ -130,3 +130,38 @@ row_of_shown rows number seen e =
       | None ↦ λ f. absurd (cc)
       | Some row ↦ λ f. (row, refl, cc)
     ] e
+
+-- the folder around an entry is the one of its number
+up_seen : (content : Content) → GoodContent content → (path : Path) (entry : Entry) → entry_at content.rows path ≡ Some entry →
+    option_map (λ (up : Row). target_of up.1) (numbered content.rows (row_shown content.rows (path, entry)).parent) ≡ option_map target_of (entry_at content.rows (parent path))
+up_seen content good path entry at =
+    let folder : is_folder (entry_at content.rows (parent path)) ≡ true = at_path (λ row. is_folder (entry_at content.rows (parent row.0)) ≡ true) content.rows path entry good.parents at in
+    elim (entry_at content.rows (parent path)) as (λ o. entry_at content.rows (parent path) ≡ o → is_folder o ≡ true → option_map (λ (up : Row). target_of up.1) (numbered content.rows (unwrap_or (option_map (λ (entry : Entry). entry.number) o) 0)) ≡ option_map target_of o) [
+      | None ↦ λ _ f. absurd (cc)
+      | Some up ↦ λ there _. ap (option_map (λ (up : Row). target_of up.1)) (numbered-from_at content.rows (parent path) up good.apart there)
+    ] refl folder
+
+-- and of the number that is shown as its parent's
+pub above_seen : (content : Content) → GoodContent content → (path : Path) (number : ℕ) (seen : Shown) → number_at content.rows path ≡ Some number → Some seen ≡ entry_shown content.rows number →
+    option_map (λ (up : Row). target_of up.1) (numbered content.rows seen.parent) ≡ option_map target_of (entry_at content.rows (parent path))
+above_seen content good path number seen e shows =
+    elim (entry_at content.rows path) as (λ o. entry_at content.rows path ≡ o → option_map (λ (entry : Entry). entry.number) o ≡ Some number →
+    option_map (λ (up : Row). target_of up.1) (numbered content.rows seen.parent) ≡ option_map target_of (entry_at content.rows (parent path))) [
+      | None ↦ λ _ f. absurd (cc)
+      | Some entry ↦ λ at f.
+          let k : numbered content.rows entry.number ≡ Some (path, entry) = numbered-from_at content.rows path entry good.apart at in
+          let same : entry.number ≡ number = cc in
+          let here : Some seen ≡ Some (row_shown content.rows (path, entry)) = shows ∙ ap (entry_shown content.rows) (sym same) ∙ ap (option_map (row_shown content.rows)) k in
+          let is : seen ≡ row_shown content.rows (path, entry) = cc in
+          ap (λ (s : Shown). option_map (λ (up : Row). target_of up.1) (numbered content.rows s.parent)) is ∙ up_seen content good path entry at
+    ] refl e
+
+-- what decides of a row, by what is shown of it
+pub row_seen : (rows : List Row) (o : Option Row) → option_map seen_target (option_map (row_shown rows) o) ≡ option_map (λ (row : Row). target_of row.1) o
+row_seen rows None = refl
+row_seen rows (Some row) = refl
+
+-- a number at a path is that of an entry
+pub none_there : (o : Option Entry) (number : ℕ) → None ≡ option_map target_of o → option_map (λ (entry : Entry). entry.number) o ≡ Some number → ⊥
+none_there None number h f = cc
+none_there (Some entry) number h f = cc

@@ -5,7 +5,7 @@ ghost use Rattle.std.specs.Option.{option_map};
 ghost use Rattle.smb_wire.specs.Limits.{most_file_bytes};
 ghost use Rattle.smb_wire.specs.Paths.{folded_path};
 ghost use Rattle.smb_wire.specs.PathViews.{parts_of};
-ghost use Rattle.smb_tree.specs.Content.{entry_at, parent};
+ghost use Rattle.smb_tree.specs.Content.{entry_at, numbered, parent};
 ghost use Rattle.smb_tree.specs.Views.{shown};
 ghost use Rattle.smb_access.specs.Found.{is_reached};
 ghost use Rattle.smb_access.specs.Looked.{target_of, is_folder_target};
@@ -18,19 +18,33 @@ use super::view::View;
 use smb_tree::{EntryNo, EntryView, Kind, Tree, allocation_size};
 use smb_wire::{Access, PathView};
 
+// Of an entry, what decides.
+fn target_of(entry: &EntryView<'_>) -> Target
+    ensures { result ≡ record { number = entry.now.number; kind = entry.now.kind; basic = entry.now.basic; mark = entry.now.mark } }
+{
+    Target {
+        number: entry.number,
+        kind: entry.kind,
+        basic: entry.basic,
+        mark: entry.mark,
+    }
+}
+
+// Of the entry of a number, what decides, or None.
+fn numbered_target<T: Tree>(tree: &T, number: EntryNo) -> Option<Target>
+    ensures { result ≡ option_map (λ row. target_of row.1) (numbered (T.content tree.now).rows number) }
+{
+    let entry = tree.entry(number)?;
+    Some(target_of(&entry))
+}
+
 /// Of the entry at a path, what decides, or None.
 pub fn find_target<T: Tree>(tree: &T, path: &PathView<'_>) -> Option<Target>
     requires { GoodContent (T.content tree.now) }
     ensures { result ≡ option_map target_of (entry_at (T.content tree.now).rows (folded_path (parts_of path.now))) }
 {
     let number = tree.find(path)?;
-    let entry = tree.entry(number)?;
-    Some(Target {
-        number: entry.number,
-        kind: entry.kind,
-        basic: entry.basic,
-        mark: entry.mark,
-    })
+    numbered_target(tree, number)
 }
 
 /// Of the folder that the entry at a path is in, what decides, or None where none stands; the root is in itself. In a good
@@ -45,6 +59,24 @@ pub fn find_above<T: Tree>(tree: &T, path: &PathView<'_>) -> Option<Target>
         return find_target(tree, path);
     }
     find_target(tree, &path.front(depth - 1))
+}
+
+/// Of the entry at a path, and of the folder that it is in, what decides, as [`find_target`] and [`find_above`] give them. Where
+/// an entry is at the path, it is one walk along it.
+pub fn find_with_above<T: Tree>(tree: &T, path: &PathView<'_>) -> (Option<Target>, Option<Target>)
+    requires { GoodContent (T.content tree.now) }
+    ensures target { result.0 ≡ option_map target_of (entry_at (T.content tree.now).rows (folded_path (parts_of path.now))) }
+    ensures above { result.1 ≡ option_map target_of (entry_at (T.content tree.now).rows (parent (folded_path (parts_of path.now)))) }
+    ensures reached { is_folder_target result.1 ≡ is_reached (T.content tree.now).rows (folded_path (parts_of path.now)) }
+{
+    let Some(number) = tree.find(path) else {
+        return (None, find_above(tree, path));
+    };
+    let Some(entry) = tree.entry(number) else {
+        unreachable!();
+    };
+    let above = numbered_target(tree, entry.parent);
+    (Some(target_of(&entry)), above)
 }
 
 // An entry through an open with this access.

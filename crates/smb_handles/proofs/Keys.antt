@@ -45,7 +45,7 @@ same (Tree a b) = both_same a b
 pub at_itself : (key : GroupKey) → is_at (cmp-value.it key) key ≡ true
 at_itself key = ap is_eq (same key)
 
-ties : (o : Ordering) → is_eq o ≡ true → o ≡ Equal
+pub ties : (o : Ordering) → is_eq o ≡ true → o ≡ Equal
 ties Less e = cc
 ties Equal e = refl
 ties Greater e = cc

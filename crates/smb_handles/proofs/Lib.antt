@@ -1,4 +1,5 @@
 pub mod Keys
+pub mod Pairs
 pub mod Sets
 pub mod Noted
 pub mod Live

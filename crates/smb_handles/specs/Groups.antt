@@ -1,8 +1,8 @@
 -- For the proofs; nothing here need be believed.
--- Groups of opens, and the ordered set of numbers that is kept for each.
-use Rattle.std.specs.Prelude.{ℕ, ◌≢◌, ◌==◌, length, Some, ◌&&◌, not, if◌then◌else◌, Bool, List, [], ◌∷◌, ◌++◌, filter}
-use Rattle.std.specs.Option.{option_map, option_map_or}
-use Rattle.std.specs.BTreeMap.{BTreeMap, get}
+-- Groups of opens, and the numbers that are kept for each, in one ordered set.
+use Rattle.std.specs.Prelude.{◌≡◌, ℕ, nat_lt, true, ◌==◌, ◌&&◌, not, if◌then◌else◌, Bool, List, [], ◌∷◌, ◌++◌, filter, map}
+use Rattle.std.specs.List.{list_all}
+use Rattle.std.specs.BTreeMap.{is_at}
 use Rattle.std.specs.BTreeSet.{BTreeSet}
 use Rattle.smb_access.specs.Opens.{open_numbers}
 use Rattle.smb_access.specs.declared.open_row.OpenRow.{OpenRow}
@@ -27,13 +27,21 @@ group_of (owner.Tree session tree) = Tree session tree
 abbrev pub numbers_in : List OpenRow → GroupKey → List ℕ
 numbers_in rows key = open_numbers (filter (is_in key) rows)
 
--- the numbers that are kept under a group's name
-abbrev pub members : BTreeMap GroupKey (BTreeSet ℕ) → GroupKey → List ℕ
-members sets key = option_map_or (λ set. set.keys) (get cmp-value.it sets key) []
+-- a number that is kept with a group's name is one of this group
+abbrev pub is_kept_in : GroupKey → GroupKey × ℕ → Bool
+is_kept_in key pair = is_at (cmp-value.it key) pair.0
 
--- no name keeps an empty set
-abbrev pub KeepsNoEmptySet : BTreeMap GroupKey (BTreeSet ℕ) → Type 0
-KeepsNoEmptySet sets = (key : GroupKey) → option_map (λ set. length set.keys) (get cmp-value.it sets key) ≢ Some 0
+-- of numbers that are each kept with the name of a group those of one group
+abbrev pub kept_in : List (GroupKey × ℕ) → GroupKey → List ℕ
+kept_in pairs key = map (λ (pair : GroupKey × ℕ). pair.1) (filter (is_kept_in key) pairs)
+
+-- the numbers that are kept with a group's name
+abbrev pub members : BTreeSet (GroupKey × ℕ) → GroupKey → List ℕ
+members numbers = kept_in numbers.keys
+
+-- each number that is kept is one of 64 bits
+abbrev pub KeepsNumbers : BTreeSet (GroupKey × ℕ) → Type 0
+KeepsNumbers numbers = list_all (λ (pair : GroupKey × ℕ). nat_lt pair.1 18446744073709551616) numbers.keys ≡ true
 
 -- numbers but one
 abbrev pub without_number : ℕ → List ℕ → List ℕ

@@ -10,7 +10,8 @@
 //! - the opens, each in a slot of a slab. A slot is used again, the number of an open never;
 //! - an index that leads from the numbers, in their order, to the slots;
 //! - groups of opens (`groups.rt`), under names (`key.rt`): for each entry, each session, and each tree connect of a session, the
-//!   ordered set of the numbers of its opens. A group that has no opens takes no memory;
+//!   numbers of its opens in order; all in one ordered set, in which each number has the name of its group. A group that has
+//!   no opens takes no memory;
 //! - uses (`uses.rt`): for each entry how many of its opens read it, write it, delete it, and do not share one of these. So whether
 //!   an entry has an open that stands in the way of another one is looked up. An entry that none uses so takes no memory.
 //!

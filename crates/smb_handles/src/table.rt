@@ -63,7 +63,7 @@ impl Model for HandleTable {
 
     ghost view = { λ table. rows_of (get table.rows) table.index.entries };
 
-    ghost invariant = { λ table. IsTable (get table.rows) table.index.entries (members table.groups.sets) (counted table.uses.counts) };
+    ghost invariant = { λ table. IsTable (get table.rows) table.index.entries (members table.groups.numbers) (counted table.uses.counts) };
 }
 
 impl HandleTable {
@@ -96,11 +96,11 @@ fn enter_number(
     slot: usize,
 ) -> Result<(), AllocError>
     requires above { AllByRecursion (λ (entry : ℕ × ℕ). entry.0 < row.now.number) index.old.entries }
-    requires below { (key : GroupKey) → AreNumbersBelow row.now.number (members groups.old.sets key) }
+    requires below { (key : GroupKey) → AreNumbersBelow row.now.number (members groups.old.numbers key) }
     ensures index { OnOk result (index.new.entries ≡ index.old.entries ++ (row.now.number, slot) ∷ []) }
-    ensures groups { OnOk result ((key : GroupKey) → members groups.new.sets key ≡ noted (members groups.old.sets) row.now key) }
+    ensures groups { OnOk result ((key : GroupKey) → members groups.new.numbers key ≡ noted (members groups.old.numbers) row.now key) }
     ensures err_index { OnErr result (index.new.entries ≡ index.old.entries) }
-    ensures err_groups { OnErr result ((key : GroupKey) → members groups.new.sets key ≡ members groups.old.sets key) }
+    ensures err_groups { OnErr result ((key : GroupKey) → members groups.new.numbers key ≡ members groups.old.numbers key) }
 {
     index.insert(row.number, slot)?;
     let noted = groups.note_row(row);
@@ -119,13 +119,13 @@ fn enter(
     slot: usize,
 ) -> Result<(), AllocError>
     requires above { AllByRecursion (λ (entry : ℕ × ℕ). entry.0 < row.now.number) index.old.entries }
-    requires below { (key : GroupKey) → AreNumbersBelow row.now.number (members groups.old.sets key) }
+    requires below { (key : GroupKey) → AreNumbersBelow row.now.number (members groups.old.numbers key) }
     requires few { (kind : SharingUse) → counted uses.old.counts row.now.entry kind ≤ length index.old.entries }
     ensures index { OnOk result (index.new.entries ≡ index.old.entries ++ (row.now.number, slot) ∷ []) }
-    ensures groups { OnOk result ((key : GroupKey) → members groups.new.sets key ≡ noted (members groups.old.sets) row.now key) }
+    ensures groups { OnOk result ((key : GroupKey) → members groups.new.numbers key ≡ noted (members groups.old.numbers) row.now key) }
     ensures uses { OnOk result ((entry : ℕ) (kind : SharingUse) → counted uses.new.counts entry kind ≡ more (counted uses.old.counts) row.now entry kind) }
     ensures err_index { OnErr result (index.new.entries ≡ index.old.entries) }
-    ensures err_groups { OnErr result ((key : GroupKey) → members groups.new.sets key ≡ members groups.old.sets key) }
+    ensures err_groups { OnErr result ((key : GroupKey) → members groups.new.numbers key ≡ members groups.old.numbers key) }
     ensures err_uses { OnErr result ((entry : ℕ) (kind : SharingUse) → counted uses.new.counts entry kind ≡ counted uses.old.counts entry kind) }
 {
     // So no count of opens overflows.
@@ -196,9 +196,10 @@ impl Opens for HandleTable {
         let Some(slot) = self.index.remove(&number) else {
             return;
         };
-        let row = self.rows.remove(slot);
-        self.groups.forget_row(&row);
-        self.uses.forget(&row);
+        let row = &self.rows[slot];
+        self.groups.forget_row(row);
+        self.uses.forget(row);
+        let _ = self.rows.remove(slot);
     }
 
     fn set_scan(&mut self, number: OpenNo, scan: Scan) {

@@ -1,20 +1,20 @@
 //! Additions: one more node.
 
-ghost use Rattle.std.specs.Prelude.{◌≡◌, ◌-◌, ◌^◌, ◌||◌, ◌∷◌, ◌++◌, [], true, None, is_some, nat_le, OnOk, OnErr};
+ghost use Rattle.std.specs.Prelude.{◌≡◌, ◌-◌, ◌^◌, ◌||◌, ◌∷◌, ◌++◌, [], true, None, Some, is_some, nat_le, OnOk, OnErr};
 ghost use Rattle.smb_wire.specs.Counters.{is_spent};
 ghost use Rattle.smb_wire.specs.Names.{folded};
 ghost use Rattle.smb_wire.specs.Paths.{folded_path};
 ghost use Rattle.smb_wire.specs.PathViews.{parts_of};
-ghost use Rattle.smb_tree.specs.Entries.{is_folder};
+ghost use Rattle.smb_tree.specs.Content.{parent};
 ghost use Rattle.smb_tree.specs.Parts.{add_fault_by};
 ghost use Rattle.smb_nodes.specs.Changes.{Grown};
-ghost use Rattle.smb_nodes.specs.Nodes.{child_in, entry_down, Under};
+ghost use Rattle.smb_nodes.specs.Nodes.{child_in, entry_down, entry_on, walk, Under};
 ghost use Rattle.smb_nodes.specs.Seen.{heap_of, entry_seen, SameHeap};
 
 use super::children::put_child;
-use super::look::{name_of, node_at};
+use super::look::name_of;
+use super::moves::{has_folder, target_in};
 use super::node::Node;
-use super::paths::around;
 use slab::Slab;
 use smb_tree::{EntryNo, TreeFault};
 use smb_wire::PathView;
@@ -22,22 +22,14 @@ use smb_wire::limits::MOST_ENTRIES;
 use std::alloc::AllocError;
 use std::collections::BTreeMap;
 
-// The most entries besides the root.
-// Whether a path leads to a folder.
-pub fn is_folder_at(nodes: &Slab<Node>, path: &PathView<'_>) -> bool
-    ensures { result ≡ is_folder (entry_down (heap_of nodes.now) (folded_path (parts_of path.now))) }
+// Whether a slot, if there is one, has a node.
+fn is_taken(nodes: &Slab<Node>, slot: Option<usize>) -> bool
+    ensures { result ≡ is_some (entry_on (heap_of nodes.now) slot) }
 {
-    match node_at(nodes, path) {
-        Some(node) => node.kind.is_folder(),
+    match slot {
+        Some(slot) => nodes.contains(slot),
         None => false,
     }
-}
-
-// Whether a path leads to an entry.
-fn is_taken(nodes: &Slab<Node>, path: &PathView<'_>) -> bool
-    ensures { result ≡ is_some (entry_down (heap_of nodes.now) (folded_path (parts_of path.now))) }
-{
-    node_at(nodes, path).is_some()
 }
 
 // Whether no entry can be added to so many, the root among them, because of their number or the next one's.
@@ -47,19 +39,21 @@ fn is_full(count: usize, next: EntryNo) -> bool
     count > MOST_ENTRIES || next == EntryNo::MAX
 }
 
-// The first fault of an entry that would be added.
+// The first fault of an entry that would be added at a path, around which a slot is found: one look-up there.
 pub fn add_fault(
     nodes: &Slab<Node>,
     count: usize,
     next: EntryNo,
+    folder: usize,
     path: &PathView<'_>,
 ) -> Option<TreeFault>
+    requires { walk (heap_of nodes.now) (Some 0) (parent (folded_path (parts_of path.now))) ≡ Some folder }
     ensures { result ≡ add_fault_by (entry_down (heap_of nodes.now)) count next (folded_path (parts_of path.now)) }
 {
-    if !is_folder_at(nodes, &around(path)) {
+    if !has_folder(nodes, folder) {
         return Some(TreeFault::ParentAbsent);
     }
-    if is_taken(nodes, path) {
+    if is_taken(nodes, target_in(nodes, folder, path)) {
         return Some(TreeFault::Exists);
     }
     if is_full(count, next) {

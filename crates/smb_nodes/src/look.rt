@@ -29,9 +29,12 @@ pub fn child_of(nodes: &Slab<Node>, slot: usize, name: Units<'_>) -> Option<usiz
     requires { length (units_of name) ≤ 255 }
     ensures { result ≡ step (heap_of nodes.now) (Some slot) (folded (units_of name.entry)) }
 {
-    let folded = FoldedName::of(name)?;
     let node = nodes.get(slot)?;
-    node.children.get(&folded).copied()
+    // Borrowed where it is made: a folded name has 512 bytes.
+    match &FoldedName::of(name) {
+        Some(folded) => node.children.get(folded).copied(),
+        None => None,
+    }
 }
 
 // The slot to which a path leads.

@@ -32,7 +32,7 @@ pub fn target_in(nodes: &Slab<Node>, folder: usize, path: &PathView<'_>) -> Opti
 }
 
 // Whether a slot has a folder.
-fn has_folder(nodes: &Slab<Node>, slot: usize) -> bool
+pub fn has_folder(nodes: &Slab<Node>, slot: usize) -> bool
     ensures { result ≡ is_folder (entry_in (heap_of nodes.now slot)) }
 {
     match nodes.get(slot) {

@@ -40,7 +40,7 @@ use std::marker::Model;
 /// - [`is_within`](Tree::is_within): a second look-up in the index, and at most one step up by slots for each component of
 ///   the path.
 /// - [`copy_entry`](Tree::copy_entry): one step up for each component, and memory for the name.
-/// - [`add`](Tree::add): three walks along the path, and one insertion into the folder's children and the index. It
+/// - [`add`](Tree::add): one walk along the path, and one insertion into the folder's children and the index. It
 ///   takes memory for the spelling and, where there is no room, for a slot, a child and a number.
 /// - [`remove`](Tree::remove): one look-up in the folder's children, and a removal from there and from the index.
 /// - [`move_entry`](Tree::move_entry): one walk along the path, one insertion into the new folder's children, and one
@@ -198,10 +198,12 @@ impl Tree for NodeTree {
         attributes: FileAttributes,
         moment: u64,
     ) -> Result<EntryNo, TreeFault> {
-        if let Some(fault) = add_fault(&self.nodes, self.index.len(), self.next, path) {
+        let Some(parent) = walk_down(&self.nodes, &around(path)) else {
+            return Err(TreeFault::ParentAbsent);
+        };
+        if let Some(fault) = add_fault(&self.nodes, self.index.len(), self.next, parent, path) {
             return Err(fault);
         }
-        let parent = walk_down(&self.nodes, &around(path)).unwrap();
         let number = self.next;
         let spelling = last_spelling(self.alloc, path)?;
         let node = Node {

@@ -35,7 +35,7 @@ use smb_access::close::{mark_closed, remove_if_delete_pending};
 use smb_access::effect::{action_on, attributes_asked, kind_asked, opened_by, overwrite_if_asked};
 use smb_access::fault::refusal_of;
 use smb_access::found::{CreateLookup, Target};
-use smb_access::look::{count_entries, entry_view, find_above, find_target};
+use smb_access::look::{count_entries, entry_view, find_with_above};
 use smb_access::sharing::conflicts;
 use smb_access::{Closed, CreateAsk, Created, OpenNo, Opens, Owner, StoreFault, View};
 use smb_locks::LockTable;
@@ -157,8 +157,7 @@ impl<T: Tree + Drop, O: Opens + Drop> Store<T, O> {
     fn find(&self, path: &PathView<'_>) -> CreateLookup
         ensures { result ≡ found_at self.now (folded_path (parts_of path.now)) }
     {
-        let target = find_target(&self.tree, path);
-        let above = find_above(&self.tree, path);
+        let (target, above) = find_with_above(&self.tree, path);
         CreateLookup {
             target,
             reached: is_folder_target(&above),

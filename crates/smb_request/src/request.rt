@@ -52,12 +52,15 @@ impl<A: Authenticator + Drop, T: Tree + Drop, O: Opens + Drop> Server<A, T, O> {
     {
         let needs = needs_of(request);
         let (connection, session_id) = (call.connection, call.ids.session_id);
-        if needs.has_session() && !self.sessions.knows(connection, session_id, None) {
-            return Err(NtStatus::UserSessionDeleted);
-        }
+        // A tree connect that exists has its session, which needs no look-up of its own.
         let tree_id = Some(call.ids.tree_id);
-        if needs.has_tree() && !self.sessions.knows(connection, session_id, tree_id) {
-            return Err(NtStatus::NetworkNameDeleted);
+        if !needs.has_tree() || !self.sessions.knows(connection, session_id, tree_id) {
+            if needs.has_session() && !self.sessions.knows(connection, session_id, None) {
+                return Err(NtStatus::UserSessionDeleted);
+            }
+            if needs.has_tree() {
+                return Err(NtStatus::NetworkNameDeleted);
+            }
         }
         match call.named_open() {
             Some(named) => self.check_open(call.ids, named),

@@ -1,5 +1,5 @@
 -- Numbers that are taken out of rising ones.
-use Rattle.std.proofs.Common.{◌≡◌, ℕ, zero, suc, ◌-◌, ◌<◌, ◌≤◌, ◌==◌, ◌||◌, ◌&&◌, not, nat_lt, Bool, true, false, cond, List, [], ◌∷◌, length, take, drop, filter, get_or, slice_index_or, None, Some, position, refl, sym, ap, ◌∙◌, arith}
+use Rattle.std.proofs.Common.{◌≡◌, ℕ, zero, suc, ◌+◌, ◌-◌, ◌<◌, ◌≤◌, ◌==◌, ◌||◌, ◌&&◌, not, nat_lt, Bool, true, false, cond, List, [], ◌∷◌, length, take, drop, filter, get_or, slice_get, slice_index_or, None, Some, position, refl, sym, ap, ◌∙◌, arith}
 use Rattle.std.specs.List.{AllByRecursion, position_or_len, remove}
 use Rattle.std.proofs.lemmas.Bool.{ne_eqb, eqb-true}
 use Rattle.std.proofs.lemmas.Bool.Decides.{nat_tests}
@@ -43,6 +43,19 @@ removed number (n ∷ ns) (suc i) r l e =
     let here : stays number n ≡ true = stays_other number n (λ s. omega (arith, e, s, above)) in
     ap (λ (ms : List ℕ). n ∷ ms) (removed number ns i r.1 inside e)
     ∙ sym (ap (λ (b : Bool). cond b (n ∷ filter (stays number) ns) (filter (stays number) ns)) here)
+
+-- the first of the numbers behind the used ones is taken out
+pub first_taken : (number : ℕ) (ns : List ℕ) (used : ℕ) → IsRising (drop used ns) → slice_get ns used ≡ Some number → drop (used + 1) ns ≡ filter (stays number) (drop used ns)
+first_taken number [] used r e = cc
+first_taken number (n ∷ ns) zero r e =
+    let here : n ≡ number = cc in
+    removed number (n ∷ ns) zero r (omega arith) here
+first_taken number (n ∷ ns) (suc used) r e =
+    let next : suc used + 1 ≡ suc (used + 1) = omega arith in
+    rw next (first_taken number ns used r e)
+
+pub run_of_first : (run : ℕ × ℕ) (ns : List ℕ) (used : ℕ) → run.1 ≡ 1 → IsRising (drop used ns) → slice_get ns used ≡ Some run.0 → drop (used + 1) ns ≡ filter (λ n. not (contains (upward run.0 run.1) n)) (drop used ns)
+run_of_first run ns used one r e = rw one (first_taken run.0 ns used r e)
 
 pub taken : (number : ℕ) (ns new : List ℕ) (i : ℕ) → IsRising ns → Some i ≡ position (λ n. n == number) ns → new ≡ remove ns i → new ≡ filter (stays number) ns
 taken number ns new i r p e =

@@ -1,11 +1,12 @@
 -- Windows.
 use Rattle.std.proofs.Common.{◌≡◌, ℕ, zero, suc, ◌+◌, List, [], ◌∷◌, ◌++◌, refl, sym, ap, ◌∙◌, arith, append_assoc}
-use Rattle.std.proofs.Common.{◌≤◌, ◌<◌, Bool, true, false, filter, length, not, length-append}
+use Rattle.std.proofs.Common.{◌≤◌, ◌<◌, Bool, true, false, drop, filter, length, not, length-append}
 use Rattle.std.specs.List.{AllByRecursion}
 use Rattle.std.proofs.lemmas.List.Sums.{length-filter}
 use Rattle.std.proofs.lemmas.List.Filters.{length-filter_both}
 use Rattle.smb_session.specs.Numbers.{IsRising}
 use Rattle.smb_session.specs.Window.{Numbers, GoodWindow, upward, with_more}
+use Rattle.smb_session.specs.Held.{KeepsWindow, window_of}
 
 -- one number more
 pub upward-more : (count first : ℕ) → upward first (suc count) ≡ upward first count ++ (first + count) ∷ []
@@ -85,4 +86,20 @@ good_more w count room g = record {
   few = omega (arith, room, length-append w.usable (upward w.next count), upward-length count w.next);
   rising = rising-append w.next w.usable (upward w.next count) g.below (upward-above count w.next) g.rising (upward-rising count w.next);
   below = all-append _ w.usable (upward w.next count) (all-more _ _ w.usable (λ n l. omega arith) g.below) (upward-below count w.next);
+}
+
+-- a window of which the first numbers were used, with the next ones behind it
+dropped_more : (front : ℕ) (xs ys : List ℕ) → front ≤ length xs → drop front (xs ++ ys) ≡ drop front xs ++ ys
+dropped_more zero xs ys h = refl
+dropped_more (suc front) [] ys h = absurd (omega (arith, h))
+dropped_more (suc front) (x ∷ xs) ys h = dropped_more front xs ys (omega (arith, h))
+
+pub window_more : (old now items : List ℕ) (used front next count : ℕ) → drop front now ≡ drop used old → front ≤ length now → items ≡ now ++ upward next count → window_of items front (next + count) ≡ with_more (window_of old used next) count
+window_more old now items used front next count rest within e =
+    ap (λ (us : List ℕ). record { usable = us; next = next + count }) (ap (drop front) e ∙ dropped_more front now (upward next count) within ∙ ap (λ (us : List ℕ). us ++ upward next count) rest)
+
+pub keeps_more : (old now items : List ℕ) (used front next count : ℕ) → drop front now ≡ drop used old → front ≤ length now → items ≡ now ++ upward next count → length (drop used old) + count ≤ 256 → GoodWindow (window_of old used next) → KeepsWindow items front (next + count)
+keeps_more old now items used front next count rest within e room g = record {
+  good = rw (window_more old now items used front next count rest within e) (good_more (window_of old used next) count room g);
+  within = rw e (omega (arith, within, length-append now (upward next count)));
 }

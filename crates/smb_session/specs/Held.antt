@@ -1,12 +1,13 @@
 -- For the proofs; nothing here need be believed.
--- What the table holds besides: for each connection the numbers of its sessions.
-use Rattle.std.specs.Prelude.{◌≡◌, ℕ, ◌+◌, ◌-◌, Bool, nat_le, min, max, List, map}
+-- What the table holds besides: for each connection the numbers of its sessions. And what a window holds.
+use Rattle.std.specs.Prelude.{◌≡◌, ◌≤◌, ℕ, ◌+◌, ◌-◌, Bool, nat_le, min, max, List, drop, length, map}
 use Rattle.std.specs.Option.{option_map_or}
 use Rattle.std.specs.List.{AllByRecursion}
 use Rattle.std.specs.Map.{lookup}
 use Rattle.std.specs.BTreeMap.{is_at}
 use Rattle.std.specs.Ordering.{nat_cmp}
 use Rattle.smb_session.specs.Numbers.{without_number}
+use Rattle.smb_session.specs.Window.{Numbers, GoodWindow}
 use Rattle.smb_session.specs.Session.{SessionState}
 use Rattle.smb_session.specs.Table.{TableState, numbers_on, changed_at, session_ended}
 use Rattle.smb_session.specs.Good.{GoodTable}
@@ -33,3 +34,12 @@ pub record IsHeld (index : List (ℕ × List ℕ)) (sessions : List (ℕ × Sess
 -- two runs of numbers, each a first number and how many, have none in common
 abbrev pub are_apart : ℕ × ℕ → ℕ × ℕ → Bool
 are_apart one other = nat_le (min (one.0 + one.1) (other.0 + other.1)) (max one.0 other.0)
+
+-- the window of numbers, of which so many at the front were used
+abbrev pub window_of : List ℕ → ℕ → ℕ → Numbers
+window_of numbers used next = record { usable = drop used numbers; next = next }
+
+-- the window is good, and no more numbers were used than are kept
+pub record KeepsWindow (numbers : List ℕ) (used next : ℕ) : Type 0 where
+  pub good : GoodWindow (window_of numbers used next)
+  pub within : used ≤ length numbers

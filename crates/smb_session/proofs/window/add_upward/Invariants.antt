@@ -4,6 +4,6 @@ use Rattle.smb_session.proofs.window.add_upward.Given as goal
 
 abbrev pub invariant-loop-i : goal.invariant-loop-i
 invariant-loop-i l = record {
-  items : l.usable.items ≡ l.fn.usable.items ++ upward l.first l.i;
-  len : length l.usable.items ≡ length l.fn.usable.items + l.i;
+  items : l.numbers.items ≡ l.fn.numbers.items ++ upward l.first l.i;
+  len : length l.numbers.items ≡ length l.fn.numbers.items + l.i;
 }

@@ -1,15 +1,18 @@
-use Rattle.std.proofs.Common.{refl, arith}
+use Rattle.std.proofs.Common.{drop, refl, arith}
 use Rattle.smb_session.proofs.Taken.{take_first, all_taken}
 use Rattle.smb_session.proofs.window.take_out.Goals as goal
 
 pub loop-rest-init : goal.loop-rest-init
-loop-rest-init c = record { rising = c.requires; same = refl }
+loop-rest-init c = record { left = record { rising = c.requires.rising; same = refl }; within = c.requires.within }
 
-pub take_run-requires : goal.take_run-requires
-take_run-requires c = c.loop-rest.invariant.rising
+pub take_run-front-requires : goal.take_run-front-requires
+take_run-front-requires c = record { rising = c.loop-rest.invariant.left.rising; within = c.loop-rest.invariant.within }
 
 pub loop-rest-preserved : goal.loop-rest-preserved
-loop-rest-preserved c = take_first _ _ _ _ c.take_run.new.usable.items c.loop-rest.invariant c.in-len1-up.len_at_least c.take_run.ensures
+loop-rest-preserved c = record {
+  left = take_first _ _ _ _ (drop c.take_run-front.result c.take_run-front.new.numbers.items) c.loop-rest.invariant.left c.in-len1-up.len_at_least c.take_run-front.ensures.rest;
+  within = c.take_run-front.ensures.within;
+}
 
-pub returns : goal.returns
-returns c = all_taken _ c.loop-rest.rest.now _ _ c.loop-rest.invariant (omega (arith, c.in_default.len_below))
+pub returns-clause-rest : goal.returns-clause-rest
+returns-clause-rest c = all_taken _ c.loop-rest.rest.now _ _ c.loop-rest.invariant.left (omega (arith, c.in_default.len_below))

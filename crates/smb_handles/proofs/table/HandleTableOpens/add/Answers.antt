@@ -21,7 +21,7 @@ rows_with_room : (s t : Slab OpenRow) → t ≡ record s { capacity = t.capacity
 rows_with_room s t e es = ap (λ (f : ℕ → Option OpenRow). rows_of f es) (room s t e)
 
 pub invariant_of-self : goal.invariant_of-self
-invariant_of-self c = with_room c.self.inside.rows c.reserve.new.self c.reserve.ensures.rest_kept c.self.inside.index.entries (members c.self.inside.groups.sets) (counted c.self.inside.uses.counts) c.self.invariant
+invariant_of-self c = with_room c.self.inside.rows c.reserve.new.self c.reserve.ensures.rest_kept c.self.inside.index.entries (members c.self.inside.groups.numbers) (counted c.self.inside.uses.counts) c.self.invariant
 
 pub enter-requires-clause-above : goal.enter-requires-clause-above
 enter-requires-clause-above c =
@@ -29,15 +29,15 @@ enter-requires-clause-above c =
 
 pub enter-requires-clause-below : goal.enter-requires-clause-below
 enter-requires-clause-below c =
-    below_groups (get c.self.inside.rows) c.self.inside.index.entries (members c.self.inside.groups.sets) (counted c.self.inside.uses.counts) c.args.row.number c.self.invariant (subst (AreAllBelow c.args.row.number) (sym c.self.view_is) c.requires)
+    below_groups (get c.self.inside.rows) c.self.inside.index.entries (members c.self.inside.groups.numbers) (counted c.self.inside.uses.counts) c.args.row.number c.self.invariant (subst (AreAllBelow c.args.row.number) (sym c.self.view_is) c.requires)
 
 pub enter-requires-clause-few : goal.enter-requires-clause-few
-enter-requires-clause-few c kind = few_uses (get c.self.inside.rows) c.self.inside.index.entries (members c.self.inside.groups.sets) (counted c.self.inside.uses.counts) c.args.row.entry kind c.self.invariant
+enter-requires-clause-few c kind = few_uses (get c.self.inside.rows) c.self.inside.index.entries (members c.self.inside.groups.numbers) (counted c.self.inside.uses.counts) c.args.row.entry kind c.self.invariant
 
 pub invariant_of-self-in_err-enter : goal.invariant_of-self-in_err-enter
 invariant_of-self-in_err-enter c =
-    table_kept (get c.reserve.new.self) c.self.inside.index.entries c.enter.new.index.entries (members c.self.inside.groups.sets) (members c.enter.new.groups.sets) (counted c.self.inside.uses.counts) (counted c.enter.new.uses.counts) c.in_err-enter.ensures.err_index c.in_err-enter.ensures.err_groups c.in_err-enter.ensures.err_uses
-    (with_room c.self.inside.rows c.reserve.new.self c.reserve.ensures.rest_kept c.self.inside.index.entries (members c.self.inside.groups.sets) (counted c.self.inside.uses.counts) c.self.invariant)
+    table_kept (get c.reserve.new.self) c.self.inside.index.entries c.enter.new.index.entries (members c.self.inside.groups.numbers) (members c.enter.new.groups.numbers) (counted c.self.inside.uses.counts) (counted c.enter.new.uses.counts) c.in_err-enter.ensures.err_index c.in_err-enter.ensures.err_groups c.in_err-enter.ensures.err_uses
+    (with_room c.self.inside.rows c.reserve.new.self c.reserve.ensures.rest_kept c.self.inside.index.entries (members c.self.inside.groups.numbers) (counted c.self.inside.uses.counts) c.self.invariant)
 
 pub invariant_of-self-2 : goal.invariant_of-self-2
 invariant_of-self-2 c =
@@ -45,8 +45,8 @@ invariant_of-self-2 c =
     let rows = rows_with_room c.self.inside.rows c.reserve.new.self c.reserve.ensures.rest_kept c.self.inside.index.entries in
     table_added (get c.reserve.new.self) (get c.insert_reserved.new.self) c.self.inside.index.entries c.enter.new.index.entries c.insert_reserved.result c.args.row c.insert_reserved.ensures.was_vacant c.insert_reserved.ensures.updates.changed c.insert_reserved.ensures.updates.others
     (c.in_ok-enter.ensures.index ∙ ap (λ (z : ℕ). c.self.inside.index.entries ++ (c.args.row.number, z) ∷ []) same)
-    (members c.self.inside.groups.sets) (members c.enter.new.groups.sets) (counted c.self.inside.uses.counts) (counted c.enter.new.uses.counts)
-    (with_room c.self.inside.rows c.reserve.new.self c.reserve.ensures.rest_kept c.self.inside.index.entries (members c.self.inside.groups.sets) (counted c.self.inside.uses.counts) c.self.invariant)
+    (members c.self.inside.groups.numbers) (members c.enter.new.groups.numbers) (counted c.self.inside.uses.counts) (counted c.enter.new.uses.counts)
+    (with_room c.self.inside.rows c.reserve.new.self c.reserve.ensures.rest_kept c.self.inside.index.entries (members c.self.inside.groups.numbers) (counted c.self.inside.uses.counts) c.self.invariant)
     (subst (AreAllBelow c.args.row.number) (sym (rows ∙ c.self.view_is)) c.requires)
     c.in_ok-enter.ensures.groups c.in_ok-enter.ensures.uses
 
@@ -55,6 +55,6 @@ returns-clause-ok c =
     let same : c.vacant_key-slot.result ≡ c.insert_reserved.result = c.vacant_key-slot.ensures.value ∙ sym c.insert_reserved.ensures.key in
     rows_added (get c.reserve.new.self) (get c.insert_reserved.new.self) c.self.inside.index.entries c.enter.new.index.entries c.insert_reserved.result c.args.row c.insert_reserved.ensures.was_vacant c.insert_reserved.ensures.updates.changed c.insert_reserved.ensures.updates.others
     (c.in_ok-enter.ensures.index ∙ ap (λ (z : ℕ). c.self.inside.index.entries ++ (c.args.row.number, z) ∷ []) same)
-    (members c.self.inside.groups.sets) (counted c.self.inside.uses.counts)
-    (with_room c.self.inside.rows c.reserve.new.self c.reserve.ensures.rest_kept c.self.inside.index.entries (members c.self.inside.groups.sets) (counted c.self.inside.uses.counts) c.self.invariant)
+    (members c.self.inside.groups.numbers) (counted c.self.inside.uses.counts)
+    (with_room c.self.inside.rows c.reserve.new.self c.reserve.ensures.rest_kept c.self.inside.index.entries (members c.self.inside.groups.numbers) (counted c.self.inside.uses.counts) c.self.invariant)
     ∙ ap (λ (rows : List OpenRow). rows ++ c.args.row ∷ []) (rows_with_room c.self.inside.rows c.reserve.new.self c.reserve.ensures.rest_kept c.self.inside.index.entries ∙ c.self.view_is)

@@ -9,6 +9,6 @@ use Rattle.smb_handles.proofs.table.HandleTableOpens.of_owner.Goals as goal
 pub returns : goal.returns
 returns c =
     c.nth.ensures
-    ∙ ap (λ (ks : List ℕ). slice_get ks 0) (ap (members c.self.inside.groups.sets) c.of_owner.ensures ∙ c.self.invariant.grouped (group_of c.args.owner))
+    ∙ ap (λ (ks : List ℕ). slice_get ks 0) (ap (members c.self.inside.groups.numbers) c.of_owner.ensures ∙ c.self.invariant.grouped (group_of c.args.owner))
     ∙ owner_first c.args.owner (rows_of (get c.self.inside.rows) c.self.inside.index.entries)
     ∙ ap (first_held_by c.args.owner) c.self.view_is

@@ -1,4 +1,4 @@
-use Rattle.std.proofs.Common.{sym, ap, ◌∙◌}
+use Rattle.std.proofs.Common.{refl, sym, ap, ◌∙◌}
 use Rattle.slab.specs.Slab.{get}
 use Rattle.smb_access.specs.Opens.{without_open}
 use Rattle.smb_handles.specs.Groups.{members}
@@ -14,19 +14,19 @@ returns-in_default c =
     ∙ sym (absent_without (rows_of (get c.self.inside.rows) c.self.inside.index.entries) c.args.number (found_none (get c.self.inside.rows) c.self.inside.index.entries c.args.number c.self.invariant.live (sym c.in_default.ensures.value)))
     ∙ ap (without_open c.args.number) c.self.view_is
 
-pub remove-row-requires : goal.remove-row-requires
-remove-row-requires c =
+pub index-row-requires : goal.index-row-requires
+index-row-requires c =
     holds_some (get c.self.inside.rows c.in-Some.slot) c.args.number (live_at (get c.self.inside.rows) c.self.inside.index.entries c.args.number c.in-Some.slot c.self.invariant.live (sym c.in-Some.ensures.value))
 
 pub forget-requires : goal.forget-requires
 forget-requires c =
-    part_counted (get c.self.inside.rows) (get c.remove-row.new.self) c.self.inside.index.entries c.remove.new.self.entries c.args.number c.in-Some.slot c.remove-row.result (sym c.in-Some.ensures.value) c.remove-row.ensures.value c.remove-row.ensures.updates.others c.remove.ensures.entries (members c.self.inside.groups.sets) (counted c.self.inside.uses.counts) c.self.invariant
+    part_counted (get c.self.inside.rows) (get c.self.inside.rows) c.self.inside.index.entries c.remove.new.self.entries c.args.number c.in-Some.slot c.index-row.result.now (sym c.in-Some.ensures.value) c.index-row.ensures (λ other apart. refl) c.remove.ensures.entries (members c.self.inside.groups.numbers) (counted c.self.inside.uses.counts) c.self.invariant
 
 pub invariant_of-self-2 : goal.invariant_of-self-2
 invariant_of-self-2 c =
-    table_less (get c.self.inside.rows) (get c.remove-row.new.self) c.self.inside.index.entries c.remove.new.self.entries c.args.number c.in-Some.slot c.remove-row.result (sym c.in-Some.ensures.value) c.remove-row.ensures.value c.remove-row.ensures.updates.others c.remove.ensures.entries (members c.self.inside.groups.sets) (members c.forget_row.new.self.sets) (counted c.self.inside.uses.counts) (counted c.forget.new.self.counts) c.remove-row.ensures.updates.changed c.self.invariant c.forget_row.ensures c.forget.ensures
+    table_less (get c.self.inside.rows) (get c.remove-2.new.self) c.self.inside.index.entries c.remove.new.self.entries c.args.number c.in-Some.slot c.index-row.result.now (sym c.in-Some.ensures.value) c.index-row.ensures c.remove-2.ensures.updates.others c.remove.ensures.entries (members c.self.inside.groups.numbers) (members c.forget_row.new.self.numbers) (counted c.self.inside.uses.counts) (counted c.forget.new.self.counts) c.remove-2.ensures.updates.changed c.self.invariant c.forget_row.ensures c.forget.ensures
 
 pub returns : goal.returns
 returns c =
-    rows_less (get c.self.inside.rows) (get c.remove-row.new.self) c.self.inside.index.entries c.remove.new.self.entries c.args.number c.in-Some.slot c.remove-row.result (sym c.in-Some.ensures.value) c.remove-row.ensures.value c.remove-row.ensures.updates.others c.remove.ensures.entries (members c.self.inside.groups.sets) (counted c.self.inside.uses.counts) c.self.invariant
+    rows_less (get c.self.inside.rows) (get c.remove-2.new.self) c.self.inside.index.entries c.remove.new.self.entries c.args.number c.in-Some.slot c.index-row.result.now (sym c.in-Some.ensures.value) c.index-row.ensures c.remove-2.ensures.updates.others c.remove.ensures.entries (members c.self.inside.groups.numbers) (counted c.self.inside.uses.counts) c.self.invariant
     ∙ ap (without_open c.args.number) c.self.view_is

@@ -14,9 +14,9 @@ returns-in_default c =
 
 pub invariant_of-self : goal.invariant_of-self
 invariant_of-self c =
-    table_set (get c.self.inside.rows) (get c.scan_slot.new.rows) c.self.inside.index.entries c.args.number c.in-Some.slot.now c.args.scan (sym c.in-Some.ensures.value) c.scan_slot.ensures.scan c.scan_slot.ensures.others (members c.self.inside.groups.sets) (counted c.self.inside.uses.counts) c.self.invariant
+    table_set (get c.self.inside.rows) (get c.scan_slot.new.rows) c.self.inside.index.entries c.args.number c.in-Some.slot.now c.args.scan (sym c.in-Some.ensures.value) c.scan_slot.ensures.scan c.scan_slot.ensures.others (members c.self.inside.groups.numbers) (counted c.self.inside.uses.counts) c.self.invariant
 
 pub returns : goal.returns
 returns c =
-    rows_set (get c.self.inside.rows) (get c.scan_slot.new.rows) c.self.inside.index.entries c.args.number c.in-Some.slot.now c.args.scan (sym c.in-Some.ensures.value) c.scan_slot.ensures.scan c.scan_slot.ensures.others (members c.self.inside.groups.sets) (counted c.self.inside.uses.counts) c.self.invariant
+    rows_set (get c.self.inside.rows) (get c.scan_slot.new.rows) c.self.inside.index.entries c.args.number c.in-Some.slot.now c.args.scan (sym c.in-Some.ensures.value) c.scan_slot.ensures.scan c.scan_slot.ensures.others (members c.self.inside.groups.numbers) (counted c.self.inside.uses.counts) c.self.invariant
     ∙ ap (with_scan c.args.number c.args.scan) c.self.view_is

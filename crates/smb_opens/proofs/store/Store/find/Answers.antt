@@ -10,5 +10,5 @@ use Rattle.smb_opens.proofs.store.Store.find.Goals as goal
 pub returns : goal.returns
 returns g c =
     let state : StoreState = record { tree = g.T.Tree.content c.self.inside.tree; opens = g.O.Opens.content c.self.inside.opens; locks = c.self.inside.locks; next = c.self.inside.next } in
-    found_is state (folded_path (parts_of c.args.path.now)) c.find_target-target.result c.find_above-above.result c.is_folder_target.result c.is_pending.result c.has_all_opens.result c.has_all_entries.result c.find_target-target.ensures c.find_above-above.ensures.above (c.is_folder_target.ensures ∙ c.find_above-above.ensures.reached) c.is_pending.ensures (c.has_all_opens.ensures ∙ ap has_all_opens (sym c.self.view_is)) (c.has_all_entries.ensures ∙ ap has_all_entries (sym c.self.view_is))
+    found_is state (folded_path (parts_of c.args.path.now)) c.find_with_above-target.result.0 c.find_with_above-target.result.1 c.is_folder_target.result c.is_pending.result c.has_all_opens.result c.has_all_entries.result c.find_with_above-target.ensures.target c.find_with_above-target.ensures.above (c.is_folder_target.ensures ∙ c.find_with_above-target.ensures.reached) c.is_pending.ensures (c.has_all_opens.ensures ∙ ap has_all_opens (sym c.self.view_is)) (c.has_all_entries.ensures ∙ ap has_all_entries (sym c.self.view_is))
     ∙ ap (λ (s : StoreState). found_at s (folded_path (parts_of c.args.path.now))) c.self.view_is
