@@ -4,7 +4,7 @@
     (cd crates/smbshare && rt run < stdin > /dev/null)     builds crates/smbshare/out/smbshare
     python3 bench/run.py [SCRIPT ..]
 
-It takes some twenty minutes. smbd and smbclient are measured beside it where they are installed (Debian's packages samba and
+It takes some five minutes. smbd and smbclient are measured beside it where they are installed (Debian's packages samba and
 smbclient); without smbclient requests.py is left out. Where scripts are named, as `beside.py`, only these run, and the other sections
 stay as they are. A section has the day and the machine of its run, and the load of the machine before it: with other work
 beside it a figure says less. A script that fails ends the run, with its words and its status; what was written until then stays.
