@@ -9,7 +9,7 @@ use super::buffer::{body, file_id_in};
 use smb_wire::{FileAttributes, FileId, WireFault, put_u16, put_u32, put_u64, u16_in, u32_in};
 
 /// Flags of CLOSE ([MS-SMB2] 2.2.15, 2.2.16).
-#[derive(Clone, Copy, Debug, PartialEq, Eq)]
+#[derive(Clone, Copy)]
 pub struct CloseFlags(pub u16);
 
 impl CloseFlags {
@@ -18,7 +18,7 @@ impl CloseFlags {
 }
 
 /// A CLOSE request ([MS-SMB2] 2.2.15).
-#[derive(Clone, Copy, Debug)]
+#[derive(Clone, Copy)]
 pub struct CloseRequest {
     pub flags: CloseFlags,
     pub reserved: u32,
@@ -57,7 +57,7 @@ pub(crate) fn put_close(request: CloseRequest, out: &mut Vec<u8>) -> Result<(), 
 
 /// A CLOSE response ([MS-SMB2] 2.2.16).
 /// Times are in 100 ns since 1601, sizes in bytes.
-#[derive(Clone, Copy, Debug)]
+#[derive(Clone, Copy)]
 pub struct CloseResponse {
     pub flags: CloseFlags,
     pub creation_time: u64,

@@ -16,11 +16,11 @@ use smb_wire::{
 };
 
 /// Security flags of a CREATE request, which are reserved.
-#[derive(Clone, Copy, Debug, PartialEq, Eq)]
+#[derive(Clone, Copy)]
 pub struct SecurityFlags(pub u8);
 
 /// An oplock level. The profile ignores what is asked for, and gives none.
-#[derive(Clone, Copy, Debug, PartialEq, Eq)]
+#[derive(Clone, Copy)]
 pub struct OplockLevel(pub u8);
 
 impl OplockLevel {
@@ -28,15 +28,15 @@ impl OplockLevel {
 }
 
 /// How far the server may act for the client. The profile ignores it.
-#[derive(Clone, Copy, Debug, PartialEq, Eq)]
+#[derive(Clone, Copy)]
 pub struct ImpersonationLevel(pub u32);
 
 /// Flags of a CREATE request, which are reserved.
-#[derive(Clone, Copy, Debug, PartialEq, Eq)]
+#[derive(Clone, Copy)]
 pub struct SmbCreateFlags(pub u64);
 
 /// A CREATE request ([MS-SMB2] 2.2.13).
-#[derive(Clone, Copy, Debug)]
+#[derive(Clone, Copy)]
 pub struct CreateRequest<'a> {
     pub security_flags: SecurityFlags,
     pub requested_oplock_level: OplockLevel,
@@ -194,7 +194,7 @@ pub(crate) fn put_create(request: CreateRequest<'_>, out: &mut Vec<u8>) -> Resul
 
 /// A CREATE response ([MS-SMB2] 2.2.14).
 /// Times are in 100 ns since 1601, sizes in bytes.
-#[derive(Clone, Copy, Debug)]
+#[derive(Clone, Copy)]
 pub struct CreateResponse {
     pub oplock_level: OplockLevel,
     pub create_action: CreateAction,

@@ -9,7 +9,7 @@ use super::types::DialectRevision;
 use smb_wire::Units;
 
 /// Dialects over borrowed bytes, two bytes each ([MS-SMB2] 2.2.3).
-#[derive(Clone, Copy, Debug)]
+#[derive(Clone, Copy)]
 pub struct Dialects<'a> {
     numbers: Units<'a>,
 }

@@ -9,7 +9,7 @@ use super::buffer::{body, file_id_in};
 use smb_wire::{FileId, WireFault, put_u16, put_u32, put_u64, u16_in, u32_in};
 
 /// A FLUSH request ([MS-SMB2] 2.2.17).
-#[derive(Clone, Copy, Debug)]
+#[derive(Clone, Copy)]
 pub struct FlushRequest {
     pub reserved1: u16,
     pub reserved2: u32,

@@ -12,11 +12,11 @@ use super::lock_list::LockList;
 use smb_wire::{FileId, WireFault, put_bytes, put_u16, put_u32, put_u64, u16_in, u32_in};
 
 /// The sequence of a LOCK, for replays. The profile ignores it.
-#[derive(Clone, Copy, Debug, PartialEq, Eq)]
+#[derive(Clone, Copy)]
 pub struct LockSequence(pub u32);
 
 /// A LOCK request ([MS-SMB2] 2.2.26).
-#[derive(Clone, Copy, Debug)]
+#[derive(Clone, Copy)]
 pub struct LockRequest<'a> {
     pub lock_sequence: LockSequence,
     pub file_id: FileId,

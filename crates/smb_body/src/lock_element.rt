@@ -3,7 +3,7 @@
 use smb_wire::LockFlags;
 
 /// An element of a LOCK: a range and what to do with it ([MS-SMB2] 2.2.26.1).
-#[derive(Clone, Copy, Debug, PartialEq, Eq)]
+#[derive(Clone, Copy, PartialEq, Eq)]
 pub struct LockElement {
     pub offset: u64,
     pub length: u64,

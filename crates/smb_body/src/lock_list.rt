@@ -6,7 +6,7 @@ use super::lock_element::LockElement;
 use smb_wire::{LockFlags, u32_in, u64_in};
 
 /// Elements of a LOCK over borrowed bytes, 24 bytes each ([MS-SMB2] 2.2.26).
-#[derive(Clone, Copy, Debug)]
+#[derive(Clone, Copy)]
 pub struct LockList<'a> {
     elements: &'a [[u8; 24]],
     ghost lawful: { AllElements elements.now },

@@ -13,11 +13,11 @@ use super::types::{Capabilities, DialectRevision, Guid};
 use smb_wire::{WireFault, put_bytes, put_u16, put_u32, put_u64, u16_in, u32_in, u64_in};
 
 /// Whether signing is enabled (1) and required (2).
-#[derive(Clone, Copy, Debug, PartialEq, Eq)]
+#[derive(Clone, Copy)]
 pub struct SecurityMode(pub u16);
 
 /// A NEGOTIATE request ([MS-SMB2] 2.2.3).
-#[derive(Clone, Copy, Debug)]
+#[derive(Clone, Copy)]
 pub struct NegotiateRequest<'a> {
     pub security_mode: SecurityMode,
     pub reserved: u16,
@@ -91,7 +91,7 @@ pub(crate) fn put_negotiate(
 
 /// A NEGOTIATE response ([MS-SMB2] 2.2.4).
 /// Times are in 100 ns since 1601, sizes in bytes.
-#[derive(Clone, Copy, Debug)]
+#[derive(Clone, Copy)]
 pub struct NegotiateResponse<'a> {
     pub security_mode: SecurityMode,
     pub dialect_revision: DialectRevision,

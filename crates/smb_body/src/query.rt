@@ -11,7 +11,7 @@ use smb_wire::{WireFault, put_bytes, put_u16, put_u32};
 use std::alloc::AllocError;
 
 /// A QUERY_DIRECTORY or QUERY_INFO response ([MS-SMB2] 2.2.34, 2.2.38).
-#[derive(Clone, Copy, Debug)]
+#[derive(Clone, Copy)]
 pub struct QueryResponse<'a> {
     pub output_buffer: &'a [u8],
 }

@@ -15,7 +15,7 @@ use smb_wire::{
 };
 
 /// A QUERY_DIRECTORY request ([MS-SMB2] 2.2.33).
-#[derive(Clone, Copy, Debug)]
+#[derive(Clone, Copy)]
 pub struct QueryDirectoryRequest<'a> {
     pub file_information_class: InformationClass,
     pub flags: QueryDirectoryFlags,

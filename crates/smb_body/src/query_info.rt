@@ -10,11 +10,11 @@ use super::types::{AdditionalInformation, InfoType, InformationClass};
 use smb_wire::{FileId, WireFault, put_u8, put_u16, put_u32, put_u64, u8_in, u16_in, u32_in};
 
 /// Flags of a QUERY_INFO request ([MS-SMB2] 2.2.37). The profile ignores them.
-#[derive(Clone, Copy, Debug, PartialEq, Eq)]
+#[derive(Clone, Copy)]
 pub struct QueryInfoFlags(pub u32);
 
 /// A QUERY_INFO request ([MS-SMB2] 2.2.37).
-#[derive(Clone, Copy, Debug)]
+#[derive(Clone, Copy)]
 pub struct QueryInfoRequest {
     pub info_type: InfoType,
     pub file_info_class: InformationClass,

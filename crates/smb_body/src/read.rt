@@ -16,11 +16,11 @@ use smb_wire::{
 use std::alloc::AllocError;
 
 /// Flags of a READ request ([MS-SMB2] 2.2.19). The profile ignores them.
-#[derive(Clone, Copy, Debug, PartialEq, Eq)]
+#[derive(Clone, Copy)]
 pub struct ReadFlags(pub u8);
 
 /// A READ request ([MS-SMB2] 2.2.19).
-#[derive(Clone, Copy, Debug)]
+#[derive(Clone, Copy)]
 pub struct ReadRequest {
     pub padding: u8,
     pub flags: ReadFlags,
@@ -79,7 +79,7 @@ pub(crate) fn put_read(request: ReadRequest, out: &mut Vec<u8>) -> Result<(), Wi
 }
 
 /// A READ response ([MS-SMB2] 2.2.20).
-#[derive(Clone, Copy, Debug)]
+#[derive(Clone, Copy)]
 pub struct ReadResponse<'a> {
     pub buffer: &'a [u8],
 }

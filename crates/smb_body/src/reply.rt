@@ -19,7 +19,7 @@ use super::tree_connect::{TreeConnectResponse, put_tree_connect_response};
 use super::write::{WriteResponse, put_write_response};
 
 /// A reply of a command, or the error response of any ([MS-SMB2] 2.2).
-#[derive(Clone, Copy, Debug)]
+#[derive(Clone, Copy)]
 pub enum Reply<'a> {
     Error,
     Negotiate(NegotiateResponse<'a>),

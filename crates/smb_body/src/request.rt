@@ -22,7 +22,7 @@ use super::write::{WriteRequest, put_write, read_write};
 use smb_wire::FileId;
 
 /// A request of a command ([MS-SMB2] 2.2).
-#[derive(Clone, Copy, Debug)]
+#[derive(Clone, Copy)]
 pub enum Request<'a> {
     Negotiate(NegotiateRequest<'a>),
     SessionSetup(SessionSetupRequest<'a>),

@@ -11,7 +11,7 @@ use super::buffer::body;
 use smb_wire::{WireFault, put_u16, u16_in};
 
 /// A LOGOFF, TREE_DISCONNECT, CANCEL or ECHO request ([MS-SMB2] 2.2.7, 2.2.11, 2.2.30, 2.2.28).
-#[derive(Clone, Copy, Debug)]
+#[derive(Clone, Copy)]
 pub struct ReservedRequest {
     pub reserved: u16,
 }

@@ -15,7 +15,7 @@ use smb_wire::{
 };
 
 /// Flags of a SESSION_SETUP request ([MS-SMB2] 2.2.5).
-#[derive(Clone, Copy, Debug, PartialEq, Eq)]
+#[derive(Clone, Copy)]
 pub struct SessionSetupFlags(pub u8);
 
 impl SessionSetupFlags {
@@ -24,11 +24,11 @@ impl SessionSetupFlags {
 }
 
 /// Whether the client enables (1) and requires (2) signing ([MS-SMB2] 2.2.5). The profile ignores it.
-#[derive(Clone, Copy, Debug, PartialEq, Eq)]
+#[derive(Clone, Copy)]
 pub struct SessionSecurityMode(pub u8);
 
 /// A SESSION_SETUP request ([MS-SMB2] 2.2.5).
-#[derive(Clone, Copy, Debug)]
+#[derive(Clone, Copy)]
 pub struct SessionSetupRequest<'a> {
     pub flags: SessionSetupFlags,
     pub security_mode: SessionSecurityMode,
@@ -107,7 +107,7 @@ pub(crate) fn put_session_setup(
 }
 
 /// Flags of a SESSION_SETUP response ([MS-SMB2] 2.2.6).
-#[derive(Clone, Copy, Debug, PartialEq, Eq)]
+#[derive(Clone, Copy)]
 pub struct SessionFlags(pub u16);
 
 impl SessionFlags {
@@ -117,7 +117,7 @@ impl SessionFlags {
 }
 
 /// A SESSION_SETUP response ([MS-SMB2] 2.2.6).
-#[derive(Clone, Copy, Debug)]
+#[derive(Clone, Copy)]
 pub struct SessionSetupResponse<'a> {
     pub session_flags: SessionFlags,
     pub security_buffer: &'a [u8],

@@ -15,7 +15,7 @@ use smb_wire::{
 };
 
 /// A SET_INFO request ([MS-SMB2] 2.2.39).
-#[derive(Clone, Copy, Debug)]
+#[derive(Clone, Copy)]
 pub struct SetInfoRequest<'a> {
     pub info_type: InfoType,
     pub file_info_class: InformationClass,

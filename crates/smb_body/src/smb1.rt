@@ -12,7 +12,7 @@ use smb_wire::{u8_in, u16_in};
 const BUFFER_FORMAT: u8 = 2;
 
 /// Which of the two dialects that count an SMB_COM_NEGOTIATE lists.
-#[derive(Clone, Copy, Debug, PartialEq, Eq)]
+#[derive(Clone, Copy)]
 pub struct Smb1Dialects {
     /// The text "SMB 2.???".
     pub smb_2_wildcard: bool,

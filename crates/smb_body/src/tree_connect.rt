@@ -13,7 +13,7 @@ use super::types::Capabilities;
 use smb_wire::{Access, Units, WireFault, put_bytes, put_u8, put_u16, put_u32, u16_in};
 
 /// A TREE_CONNECT request ([MS-SMB2] 2.2.9).
-#[derive(Clone, Copy, Debug)]
+#[derive(Clone, Copy)]
 pub struct TreeConnectRequest<'a> {
     pub reserved: u16,
     pub path_offset: u16,
@@ -75,7 +75,7 @@ pub(crate) fn put_tree_connect(
 }
 
 /// The kind of a share ([MS-SMB2] 2.2.10).
-#[derive(Clone, Copy, Debug, PartialEq, Eq)]
+#[derive(Clone, Copy)]
 pub struct ShareType(pub u8);
 
 impl ShareType {
@@ -83,11 +83,11 @@ impl ShareType {
 }
 
 /// Properties of a share ([MS-SMB2] 2.2.10).
-#[derive(Clone, Copy, Debug, PartialEq, Eq)]
+#[derive(Clone, Copy)]
 pub struct ShareFlags(pub u32);
 
 /// A TREE_CONNECT response ([MS-SMB2] 2.2.10).
-#[derive(Clone, Copy, Debug)]
+#[derive(Clone, Copy)]
 pub struct TreeConnectResponse {
     pub share_type: ShareType,
     pub share_flags: ShareFlags,

@@ -13,11 +13,11 @@ use super::types::Channel;
 use smb_wire::{FileId, WireFault, put_bytes, put_u16, put_u32, put_u64, u16_in, u32_in, u64_in};
 
 /// Flags of a WRITE request ([MS-SMB2] 2.2.21). The profile ignores them.
-#[derive(Clone, Copy, Debug, PartialEq, Eq)]
+#[derive(Clone, Copy)]
 pub struct WriteFlags(pub u32);
 
 /// A WRITE request ([MS-SMB2] 2.2.21).
-#[derive(Clone, Copy, Debug)]
+#[derive(Clone, Copy)]
 pub struct WriteRequest<'a> {
     pub data_offset: u16,
     pub buffer: &'a [u8],
@@ -94,7 +94,7 @@ pub(crate) fn put_write(request: WriteRequest<'_>, out: &mut Vec<u8>) -> Result<
 }
 
 /// A WRITE response ([MS-SMB2] 2.2.22).
-#[derive(Clone, Copy, Debug)]
+#[derive(Clone, Copy)]
 pub struct WriteResponse {
     pub count: u32,
 }

@@ -16,7 +16,7 @@ const SHOWN: usize = 60;
 const MOST_LOOKS: usize = 16;
 
 /// A list of tables, of which each begins with a header.
-#[derive(Clone, Copy, Debug, PartialEq, Eq)]
+#[derive(Clone, Copy, PartialEq, Eq)]
 enum List {
     Users,
     Accounts,
@@ -33,7 +33,7 @@ impl List {
 }
 
 /// A part of a text.
-#[derive(Clone, Copy, Debug, PartialEq, Eq)]
+#[derive(Clone, Copy, PartialEq, Eq)]
 enum Section {
     /// The keys of a configuration before the first header.
     Share,
@@ -73,7 +73,7 @@ impl Section {
 }
 
 /// A key in its line: the line's number, counted from 1, and the text behind the equals sign.
-#[derive(Clone, Copy, Debug)]
+#[derive(Clone, Copy)]
 struct Place<'a> {
     line: usize,
     value: &'a str,

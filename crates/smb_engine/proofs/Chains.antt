@@ -26,7 +26,7 @@ use Rattle.smb_request.specs.Context.{first_context}
 use Rattle.smb_request.specs.State.{ServerState}
 use Rattle.smb_request.specs.Response.{Performed}
 use Rattle.smb_request.specs.Request.{performed}
-use Rattle.smb_engine.specs.Run.{PerformedRequest, message_ids, keeps_negotiate_rule, ChainState, one_performed, requests_of_chain, admitted, Step, first_step, chain_step, payload_step}
+use Rattle.smb_engine.specs.Run.{PerformedRequest, message_ids, keeps_negotiate_rule, ChainState, one_performed, requests_of_chain, admitted, Step, smb1_step, chain_step, payload_step}
 use Rattle.smb_engine.specs.Parts.{is_cancel, is_negotiate_request, runs_of, replied, chain_begun, framed_chain, all_performed, refused_step, first_negotiate, server_after}
 use Rattle.smb_engine.specs.Output.{reply_frame}
 use Rattle.smb_request.specs.declared.response.NoReply.{NoReply}
@@ -221,12 +221,12 @@ module _ {S : Type 0} (m : Meaning S) (arrival : Arrival) (server : ServerState 
   first_few_at None f h = omega arith
   first_few_at (Some answer) f h = omega (arith, h answer)
 
-  first_few : (dialects : Smb1Dialects) → length (first_step m arrival server connection dialects).requests ≤ 1
-  unfolding first_step
+  first_few : (dialects : Smb1Dialects) → length (smb1_step m arrival server connection dialects).requests ≤ 1
+  unfolding smb1_step
   first_few dialects = first_few_at (answer_to_smb1 dialects) _ (λ answer. refl)
 
   payload_few_at : (payload : List ℕ) (o : Option Smb1Dialects) → ((dialects : Smb1Dialects) → o ≡ Some dialects → 1 ≤ length payload) →
-      length (option_map_or (first_step m arrival server connection) o (chain_step m arrival server connection payload)).requests ≤ length payload
+      length (option_map_or (smb1_step m arrival server connection) o (chain_step m arrival server connection payload)).requests ≤ length payload
   payload_few_at payload None f = chain_few payload
   payload_few_at payload (Some dialects) f = omega (arith, f dialects refl, first_few dialects)
 
@@ -274,8 +274,8 @@ module _ {S : Type 0} (m : Meaning S) (arrival : Arrival) (server : ServerState 
   first_at None f h = refused_whole
   first_at (Some answer) f h = h answer
 
-  first_whole : (dialects : Smb1Dialects) → IsWhole (first_step m arrival server connection dialects)
-  unfolding first_step
+  first_whole : (dialects : Smb1Dialects) → IsWhole (smb1_step m arrival server connection dialects)
+  unfolding smb1_step
   first_whole dialects = first_at (answer_to_smb1 dialects) _ (λ answer. record { whole = refl; framed = (_, refl); refused = λ h. cc })
 
   first-server_at : (o : Option Smb1Answer) (f : Smb1Answer → Step S) → ((answer : Smb1Answer) → (f answer).server ≡ server) →
@@ -284,11 +284,11 @@ module _ {S : Type 0} (m : Meaning S) (arrival : Arrival) (server : ServerState 
   first-server_at (Some answer) f h = h answer
 
   -- an SMB_COM_NEGOTIATE changes nothing of the server
-  pub first-server : (dialects : Smb1Dialects) → (first_step m arrival server connection dialects).server ≡ server
-  unfolding first_step
+  pub first-server : (dialects : Smb1Dialects) → (smb1_step m arrival server connection dialects).server ≡ server
+  unfolding smb1_step
   first-server dialects = first-server_at (answer_to_smb1 dialects) _ (λ answer. refl)
 
-  payload_at : (payload : List ℕ) (o : Option Smb1Dialects) → IsWhole (option_map_or (first_step m arrival server connection) o (chain_step m arrival server connection payload))
+  payload_at : (payload : List ℕ) (o : Option Smb1Dialects) → IsWhole (option_map_or (smb1_step m arrival server connection) o (chain_step m arrival server connection payload))
   payload_at payload None = chain_whole payload
   payload_at payload (Some dialects) = first_whole dialects
 

@@ -23,7 +23,7 @@ use Rattle.smb_engine.specs.State.{StreamState, new_stream}
 use Rattle.smb_engine.specs.Output.{AreShort, Output, end_of}
 use Rattle.smb_engine.specs.Sink.{Heard}
 use Rattle.smb_engine.specs.Parts.{added_payloads, replied, chain_begun, and_then, framed_chain, all_performed, refused_step, first_negotiate, server_after}
-use Rattle.smb_engine.specs.Run.{ChainState, one_performed, admitted, Step, first_step, chain_step, payload_step, payload_steps, piece_step}
+use Rattle.smb_engine.specs.Run.{ChainState, one_performed, admitted, Step, smb1_step, chain_step, payload_step, payload_steps, piece_step}
 use Rattle.smb_engine.specs.Held.{Waits, IsPieceHeld, StoppedAfter}
 use Rattle.smb_engine.specs.InPlace.{step_behind}
 use Rattle.smb_engine.proofs.Short.{with_end}
@@ -125,12 +125,12 @@ module _ {S : Type 0} (m : Meaning S) (arrival : Arrival) where
   fresh_first_at server connection None step h f = f
   fresh_first_at server connection (Some answer) step h f = λ t. absurd (false≢true (sym t ∙ h answer))
 
-  fresh_first : (server : ServerState S) (connection : Connection) (dialects : Smb1Dialects) → IsFresh connection → IsFresh (first_step m arrival server connection dialects).connection
-  unfolding first_step
+  fresh_first : (server : ServerState S) (connection : Connection) (dialects : Smb1Dialects) → IsFresh connection → IsFresh (smb1_step m arrival server connection dialects).connection
+  unfolding smb1_step
   fresh_first server connection dialects f = fresh_first_at server connection (answer_to_smb1 dialects) _ (λ answer. refl) f
 
   fresh_payload_at : (server : ServerState S) (connection : Connection) (payload : List ℕ) (first : Option Smb1Dialects) → IsFresh connection →
-      IsFresh (option_map_or (first_step m arrival server connection) first (chain_step m arrival server connection payload)).connection
+      IsFresh (option_map_or (smb1_step m arrival server connection) first (chain_step m arrival server connection payload)).connection
   fresh_payload_at server connection payload None f = fresh_chain server connection payload f
   fresh_payload_at server connection payload (Some dialects) f = fresh_first server connection dialects f
 

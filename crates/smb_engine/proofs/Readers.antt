@@ -18,7 +18,7 @@ use Rattle.smb_engine.specs.declared.connection.Connection.{Connection}
 use Rattle.smb_engine.specs.declared.fault.ServeFault.{ServeFault}
 use Rattle.smb_engine.specs.State.{StreamState, ShareState, stream_of}
 use Rattle.smb_engine.specs.Parts.{added_payloads, chain_begun, and_then, settled, framed_chain, all_performed, refused_step, first_negotiate, refused_at_once, then_ran, AreReadersRequests}
-use Rattle.smb_engine.specs.Run.{PerformedRequest, ChainState, one_performed, requests_of_chain, admitted, Step, first_step, chain_step, payload_step, payload_steps, piece_step, EventStep, bytes_step, event_step, event_refusal, Ran, run}
+use Rattle.smb_engine.specs.Run.{PerformedRequest, ChainState, one_performed, requests_of_chain, admitted, Step, smb1_step, chain_step, payload_step, payload_steps, piece_step, EventStep, bytes_step, event_step, event_refusal, Ran, run}
 use Rattle.smb_engine.specs.Good.{GoodState}
 use Rattle.smb_engine.specs.Laws.{AreOfReaders}
 use Rattle.smb_engine.specs.Event.{EventText, opens, brings, ends, connection_of}
@@ -92,7 +92,7 @@ module _ {S : Type 0} (m : Meaning S) where
 
       -- a payload
       payload_at : (payload : List ℕ) (first : Option Smb1Dialects) →
-          (let step : Step S = option_map_or (first_step m (arrived n moment) server connection) first (chain_step m (arrived n moment) server connection payload) in AreReads step.requests → Reads server step.server)
+          (let step : Step S = option_map_or (smb1_step m (arrived n moment) server connection) first (chain_step m (arrived n moment) server connection payload) in AreReads step.requests → Reads server step.server)
       payload_at payload None = λ all. chain_reads payload all
       payload_at payload (Some dialects) = λ all. subst (λ (after : ServerState S). Reads server after) (sym (first-server m (arrived n moment) server connection dialects)) (reads_same server held)
 

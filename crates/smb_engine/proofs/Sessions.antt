@@ -18,7 +18,7 @@ use Rattle.smb_engine.specs.declared.connection.Connection.{Connection}
 use Rattle.smb_engine.specs.declared.fault.ServeFault.{ServeFault}
 use Rattle.smb_engine.specs.State.{StreamState, ShareState, stream_of}
 use Rattle.smb_engine.specs.Parts.{added_payloads, chain_begun, and_then, settled, framed_chain, all_performed, refused_step, first_negotiate, then_ran, refused_at_once}
-use Rattle.smb_engine.specs.Run.{PerformedRequest, ChainState, one_performed, requests_of_chain, admitted, Step, first_step, chain_step, payload_step, payload_steps, piece_step, EventStep, bytes_step, event_step, event_refusal, Ran, run}
+use Rattle.smb_engine.specs.Run.{PerformedRequest, ChainState, one_performed, requests_of_chain, admitted, Step, smb1_step, chain_step, payload_step, payload_steps, piece_step, EventStep, bytes_step, event_step, event_refusal, Ran, run}
 use Rattle.smb_engine.specs.Good.{GoodState}
 use Rattle.smb_engine.specs.Laws.{requests_of_run}
 use Rattle.smb_engine.specs.Event.{EventText, opens, brings, ends, connection_of}
@@ -90,10 +90,10 @@ module _ {S : Type 0} (m : Meaning S) (acts : ℕ → Bool) where
       chain_left payload = chain_at (admitted connection payload)
 
       -- a payload
-      payload_at : (payload : List ℕ) (first : Option Smb1Dialects) → LeavesBy server (option_map_or (first_step m (arrived n moment) server connection) first (chain_step m (arrived n moment) server connection payload))
+      payload_at : (payload : List ℕ) (first : Option Smb1Dialects) → LeavesBy server (option_map_or (smb1_step m (arrived n moment) server connection) first (chain_step m (arrived n moment) server connection payload))
       payload_at payload None = chain_left payload
       payload_at payload (Some dialects) =
-          let step = first_step m (arrived n moment) server connection dialects in
+          let step = smb1_step m (arrived n moment) server connection dialects in
           subst (λ (after : ServerState S). LeavesAt step.requests server after) (sym (first-server m (arrived n moment) server connection dialects)) (server_same step.requests server o)
 
       payload_left : (payload : List ℕ) → LeavesBy server (payload_step m (arrived n moment) server connection payload)

@@ -152,8 +152,8 @@ module _ {S : Type 0} (authenticator : Meaning S) (arrival : Arrival) where
   -- an SMB_COM_NEGOTIATE that lists some dialects: it is answered by an SMB2 NEGOTIATE response to MessageId 0, which
   -- tells one credit, and the client goes on with MessageId 1; without a dialect of the share it ends the connection
   -- (3.3.5.3.1, 3.3.5.3.2)
-  unfoldable pub first_step : ServerState S → Connection → Smb1Dialects → Step S
-  first_step server connection dialects =
+  unfoldable pub smb1_step : ServerState S → Connection → Smb1Dialects → Step S
+  smb1_step server connection dialects =
       let answer : Option Smb1Answer =
       -- "SMB 2.???" is answered by the revision 0x02FF, and the client is to choose by an SMB2 NEGOTIATE
       if dialects.smb_2_wildcard then Some (record { dialect_revision = 0x02FF; dialect = None }) else
@@ -228,7 +228,7 @@ module _ {S : Type 0} (authenticator : Meaning S) (arrival : Arrival) where
   -- one payload. The first of a connection may be an SMB_COM_NEGOTIATE, which lists dialects (3.3.5.3.1)
   unfoldable pub payload_step : ServerState S → Connection → List ℕ → Step S
   payload_step server connection payload = option_map_or
-      (first_step server connection)
+      (smb1_step server connection)
       (if connection.payload_came then None else smb1_of payload)
       (chain_step server connection payload)
 

@@ -13,7 +13,7 @@ ghost use Rattle.smb_head.specs.Replies.{joined_replies};
 ghost use Rattle.smb_request.specs.Negotiate.{negotiate_answer};
 ghost use Rattle.smb_request.specs.Parts.{hello_of};
 ghost use Rattle.smb_request.specs.Smb1.{reply_to_smb1};
-ghost use Rattle.smb_engine.specs.Run.{message_ids, keeps_negotiate_rule, admitted, one_performed, first_step, chain_step, payload_step};
+ghost use Rattle.smb_engine.specs.Run.{message_ids, keeps_negotiate_rule, admitted, one_performed, smb1_step, chain_step, payload_step};
 ghost use Rattle.smb_engine.specs.Parts.{is_negotiate_request, runs_of, longest_reply, reply_to, first_negotiate};
 ghost use Rattle.smb_engine.specs.Held.{StoppedAfter};
 ghost use Rattle.smb_request.specs.Held.{is_performed};
@@ -338,7 +338,7 @@ fn frame_smb1<A: Authenticator + Drop, T: Tree + Drop, O: Opens + Drop>(
 
 /// Answers an SMB_COM_NEGOTIATE that lists these dialects, and tells how many requests it is; None where it ends the
 /// connection. Where it is not answered `out` is as it was.
-#[tactic(auto, unfolding(crate::specs::Run::first_step))]
+#[tactic(auto, unfolding(crate::specs::Run::smb1_step))]
 fn first_payload<A: Authenticator + Drop, T: Tree + Drop, O: Opens + Drop>(
     server: &Server<A, T, O>,
     arrival: Arrival,
@@ -348,9 +348,9 @@ fn first_payload<A: Authenticator + Drop, T: Tree + Drop, O: Opens + Drop>(
 ) -> Result<Option<usize>, CutShort>
     ensures ok { IfOk result (λ count.
         record { server = server.now; connection = connection.new; stays_open = is_some count; out = out.new.items }
-        ≡ step_behind output_bytes out.old.items (first_step A.meaning arrival server.now connection.old dialects)) }
+        ≡ step_behind output_bytes out.old.items (smb1_step A.meaning arrival server.now connection.old dialects)) }
     ensures count { IfOk result (λ count. IfSome count (λ n. n ≡ length
-        (first_step A.meaning arrival server.now connection.old dialects).requests)) }
+        (smb1_step A.meaning arrival server.now connection.old dialects).requests)) }
     ensures len { OnOk result (length out.new.items ≤ length out.old.items + (4 + longest_reply)) }
     ensures err { IfErr result (λ ran_out. ran_out.done ≡ 0) }
     ensures kept { OnErr result (out.new.items ≡ out.old.items) }

@@ -21,7 +21,7 @@ pub enum ServeFault {
 }
 
 /// A piece was cut short after so many requests: memory ran out, or no more of them were to be performed.
-#[derive(Clone, Copy, Debug, PartialEq, Eq)]
+#[derive(Clone, Copy)]
 pub(crate) struct CutShort {
     pub(crate) done: usize,
 }

@@ -70,7 +70,7 @@ pub enum FolderFault {
 }
 
 /// What stops a step; whose path it is the caller knows.
-#[derive(Clone, Copy, Debug, PartialEq, Eq)]
+#[derive(Clone, Copy, PartialEq, Eq)]
 pub(crate) enum Trouble {
     NoMemory,
     Rule(FolderRule),

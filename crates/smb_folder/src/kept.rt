@@ -17,7 +17,7 @@ const LAST_MOMENT: u64 = 0x7FFF_FFFF_FFFF_FFFF;
 const OWNER_WRITES: u32 = 0o200;
 
 /// What is kept of a file or a folder beside its name and its bytes. Times are in units of 100 ns since 1601.
-#[derive(Clone, Copy, Debug, PartialEq, Eq)]
+#[derive(Clone, Copy, PartialEq, Eq)]
 pub(crate) struct Kept {
     pub(crate) created: u64,
     pub(crate) accessed: u64,

@@ -7,7 +7,7 @@ use smb_wire::{u32_at, u64_at};
 use std::alloc::{AllocError, Global};
 
 /// An entry of a folder of the share.
-#[derive(Debug, Drop)]
+#[derive(Drop)]
 pub(crate) struct Listed {
     /// Its name, in UTF-16 units.
     pub(crate) units: Vec<u8>,
@@ -41,7 +41,7 @@ pub(crate) fn name_of(alloc: Global, units: Units<'_>) -> Result<(String, bool),
 }
 
 /// The fields of an entry of FileFullDirectoryInformation ([MS-FSCC] 2.4.14) that are looked at.
-#[derive(Clone, Copy, Debug)]
+#[derive(Clone, Copy)]
 struct Fields<'a> {
     next: usize,
     size: u64,

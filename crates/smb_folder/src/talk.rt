@@ -30,7 +30,7 @@ const BASIC_LENGTH: u32 = 40;
 const SEPARATOR: u16 = 0x5C;
 
 /// What an open is for.
-#[derive(Clone, Copy, Debug, PartialEq, Eq)]
+#[derive(Clone, Copy, PartialEq, Eq)]
 pub(crate) enum Purpose {
     /// To make a new file, and to write it.
     NewFile,

@@ -39,14 +39,6 @@ begins_front a b long whole = record {
   size = rw (← part_front 2 4 a b (omega arith)) whole.size;
 }
 
--- a header is that of the front that it stands in
-pub header_of_front : (n : ℕ) (bytes : List ℕ) → 64 ≤ n → n ≤ length bytes → Begins bytes → header_of (take n bytes) ≡ header_of bytes
-header_of_front n bytes l m b =
-    let whole : take n bytes ++ drop n bytes ≡ bytes = take-append-drop n bytes in
-    let long : 64 ≤ length (take n bytes) = rw (length-take-le n bytes m) l in
-    let begins : Begins (take n bytes) = begins_front (take n bytes) (drop n bytes) long (rw whole b) in
-    sym (header_front (take n bytes) (drop n bytes) (spells_header_of (take n bytes) begins)) ∙ ap header_of whole
-
 -- the rest of a payload is these requests
 record Follow (n : ℕ) (first : Bool) (rest : List ℕ) (requests : List (List ℕ)) : Type 0 where
   whole : rest ≡ concat requests

@@ -103,13 +103,6 @@ pub all_more : {X : Type 0} (P : X → Type 0) (xs : List X) (i : ℕ) (x : X) �
     AllByRecursion P (take (i + 1) (set xs i x))
 all_more P xs i x h all last = rw (take_more_set xs i x h) (all_last P (take i xs) x all last)
 
--- the headers of requests, kept beside them
-pub headers_more : {H X : Type 0} (f : X → H) (headers : List H) (requests : List X) (i : ℕ) (header : H) (request : X) →
-    i < length headers → i < length requests → take i headers ≡ map f (take i requests) → header ≡ f request →
-    take (i + 1) (set headers i header) ≡ map f (take (i + 1) (set requests i request))
-headers_more f headers requests i header request h r kept e =
-    rw (take_more_set headers i header h, take_more_set requests i request r, map-append f (take i requests) (request ∷ []), kept, e) refl
-
 -- what an array holds of a payload
 pub place_more : {X : Type 0} (f : X → List ℕ) (payload : List ℕ) (xs : List X) (i : ℕ) (rest : List ℕ) (x : X) (others : List ℕ) →
     i < length xs → i < 16 → Walked payload (map f (take i xs)) i rest → request_fault (eqb i 0) rest ≡ None → next_of rest ≢ 0 →

@@ -7,15 +7,14 @@ ghost use Rattle.smb_head.specs.Chains.{chain_fault, chain_of, request_fault, Ea
 ghost use Rattle.smb_head.specs.Parts.{is_next_right};
 
 use super::fault::{ChainFault, HeadFault};
-use super::header::{Header, HeaderFlags, NO_HEADER, read_header};
+use super::header::{Header, HeaderFlags, header_in, read_header};
 use bitflags::Flags;
 use smb_wire::limits::MOST_REQUESTS;
 use std::marker::Model;
 
-/// The requests of a payload, 1 to 16, which it borrows, and their headers.
+/// The requests of a payload, 1 to 16, which it borrows. A header is read from its request where it is asked for.
 #[derive(Drop)]
 pub struct Chain<'a> {
-    headers: [Header; MOST_REQUESTS],
     requests: [&'a [u8]; MOST_REQUESTS],
     count: usize,
 }
@@ -24,15 +23,13 @@ impl<'a> Model for Chain<'a> {
     ghost use Rattle.smb_wire.specs.Limits.{most_requests};
     ghost use Rattle.std.specs.Prelude.{ℕ, List, map, take, length, ◌≡◌, ◌≤◌};
     ghost use Rattle.std.specs.List.{AllByRecursion};
-    ghost use Rattle.smb_head.specs.Headers.{header_of};
 
     ghost Value = { List (List ℕ) };
 
     ghost view = { λ chain. map (λ request. request.now) (take chain.count chain.requests) };
 
     ghost invariant = { λ chain. (1 ≤ chain.count) × (chain.count ≤ most_requests)
-        × AllByRecursion (λ request. 64 ≤ length request.now) (take chain.count chain.requests)
-        × (take chain.count chain.headers ≡ map (λ request. header_of request.now) (take chain.count chain.requests)) };
+        × AllByRecursion (λ request. 64 ≤ length request.now) (take chain.count chain.requests) };
 }
 
 impl Chain<'_> {
@@ -51,9 +48,8 @@ impl Chain<'_> {
         ensures bytes { option_map (λ request. request.1.now) result ≡ slice_get self.now i }
         ensures long { IfSome result (λ request. 64 ≤ length request.1.now) }
     {
-        let header = *self.headers[..self.count].get(i)?;
         let request = *self.requests[..self.count].get(i)?;
-        Some((header, request))
+        Some((header_in(request), request))
     }
 }
 
@@ -83,23 +79,20 @@ fn read_request(rest: &[u8], is_first: bool) -> Result<Header, ChainFault>
     Ok(header)
 }
 
-/// Reads a payload as a chain of requests, each header once. It copies nothing else and takes no memory.
+/// Reads a payload as a chain of requests. It copies no byte of them and takes no memory.
 pub fn read_chain(payload: &[u8]) -> Result<Chain<'_>, ChainFault>
     ensures ok { IfOk result (λ chain. chain_of payload.now ≡ Some chain) }
     ensures err { IfErr result (λ fault. chain_fault payload.now ≡ Some fault) }
     ensures none { OnErr result (chain_of payload.now ≡ None) }
 {
-    let mut headers = [NO_HEADER; MOST_REQUESTS];
     let mut requests = [payload; MOST_REQUESTS];
     let mut rest = payload;
     for i in 0..MOST_REQUESTS {
         let header = read_request(rest, i == 0)?;
-        headers[i] = header;
         let next = header.next_command as usize;
         if next == 0 {
             requests[i] = rest;
             return Ok(Chain {
-                headers,
                 requests,
                 count: i + 1,
             });

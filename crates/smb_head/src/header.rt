@@ -64,21 +64,6 @@ pub struct Header {
     pub signature: [u8; 16],
 }
 
-/// What stands where no header was read yet.
-pub(crate) const NO_HEADER: Header = Header {
-    credit_charge: 0,
-    status: 0,
-    command: CommandCode(0),
-    credits: 0,
-    flags: HeaderFlags(0),
-    next_command: 0,
-    message_id: 0,
-    reserved: 0,
-    tree_id: 0,
-    session_id: 0,
-    signature: [0; 16],
-};
-
 /// ProtocolId: 0xFE and the letters SMB.
 const PROTOCOL_ID: u32 = 0x424d_53fe;
 

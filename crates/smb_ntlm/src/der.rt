@@ -12,7 +12,7 @@ pub struct ElementParts<'a> {
 }
 
 /// Where the contents of an element begin, and how many bytes they have.
-#[derive(Clone, Copy, Debug)]
+#[derive(Clone, Copy)]
 struct Span {
     start: usize,
     size: usize,

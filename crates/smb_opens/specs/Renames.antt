@@ -10,7 +10,7 @@ use Rattle.smb_opens.specs.Views.{status_through}
 use Rattle.smb_wire.specs.declared.nt_status.NtStatus.TheVariants.{InvalidParameter, ObjectNameInvalid, AccessDenied, ObjectPathNotFound, DeletePending, ObjectNameCollision, Success}
 use Rattle.smb_access.specs.Access.{is_deleting}
 use Rattle.smb_access.specs.Found.{is_read_only_file, is_pending, is_reached}
-use Rattle.smb_tree.specs.Content.{Path, entry_at, is_same_path, numbered, changed, Row, changed_in}
+use Rattle.smb_tree.specs.Content.{Path, entry_at, is_same_path, numbered, changed, Row}
 use Rattle.std.specs.List.{list_any}
 use Rattle.smb_tree.specs.Entries.{is_folder_kind, kept_basic}
 use Rattle.smb_tree.specs.Moves.{moved, is_within, replaced}

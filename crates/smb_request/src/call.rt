@@ -22,7 +22,7 @@ use smb_head::{Header, HeaderFlags};
 use smb_wire::{Command, Dialect, FileId, NtStatus, limits};
 
 /// A request, but for its body.
-#[derive(Clone, Copy, Debug)]
+#[derive(Clone, Copy)]
 pub(crate) struct Call {
     pub(crate) connection: u64,
     /// When it came, in units of 100 ns since 1601.

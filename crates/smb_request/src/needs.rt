@@ -9,7 +9,7 @@ use smb_body::Request;
 use smb_wire::Command;
 
 /// What has to exist for a request, each looked for in this order.
-#[derive(Clone, Copy, Debug, PartialEq, Eq)]
+#[derive(Clone, Copy)]
 pub(crate) enum Needs {
     Nothing,
     /// A finished session of the connection.

@@ -21,7 +21,7 @@ use smb_tree::{Tree, TreeFault};
 use smb_wire::NtStatus;
 
 /// Information of a class: whether that is all, and its bytes, as many as there is room for.
-#[derive(Debug, Drop)]
+#[derive(Drop)]
 pub(crate) struct InformationBytes {
     pub(crate) written: Truncation,
     pub(crate) bytes: Vec<u8>,

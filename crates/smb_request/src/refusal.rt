@@ -13,7 +13,7 @@ use smb_wire::NtStatus;
 use std::alloc::AllocError;
 
 /// Why a command has no response of its own.
-#[derive(Clone, Copy, Debug, PartialEq, Eq)]
+#[derive(Clone, Copy)]
 pub(crate) enum Refusal {
     /// It is refused by this status.
     Status(NtStatus),

@@ -40,7 +40,7 @@ pub enum NoReply {
 }
 
 /// What the body of a response is made of.
-#[derive(Debug, Drop)]
+#[derive(Drop)]
 pub(crate) enum Body {
     Error,
     Negotiate(Dialect),

@@ -2,17 +2,17 @@
 -- A law whose name ends in By says of any definition what that of specs/ says of the right one, as the line below it
 -- shows; then come the wrong definition, and the proof that the law is false of it.
 use Rattle.std.proofs.Common.{◌≡◌, ℕ, ◌+◌, ◌<◌, ◌≤◌, [], length, max, refl, arith}
-use Rattle.smb_session.specs.Window.{Numbers, GoodWindow, credits_granted, with_more}
+use Rattle.smb_session.specs.Window.{WindowState, GoodWindow, credits_granted, with_more}
 use Rattle.smb_request_laws.specs.Credits.{CreditsAreGrantedAsAskedFor}
 
 -- a window of which each number was used
-empty : Numbers
+empty : WindowState
 empty = record { usable = []; next = 1 }
 
 -- a client is granted one credit at least, no more than it asks for, all where there is room, and never too many
-abbrev CreditsAreGrantedAsAskedForBy : (Numbers → ℕ → ℕ) → Type 0
+abbrev CreditsAreGrantedAsAskedForBy : (WindowState → ℕ → ℕ) → Type 0
 CreditsAreGrantedAsAskedForBy granted =
-    (window : Numbers) (asked : ℕ) →
+    (window : WindowState) (asked : ℕ) →
     let count = granted window asked in
     (length window.usable < 256 → window.next < 18446744073709551615 → 1 ≤ count) × (count ≤ max asked 1)
     × (1 ≤ asked → length window.usable + asked ≤ 256 → window.next + asked ≤ 18446744073709551615 → count ≡ asked)

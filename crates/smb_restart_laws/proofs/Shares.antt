@@ -27,7 +27,7 @@ use Rattle.smb_engine.specs.declared.connection.Connection.{Connection}
 use Rattle.smb_engine.specs.declared.fault.ServeFault.{ServeFault}
 use Rattle.smb_engine.specs.State.{StreamState, ShareState, stream_of, new_stream, opened, ended}
 use Rattle.smb_engine.specs.Parts.{added_payloads, chain_begun, and_then, settled, framed_chain, all_performed, refused_step, first_negotiate, refused_at_once, then_ran}
-use Rattle.smb_engine.specs.Run.{ChainState, one_performed, admitted, Step, first_step, chain_step, payload_step, payload_steps, piece_step, EventStep, bytes_step, event_step, event_refusal, Ran, run}
+use Rattle.smb_engine.specs.Run.{ChainState, one_performed, admitted, Step, smb1_step, chain_step, payload_step, payload_steps, piece_step, EventStep, bytes_step, event_step, event_refusal, Ran, run}
 use Rattle.smb_engine.specs.Good.{GoodState}
 use Rattle.smb_engine.specs.Event.{EventText, opens, brings, ends}
 use Rattle.smb_engine.specs.Laws.{StreamsInOrder}
@@ -98,7 +98,7 @@ module _ {S : Type 0} (m : Meaning S) (n : ℕ) (moment : ℕ) where
 
     -- a payload
     payload_at : (payload : List ℕ) (first : Option Smb1Dialects) →
-        (let step : Step S = option_map_or (first_step m (arrived n moment) server connection) first (chain_step m (arrived n moment) server connection payload) in Goes server step.server)
+        (let step : Step S = option_map_or (smb1_step m (arrived n moment) server connection) first (chain_step m (arrived n moment) server connection payload) in Goes server step.server)
     payload_at payload None = chain_goes payload
     payload_at payload (Some dialects) = subst (λ (after : ServerState S). Goes server after) (sym (first-server m (arrived n moment) server connection dialects)) (goes_same server sound)
 

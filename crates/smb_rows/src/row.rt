@@ -10,7 +10,7 @@ use std::fmt;
 const MOMENT: &str = "116444736000000000";
 
 /// What is wrong with a row.
-#[derive(Clone, Copy, Debug, PartialEq, Eq)]
+#[derive(Clone, Copy, PartialEq, Eq)]
 pub(crate) enum RowFault {
     UnknownLine,
     UnknownWord,

@@ -4,7 +4,7 @@ use Rattle.std.proofs.lemmas.Bool.{eqb-true, and_parts}
 use Rattle.std.specs.List.{list_all, AllByRecursion}
 use Rattle.smb_session.specs.Numbers.{contains}
 use Rattle.smb_session.specs.Laws.{IsUsed}
-use Rattle.smb_session.specs.Window.{Numbers, GoodWindow, upward, are_distinct, may_use, without_ids, with_more}
+use Rattle.smb_session.specs.Window.{WindowState, GoodWindow, upward, are_distinct, may_use, without_ids, with_more}
 use Rattle.smb_session.proofs.Runs.{contains-append, not-below}
 
 -- what holds of all numbers, of one that stands among them
@@ -44,7 +44,7 @@ still_gone : (p : ℕ → Bool) (n : ℕ) (ns : List ℕ) → contains ns n ≡ 
 still_gone p n [] f = refl
 still_gone p n (m ∷ ns) f = gone_at p n m ns (p m) (m == n) refl refl f (still_gone p n ns)
 
-pub taken_used : (window : Numbers) (ids : List ℕ) (id : ℕ) → GoodWindow window → may_use window ids ≡ true → contains ids id ≡ true → IsUsed (without_ids window ids) id
+pub taken_used : (window : WindowState) (ids : List ℕ) (id : ℕ) → GoodWindow window → may_use window ids ≡ true → contains ids id ≡ true → IsUsed (without_ids window ids) id
 taken_used window ids id good may there =
     let usable : contains window.usable id ≡ true = all_held (contains window.usable) id ids (and_parts (are_distinct ids) (list_all (contains window.usable) ids) may).1 there in
     record {
@@ -52,7 +52,7 @@ taken_used window ids id good may there =
       gone = not_kept (λ n. not (contains ids n)) id window.usable (ap not there);
     }
 
-stays_granted : (window : Numbers) (id : ℕ) → IsUsed window id → (count : ℕ) → IsUsed (with_more window count) id
+stays_granted : (window : WindowState) (id : ℕ) → IsUsed window id → (count : ℕ) → IsUsed (with_more window count) id
 stays_granted window id used count =
     let early = used.granted in
     record {
@@ -60,16 +60,16 @@ stays_granted window id used count =
       gone = contains-append id window.usable (upward window.next count) ∙ rw (used.gone, not-below count window.next id used.granted) refl;
     }
 
-pub used_stays : (window : Numbers) (id : ℕ) → IsUsed window id → ((ids : List ℕ) → IsUsed (without_ids window ids) id) × ((count : ℕ) → IsUsed (with_more window count) id)
+pub used_stays : (window : WindowState) (id : ℕ) → IsUsed window id → ((ids : List ℕ) → IsUsed (without_ids window ids) id) × ((count : ℕ) → IsUsed (with_more window count) id)
 used_stays window id used =
     (λ ids. record { granted = used.granted; gone = still_gone (λ n. not (contains ids n)) id window.usable used.gone }, stays_granted window id used)
 
-refused_at : (window : Numbers) (ids : List ℕ) (id : ℕ) (b : Bool) → may_use window ids ≡ b → IsUsed window id → contains ids id ≡ true → b ≡ false
+refused_at : (window : WindowState) (ids : List ℕ) (id : ℕ) (b : Bool) → may_use window ids ≡ b → IsUsed window id → contains ids id ≡ true → b ≡ false
 refused_at window ids id true may used there =
     let usable : contains window.usable id ≡ true = all_held (contains window.usable) id ids (and_parts (are_distinct ids) (list_all (contains window.usable) ids) may).1 there in
     let gone = used.gone in
     cc
 refused_at window ids id false may used there = refl
 
-pub used_once : (window : Numbers) (ids : List ℕ) (id : ℕ) → IsUsed window id → contains ids id ≡ true → may_use window ids ≡ false
+pub used_once : (window : WindowState) (ids : List ℕ) (id : ℕ) → IsUsed window id → contains ids id ≡ true → may_use window ids ≡ false
 used_once window ids id used there = refused_at window ids id (may_use window ids) refl used there

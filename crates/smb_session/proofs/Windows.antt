@@ -5,7 +5,7 @@ use Rattle.std.specs.List.{AllByRecursion}
 use Rattle.std.proofs.lemmas.List.Sums.{length-filter}
 use Rattle.std.proofs.lemmas.List.Filters.{length-filter_both}
 use Rattle.smb_session.specs.Numbers.{IsRising}
-use Rattle.smb_session.specs.Window.{Numbers, GoodWindow, upward, with_more}
+use Rattle.smb_session.specs.Window.{WindowState, GoodWindow, upward, with_more}
 use Rattle.smb_session.specs.Held.{KeepsWindow, window_of}
 
 -- one number more
@@ -74,14 +74,14 @@ upward-length zero first = refl
 upward-length (suc count) first = ap suc (upward-length count (first + 1))
 
 -- a window stays good when numbers leave it, and when the next are granted
-pub good_without : (w : Numbers) (p : ℕ → Bool) → GoodWindow w → GoodWindow (record w { usable = filter p w.usable })
+pub good_without : (w : WindowState) (p : ℕ → Bool) → GoodWindow w → GoodWindow (record w { usable = filter p w.usable })
 good_without w p g = record {
   few = omega (arith, g.few, length-filter-le p w.usable);
   rising = rising-filter p w.usable g.rising;
   below = all-filter _ p w.usable g.below;
 }
 
-pub good_more : (w : Numbers) (count : ℕ) → length w.usable + count ≤ 256 → GoodWindow w → GoodWindow (with_more w count)
+pub good_more : (w : WindowState) (count : ℕ) → length w.usable + count ≤ 256 → GoodWindow w → GoodWindow (with_more w count)
 good_more w count room g = record {
   few = omega (arith, room, length-append w.usable (upward w.next count), upward-length count w.next);
   rising = rising-append w.next w.usable (upward w.next count) g.below (upward-above count w.next) g.rising (upward-rising count w.next);

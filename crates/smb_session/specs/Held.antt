@@ -7,7 +7,7 @@ use Rattle.std.specs.Map.{lookup}
 use Rattle.std.specs.BTreeMap.{is_at}
 use Rattle.std.specs.Ordering.{nat_cmp}
 use Rattle.smb_session.specs.Numbers.{without_number}
-use Rattle.smb_session.specs.Window.{Numbers, GoodWindow}
+use Rattle.smb_session.specs.Window.{WindowState, GoodWindow}
 use Rattle.smb_session.specs.Session.{SessionState}
 use Rattle.smb_session.specs.Table.{TableState, numbers_on, changed_at, session_ended}
 use Rattle.smb_session.specs.Good.{GoodTable}
@@ -36,7 +36,7 @@ abbrev pub are_apart : ℕ × ℕ → ℕ × ℕ → Bool
 are_apart one other = nat_le (min (one.0 + one.1) (other.0 + other.1)) (max one.0 other.0)
 
 -- the window of numbers, of which so many at the front were used
-abbrev pub window_of : List ℕ → ℕ → ℕ → Numbers
+abbrev pub window_of : List ℕ → ℕ → ℕ → WindowState
 window_of numbers used next = record { usable = drop used numbers; next = next }
 
 -- the window is good, and no more numbers were used than are kept

@@ -7,7 +7,7 @@ use Rattle.smb_session.specs.Numbers.{contains}
 use Rattle.smb_session.specs.Session.{SessionState}
 use Rattle.smb_session.specs.Setup.{table_answered}
 use Rattle.smb_session.specs.Table.{TableState, connected, session_ended, session_changed, knows_session, end_connection_step}
-use Rattle.smb_session.specs.Window.{Numbers, may_use, without_ids, with_more, GoodWindow}
+use Rattle.smb_session.specs.Window.{WindowState, may_use, without_ids, with_more, GoodWindow}
 
 -- the session that is set up: SessionId 0 asks for a new one
 abbrev pub setup_number : TableState → ℕ → ℕ
@@ -54,19 +54,19 @@ WhatIsGoneStaysGone =
 -- A MESSAGEID IS USED ONCE
 
 -- a MessageId that was granted, and is no more in the window
-pub record IsUsed (window : Numbers) (id : ℕ) : Type 0 where
+pub record IsUsed (window : WindowState) (id : ℕ) : Type 0 where
   pub granted : id < window.next
   pub gone : contains window.usable id ≡ false
 
 -- each MessageId that a chain takes is used, of however many credits its requests are
 abbrev pub WhatIsTakenIsUsed : Type 0
 WhatIsTakenIsUsed =
-    (window : Numbers) (ids : List ℕ) (id : ℕ) → GoodWindow window → may_use window ids ≡ true → contains ids id ≡ true → IsUsed (without_ids window ids) id
+    (window : WindowState) (ids : List ℕ) (id : ℕ) → GoodWindow window → may_use window ids ≡ true → contains ids id ≡ true → IsUsed (without_ids window ids) id
 
 -- a used MessageId stays used, whatever MessageIds chains take and responses grant afterwards; and a chain that names one
 -- is not let in
 abbrev pub WhatIsUsedStaysUsed : Type 0
 WhatIsUsedStaysUsed =
-    (window : Numbers) (id : ℕ) → IsUsed window id →
+    (window : WindowState) (id : ℕ) → IsUsed window id →
     ((ids : List ℕ) → IsUsed (without_ids window ids) id) × ((count : ℕ) → IsUsed (with_more window count) id)
     × ((ids : List ℕ) → contains ids id ≡ true → may_use window ids ≡ false)

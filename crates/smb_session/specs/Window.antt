@@ -6,12 +6,12 @@ pub use Rattle.smb_session.specs.Numbers.{contains}
 use Rattle.smb_session.specs.Numbers.{IsRising}
 
 -- the numbers that may be used, in rising order, and the next number to be granted
-pub record Numbers : Type 0 where
+pub record WindowState : Type 0 where
   pub usable : List ℕ
   pub next : ℕ
 
 -- a window of one number
-abbrev pub first_window : ℕ → Numbers
+abbrev pub first_window : ℕ → WindowState
 first_window first = record { usable = first ∷ []; next = first + 1 }
 
 -- no number stands twice
@@ -20,16 +20,16 @@ are_distinct [] = true
 are_distinct (n ∷ numbers) = not (contains numbers n) && are_distinct numbers
 
 -- the numbers of a chain may be used: they are distinct, and the window has each of them
-abbrev pub may_use : Numbers → List ℕ → Bool
+abbrev pub may_use : WindowState → List ℕ → Bool
 may_use window numbers = are_distinct numbers && list_all (contains window.usable) numbers
 
 -- the window when numbers have left it
-abbrev pub without_ids : Numbers → List ℕ → Numbers
+abbrev pub without_ids : WindowState → List ℕ → WindowState
 without_ids window numbers = record window { usable = filter (λ n. not (contains numbers n)) window.usable }
 
 -- how many numbers a request for credits is granted: as many as asked and 1 at least, as far as the window
 -- then has at most 256, and none past 2 ^ 64 - 2
-abbrev pub credits_granted : Numbers → ℕ → ℕ
+abbrev pub credits_granted : WindowState → ℕ → ℕ
 credits_granted window credits = min (max credits 1) (min (most_credits - length window.usable) (18446744073709551615 - window.next))
 
 -- so many numbers from the first upward
@@ -42,11 +42,11 @@ abbrev pub numbers_of : List (ℕ × ℕ) → List ℕ
 numbers_of runs = flat_map (λ run. upward run.0 run.1) runs
 
 -- the window when the next numbers were granted, so many
-abbrev pub with_more : Numbers → ℕ → Numbers
+abbrev pub with_more : WindowState → ℕ → WindowState
 with_more window count = record { usable = window.usable ++ upward window.next count; next = window.next + count }
 
 -- what holds of every window between calls: at most 256 numbers may be used, they rise, and all are below the next
-pub record GoodWindow (window : Numbers) : Type 0 where
+pub record GoodWindow (window : WindowState) : Type 0 where
   pub few : length window.usable ≤ most_credits
   pub rising : IsRising window.usable
   pub below : AllByRecursion (λ n. n < window.next) window.usable

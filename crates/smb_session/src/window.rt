@@ -28,10 +28,10 @@ pub struct Window {
 }
 
 impl Model for Window {
-    ghost use Rattle.smb_session.specs.Window.{Numbers};
+    ghost use Rattle.smb_session.specs.Window.{WindowState};
     ghost use Rattle.smb_session.specs.Held.{KeepsWindow, window_of};
 
-    ghost Value = { Numbers };
+    ghost Value = { WindowState };
 
     ghost view = { λ w. window_of w.numbers.items w.used w.next };
 

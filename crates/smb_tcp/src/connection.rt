@@ -42,7 +42,7 @@ pub(crate) struct Connection {
 }
 
 /// How long a peer may do nothing; None: for ever.
-#[derive(Clone, Copy, Debug)]
+#[derive(Clone, Copy)]
 pub(crate) struct SilenceLimits {
     // Since it last said or took something.
     idle: Option<Duration>,

@@ -20,7 +20,7 @@ const NEXT_COMMAND_AT: usize = 20;
 const MOST_LOOKED_AT: usize = 16;
 
 /// How far a stream has come in its current frame.
-#[derive(Clone, Copy, Debug)]
+#[derive(Clone, Copy)]
 pub(crate) struct FrameCursor {
     /// How many bytes of its length have come, and what they say so far, the first one highest.
     head_bytes: usize,

@@ -1,12 +1,10 @@
 use Rattle.std.proofs.Common.{◌≡◌, eqb, length, refl, sym, ap, ◌∙◌, arith, length-set}
 use Rattle.std.specs.Prelude.{◌≢◌}
 use Rattle.smb_head.specs.declared.header.Header.{Header}
-use Rattle.smb_head.specs.Headers.{header_of}
 use Rattle.smb_head.specs.Parts.{next_of}
-use Rattle.smb_head.proofs.Chaining.{header_of_front}
 use Rattle.std.proofs.lemmas.Result.{err_from_is_err_and}
 use Rattle.smb_head.proofs.Faultless.{right, leads_on}
-use Rattle.smb_head.proofs.Walks.{at_fault, past, place_more, place_last, all_more, headers_more}
+use Rattle.smb_head.proofs.Walks.{at_fault, past, place_more, place_last, all_more}
 use Rattle.smb_head.proofs.chain.read_chain.Goals as goal
 
 pub loop-i-preserved : goal.loop-i-preserved
@@ -20,10 +18,6 @@ loop-i-preserved c =
       all_more _ _ _ _ (omega (arith, c.loop-i.invariant.0)) c.loop-i.invariant.1 (omega (arith, on.least)),
       place_more _ _ _ _ _ _ _ (omega (arith, c.loop-i.invariant.0)) (omega arith) c.loop-i.invariant.2 c.in_ok-header.ensures.lawful more
           (rw next c.split_at.ensures.front) (rw next c.split_at.ensures.back),
-      length-set c.loop-i.headers c.loop-i.i c.in_ok-header.header ∙ c.loop-i.invariant.3,
-      headers_more (λ request. header_of request.now) c.loop-i.headers c.loop-i.requests c.loop-i.i c.in_ok-header.header c.split_at.result.0
-          (omega (arith, c.loop-i.invariant.3)) (omega (arith, c.loop-i.invariant.0)) c.loop-i.invariant.4
-          (c.in_ok-header.ensures.ok ∙ sym (header_of_front (next_of c.loop-i.rest.now) c.loop-i.rest.now (omega (arith, on.least)) (omega (arith, on.within)) r.begins) ∙ ap header_of (sym (rw next c.split_at.ensures.front))),
     )
 
 pub invariant_of-result : goal.invariant_of-result
@@ -32,8 +26,6 @@ invariant_of-result c =
       omega arith,
       omega arith,
       all_more _ _ _ _ (omega (arith, c.loop-i.invariant.0)) c.loop-i.invariant.1 r.begins.long,
-      headers_more (λ request. header_of request.now) c.loop-i.headers c.loop-i.requests c.loop-i.i c.in_ok-header.header c.loop-i.rest
-          (omega (arith, c.loop-i.invariant.3)) (omega (arith, c.loop-i.invariant.0)) c.loop-i.invariant.4 c.in_ok-header.ensures.ok,
     )
 
 pub returns-then-next-eq0-clause-ok : goal.returns-then-next-eq0-clause-ok

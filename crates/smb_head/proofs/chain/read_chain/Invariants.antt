@@ -1,6 +1,5 @@
 use Rattle.std.proofs.Common.{◌≡◌, ◌≤◌, length, take, map}
 use Rattle.std.specs.List.{AllByRecursion}
-use Rattle.smb_head.specs.Headers.{header_of}
 use Rattle.smb_head.proofs.Walks.{Walked}
 use Rattle.smb_head.proofs.chain.read_chain.Given as goal
 
@@ -8,4 +7,3 @@ abbrev pub invariant-loop-i : goal.invariant-loop-i
 invariant-loop-i l =
     (length l.requests ≡ 16) × AllByRecursion (λ request. 64 ≤ length request.now) (take l.i l.requests)
     × Walked l.payload (map (λ request. request.now) (take l.i l.requests)) l.i l.rest
-    × (length l.headers ≡ 16) × (take l.i l.headers ≡ map (λ request. header_of request.now) (take l.i l.requests))
