@@ -263,7 +263,7 @@ impl Client {
     }
 
     /// What it had to send was sent.
-    pub(crate) fn sent(&mut self) {
+    pub fn sent(&mut self) {
         self.frames.clear();
     }
 

@@ -1,7 +1,6 @@
 //! Why a client's call is refused.
 
 use smb_body::BodyFault;
-use smb_engine::ServeFault;
 use smb_frame::FrameFault;
 use smb_head::HeadFault;
 use std::alloc::AllocError;
@@ -50,15 +49,6 @@ impl From<FrameFault> for ClientFault {
         match fault {
             FrameFault::NoMemory => ClientFault::NoMemory,
             _ => ClientFault::TooLong,
-        }
-    }
-}
-
-impl From<ServeFault> for ClientFault {
-    fn from(fault: ServeFault) -> ClientFault {
-        match fault {
-            ServeFault::TooManyConnections => ClientFault::TooManyConnections,
-            _ => ClientFault::NoMemory,
         }
     }
 }

@@ -3,7 +3,7 @@
 use super::client::Client;
 use super::fault::ClientFault;
 
-/// A line from clients to a share. A [`Pair`](super::Pair) is one, to a share in memory. One of your own takes what a
+/// A line from clients to a share. One of your own takes what a
 /// client has to say by [`Client::take_frames`], and hands it the answers by [`Client::hear`].
 pub trait Line {
     /// Sends what a client has to say, and puts the frames that the share answers in place of what `heard` had. The client has

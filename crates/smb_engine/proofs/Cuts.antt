@@ -13,7 +13,7 @@ use Rattle.smb_frame.proofs.Rests.{fault_more}
 use Rattle.smb_session.specs.Authenticator.{Meaning}
 use Rattle.smb_engine.specs.declared.connection.Connection.{Connection}
 use Rattle.smb_engine.specs.declared.fault.ServeFault.{ServeFault}
-use Rattle.smb_engine.specs.Event.{EventText, brings}
+use Rattle.smb_peers.specs.Event.{EventText, brings}
 use Rattle.smb_request.specs.State.{ServerState}
 use Rattle.smb_engine.specs.State.{StreamState, ShareState, ended, stream_of}
 use Rattle.smb_engine.specs.Parts.{with_stream, after_step, and_then, settled, added_payloads, then_ran, later, refused_at_once, later_behind, with_one_more_at, moved, pieces_on, bytes_of_pieces}

@@ -19,7 +19,7 @@ use Rattle.smb_engine.specs.State.{StreamState, ShareState, stream_of}
 use Rattle.smb_engine.specs.Output.{Output, frame_to, end_of, reply_frame}
 use Rattle.smb_engine.specs.Parts.{added_payloads, and_then, closed_by, settled, then_ran, refused_at_once}
 use Rattle.smb_engine.specs.Run.{Step, payload_step, payload_steps, piece_step, EventStep, bytes_step, event_step, event_refusal, Ran, run}
-use Rattle.smb_engine.specs.Event.{EventText, opens, brings, ends, connection_of}
+use Rattle.smb_peers.specs.Event.{EventText, opens, brings, ends, connection_of}
 use Rattle.smb_engine.proofs.Chains.{payload_whole}
 use Rattle.smb_engine.proofs.Streams.{arrived, bytes_step-none, bytes_step-some}
 use Rattle.smb_engine.proofs.Order.{stream_of-without, bytes_step-next, order_step, other_left, not_for}

@@ -21,7 +21,7 @@ use Rattle.smb_request.specs.Parts.{is_owned}
 use Rattle.smb_engine.specs.declared.fault.ServeFault.{ServeFault}
 use Rattle.smb_engine.specs.State.{StreamState, ShareState, ended}
 use Rattle.smb_engine.specs.Parts.{without_stream, unknown_refusal, refused_at_once, then_ran}
-use Rattle.smb_engine.specs.Event.{ends}
+use Rattle.smb_peers.specs.Event.{ends}
 use Rattle.smb_engine.specs.Run.{Ran, run, event_step}
 use Rattle.smb_engine.specs.Good.{GoodState}
 use Rattle.smb_engine.specs.Rest.{ends_of, IsAtRest}

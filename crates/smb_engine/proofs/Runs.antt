@@ -11,7 +11,7 @@ use Rattle.smb_wire.specs.Counters.{is_spent}
 use Rattle.smb_wire.specs.Limits.{longest_payload, most_connections}
 use Rattle.smb_frame.specs.Reading.{rest, payloads}
 use Rattle.smb_frame.proofs.Streams.{rest-more}
-use Rattle.smb_engine.specs.declared.event.Event.{Event}
+use Rattle.smb_peers.specs.declared.event.Event.{Event}
 use Rattle.smb_engine.specs.declared.fault.ServeFault.{ServeFault}
 use Rattle.smb_engine.specs.declared.fault.ServeFault.TheVariants.{TooManyConnections, NoMemory, BadEvent, BadConfig}
 use Rattle.smb_session.specs.Authenticator.{Meaning}
@@ -22,7 +22,7 @@ use Rattle.smb_engine.specs.Stream.{unread}
 use Rattle.smb_engine.specs.Parts.{added_payloads, unread_stream, unread_entry, settled, connection_at, EventStopped, events_of, can_want_memory, quiet_step, later, then_ran, refused_at_once}
 use Rattle.smb_engine.specs.Run.{Step, piece_step, EventStep, bytes_step, event_step, event_refusal, Stop, Ran, run}
 use Rattle.smb_engine.specs.Refusals.{stopped, EventOutOfMemory, run_behind, RunStopped, opening_refusal}
-use Rattle.smb_engine.specs.Event.{EventText, opens, brings, ends, text_of, connection_of}
+use Rattle.smb_peers.specs.Event.{EventText, opens, brings, ends, text_of, connection_of}
 use Rattle.smb_engine.proofs.Pieces.{added_is}
 use Rattle.smb_engine.proofs.Streams.{arrived, unread-with, unread-without, unread-insert, stream_of-unread}
 

@@ -21,7 +21,7 @@ use Rattle.smb_engine.specs.Parts.{added_payloads, chain_begun, and_then, settle
 use Rattle.smb_engine.specs.Run.{PerformedRequest, ChainState, one_performed, requests_of_chain, admitted, Step, smb1_step, chain_step, payload_step, payload_steps, piece_step, EventStep, bytes_step, event_step, event_refusal, Ran, run}
 use Rattle.smb_engine.specs.Good.{GoodState}
 use Rattle.smb_engine.specs.Laws.{requests_of_run}
-use Rattle.smb_engine.specs.Event.{EventText, opens, brings, ends, connection_of}
+use Rattle.smb_peers.specs.Event.{EventText, opens, brings, ends, connection_of}
 use Rattle.smb_engine.proofs.Streams.{arrived, bytes_step-none, bytes_step-some}
 use Rattle.smb_engine.proofs.Chains.{server-one_performed, first-server}
 

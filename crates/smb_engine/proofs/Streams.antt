@@ -16,7 +16,7 @@ use Rattle.smb_engine.specs.declared.arrival.Arrival.{Arrival}
 use Rattle.smb_engine.specs.State.{StreamState, ShareState, stream_of}
 use Rattle.smb_engine.specs.Parts.{with_stream, without_stream, settled, unread_stream, unread_entry, quiet_step, server_after}
 use Rattle.smb_engine.specs.Stream.{unread}
-use Rattle.smb_engine.specs.Event.{brings}
+use Rattle.smb_peers.specs.Event.{brings}
 use Rattle.smb_engine.specs.Run.{piece_step, bytes_step}
 use Rattle.smb_engine.specs.Refusals.{EventOutOfMemory}
 use Rattle.smb_engine.specs.Held.{Waits, AllWait, IsPieceHeld}

@@ -8,7 +8,7 @@ use Rattle.smb_session.specs.Session.{SessionState}
 use Rattle.smb_session.specs.Table.{session_at}
 use Rattle.smb_opens.specs.Readers.{LeavesFiles}
 use Rattle.smb_request.specs.Laws.{IsInOrder, IsAsItWas, IsOver, ReplacesSession, AllMayOnlyRead}
-use Rattle.smb_engine.specs.Event.{EventText, brings, connection_of}
+use Rattle.smb_peers.specs.Event.{EventText, brings, connection_of}
 use Rattle.smb_engine.specs.State.{ShareState, stream_of}
 use Rattle.smb_engine.specs.Good.{GoodState}
 use Rattle.smb_engine.specs.Stream.{unread}

@@ -1,10 +1,8 @@
-pub mod Event
 pub mod Output
 pub mod State
 pub mod Stream
 pub mod Run
 pub mod Refusals
-pub mod Happenings
 pub mod Good
 pub mod Laws
 pub mod Rest
@@ -12,15 +10,4 @@ pub mod Sink
 pub mod Held
 pub mod InPlace
 pub mod SoFar
-pub mod Record
-pub mod Clock
-pub mod Peers
-pub mod MemoryPeers
-pub mod MemoryRecord
-pub mod ServedPeers
-pub mod Serving
-pub mod Openings
-pub mod ServingLaws
-pub mod ServingParts
-pub mod Filetime
 pub mod Parts

@@ -3,8 +3,8 @@ use Rattle.std.specs.Prelude.{ℕ, ◌+◌, ◌*◌, ◌≤◌, List, [], ◌∷
 use Rattle.std.specs.List.{AllByRecursion}
 use Rattle.smb_wire.specs.Limits.{most_requests, longest_response}
 use Rattle.smb_frame.specs.Framed.{frame}
-use Rattle.smb_engine.specs.declared.output.Answer.{Answer}
-use Rattle.smb_engine.specs.declared.output.Answer.TheVariants.{Frame, End}
+use Rattle.smb_peers.specs.declared.answer.Answer.{Answer}
+use Rattle.smb_peers.specs.declared.answer.Answer.TheVariants.{Frame, End}
 
 -- a frame to a connection's client, or the end of a connection by the share
 pub data Output : Type 0 where

@@ -27,15 +27,15 @@ use Rattle.std.specs.List.{fold, concat, AllByRecursion}
 use Rattle.smb_request.specs.Laws.{AllMayOnlyRead}
 use Rattle.smb_engine.specs.declared.arrival.Arrival.{Arrival}
 use Rattle.smb_engine.specs.Run.{PerformedRequest, one_performed, requests_of_chain, ChainState, EventStep, Step, message_ids, event_refusal, Stop, Ran}
-use Rattle.smb_engine.specs.Event.{EventText, connection_of, text_of, opens, brings, ends}
-use Rattle.smb_engine.specs.declared.output.Answer.{Answer}
-use Rattle.smb_engine.specs.declared.output.Answer.TheVariants.{Frame, End}
+use Rattle.smb_peers.specs.Event.{EventText, connection_of, text_of, opens, brings, ends}
+use Rattle.smb_peers.specs.declared.answer.Answer.{Answer}
+use Rattle.smb_peers.specs.declared.answer.Answer.TheVariants.{Frame, End}
 use Rattle.smb_session.specs.Authenticator.{Meaning}
 use Rattle.smb_engine.specs.Refusals.{EventOutOfMemory}
 use Rattle.std.specs.Map.{set_value, remove_entry}
 use Rattle.std.specs.BTreeMap.{is_at}
 use Rattle.std.specs.Ordering.{nat_cmp}
-use Rattle.smb_engine.specs.declared.event.Event.{Event}
+use Rattle.smb_peers.specs.declared.event.Event.{Event}
 
 -- the reply to a request: its header has the request's numbers, the flag SERVER_TO_REDIR (1), RELATED_OPERATIONS (4)
 -- where the request had it, and the credits that are granted (3.3.4.1)

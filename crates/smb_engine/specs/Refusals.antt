@@ -9,7 +9,7 @@ use Rattle.smb_engine.specs.declared.fault.ServeFault.{ServeFault}
 use Rattle.smb_engine.specs.declared.fault.ServeFault.TheVariants.{TooManyConnections, NoMemory, BadConfig}
 use Rattle.smb_engine.specs.State.{ShareState, stream_of, ended}
 use Rattle.smb_engine.specs.Stream.{unread}
-use Rattle.smb_engine.specs.Event.{EventText, opens, brings, ends}
+use Rattle.smb_peers.specs.Event.{EventText, opens, brings, ends}
 use Rattle.smb_engine.specs.Output.{Output}
 use Rattle.smb_engine.specs.Run.{PerformedRequest, Ran, event_refusal, bytes_step, event_step, run}
 

@@ -2,7 +2,7 @@
 use Rattle.std.specs.Prelude.{◌≡◌, ℕ, false, List, [], map}
 use Rattle.smb_locks.specs.Table.{locks_on}
 use Rattle.smb_access.specs.Close.{has_mark}
-use Rattle.smb_engine.specs.Event.{EventText, ends}
+use Rattle.smb_peers.specs.Event.{EventText, ends}
 use Rattle.smb_engine.specs.State.{StreamState, ShareState}
 
 -- the end of each of some connections, in their order

@@ -16,20 +16,14 @@
 //! let config = Config { share: String::from_str(alloc, "data")?, .. };
 //! let users = Tokens::new(alloc, b"", false, false, vec![in alloc; ann]?)?;
 //! let mut share = Share::in_memory(alloc, config, users)?;
-//! serve(&mut share, &mut peers, &mut clock, turns);
-//! ```
-//!
-//! Here the peers are [`Peers`], as those of the crate smb_tcp or [`MemoryPeers`], and [`serve`] brings to the share what comes of them.
-//! Who has a loop of its own makes the calls itself:
-//!
-//! ```text
 //! let connection = share.opened()?;
 //! let fate = share.feed(connection, moment, piece, &mut out)?;
 //! share.ended(connection);
 //! ```
 //!
 //! `out` then has more bytes for the client; where the [`Fate`] is `Ended`, it is to be closed once it has them. A moment is in units of
-//! 100 ns since 1601: [`filetime_of`] makes it of the time since 1970.
+//! 100 ns since 1601: [`filetime_of`] makes it of the time since 1970. The crate smb_serving makes these calls for peers
+//! that bring their events.
 //!
 //! # What is proved
 //!
@@ -40,8 +34,7 @@
 //! from one request of a chain to a run of events, over `Request.antt` of the crate smb_request (what one request does);
 //! and `Refusals.antt` (what an error says). The definition reads each stream from its first byte; the share holds the
 //! unread bytes alone. That it does not matter how bytes that come at one moment were cut is a
-//! law of the definition, with others of `specs/Laws.antt`: [`laws_of_shares`]. What serving a share comes to for its
-//! peers, where memory does not run out, is a law too, of `specs/ServingLaws.antt`: [`laws_of_serving`].
+//! law of the definition, with others of `specs/Laws.antt`: [`laws_of_shares`].
 //!
 //! Refusals are [`ServeFault`]s, in a [`RunFault`] those of a run. Where [`opened`](Share::opened) is refused, nothing
 //! has changed. Where memory runs out in a piece, its first requests were performed, as many as the fault says, none of
@@ -52,35 +45,21 @@
 
 mod arrival;
 mod chain;
-mod clock;
 mod connection;
-mod event;
 mod fault;
-mod filetime;
 mod laws;
-mod memory_peers;
-mod memory_record;
 mod output;
-mod peers;
-mod served_peer;
-mod serving;
 mod share;
 mod stream;
 
-pub use clock::{Clock, ListClock};
-pub use event::{Event, Fate};
 pub use fault::{RunFault, ServeFault};
-pub use filetime::{FILETIME_OF_1970, filetime_of, since_1970};
-pub use laws::{laws_of_serving, laws_of_shares};
-pub use memory_peers::{MemoryPeers, PeerStep, SendStep};
-pub use output::Answer;
-pub use peers::{PeerEvent, Peers, SendFault, Stopping};
-pub use serving::{serve, serve_until};
+pub use laws::laws_of_shares;
 pub use share::Share;
 pub use smb_handles::HandleTable;
 pub use smb_nodes::NodeTree;
 pub use smb_opens::{Opens, PlainOpens};
-pub use smb_request::{Config, Usage};
+pub use smb_peers::{Answer, Event, FILETIME_OF_1970, Fate, filetime_of, since_1970};
+pub use smb_request::Config;
 pub use smb_session::{Authenticator, Tokens, User};
-pub use smb_tree::{PlainTree, Tree, TreeFault};
+pub use smb_tree::{PlainTree, Tree, TreeFault, Usage};
 pub use smb_wire::NtStatus;

@@ -4,17 +4,9 @@ ghost use Rattle.std.specs.Prelude.{◌≡◌, ◌++◌, ◌∷◌, [], OnOk, On
 ghost use Rattle.std.specs.List.{flat_map};
 ghost use Rattle.smb_engine.specs.Output.{output_bytes, end_of, reply_frame};
 
+use smb_peers::Answer;
 use std::alloc::{AllocError, Global};
 use std::mem;
-
-/// What the share answers.
-#[derive(Debug, Drop)]
-pub enum Answer {
-    /// One reply frame, whole, to a connection's client.
-    Frame(u64, Vec<u8>),
-    /// The share ended a connection.
-    End(u64),
-}
 
 /// Where the outputs of a piece go: answers in order, or the bytes of one connection's frames.
 ///

@@ -12,7 +12,7 @@ ghost use Rattle.smb_tree.specs.Content.{new_content, used_space};
 ghost use Rattle.smb_opens.specs.Readers.{LeavesFiles};
 ghost use Rattle.smb_request.specs.Settings.{settings_of, is_lawful};
 ghost use Rattle.smb_request.specs.State.{connection_added};
-ghost use Rattle.smb_engine.specs.Event.{brings, text_of, connection_of};
+ghost use Rattle.smb_peers.specs.Event.{brings, text_of, connection_of};
 ghost use Rattle.smb_engine.specs.Parts.{events_of, unknown_refusal, EventStopped};
 ghost use Rattle.smb_engine.specs.Output.{AreShort, output_bytes, outputs_of};
 ghost use Rattle.smb_engine.specs.Refusals.{EventOutOfMemory, run_behind, RunStopped, opening_refusal};
@@ -24,17 +24,17 @@ ghost use Rattle.smb_engine.specs.Good.{GoodState};
 
 use super::arrival::Arrival;
 use super::connection::{Connection, ConnectionStream};
-use super::event::{Event, Fate};
 use super::fault::{CutShort, RunFault, ServeFault};
-use super::output::{Answer, Sink};
+use super::output::Sink;
 use super::stream::take_piece;
 use smb_frame::FrameBuffer;
 use smb_handles::HandleTable;
 use smb_nodes::NodeTree;
 use smb_opens::Opens;
-use smb_request::{Config, Server, Usage};
+use smb_peers::{Answer, Event, Fate};
+use smb_request::{Config, Server};
 use smb_session::{Authenticator, Window};
-use smb_tree::Tree;
+use smb_tree::{Tree, Usage};
 use smb_wire::limits::{LONGEST_PAYLOAD, MOST_CONNECTIONS};
 use std::alloc::{AllocError, Global};
 use std::collections::BTreeMap;
@@ -199,12 +199,12 @@ impl<A: Authenticator + Drop, T: Tree + Drop, O: Opens + Drop> Share<A, T, O> {
     }
 
     /// The allocator of what the share makes.
-    pub(crate) fn allocator(&self) -> Global {
+    pub fn allocator(&self) -> Global {
         self.server.allocator()
     }
 
     /// Whether the share has room for another connection, and a number.
-    pub(crate) fn has_room(&self) -> bool
+    pub fn has_room(&self) -> bool
         ensures refusal { opening_refusal self.now ≡ (if result then None else Some ServeFault.TooManyConnections) }
         ensures few { result ≡ true → length self.now.streams < most_connections }
         ensures next { result ≡ true → self.now.next < 2 ^ 64 - 1 }

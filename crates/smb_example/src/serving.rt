@@ -1,8 +1,10 @@
 //! A share that is served to its peers, here peers in memory with a script: a client that negotiates and asks for an echo.
 
 use super::share::{new_share, print_reply};
-use smb_client::{Client, Replies, taken_from};
-use smb_engine::{FILETIME_OF_1970, ListClock, MemoryPeers, PeerStep, serve};
+use smb_client::{Client, Replies};
+use smb_engine::FILETIME_OF_1970;
+use smb_peers::ListClock;
+use smb_serving::{MemoryPeers, PeerStep, serve, taken_from};
 use std::alloc::Global;
 
 /// A client on connection 1 that negotiates and asks for an echo, as peers that take up to 4,096 bytes.

@@ -3,8 +3,9 @@
 
 use super::share::{new_share, print_reply};
 use anyhow::Context;
-use smb_client::{Client, CreateDisposition, FileId, Pair, Reply};
+use smb_client::{Client, CreateDisposition, FileId, Reply};
 use smb_engine::{FILETIME_OF_1970, HandleTable, NodeTree, Tokens};
+use smb_pair::Pair;
 
 type Talk = Pair<Tokens, NodeTree, HandleTable>;
 

@@ -2,7 +2,7 @@
 
 use super::fault::FolderRule;
 use smb_client::FileAttributes;
-use smb_engine::{FILETIME_OF_1970, filetime_of, since_1970};
+use smb_peers::{FILETIME_OF_1970, filetime_of, since_1970};
 use smb_wire::{u32_at, u64_at};
 use std::alloc::{AllocError, Global};
 use std::fs::{FileTimes, Metadata};

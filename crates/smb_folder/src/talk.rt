@@ -10,7 +10,7 @@ use smb_client::{
     QueryDirectoryFlags, QueryDirectoryRequest, QueryInfoFlags, QueryInfoRequest, Replies, Reply,
     Request, SecurityFlags, SetInfoRequest, ShareAccess, SmbCreateFlags, Status, Units, units_of,
 };
-use smb_engine::NtStatus;
+use smb_wire::NtStatus;
 use smb_wire::limits::{MOST_COMPONENTS, MOST_FILE_BYTES};
 use std::alloc::Global;
 

@@ -2,7 +2,7 @@
 
 use crate::fault::JournalFault;
 use crate::text::{hex_of, number_of};
-use smb_engine::Config;
+use smb_request::Config;
 use std::alloc::Global;
 use std::io;
 use std::io::Write;

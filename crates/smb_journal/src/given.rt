@@ -4,8 +4,14 @@ ghost use Rattle.std.specs.Prelude.{◌≡◌};
 ghost use Rattle.smb_session.specs.Answers.{answered_by};
 ghost use Rattle.smb_session.specs.Authenticator.{IsLawful};
 
+use crate::fault::JournalFault;
+use crate::line::Line;
+use crate::lines::Lines;
 use smb_session::Answer;
 use smb_wire::limits::{LONGEST_TOKEN, LONGEST_USER_NAME};
+use std::alloc::Global;
+use std::collections::VecDeque;
+use std::io::Read;
 use std::marker::Model;
 
 /// An answer whose user and token are no longer than any is, with flags that there are.
@@ -57,4 +63,23 @@ impl GivenAnswer {
         let GivenAnswer { answer } = self;
         answer
     }
+}
+
+/// The answers of the authenticator in a recording, in order. All of its lines are read, and nothing is performed.
+///
+/// # Errors
+/// Those of [`Lines::next_line`].
+pub fn given_answers<R: Read + Drop>(
+    alloc: Global,
+    lines: &mut Lines<R>,
+) -> Result<VecDeque<GivenAnswer>, JournalFault> {
+    let mut given = VecDeque::new(alloc);
+    for _ in 0..u64::MAX {
+        match lines.next_line()? {
+            Some(Line::Answered(answer)) => given.push_back(answer)?,
+            Some(_line) => {}
+            None => break,
+        }
+    }
+    Ok(given)
 }

@@ -2,9 +2,8 @@
 //!
 //! A share answers as its definition says, and so a run is its list of events and nothing else. [`RecordedPeers`] stand between a
 //! share and its peers, and write each event before it is handed on: a line that says what came, at which moment. What an
-//! authenticator answers is a line too, by [`RecordedLogin`]; so whoever performs the recording asks no one again. [`perform`] performs
-//! it on a new share, and a [`Hears`] hears each event with its answers; then [`Share::end_all`](smb_engine::Share::end_all) ends the
-//! connections that were open, and the share goes on.
+//! authenticator answers is a line too, by [`RecordedLogin`]; so whoever performs the recording, as the crate smb_kept does, asks no
+//! one again. [`Lines`] gives what each line says.
 //!
 //! | line | what it says |
 //! |---|---|
@@ -33,18 +32,17 @@ mod lines;
 mod login;
 mod mailbox;
 mod peers;
-mod performed;
 mod recorder;
 mod store;
 mod text;
 
 pub use fault::JournalFault;
 pub use form::{Form, Header};
-pub use given::GivenAnswer;
+pub use given::{GivenAnswer, given_answers};
+pub use line::Line;
 pub use lines::Lines;
 pub use login::RecordedLogin;
 pub use mailbox::Mailbox;
 pub use peers::{RecordedClock, RecordedPeers};
-pub use performed::{Deaf, Hears, Performed, given_answers, perform};
 pub use recorder::Recorder;
 pub use store::Store;

@@ -2,7 +2,7 @@
 
 use crate::given::GivenAnswer;
 use crate::text::{at_blank, check_of_digits, hex_of, number_of};
-use smb_engine::Event;
+use smb_peers::Event;
 use smb_session::Answer;
 use std::alloc::{AllocError, Global};
 

@@ -5,7 +5,7 @@ use crate::fault::JournalFault;
 use crate::form::{Form, Header};
 use crate::line::{Line, PieceHead, read_head, read_line};
 use crate::text::{at_last_blank, check_of_digits};
-use smb_engine::Event;
+use smb_peers::Event;
 use std::alloc::Global;
 use std::io::{ErrorKind, Read};
 

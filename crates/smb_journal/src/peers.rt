@@ -5,7 +5,7 @@ ghost use Rattle.std.specs.Prelude.{◌≡◌};
 use crate::mailbox::Mailbox;
 use crate::recorder::Recorder;
 use crate::store::Store;
-use smb_engine::{Clock, PeerEvent, Peers, SendFault, Stopping, Usage};
+use smb_peers::{Clock, PeerEvent, Peers, SendFault, Stopping, Usage};
 use std::alloc::{AllocError, Global};
 use std::cell::Cell;
 

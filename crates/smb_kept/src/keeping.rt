@@ -2,9 +2,10 @@
 
 use crate::fault::KeptFault;
 use crate::files::{cut, first_bytes, lock, make_file, open_journal, rename, settle_name};
+use crate::performed::{Deaf, Performed};
 use crate::performing::{Done, perform_file, read_recording};
 use smb_engine::{Authenticator, Config, Opens, Share, Tree};
-use smb_journal::{Deaf, Form, GivenAnswer, Header, JournalFault, Mailbox, Performed, Recorder};
+use smb_journal::{Form, GivenAnswer, Header, JournalFault, Mailbox, Recorder};
 use std::alloc::Global;
 use std::collections::VecDeque;
 use std::fs;

@@ -2,11 +2,13 @@
 
 use crate::fault::KeptFault;
 use crate::own_client::{log_in, own_login, path_of};
+use crate::performed::Deaf;
 use crate::performing::{perform_file, read_recording};
 use crate::share::{RecordedShare, recorded_share};
 use smb_client::{Client, ClientFault, Line};
 use smb_engine::{Authenticator, Opens, Share, Tokens, Tree};
-use smb_journal::{Deaf, GivenAnswer, Header, Mailbox};
+use smb_journal::{GivenAnswer, Header, Mailbox};
+use smb_pair::carry_to;
 use std::alloc::Global;
 use std::collections::VecDeque;
 
@@ -112,14 +114,6 @@ impl<A: Authenticator + Drop, T: Tree + Drop, O: Opens + Drop> ReadLine<'_, A, T
 
 impl<A: Authenticator + Drop, T: Tree + Drop, O: Opens + Drop> Line for ReadLine<'_, A, T, O> {
     fn carry(&mut self, client: &mut Client, heard: &mut Vec<u8>) -> Result<(), ClientFault> {
-        let connection = client.number();
-        if !self.share.is_open(connection) {
-            return Err(ClientFault::Ended);
-        }
-        let frames = client.take_frames();
-        heard.clear();
-        let _ = self.share.feed(connection, self.moment, &frames, heard)?;
-        client.hear(heard);
-        Ok(())
+        carry_to(self.share, self.moment, client, heard)
     }
 }

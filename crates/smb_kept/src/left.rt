@@ -3,10 +3,11 @@
 use crate::fault::KeptFault;
 use crate::leaving::{Leaving, Left, leave, new_left};
 use crate::own_client::log_in;
-use smb_client::{Client, Line, Pair};
+use smb_client::{Client, Line};
 use smb_engine::{Authenticator, Opens, Share, Tree};
 use smb_folder::take_folder;
 use smb_journal::Mailbox;
+use smb_pair::Pair;
 
 /// Logs a client in, and takes all files out into a new folder.
 fn take_by<L: Line>(

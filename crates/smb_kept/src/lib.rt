@@ -2,6 +2,7 @@
 //!
 //! ```text
 //!    Keeping       a file is opened or made; what it says is performed on a new share; its recorder goes on behind it
+//!    perform       ... line by line; who [`Hears`] it hears each event with its answers
 //!    put_in        the program's own client puts the files of a folder into a new share
 //!    extract       ... or takes those that a recording leaves out into a new folder
 //!    write_journal ... or copies them into a new share, of which all is recorded
@@ -23,6 +24,7 @@ mod leaving;
 mod left;
 mod length;
 mod own_client;
+mod performed;
 mod performing;
 mod putting;
 mod share;
@@ -34,6 +36,7 @@ pub use keeping::{Begun, KeepWords, Keeping};
 pub use left::extract;
 pub use length::is_long;
 pub use own_client::{own_answer, own_answers, path_of};
+pub use performed::{Deaf, Hears, Performed, perform};
 pub use performing::{perform_file, read_recording};
 pub use putting::{OwnLine, put_folder_in};
 pub use share::{RecordedShare, nobody, recorded_login, recorded_share, share_of};

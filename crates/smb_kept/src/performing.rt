@@ -2,8 +2,9 @@
 
 use crate::fault::KeptFault;
 use crate::files::open_lines;
+use crate::performed::{Hears, Performed, perform};
 use smb_engine::{Authenticator, Opens, Share, Tree};
-use smb_journal::{GivenAnswer, Header, Hears, Performed, given_answers, perform};
+use smb_journal::{GivenAnswer, Header, given_answers};
 use std::collections::VecDeque;
 
 /// What was performed of a recording, how many bytes its whole lines take, and the check of the last of them.

@@ -3,9 +3,11 @@
 use crate::fault::KeptFault;
 use crate::own_client::{TOKEN, log_in};
 use smb_client::{Client, ClientFault, Line};
-use smb_engine::{Authenticator, Clock, Opens, Share, Tree};
+use smb_engine::{Authenticator, Opens, Share, Tree};
 use smb_folder::{FolderFault, put_folder};
 use smb_journal::{Mailbox, Recorder, Store};
+use smb_pair::client_fault;
+use smb_peers::Clock;
 use smb_session::Answer;
 
 /// A connection of the program's own to a share: each piece is recorded before the share takes it.
@@ -95,7 +97,9 @@ impl<A: Authenticator + Drop, T: Tree + Drop, O: Opens + Drop, S: Store + Drop, 
         let moment = self.clock.moment();
         self.recorder.piece(connection, moment, &frames);
         heard.clear();
-        let _ = self.share.feed(connection, moment, &frames, heard)?;
+        if let Err(fault) = self.share.feed(connection, moment, &frames, heard) {
+            return Err(client_fault(fault));
+        }
         self.record_answer()?;
         client.hear(heard);
         Ok(())

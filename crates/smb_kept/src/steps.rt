@@ -1,6 +1,6 @@
 //! A clock for what must be the same in every run.
 
-use smb_engine::Clock;
+use smb_peers::Clock;
 
 /// A clock that gives this moment to the first piece, and one unit of 100 ns more to each further one.
 #[derive(Clone, Copy, Debug, Drop)]

@@ -6,7 +6,7 @@ use crate::ending::{Ending, Refusal};
 use crate::facts::ConnectionFacts;
 use crate::log::Log;
 use crate::visitors::Visitors;
-use smb_engine::{Clock, PeerEvent, Peers, SendFault, Stopping, Usage};
+use smb_peers::{Clock, PeerEvent, Peers, SendFault, Stopping, Usage};
 use smb_wire::limits::MOST_CONNECTIONS;
 use std::alloc::Global;
 use std::collections::BTreeMap;

@@ -3,7 +3,7 @@
 use crate::ending::Ending;
 use crate::log::Log;
 use crate::visitors::Visitors;
-use smb_engine::{Answer, Event};
+use smb_peers::{Answer, Event};
 use std::io::Write;
 
 /// The log of what happens in a replay, whose events are heard one by one. Of a client no address is known. A replay knows the moments

@@ -9,7 +9,7 @@ use Rattle.std.specs.Prelude.{map}
 use Rattle.std.proofs.lemmas.List.{append-nil}
 use Rattle.smb_replay.specs.declared.script.Script.{Script}
 use Rattle.smb_replay.specs.Reading.{script_text, behind}
-use Rattle.smb_engine.specs.Event.{text_of}
+use Rattle.smb_peers.specs.Event.{text_of}
 use Rattle.smb_replay.specs.Script.{lines_of, LineText, ScriptText, line_then, read_line, script_from}
 
 abbrev to_end : List ℕ → ℕ

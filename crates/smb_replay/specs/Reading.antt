@@ -2,7 +2,7 @@
 -- A script that is being read.
 use Rattle.std.specs.Prelude.{◌++◌, map, Bool, if◌then◌else◌}
 use Rattle.std.specs.Option.{option_map, option_map_or}
-use Rattle.smb_engine.specs.Event.{text_of}
+use Rattle.smb_peers.specs.Event.{text_of}
 use Rattle.smb_replay.specs.Script.{ScriptText, lines_of, script_from}
 use Rattle.smb_replay.specs.declared.script.Script.{Script}
 use Rattle.smb_replay.specs.declared.script.Unread.{Unread}

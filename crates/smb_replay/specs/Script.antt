@@ -5,7 +5,7 @@ use Rattle.std.specs.List.{list_all}
 use Rattle.std.specs.Option.{option_map, option_map_or, option_and_then}
 use Rattle.std.specs.Result.{result_ok}
 use Rattle.hex.specs.Hex.{decode_of}
-use Rattle.smb_engine.specs.Event.{EventText, opens, brings, ends, text_of}
+use Rattle.smb_peers.specs.Event.{EventText, opens, brings, ends, text_of}
 use Rattle.smb_replay.specs.declared.script.Line.{Line}
 use Rattle.smb_replay.specs.declared.script.Line.TheVariants.{Skipped, Unreadable, Happens}
 

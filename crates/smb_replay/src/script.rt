@@ -3,7 +3,7 @@
 ghost use Rattle.std.specs.Prelude.{ℕ, ◌≡◌, ◌≤◌, ◌<◌, ◌+◌, ◌*◌, ◌-◌, ◌^◌, ◌==◌, ◌&&◌, IsTrue, length, take, drop, map, position, ◌∷◌, [], IfOk, IfSome, Some, None, nat_lt, if◌then◌else◌};
 ghost use Rattle.std.specs.List.{list_all};
 ghost use Rattle.std.specs.Option.{option_map, option_map_or};
-ghost use Rattle.smb_engine.specs.Event.{text_of, opens, ends};
+ghost use Rattle.smb_peers.specs.Event.{text_of, opens, ends};
 ghost use Rattle.smb_replay.specs.Script.{is_digit, decimal_from, decimal_number, piece_of, at_blank, line_text, piece_parts, bytes_line, with_part, says, read_line, lines_of, line_then, script_of, script_from};
 ghost use Rattle.smb_replay.specs.Script.{ScriptText};
 ghost use Rattle.smb_replay.specs.Reading.{behind, script_so_far, left_script, part_script};

@@ -40,4 +40,4 @@ pub use config::Config;
 pub use context::{Context, ContextOpen, HeaderIds};
 pub use laws::laws_of_connections;
 pub use response::{Answered, NoReply};
-pub use server::{Server, Usage};
+pub use server::Server;

@@ -26,19 +26,10 @@ use smb_body::{Reply, write_reply};
 use smb_info::Volume;
 use smb_opens::{Opens, Owner, Store};
 use smb_session::{Authenticator, Sessions};
-use smb_tree::Tree;
+use smb_tree::{Tree, Usage};
 use smb_wire::{Dialect, Units, put_u16};
 use std::alloc::{AllocError, Global};
 use std::marker::Model;
-
-/// How much a share holds.
-#[derive(Clone, Copy, Debug, PartialEq, Eq)]
-pub struct Usage {
-    /// Its files and folders, without the root.
-    pub entries: usize,
-    /// The room that all files take, in bytes: of each its size, rounded up to 4,096.
-    pub used: u64,
-}
 
 /// The configuration, the sessions with their authenticator, and the files with their opens.
 #[derive(Drop)]

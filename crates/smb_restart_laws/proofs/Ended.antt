@@ -21,7 +21,7 @@ use Rattle.smb_request.specs.Owners.{AreOwned}
 use Rattle.smb_request.specs.Settings.{Settings, is_lawful}
 use Rattle.smb_engine.specs.Good.{IsGoodStream, GoodState}
 use Rattle.smb_engine.specs.Rest.{ends_of, IsAtRest}
-use Rattle.smb_engine.specs.Event.{EventText}
+use Rattle.smb_peers.specs.Event.{EventText}
 use Rattle.smb_engine.specs.Run.{run}
 use Rattle.smb_engine.specs.State.{StreamState, ShareState, new_share}
 use Rattle.smb_engine.proofs.Rest.{at_rest}

@@ -4,7 +4,7 @@ use Rattle.std.specs.List.{AllByRecursion}
 use Rattle.std.specs.Option.{option_map, option_map_or}
 use Rattle.smb_session.specs.Authenticator.{Meaning}
 use Rattle.smb_engine.specs.declared.fault.ServeFault.{ServeFault}
-use Rattle.smb_engine.specs.Event.{ends}
+use Rattle.smb_peers.specs.Event.{ends}
 use Rattle.smb_engine.specs.Rest.{ends_of}
 use Rattle.smb_engine.specs.Run.{Ran, Stop, run, event_step}
 use Rattle.smb_engine.specs.Parts.{later, refused_at_once, then_ran, unknown_refusal, without_stream}

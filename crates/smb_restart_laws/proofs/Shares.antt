@@ -29,7 +29,7 @@ use Rattle.smb_engine.specs.State.{StreamState, ShareState, stream_of, new_strea
 use Rattle.smb_engine.specs.Parts.{added_payloads, chain_begun, and_then, settled, framed_chain, all_performed, refused_step, first_negotiate, refused_at_once, then_ran}
 use Rattle.smb_engine.specs.Run.{ChainState, one_performed, admitted, Step, smb1_step, chain_step, payload_step, payload_steps, piece_step, EventStep, bytes_step, event_step, event_refusal, Ran, run}
 use Rattle.smb_engine.specs.Good.{GoodState}
-use Rattle.smb_engine.specs.Event.{EventText, opens, brings, ends}
+use Rattle.smb_peers.specs.Event.{EventText, opens, brings, ends}
 use Rattle.smb_engine.specs.Laws.{StreamsInOrder}
 use Rattle.smb_engine.proofs.Chains.{server-one_performed, first-server}
 use Rattle.smb_engine.proofs.Kept.{numbers-set, numbers-remove, numbers-insert, not_among}

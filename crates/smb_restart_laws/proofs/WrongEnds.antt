@@ -2,7 +2,7 @@
 use Rattle.std.proofs.Common.{◌≡◌, true, None, List, [], ◌∷◌, take, refl, arith}
 use Rattle.smb_session.specs.Authenticator.{Meaning}
 use Rattle.smb_request.specs.Settings.{Settings, is_lawful}
-use Rattle.smb_engine.specs.Event.{EventText, opens}
+use Rattle.smb_peers.specs.Event.{EventText, opens}
 use Rattle.smb_engine.specs.Good.{GoodState}
 use Rattle.smb_engine.specs.Rest.{ends_of, IsAtRest}
 use Rattle.smb_engine.specs.Run.{Ran, run}

@@ -2,7 +2,7 @@
 use Rattle.std.proofs.Common.{◌≡◌, ℕ, zero, suc, List, [], ◌∷◌, ◌++◌, None, refl, ap}
 use Rattle.smb_session.specs.Authenticator.{Meaning}
 use Rattle.smb_request.specs.State.{connection_ended}
-use Rattle.smb_engine.specs.Event.{EventText, opens, ends}
+use Rattle.smb_peers.specs.Event.{EventText, opens, ends}
 use Rattle.smb_engine.specs.Good.{GoodState}
 use Rattle.smb_engine.specs.Rest.{ends_of}
 use Rattle.smb_engine.specs.Run.{Ran, run}

@@ -9,7 +9,7 @@ use Rattle.smb_opens.specs.Readers.{LeavesFiles, is_to_go}
 use Rattle.smb_opens.specs.State.{StoreState}
 use Rattle.smb_request.specs.Owners.{AreOwned}
 use Rattle.smb_request.specs.Settings.{Settings, is_lawful}
-use Rattle.smb_engine.specs.Event.{EventText}
+use Rattle.smb_peers.specs.Event.{EventText}
 use Rattle.smb_engine.specs.Good.{GoodState}
 use Rattle.smb_engine.specs.Rest.{ends_of, IsAtRest}
 use Rattle.smb_engine.specs.Run.{Ran, run}

@@ -1,7 +1,7 @@
 -- A start from a journal: its events are performed, and then the connections that are open end (docs/DATA.md).
 use Rattle.std.specs.Prelude.{◌≡◌, List, ◌++◌, length, None}
 use Rattle.smb_session.specs.Authenticator.{Meaning}
-use Rattle.smb_engine.specs.Event.{EventText}
+use Rattle.smb_peers.specs.Event.{EventText}
 use Rattle.smb_engine.specs.Good.{GoodState}
 use Rattle.smb_engine.specs.Laws.{run_after}
 use Rattle.smb_engine.specs.Rest.{ends_of}

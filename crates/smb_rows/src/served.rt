@@ -3,12 +3,10 @@
 use crate::fault::PlayFault;
 use crate::one_by_one::write_begin;
 use crate::steps::{first_moment, steps};
-use smb_client::taken_from;
-use smb_engine::{
-    Answer, Authenticator, Event, ListClock, MemoryPeers, Opens, PeerEvent, Peers, SendFault,
-    Share, Tree, serve,
-};
+use smb_engine::{Answer, Authenticator, Event, Opens, Share, Tree};
+use smb_peers::{ListClock, PeerEvent, Peers, SendFault};
 use smb_replay::{CommandFault, write_answers};
+use smb_serving::{MemoryPeers, serve, taken_from};
 use std::alloc::Global;
 use std::io;
 use std::io::Write;
@@ -28,7 +26,7 @@ struct ToldPeers<W: Write + Drop> {
 
 impl<W: Write + Drop> Peers for ToldPeers<W> {
     ghost use Rattle.std.specs.Prelude.{take};
-    ghost use Rattle.smb_engine.specs.MemoryPeers.{opened_by};
+    ghost use Rattle.smb_serving.specs.MemoryPeers.{opened_by};
 
     ghost calls = { λ p. p.peers.calls };
 

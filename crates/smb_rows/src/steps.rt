@@ -2,10 +2,11 @@
 
 ghost use Rattle.std.specs.Prelude.{◌≡◌, ◌==◌, IfOk, IsTrue};
 ghost use Rattle.std.specs.List.{list_any};
-ghost use Rattle.smb_engine.specs.MemoryPeers.{are_distinct, opened_by};
+ghost use Rattle.smb_serving.specs.MemoryPeers.{are_distinct, opened_by};
 
 use crate::fault::PlayFault;
-use smb_engine::{Event, PeerStep};
+use smb_engine::Event;
+use smb_serving::PeerStep;
 use std::alloc::{AllocError, Global};
 
 /// Whether steps open the connection of a number.

@@ -2,7 +2,7 @@
 
 ghost use Rattle.std.specs.Prelude.{◌≡◌, ◌≤◌};
 
-use smb_engine::{Clock, FILETIME_OF_1970, filetime_of};
+use smb_peers::{Clock, FILETIME_OF_1970, filetime_of};
 use std::time;
 
 /// The clock of the system. It never goes back: where the system's does, or cannot be read, it gives the last moment again. It begins with 1970.

@@ -1,7 +1,7 @@
 //! The peers of a TCP listener.
 
 ghost use Rattle.std.specs.Prelude.{◌≡◌, ◌<◌, ◌≤◌, ◌+◌, true, IfSome, IfNone, vec_len};
-ghost use Rattle.smb_engine.specs.Peers.{OpensOnce};
+ghost use Rattle.smb_peers.specs.Peers.{OpensOnce};
 ghost use Rattle.smb_tcp.specs.Numbers.{numbers_to};
 
 use super::connection::{Connection, LISTENER, SilenceLimits, mark_all};
@@ -10,7 +10,7 @@ use super::facts::PeerFacts;
 use super::piece::{Piece, READ_SIZE};
 use mio::net::{TcpListener, TcpStream};
 use mio::{Events, Interest, Poll, Token};
-use smb_engine::{PeerEvent, Peers, SendFault};
+use smb_peers::{PeerEvent, Peers, SendFault};
 use std::alloc::Global;
 use std::io::{ErrorKind, Write};
 use std::net::Net;

@@ -2,18 +2,19 @@
 //! sends bytes over memory: READs for its whole window in one piece, or for more bytes than it may be owed.
 
 ghost use Rattle.std.specs.Prelude.{IfSome, IsTrue};
-ghost use Rattle.smb_engine.specs.MemoryPeers.{are_distinct, opened_by};
+ghost use Rattle.smb_serving.specs.MemoryPeers.{are_distinct, opened_by};
 
 use super::calls::{Served, built_in};
 use super::reads::{OPENING, byte_at};
 use super::talk::{Talk, comes_in, is_told, logs_in, made};
 use smb_client::{
     AdditionalInformation, Capabilities, Client, ClientFault, Dialects, Guid, InfoType,
-    InformationClass, NegotiateRequest, Pair, Replies, Reply, Request, SecurityMode,
-    SetInfoRequest, taken_from,
+    InformationClass, NegotiateRequest, Replies, Reply, Request, SecurityMode, SetInfoRequest,
 };
-use smb_engine::{ListClock, MemoryPeers, PeerStep, serve};
 use smb_layer_tests::words::{MOMENT, frames};
+use smb_pair::Pair;
+use smb_peers::ListClock;
+use smb_serving::{MemoryPeers, PeerStep, serve, taken_from};
 use smb_wire::{FileId, NtStatus};
 use std::alloc::Global;
 

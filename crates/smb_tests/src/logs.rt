@@ -1,11 +1,10 @@
 //! What a log says that no replay brings about: ends of all kinds, users of all names, moments, a write that fails, and peers.
 
-use smb_engine::{
-    Config, HandleTable, ListClock, MemoryPeers, NodeTree, PeerStep, SendStep, Share, Tokens, User,
-    serve,
-};
+use smb_engine::{Config, HandleTable, NodeTree, Share, Tokens, User};
 use smb_log::{Ending, Level, Log, LoggedLogin, LoggedPeers, NoFacts, Refusal, Visitors};
 use smb_log_text::{put_moment, put_user};
+use smb_peers::ListClock;
+use smb_serving::{MemoryPeers, PeerStep, SendStep, serve};
 use std::alloc::{AllocError, Global};
 use std::io;
 use std::io::{Error, ErrorKind, Write};

@@ -1,12 +1,13 @@
 //! A share that is served to peers over memory.
 
 ghost use Rattle.std.specs.Prelude.{◌≡◌, [], IfSome, IsTrue};
-ghost use Rattle.smb_engine.specs.MemoryPeers.{are_distinct, opened_by};
-ghost use Rattle.smb_engine.specs.MemoryRecord.{step_opens};
+ghost use Rattle.smb_serving.specs.MemoryPeers.{are_distinct, opened_by};
+ghost use Rattle.smb_serving.specs.MemoryRecord.{step_opens};
 
 use super::calls::{Served, built_in};
-use smb_engine::{ListClock, MemoryPeers, PeerStep, Peers, SendStep, serve};
 use smb_layer_tests::words::{ECHO, MOMENT, NEGOTIATE, NEGOTIATED, frames};
+use smb_peers::{ListClock, Peers};
+use smb_serving::{MemoryPeers, PeerStep, SendStep, serve};
 use std::alloc::Global;
 
 /// How many calls and bytes the peers have room for.

@@ -1,11 +1,12 @@
 //! A client over memory that asks for all that a window allows in one piece.
 
 ghost use Rattle.std.specs.Prelude.{◌<◌, IfSome, IsTrue};
-ghost use Rattle.smb_engine.specs.MemoryPeers.{are_distinct, opened_by};
+ghost use Rattle.smb_serving.specs.MemoryPeers.{are_distinct, opened_by};
 
 use super::calls::{Served, built_in};
-use smb_engine::{ListClock, MemoryPeers, PeerStep, serve};
 use smb_layer_tests::words::{MOMENT, frames};
+use smb_peers::ListClock;
+use smb_serving::{MemoryPeers, PeerStep, serve};
 use std::alloc::Global;
 
 /// How many MessageIds a window holds at most, and the first of the READs.

@@ -1,8 +1,8 @@
 //! A share that is served over TCP, with its client in the same thread.
 
 use super::calls::{Served, built_in};
-use smb_engine::serve;
 use smb_layer_tests::words::{NEGOTIATE, NEGOTIATED, frames};
+use smb_serving::serve;
 use smb_tcp::{SystemClock, TcpPeers};
 use std::alloc::Global;
 use std::io;

@@ -1,14 +1,16 @@
 //! A client that talks to a share in names, through calls and over peers in memory.
 
 ghost use Rattle.std.specs.Prelude.{IfSome, IsTrue};
-ghost use Rattle.smb_engine.specs.MemoryPeers.{are_distinct, opened_by};
+ghost use Rattle.smb_serving.specs.MemoryPeers.{are_distinct, opened_by};
 
 use super::calls::{Served, built_in};
-use smb_client::{Client, ClientFault, Pair, Replies, taken_from};
-use smb_engine::{ListClock, MemoryPeers, PeerStep, serve};
+use smb_client::{Client, ClientFault, Replies};
 use smb_handles::HandleTable;
 use smb_layer_tests::words::MOMENT;
 use smb_nodes::NodeTree;
+use smb_pair::Pair;
+use smb_peers::ListClock;
+use smb_serving::{MemoryPeers, PeerStep, serve, taken_from};
 use smb_session::Tokens;
 use smb_wire::{CreateDisposition, FileId, NtStatus};
 use std::alloc::Global;

@@ -33,6 +33,7 @@ mod plain;
 mod stored;
 mod texts;
 mod tree;
+mod usage;
 mod whole_names;
 
 pub use entry::{Basic, EntryNo, EntryView, KEPT_ATTRIBUTES, Kind, allocation_size};
@@ -41,3 +42,4 @@ pub use fault::TreeFault;
 pub use laws::{laws_of_contents, laws_of_moves};
 pub use plain::PlainTree;
 pub use tree::{CHILDREN_AT_ONCE, Children, Tree};
+pub use usage::Usage;

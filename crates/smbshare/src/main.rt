@@ -1,29 +1,14 @@
 //! The command `smbshare`: a proved SMB2 file share.
 #![tactic(auto)]
 
-mod clock;
-mod compaction;
-mod fault;
-mod hearing;
-mod logging;
-mod login;
-mod notices;
-mod replaying;
-mod serve;
-mod served_record;
-
 use clap::ArgMatches;
 use clap::error::ErrorKind as WordFault;
-use compaction::compact;
-use fault::Fault;
-use logging::{Heard, LogWords};
-use replaying::{extract, print_recording, replay_input};
-use serve::{ServeWords, serve_share};
 use smb_command_line::{CommandLine, Login, Texts, command, login_of};
+use smb_commands::{
+    Fault, Form, Heard, KeepWords, Level, LogWords, ServeWords, compact, extract, print_recording,
+    replay_input, serve_share,
+};
 use smb_config::BUILT_IN;
-use smb_journal::Form;
-use smb_kept::KeepWords;
-use smb_log::Level;
 use smb_replay::{CommandFault, Detail, Given, hash_password, show_fields, show_text};
 use std::io::{BufWriter, ErrorKind, IsTerminal};
 use std::process::ExitCode;

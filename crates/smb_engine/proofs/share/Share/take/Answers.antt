@@ -2,7 +2,7 @@ use Rattle.std.proofs.Common.{refl, sym, subst, ap, ◌∙◌, is_some, if◌the
 use Rattle.std.specs.BTreeMap.{is_at}
 use Rattle.std.specs.Ordering.{nat_cmp}
 use Rattle.smb_session.specs.Numbers.{IsRising}
-use Rattle.smb_engine.specs.declared.event.Fate.TheVariants.{Open, Ended}
+use Rattle.smb_peers.specs.declared.event.Fate.TheVariants.{Open, Ended}
 use Rattle.smb_engine.proofs.Streams.{waits_found, remove-set, take_none, take_open, take_over, take_stopped}
 use Rattle.smb_engine.proofs.Kept.{kept_set, kept_over}
 use Rattle.smb_engine.proofs.Order.{lookup-set, stream_of-without}

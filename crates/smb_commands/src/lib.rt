@@ -1,0 +1,33 @@
+//! The commands of the program that have a share: `serve`, `replay`, `extract` and `compact`.
+//!
+//! ```text
+//!    serve_share      a share to clients over TCP: new, or with the files of a folder; recorded, logged, or neither
+//!    replay_input     the events of standard input, performed on a share; print_recording: those of a recording
+//!    extract, compact the files that the recording on standard input leaves, as a folder, or as a new journal
+//! ```
+//!
+//! A caller reads the words of a command and the texts of its files (smb_command_line), and hands them on. What ends a command is a
+//! [`Fault`], which prints itself and gives the exit status.
+//!
+//! Its calls have no clauses: that they are safe and return is proved, and what they do is tested over the program (docs/TESTING.md).
+#![tactic(auto)]
+
+mod clock;
+mod compaction;
+mod fault;
+mod hearing;
+mod logging;
+mod login;
+mod notices;
+mod replaying;
+mod serve;
+mod served_record;
+
+pub use compaction::compact;
+pub use fault::Fault;
+pub use logging::{Heard, LogWords};
+pub use replaying::{extract, print_recording, replay_input};
+pub use serve::{ServeWords, serve_share};
+pub use smb_journal::Form;
+pub use smb_kept::KeepWords;
+pub use smb_log::Level;

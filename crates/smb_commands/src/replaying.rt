@@ -1,0 +1,213 @@
+//! Events performed without serving a share: those of standard input, and those of a recording, whose answers are printed or
+//! whose files are taken out.
+
+use crate::fault::Fault;
+use crate::hearing::Hearing;
+use crate::logging::LogWords;
+use crate::login::{ntlm_of, random_seed, read_accounts};
+use smb_command_line::{Login, Texts};
+use smb_config::Configuration;
+use smb_engine::{Answer, Authenticator, Config, Event, HandleTable, NodeTree, Share, Tokens};
+use smb_journal::{JournalFault, Mailbox, RecordedLogin};
+use smb_kept::{Hears, KeptFault, nobody, perform_file, read_recording, recorded_login, share_of};
+use smb_log::{LoggedLogin, Visitors};
+use smb_replay::{CommandFault, Detail, replay_heard, write_answers};
+use std::fs;
+use std::io::{BufWriter, ErrorKind, Write};
+
+/// Where standard input is read again from its start, where it is a file.
+pub const STANDARD_INPUT: &str = "/dev/stdin";
+
+/// Replays standard input on a share, and gives the exit status.
+fn replay_by<A: Authenticator + Drop>(
+    rt: &HostRuntime,
+    config: Config,
+    authenticator: A,
+    mut hearing: Hearing<'_>,
+    detail: Detail<'_>,
+) -> Result<u8, Fault> {
+    let alloc = rt.alloc();
+    let Ok(mut output) = BufWriter::new(alloc, rt.stdout()) else {
+        return Err(Fault::Command(CommandFault::NoMemory));
+    };
+    let mut errors = rt.stderr();
+    let share = share_of(alloc, config, authenticator)?;
+    let status = replay_heard(
+        alloc,
+        share,
+        detail,
+        rt.stdin(),
+        &mut output,
+        &mut errors,
+        &mut hearing,
+    );
+    hearing.finish();
+    Ok(status)
+}
+
+/// Replays standard input on a share to which clients log in by NTLM, and gives the exit status.
+fn replay_by_ntlm(
+    rt: &HostRuntime,
+    texts: &Texts,
+    configuration: Configuration,
+    seed: Option<[u8; 16]>,
+    log: Option<LogWords<'_>>,
+    detail: Detail<'_>,
+) -> Result<u8, Fault> {
+    let accounts = read_accounts(rt.alloc(), texts.accounts())?;
+    let ntlm = ntlm_of(rt.alloc(), &configuration, accounts, seed)?;
+    let config = configuration.config;
+    let visitors = Visitors::new(rt.alloc());
+    let hearing = Hearing::open(rt, log, &visitors, config.created)?;
+    replay_by(
+        rt,
+        config,
+        LoggedLogin::new(ntlm, &visitors),
+        hearing,
+        detail,
+    )
+}
+
+/// Replays standard input on a share to which clients log in by tokens, and gives the exit status.
+fn replay_by_token(
+    rt: &HostRuntime,
+    configuration: Configuration,
+    log: Option<LogWords<'_>>,
+    detail: Detail<'_>,
+) -> Result<u8, Fault> {
+    let Configuration {
+        config,
+        authenticator,
+        ..
+    } = configuration;
+    let visitors = Visitors::new(rt.alloc());
+    let hearing = Hearing::open(rt, log, &visitors, config.created)?;
+    let login = LoggedLogin::new(authenticator, &visitors);
+    replay_by(rt, config, login, hearing, detail)
+}
+
+/// Replays standard input on a share of these texts, and gives the exit status.
+pub fn replay_input(
+    rt: &HostRuntime,
+    texts: &Texts,
+    login: Login,
+    log: Option<LogWords<'_>>,
+    detail: Detail<'_>,
+) -> Result<u8, Fault> {
+    let configuration = Configuration::read(rt.alloc(), texts.config.as_str())?;
+    match login {
+        Login::Token => replay_by_token(rt, configuration, log, detail),
+        Login::Ntlm(seed) => replay_by_ntlm(rt, texts, configuration, seed, log, detail),
+    }
+}
+
+/// Writes what the share answers, and logs it, up to a piece in which somebody was asked: it was never answered.
+#[derive(Drop)]
+struct Printer<'m, W: Write + Drop> {
+    output: W,
+    mailbox: &'m Mailbox,
+    hearing: Hearing<'m>,
+    has_failed: bool,
+}
+
+impl<W: Write + Drop> Hears for Printer<'_, W> {
+    fn hear(&mut self, event: &Event, answers: &[Answer]) -> Result<(), JournalFault> {
+        if self.mailbox.has_asked() {
+            return Ok(());
+        }
+        smb_replay::Hears::hear(&mut self.hearing, event, answers);
+        if !answers.is_empty() && write_answers(answers, &mut self.output).is_err() {
+            self.has_failed = true;
+            return Err(JournalFault::Unwritten(ErrorKind::BrokenPipe));
+        }
+        Ok(())
+    }
+
+    fn cut_short(&mut self, connection: u64) {
+        self.hearing.cut_short(connection);
+    }
+}
+
+/// A share whose recording is printed: its clients are let in by the recorded answers.
+#[derive(Drop)]
+struct Printed<'m> {
+    share: Share<LoggedLogin<'m, RecordedLogin<'m, Tokens>>, NodeTree, HandleTable>,
+    /// When it was made, in units of 100 ns since 1601.
+    created: u64,
+}
+
+/// The share of a recording, on which nothing is performed yet.
+fn printed_of<'m>(
+    rt: &HostRuntime,
+    path: &str,
+    mailbox: &'m Mailbox,
+    visitors: &'m Visitors,
+) -> Result<Printed<'m>, Fault> {
+    let alloc = rt.alloc();
+    let (header, given) = read_recording(rt, path)?;
+    let config = header.config(alloc).map_err(KeptFault::Journal)?;
+    let created = config.created;
+    let login = recorded_login(header.hello, given, nobody(alloc)?, mailbox)?;
+    let share = share_of(alloc, config, LoggedLogin::new(login, visitors))?;
+    Ok(Printed { share, created })
+}
+
+/// Performs a recording on its share, and prints what it answers.
+fn print_events<A: Authenticator + Drop>(
+    rt: &HostRuntime,
+    path: &str,
+    share: &mut Share<A, NodeTree, HandleTable>,
+    mailbox: &Mailbox,
+    hearing: Hearing<'_>,
+) -> Result<(), Fault> {
+    let Ok(output) = BufWriter::new(rt.alloc(), rt.stdout()) else {
+        return Err(Fault::Command(CommandFault::NoMemory));
+    };
+    let mut printer = Printer {
+        output,
+        mailbox,
+        hearing,
+        has_failed: false,
+    };
+    let performed = perform_file(rt, path, share, &mut printer);
+    let has_failed = printer.has_failed;
+    printer.hearing.finish();
+    match performed {
+        Ok(_) => Ok(()),
+        Err(_) if has_failed => Err(Fault::Command(CommandFault::OutputFailed)),
+        Err(fault) => Err(Fault::Kept(fault)),
+    }
+}
+
+/// Prints what a share answered that is recorded in a file, a line for each frame, and for each connection that it ended.
+pub fn print_recording(
+    rt: &HostRuntime,
+    path: &str,
+    log: Option<LogWords<'_>>,
+) -> Result<(), Fault> {
+    let mailbox = Mailbox::new(rt.alloc());
+    mailbox.close();
+    let visitors = Visitors::new(rt.alloc());
+    match printed_of(rt, path, &mailbox, &visitors) {
+        Ok(mut printed) => {
+            let hearing = Hearing::open(rt, log, &visitors, printed.created)?;
+            print_events(rt, path, &mut printed.share, &mailbox, hearing)
+        }
+        Err(fault) => Err(fault),
+    }
+}
+
+/// Refuses a standard input that can't be read twice.
+pub fn check_input(rt: &HostRuntime) -> Result<(), Fault> {
+    match fs::metadata(rt, STANDARD_INPUT) {
+        Ok(found) if found.is_file() => Ok(()),
+        _ => Err(Fault::Kept(KeptFault::Journal(JournalFault::NoFile))),
+    }
+}
+
+/// Makes a new folder of the files and folders that the recording on standard input leaves.
+pub fn extract(rt: &HostRuntime, folder: &str) -> Result<(), Fault> {
+    check_input(rt)?;
+    let token = random_seed()?;
+    Ok(smb_kept::extract(rt, STANDARD_INPUT, folder, token)?)
+}

@@ -1,0 +1,275 @@
+//! The command `serve`: a share to clients over TCP.
+
+use crate::clock::ServeClock;
+use crate::compaction::write_anew_or_say;
+use crate::fault::Fault;
+use crate::logging::{Heard, LogWords, ServedPeers, log_of};
+use crate::login::{ntlm_of, read_accounts};
+use crate::notices::{Entrance, say_notices};
+use crate::served_record::{Serving, serve_folder, serve_recorded, serve_recorded_folder};
+use mio::net::TcpListener;
+use smb_command_line::{Login, Texts};
+use smb_config::Configuration;
+use smb_engine::{Authenticator, Config, HandleTable, NodeTree, Share};
+use smb_kept::{KeepWords, share_of};
+use smb_log::{LoggedLogin, LoggedPeers};
+use smb_replay::{CommandFault, ListenFault};
+use smb_serving::serve_until;
+use smb_tcp::TcpPeers;
+use std::io::ErrorKind;
+use std::net::SocketAddr;
+use std::time::Duration;
+use std::{io, net};
+
+/// How many seconds a turn waits at most where no client has anything to say.
+const LONGEST_WAIT: u64 = 1;
+
+/// What the words of the command say.
+#[derive(Clone, Copy)]
+pub struct ServeWords<'a> {
+    /// The texts of the files that they name.
+    pub texts: &'a Texts,
+    pub login: Login,
+    /// An IP address with a port.
+    pub listen: &'a str,
+    pub turns: u64,
+    /// After how many seconds a connection ends that says nothing and takes nothing; 0: after none.
+    pub idle_seconds: u64,
+    /// After how many seconds a connection ends that was never answered; 0: after none.
+    pub unanswered_seconds: u64,
+    /// Where the share is recorded, if it is.
+    pub record: Option<KeepWords<'a>>,
+    /// The folder whose files the share begins with.
+    pub from: Option<&'a str>,
+    /// The moment of the first piece, for tests.
+    pub clock: Option<u64>,
+    /// Where the share is logged, if it is, and what the log hears of.
+    pub log: Option<LogWords<'a>>,
+    pub heard: &'a Heard,
+    /// Whether a journal is written anew first that is much longer than its files ask for.
+    pub writes_anew: bool,
+}
+
+/// Why a call of the system failed that makes a listener or its peers.
+fn fault_of(error: io::Error) -> CommandFault {
+    match error.kind() {
+        ErrorKind::OutOfMemory => CommandFault::NoMemory,
+        kind => CommandFault::ListenFailed(ListenFault::from(kind)),
+    }
+}
+
+/// A listener at an address.
+fn listen(rt: &HostRuntime, address: &str) -> Result<net::TcpListener, CommandFault> {
+    let Ok(address) = address.parse::<SocketAddr>() else {
+        return Err(CommandFault::ListenFailed(ListenFault::NotAnAddress));
+    };
+    match TcpListener::bind(rt, address) {
+        Ok(listener) => Ok(net::TcpListener::from(listener)),
+        Err(error) => Err(fault_of(error)),
+    }
+}
+
+/// Says on standard error where a listener is, with the port that the system gave for port 0.
+fn announce(rt: &HostRuntime, listener: &net::TcpListener) {
+    if let Ok(address) = listener.local_addr() {
+        let _ = eprintln!(rt; "listening on {address}");
+    }
+}
+
+/// A listener where the words say, once the share is ready. Standard error says so, and who can't log in.
+fn begin_to_listen(
+    rt: &HostRuntime,
+    words: &ServeWords<'_>,
+    entrance: Entrance,
+) -> Result<net::TcpListener, CommandFault> {
+    let listener = listen(rt, words.listen)?;
+    announce(rt, &listener);
+    say_notices(rt, words.texts, words.login, entrance);
+    Ok(listener)
+}
+
+/// The peers of a listener, with the limits of silence that the words say.
+fn peers_of<'a>(
+    rt: &'a HostRuntime,
+    words: &ServeWords<'a>,
+    listener: net::TcpListener,
+) -> Result<TcpPeers<'a, HostRuntime>, CommandFault> {
+    let wait = Duration::from_secs(LONGEST_WAIT);
+    let mut peers = match TcpPeers::waiting(rt, rt.alloc(), listener, wait) {
+        Ok(peers) => peers,
+        Err(error) => return Err(fault_of(error)),
+    };
+    if words.idle_seconds > 0 {
+        peers = peers.with_idle_limit(Duration::from_secs(words.idle_seconds));
+    }
+    if words.unanswered_seconds > 0 {
+        peers = peers.with_unanswered_limit(Duration::from_secs(words.unanswered_seconds));
+    }
+    if words.log.is_some() {
+        peers = peers.with_facts(&words.heard.facts.peers);
+    }
+    Ok(peers)
+}
+
+/// The peers of a share whose next connection has the number `next`, once it listens: all of them are logged, where the words ask for it.
+pub fn listening_peers<'a>(
+    rt: &'a HostRuntime,
+    words: &ServeWords<'a>,
+    entrance: Entrance,
+    next: u64,
+) -> Result<ServedPeers<'a>, Fault> {
+    let log = log_of(rt, words.log)?;
+    let stops = words.log.is_some_and(|log| log.must);
+    let listener = begin_to_listen(rt, words, entrance)?;
+    let peers = peers_of(rt, words, listener)?;
+    let clock = ServeClock::new(rt, words.clock);
+    let heard = words.heard;
+    Ok(LoggedPeers::new(
+        rt.alloc(),
+        peers,
+        &heard.facts,
+        clock,
+        &heard.visitors,
+        log,
+        stops,
+        next,
+    ))
+}
+
+/// What is served, once all is said of it that is logged.
+pub fn end_of(peers: ServedPeers<'_>) -> Result<Served, Fault> {
+    if peers.finish() {
+        Ok(Served::Done)
+    } else {
+        Err(Fault::LogFailed)
+    }
+}
+
+/// What came of serving a share.
+#[derive(Clone, Copy, Debug, PartialEq, Eq)]
+pub enum Served {
+    Done,
+    /// Its journal is to be written anew first.
+    NotYet,
+}
+
+/// Serves a share whose next connection has the number `next`, for so many turns.
+pub fn serve_peers<A: Authenticator + Drop>(
+    serving: Serving<'_, '_>,
+    share: &mut Share<A, NodeTree, HandleTable>,
+    clock: &mut ServeClock<'_>,
+    next: u64,
+) -> Result<Served, Fault> {
+    let Serving {
+        rt,
+        words,
+        entrance,
+    } = serving;
+    match listening_peers(rt, words, entrance, next) {
+        Ok(mut peers) => {
+            let _ = serve_until(share, &mut peers, clock, words.turns);
+            end_of(peers)
+        }
+        Err(fault) => Err(fault),
+    }
+}
+
+/// Serves a new share of which nothing is kept, for so many turns.
+fn serve_new<A: Authenticator + Drop>(
+    serving: Serving<'_, '_>,
+    config: Config,
+    authenticator: A,
+) -> Result<Served, Fault> {
+    let mut clock = ServeClock::new(serving.rt, serving.words.clock);
+    match share_of(serving.rt.alloc(), config, authenticator) {
+        Ok(mut share) => serve_peers(serving, &mut share, &mut clock, 1),
+        Err(fault) => Err(Fault::Kept(fault)),
+    }
+}
+
+/// Serves a share. Whether it can listen is tried before anything is made.
+fn serve_by<A: Authenticator + Drop>(
+    rt: &HostRuntime,
+    words: &ServeWords<'_>,
+    entrance: Entrance,
+    config: Config,
+    authenticator: A,
+) -> Result<Served, Fault> {
+    let serving = Serving {
+        rt,
+        words,
+        entrance,
+    };
+    drop(listen(rt, words.listen)?);
+    match (words.record, words.from) {
+        (Some(record), Some(folder)) => {
+            serve_recorded_folder(serving, record, folder, config, authenticator)
+        }
+        (Some(record), None) => serve_recorded(serving, record, config, authenticator),
+        (None, Some(folder)) => serve_folder(serving, folder, config, authenticator),
+        (None, None) => serve_new(serving, config, authenticator),
+    }
+}
+
+/// Serves a share to which clients log in by tokens.
+fn serve_by_token(
+    rt: &HostRuntime,
+    words: &ServeWords<'_>,
+    entrance: Entrance,
+    configuration: Configuration,
+) -> Result<Served, Fault> {
+    let Configuration {
+        config,
+        authenticator,
+        ..
+    } = configuration;
+    let login = LoggedLogin::new(authenticator, &words.heard.visitors);
+    serve_by(rt, words, entrance, config, login)
+}
+
+/// Serves a share to which clients log in by NTLM.
+fn serve_by_ntlm(
+    rt: &HostRuntime,
+    words: &ServeWords<'_>,
+    mut entrance: Entrance,
+    configuration: Configuration,
+    seed: Option<[u8; 16]>,
+) -> Result<Served, Fault> {
+    let alloc = rt.alloc();
+    let accounts = read_accounts(alloc, words.texts.accounts())?;
+    entrance.accounts = accounts.list.len();
+    let ntlm = ntlm_of(alloc, &configuration, accounts, seed)?;
+    let login = LoggedLogin::new(ntlm, &words.heard.visitors);
+    serve_by(rt, words, entrance, configuration.config, login)
+}
+
+/// Serves a share of a configuration, for so many turns, where its journal is not to be written anew first.
+fn serve_configured(rt: &HostRuntime, words: &ServeWords<'_>) -> Result<Served, Fault> {
+    let configuration = Configuration::read(rt.alloc(), words.texts.config.as_str())?;
+    let entrance = Entrance {
+        guest: configuration.guest,
+        users: configuration.users,
+        accounts: 0,
+    };
+    match words.login {
+        Login::Token => serve_by_token(rt, words, entrance, configuration),
+        Login::Ntlm(seed) => serve_by_ntlm(rt, words, entrance, configuration, seed),
+    }
+}
+
+/// Serves a share of a configuration, for so many turns. A journal that is much longer than its files ask for is written anew first;
+/// where that can't be done, standard error says why, and it is gone on with as it is.
+pub fn serve_share(rt: &HostRuntime, words: &ServeWords<'_>) -> Result<(), Fault> {
+    if serve_configured(rt, words)? == Served::Done {
+        return Ok(());
+    }
+    if let Some(record) = words.record {
+        write_anew_or_say(rt, record.path);
+    }
+    let words = ServeWords {
+        writes_anew: false,
+        ..*words
+    };
+    let _ = serve_configured(rt, &words)?;
+    Ok(())
+}

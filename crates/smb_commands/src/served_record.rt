@@ -1,0 +1,336 @@
+//! A share that is served and recorded, or that begins with the files of a folder.
+
+use crate::clock::ServeClock;
+use crate::fault::Fault;
+use crate::logging::ServedPeers;
+use crate::notices::Entrance;
+use crate::serve::{ServeWords, Served, end_of, listening_peers, serve_peers};
+use smb_engine::{Authenticator, Config};
+use smb_journal::{Form, GivenAnswer, Mailbox, RecordedClock, RecordedPeers, Recorder, Store};
+use smb_kept::{
+    Begun, KeepWords, Keeping, KeptFault, OwnLine, RecordedShare, is_long, own_answer, own_answers,
+    path_of, put_folder_in, recorded_share,
+};
+use smb_serving::serve_until;
+use std::cell::Cell;
+use std::collections::VecDeque;
+use std::fs::File;
+use std::io;
+
+/// What recorded peers share with the clock and the authenticator of their share.
+#[derive(Clone, Copy)]
+struct Shared<'a> {
+    moment: &'a Cell<u64>,
+    mailbox: &'a Mailbox,
+}
+
+/// Keeps nothing.
+#[derive(Clone, Copy, Debug, Drop)]
+struct Nowhere;
+
+impl Store for Nowhere {
+    fn add(&mut self, _bytes: &[u8]) -> io::Result<()> {
+        Ok(())
+    }
+
+    fn settle(&mut self) -> io::Result<()> {
+        Ok(())
+    }
+}
+
+/// The peers of a share of which all is recorded.
+type Recorded<'a> = RecordedPeers<'a, ServedPeers<'a>, ServeClock<'a>, File>;
+
+/// What is served, and how.
+#[derive(Clone, Copy)]
+pub struct Serving<'a, 'w> {
+    pub rt: &'a HostRuntime,
+    pub words: &'w ServeWords<'a>,
+    pub entrance: Entrance,
+}
+
+/// The peers of a share of which all is recorded, once it listens.
+fn recorded_peers<'a>(
+    serving: Serving<'a, '_>,
+    begun: Begun,
+    shared: Shared<'a>,
+    clock: ServeClock<'a>,
+) -> Result<Recorded<'a>, Fault> {
+    let Serving {
+        rt,
+        words,
+        entrance,
+    } = serving;
+    let Begun { recorder, next, .. } = begun;
+    let peers = listening_peers(rt, words, entrance, next)?;
+    let Shared { moment, mailbox } = shared;
+    let recorded = RecordedPeers::new(rt.alloc(), peers, clock, moment, mailbox, recorder, next)?;
+    Ok(recorded)
+}
+
+/// What is served, once all of it is recorded and logged.
+fn end_of_recorded(recorded: Recorded<'_>) -> Result<Served, Fault> {
+    let (recorder, peers) = recorded.finish();
+    let ended = end_of(peers);
+    if recorder.has_failed() {
+        return Err(Fault::Kept(KeptFault::RecordFailed));
+    }
+    ended
+}
+
+/// Serves a share of which all is recorded.
+fn serve_begun<A: Authenticator + Drop>(
+    serving: Serving<'_, '_>,
+    share: &mut RecordedShare<'_, A>,
+    begun: Begun,
+    mailbox: &Mailbox,
+    clock: ServeClock<'_>,
+) -> Result<Served, Fault> {
+    let moment = Cell::new(0);
+    let shared = Shared {
+        moment: &moment,
+        mailbox,
+    };
+    match recorded_peers(serving, begun, shared, clock) {
+        Ok(mut recorded) => {
+            let mut told = RecordedClock::new(&moment);
+            let _ = serve_until(share, &mut recorded, &mut told, serving.words.turns);
+            end_of_recorded(recorded)
+        }
+        Err(fault) => Err(fault),
+    }
+}
+
+/// Serves a share that begins with what its journal says, where that is not to be written anew first.
+fn serve_kept<A: Authenticator + Drop>(
+    serving: Serving<'_, '_>,
+    keeping: Keeping<'_>,
+    share: &mut RecordedShare<'_, A>,
+    mailbox: &Mailbox,
+) -> Result<Served, Fault> {
+    let begun = keeping.begin(serving.rt, share, mailbox)?;
+    if serving.words.writes_anew && is_long(begun.length, share.usage()) {
+        return Ok(Served::NotYet);
+    }
+    let clock = ServeClock::new(serving.rt, serving.words.clock);
+    serve_begun(serving, share, begun, mailbox, clock)
+}
+
+/// Puts the files of a folder into a share that is recorded.
+fn fill<A: Authenticator + Drop>(
+    serving: Serving<'_, '_>,
+    folder: &str,
+    path: &str,
+    share: &mut RecordedShare<'_, A>,
+    recorder: &mut Recorder<File>,
+    mailbox: &Mailbox,
+    clock: &mut ServeClock<'_>,
+) -> Result<(), Fault> {
+    let answer = own_answer(serving.rt.alloc())?;
+    let mut line = OwnLine::new(share, recorder, mailbox, clock, Some(answer));
+    Ok(put_folder_in(serving.rt, folder, path, &mut line)?)
+}
+
+/// Serves a share of a path that begins with the files of a folder, and is recorded: in a file that was made, and that gets its name once
+/// all of them are put in.
+fn serve_filled<A: Authenticator + Drop>(
+    serving: Serving<'_, '_>,
+    folder: &str,
+    path: &str,
+    made: KeepWords<'_>,
+    name: &str,
+    keeping: Keeping<'_>,
+    share: &mut RecordedShare<'_, A>,
+    mailbox: &Mailbox,
+) -> Result<Served, Fault> {
+    let mut begun = keeping.begin(serving.rt, share, mailbox)?;
+    let mut clock = ServeClock::new(serving.rt, serving.words.clock);
+    fill(
+        serving,
+        folder,
+        path,
+        share,
+        &mut begun.recorder,
+        mailbox,
+        &mut clock,
+    )?;
+    made.give_name(serving.rt, name)?;
+    begun.next = 2;
+    serve_begun(serving, share, begun, mailbox, clock)
+}
+
+/// What a share is made of whose authenticator gives recorded answers first.
+#[derive(Drop)]
+struct Parts<A: Authenticator + Drop> {
+    config: Config,
+    hello: Vec<u8>,
+    given: VecDeque<GivenAnswer>,
+    authenticator: A,
+}
+
+/// A share of its parts.
+fn share_of_parts<'m, A: Authenticator + Drop>(
+    rt: &HostRuntime,
+    parts: Parts<A>,
+    mailbox: &'m Mailbox,
+) -> Result<RecordedShare<'m, A>, Fault> {
+    let Parts {
+        config,
+        hello,
+        given,
+        authenticator,
+    } = parts;
+    Ok(recorded_share(rt.alloc(), config, hello, given, authenticator, mailbox)?)
+}
+
+/// Serves a share of its parts, which is kept.
+fn serve_parts<A: Authenticator + Drop>(
+    serving: Serving<'_, '_>,
+    keeping: Keeping<'_>,
+    parts: Parts<A>,
+) -> Result<Served, Fault> {
+    let mailbox = Mailbox::new(serving.rt.alloc());
+    match share_of_parts(serving.rt, parts, &mailbox) {
+        Ok(mut share) => serve_kept(serving, keeping, &mut share, &mailbox),
+        Err(fault) => Err(fault),
+    }
+}
+
+/// Serves a share of its parts, which is kept, and begins with the files of a folder. None of its record is there after a fault.
+fn serve_filled_parts<A: Authenticator + Drop>(
+    serving: Serving<'_, '_>,
+    folder: &str,
+    path: &str,
+    made: KeepWords<'_>,
+    name: &str,
+    keeping: Keeping<'_>,
+    parts: Parts<A>,
+) -> Result<Served, Fault> {
+    let mailbox = Mailbox::new(serving.rt.alloc());
+    match share_of_parts(serving.rt, parts, &mailbox) {
+        Ok(mut share) => {
+            let served = serve_filled(
+                serving, folder, path, made, name, keeping, &mut share, &mailbox,
+            );
+            if served.is_err() {
+                made.remove(serving.rt);
+            }
+            served
+        }
+        Err(fault) => Err(fault),
+    }
+}
+
+/// The parts of a share that goes on as a file says.
+fn parts_of<A: Authenticator + Drop>(
+    rt: &HostRuntime,
+    keeping: &Keeping<'_>,
+    config: Config,
+    authenticator: A,
+) -> Result<Parts<A>, Fault> {
+    let hello = keeping.hello(rt.alloc())?;
+    let given = keeping.given(rt)?;
+    Ok(Parts {
+        config,
+        hello,
+        given,
+        authenticator,
+    })
+}
+
+/// The parts of a share that lets the program's own client in first.
+fn parts_to_fill<A: Authenticator + Drop>(
+    rt: &HostRuntime,
+    config: Config,
+    authenticator: A,
+) -> Result<Parts<A>, Fault> {
+    let hello = Vec::from_slice(rt.alloc(), authenticator.hello())?;
+    let given = own_answers(rt.alloc())?;
+    Ok(Parts {
+        config,
+        hello,
+        given,
+        authenticator,
+    })
+}
+
+/// Serves a share that is recorded: a new one, or one that goes on behind its journal.
+pub fn serve_recorded<A: Authenticator + Drop>(
+    serving: Serving<'_, '_>,
+    record: KeepWords<'_>,
+    config: Config,
+    authenticator: A,
+) -> Result<Served, Fault> {
+    let keeping = Keeping::open(serving.rt, record, &config, authenticator.hello())?;
+    let parts = parts_of(serving.rt, &keeping, config, authenticator)?;
+    serve_parts(serving, keeping, parts)
+}
+
+/// Serves a new share that begins with the files of a folder, and is recorded from its first event on.
+pub fn serve_recorded_folder<A: Authenticator + Drop>(
+    serving: Serving<'_, '_>,
+    record: KeepWords<'_>,
+    folder: &str,
+    config: Config,
+    authenticator: A,
+) -> Result<Served, Fault> {
+    let alloc = serving.rt.alloc();
+    record.refuse_existing(serving.rt)?;
+    let name = record.path;
+    let path = path_of(alloc, config.share.as_str())?;
+    let made_path = format!(in alloc; "{name}.new")?;
+    let made = KeepWords {
+        path: made_path.as_str(),
+        ..record
+    };
+    let keeping = Keeping::make(serving.rt, made, &config, authenticator.hello())?;
+    let parts = parts_to_fill(serving.rt, config, authenticator)?;
+    serve_filled_parts(serving, folder, path.as_str(), made, name, keeping, parts)
+}
+
+/// Serves a share once the files of a folder are put in, of which nothing is recorded.
+fn serve_unrecorded<A: Authenticator + Drop>(
+    serving: Serving<'_, '_>,
+    folder: &str,
+    path: &str,
+    share: &mut RecordedShare<'_, A>,
+    mailbox: &Mailbox,
+) -> Result<Served, Fault> {
+    let rt = serving.rt;
+    let mut clock = ServeClock::new(rt, serving.words.clock);
+    put_unrecorded(rt, folder, path, share, mailbox, &mut clock)?;
+    serve_peers(serving, share, &mut clock, 2)
+}
+
+/// Puts the files of a folder into a share, and records nothing.
+fn put_unrecorded<A: Authenticator + Drop>(
+    rt: &HostRuntime,
+    folder: &str,
+    path: &str,
+    share: &mut RecordedShare<'_, A>,
+    mailbox: &Mailbox,
+    clock: &mut ServeClock<'_>,
+) -> Result<(), Fault> {
+    let recorder = Recorder::new(rt.alloc(), Nowhere, Form::Journal, false, 0);
+    let mut recorder = recorder.map_err(KeptFault::Journal)?;
+    let mut line = OwnLine::new(share, &mut recorder, mailbox, clock, None);
+    Ok(put_folder_in(rt, folder, path, &mut line)?)
+}
+
+/// Serves a new share that begins with the files of a folder, and of which nothing is recorded.
+pub fn serve_folder<A: Authenticator + Drop>(
+    serving: Serving<'_, '_>,
+    folder: &str,
+    config: Config,
+    authenticator: A,
+) -> Result<Served, Fault> {
+    let rt = serving.rt;
+    let path = path_of(rt.alloc(), config.share.as_str())?;
+    let parts = parts_to_fill(rt, config, authenticator)?;
+    let mailbox = Mailbox::new(rt.alloc());
+    mailbox.close();
+    match share_of_parts(rt, parts, &mailbox) {
+        Ok(mut share) => serve_unrecorded(serving, folder, path.as_str(), &mut share, &mailbox),
+        Err(fault) => Err(fault),
+    }
+}

@@ -1,0 +1,5 @@
+pub mod Event
+pub mod Record
+pub mod Clock
+pub mod Peers
+pub mod Filetime

@@ -1,0 +1,16 @@
+pub mod Turning
+pub mod Numbers
+pub mod Accounts
+pub mod Happenings
+pub mod Books
+pub mod Moves
+pub mod Accounting
+pub mod NewNumbers
+pub mod Histories
+pub mod ServedRuns
+pub mod ServingLaw
+pub mod Once
+pub mod Scripts
+pub mod HeldCalls
+pub mod MemoryCalls
+pub mod TakenBytes
