@@ -23,6 +23,7 @@ use Rattle.smb_engine.specs.Good.{GoodState}
 use Rattle.smb_engine.specs.Laws.{requests_of_run}
 use Rattle.smb_peers.specs.Event.{EventText, opens, brings, ends, connection_of}
 use Rattle.smb_engine.proofs.Streams.{arrived, bytes_step-none, bytes_step-some}
+use Rattle.smb_request.specs.Request.{performed}
 use Rattle.smb_engine.proofs.Chains.{server-one_performed, first-server}
 
 -- some element has a property
@@ -60,7 +61,9 @@ module _ {S : Type 0} (m : Meaning S) (acts : ℕ → Bool) where
   module _ (n : ℕ) (a : acts n ≡ true) (moment : ℕ) where
     -- the requests of a chain
     abbrev came_of : ChainState S → List ℕ → PerformedRequest S
-    came_of chain request = record { before = chain.server; context = chain.context; request = Some request; after = (one_performed m (arrived n moment) chain request).server }
+    came_of chain request =
+        let done = performed m n moment chain.server chain.connection.dialect chain.context request in
+        record { before = chain.server; dialect = chain.connection.dialect; context = chain.context; request = Some request; after = (one_performed m (arrived n moment) chain request).server; response = done.response }
 
     one_left : (chain : ChainState S) (request : List ℕ) → IsInOrder chain.server → LeavesAt (came_of chain request ∷ []) chain.server (one_performed m (arrived n moment) chain request).server
     one_left chain request o =

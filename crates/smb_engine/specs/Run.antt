@@ -43,13 +43,15 @@ use Rattle.smb_engine.specs.Output.{Output, end_of, reply_frame}
 
 -- A REQUEST
 
--- a request that was performed: the server before and after it, the context of its chain, and its bytes; None where it
--- was an SMB_COM_NEGOTIATE
+-- a request that was performed: the server before and after it, the dialect of its connection and the context of its
+-- chain as it came, its bytes, and its response; an SMB_COM_NEGOTIATE has neither bytes nor a response here
 pub record PerformedRequest (S : Type 0) : Type 0 where
   pub before : ServerState S
+  pub dialect : Option Dialect
   pub context : Context
   pub request : Option (List ℕ)
   pub after : ServerState S
+  pub response : Option ResponseState
 
 -- a chain in progress: the server, the connection, what the next related request acts under (3.3.5.2.7.2), and the
 -- replies
@@ -107,7 +109,16 @@ module _ {S : Type 0} (authenticator : Meaning S) (arrival : Arrival) where
   abbrev pub requests_of_chain : ChainState S → List (List ℕ) → List (PerformedRequest S)
   requests_of_chain chain [] = []
   requests_of_chain chain (request ∷ requests) =
-      record { before = chain.server; context = chain.context; request = Some request; after = (one_performed chain request).server }
+      let dialect = chain.connection.dialect in
+      let done = performed authenticator arrival.connection_id arrival.moment chain.server dialect chain.context request in
+      record {
+        before = chain.server;
+        dialect = dialect;
+        context = chain.context;
+        request = Some request;
+        after = (one_performed chain request).server;
+        response = done.response;
+      }
       ∷ requests_of_chain (one_performed chain request) requests
 
 -- the MessageIds that a chain uses in a dialect: of each request its own, and by its charge those from there upward; a
@@ -192,7 +203,14 @@ module _ {S : Type 0} (authenticator : Meaning S) (arrival : Arrival) where
         };
         outputs = reply_frame arrival.connection_id (joined_replies (reply ∷ []));
         stays_open = true;
-        requests = record { before = server; context = first_context; request = None; after = server } ∷ [];
+        requests = record {
+          before = server;
+          dialect = None;
+          context = first_context;
+          request = None;
+          after = server;
+          response = None;
+        } ∷ [];
       })
       answer
       -- nothing of it is performed

@@ -37,7 +37,7 @@
 //!
 //! # What is proved
 //!
-//! That the calls are safe and return; that [`LoggedPeers`] are lawful [`Peers`](smb_engine::Peers), and that a [`LoggedLogin`] is the
+//! That the calls are safe and return; that [`LoggedPeers`] are lawful [`Peers`](smb_peers::Peers), and that a [`LoggedLogin`] is the
 //! authenticator that it wraps. That the lines say what happened is tested.
 #![tactic(auto)]
 

@@ -2,7 +2,7 @@ mod Gone
 mod KeptOut
 mod MadeFound
 mod MovedFound
-mod GivenOnce
+pub mod GivenOnce
 mod StillThere
 mod LastParts
 mod Spelled

@@ -1,7 +1,7 @@
 mod Turned
-mod Under
-mod Answered
-mod Done
+pub mod Under
+pub mod Answered
+pub mod Done
 mod Joined
 mod Names
 mod Kept
@@ -10,7 +10,7 @@ mod LetIn
 mod Admitted
 mod Served
 mod Granted
-mod Example
+pub mod Example
 mod Altered
 mod WrongActing
 mod WrongDoing

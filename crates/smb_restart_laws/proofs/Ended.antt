@@ -110,7 +110,7 @@ good_alone s held none above =
       good = subst good (sym none) tt;
       sessions = good_table s.server.sessions.table (held.known ∙ ap numbers none) held.sound.held.table;
       known = held.known;
-      store = held.sound.held.store;
+      store = held.sound.store;
       owned = held.sound.held.owned;
     }
 
@@ -128,7 +128,7 @@ module _ {S : Type 0} (m : Meaning S) where
     left = (run m s events).state
 
     pub stays_good : GoodStore left.server.store × AreOwned left.server.sessions.table left.server.store.opens
-    stays_good = let held = (run_held m s events (good_held s good)).sound.held in (held.store, held.owned)
+    stays_good = let held = (run_held m s events (good_held s good)).sound in (held.store, held.held.owned)
 
     -- the share is left good, and at rest
     nothing_left_open : IsAtRest (all_ended m left).state × GoodState (all_ended m left).state

@@ -1,7 +1,5 @@
 mod Closes
 mod Due
-mod StoreKept
-mod StoreChanged
 mod Requests
 mod Shares
 mod Runs

@@ -80,9 +80,6 @@ use Rattle.smb_request.proofs.Listings.{owned_scanned, listed_left}
 use Rattle.smb_request.proofs.Numbers.{others_left}
 use Rattle.smb_request.proofs.Owners.{owned_ended, owned_tree, owned_untree, owned_setup, owned_some, owned_new, owned_push, reader_only}
 use Rattle.smb_request.proofs.Performed.{call_read}
-use Rattle.smb_restart_laws.proofs.Closes.{each_keeps, good_close}
-use Rattle.smb_restart_laws.proofs.StoreKept.{good_created}
-use Rattle.smb_restart_laws.proofs.StoreChanged.{good_written, good_locked, good_unlocked, good_scanned, good_based, good_deleted, good_sized, good_renamed}
 
 -- each session's connection is known, and the numbers are not spent
 pub record IsTableHeld (table : TableState) : Type 0 where
@@ -92,7 +89,6 @@ pub record IsTableHeld (table : TableState) : Type 0 where
 -- what is held of a server, beside the order of its numbers
 pub record IsServerHeld {S : Type 0} (server : ServerState S) : Type 0 where
   pub table : IsTableHeld server.sessions.table
-  pub store : GoodStore server.store
   pub owned : AreOwned server.sessions.table server.store.opens
 
 -- it is held afterwards, and what is configured, and which connections are known, is as it was
@@ -167,14 +163,6 @@ answered_connections table n previous denies = refl
 set_up_connections : (table : TableState) (c n : ℕ) → (setup_table table c n).connections ≡ table.connections
 set_up_connections table c n = elim (n == 0) as (λ b. (let x : TableState = if b then begun table c else table in x).connections ≡ table.connections) [ true ↦ refl | false ↦ refl ]
 
--- all opens of an owner are closed
-good_all : (store : StoreState) (owner : Owner) → GoodStore store → GoodStore (closed_all store owner)
-good_all store owner good = each_keeps GoodStore good_close (open_numbers (filter (is_held_by owner) store.opens)) store good
-
-good_for : (store : StoreState) (ended : Option ℕ) → GoodStore store → GoodStore (closed_for store ended)
-good_for store None good = good
-good_for store (Some session) good = good_all store (Session session) good
-
 opens_for : (table : TableState) (store : StoreState) (ended : Option ℕ) → NumbersInOrder table store → (closed_for store ended).opens ≡ opens_left ended store.opens
 opens_for table store None o = refl
 opens_for table store (Some session) o = (others_left store (Session session) o.opens).opens
@@ -212,8 +200,8 @@ module _ {S : Type 0} (call : _) (body : Option RequestValue) (read : IsCallOf c
   same = record { settings = refl; share = refl; room = refl; connections = refl; held = h }
 
   -- the store alone is another
-  stored : (store : StoreState) → store.tree.capacity ≡ server.store.tree.capacity → GoodStore store → AreOwned table store.opens → Left (with_store server store)
-  stored store room good owned = record { settings = refl; share = refl; room = room; connections = refl; held = record { table = h.table; store = good; owned = owned } }
+  stored : (store : StoreState) → store.tree.capacity ≡ server.store.tree.capacity → AreOwned table store.opens → Left (with_store server store)
+  stored store room owned = record { settings = refl; share = refl; room = room; connections = refl; held = record { table = h.table; owned = owned } }
 
   by_status : (step : CommandStep S) (status : Option NtStatus) → (status ≡ None → Left step.server) → Left (option_map_or (refused server call.ids) status step).server
   by_status step (Some status) f = same
@@ -238,7 +226,6 @@ module _ {S : Type 0} (call : _) (body : Option RequestValue) (read : IsCallOf c
         connections = answered_connections (setup_table table c s) (setup_number table s) asked.previous_session_id answer ∙ set_up_connections table c s;
         held = record {
           table = table_answered_held (setup_table table c s) (setup_number table s) asked.previous_session_id answer (table_set_up table c s asked.flags.0 unrefused h.table);
-          store = good_for server.store step.told.ended h.store;
           owned = rw (opens_for table server.store step.told.ended o) (owned_setup m server.sessions c s asked.previous_session_id asked.flags.0 asked.security_buffer server.store.opens o.sessions_given unrefused h.owned);
         };
       }
@@ -257,7 +244,6 @@ module _ {S : Type 0} (call : _) (body : Option RequestValue) (read : IsCallOf c
     connections = refl;
     held = record {
       table = table_ended table s h.table;
-      store = good_all server.store (Session s) h.store;
       owned = rw (others_left server.store (Session s) o.opens).opens (owned_ended table s server.store.opens h.owned);
     };
   })
@@ -270,7 +256,7 @@ module _ {S : Type 0} (call : _) (body : Option RequestValue) (read : IsCallOf c
     share = refl;
     room = refl;
     connections = refl;
-    held = record { table = table_changed with_tree (λ s. refl) table s h.table; store = h.store; owned = owned_tree table s server.store.opens h.owned };
+    held = record { table = table_changed with_tree (λ s. refl) table s h.table; owned = owned_tree table s server.store.opens h.owned };
   })
 
   -- TREE_DISCONNECT
@@ -283,7 +269,6 @@ module _ {S : Type 0} (call : _) (body : Option RequestValue) (read : IsCallOf c
     connections = refl;
     held = record {
       table = table_changed (without_tree call.ids.tree_id) (λ s. refl) table s h.table;
-      store = good_all server.store (Tree s call.ids.tree_id) h.store;
       owned = rw (others_left server.store (Tree s call.ids.tree_id) o.opens).opens (owned_untree table s call.ids.tree_id server.store.opens h.owned);
     };
   })
@@ -297,7 +282,7 @@ module _ {S : Type 0} (call : _) (body : Option RequestValue) (read : IsCallOf c
       let tree' : knows_tree table opened.session opened.tree ≡ true = rw (of_session, of_tree) tree in
       let only : unwrap_or (read_only_of table c opened.session) false ≡ true → only_reads opened ≡ true =
       λ r. reader_only server.store ask call.moment (reader ∙ sym (ap (λ (n : ℕ). unwrap_or (read_only_of table c n) false) of_session) ∙ r) done in
-      stored (created server.store ask call.moment) (created_kept server.store ask call.moment) (good_created server.store ask call.moment h.store done)
+      stored (created server.store ask call.moment) (created_kept server.store ask call.moment)
       (owned_push table server.store.opens opened h.owned (owned_new table c opened known' tree' only))
 
   created_keeps : (asked : CreateAsked) → knows_session table c s ≡ true → knows_tree table s call.ids.tree_id ≡ true → Left (file_created server call asked).server
@@ -310,7 +295,7 @@ module _ {S : Type 0} (call : _) (body : Option RequestValue) (read : IsCallOf c
   closed_keeps : (row : Option OpenRow) → open_of server.store.opens k ≡ row → option_map_or (is_held_by (Tree s call.ids.tree_id)) row false ≡ true → Left (with_store server (closed server.store k))
   closed_keeps None e held = cc
   closed_keeps (Some row) e held =
-      stored (closed server.store k) (closed_kept server.store k) (good_close server.store k h.store)
+      stored (closed server.store k) (closed_kept server.store k)
       (rw (opens_closed server.store k (ap (λ (o : Option OpenRow). is_some o) e)) (owned_some table (λ row. not (has_number k row)) server.store.opens h.owned))
 
   closed_at : (flags : CloseFlags) (view : Option View) → Left (with_store server (closed server.store k)) →
@@ -324,12 +309,12 @@ module _ {S : Type 0} (call : _) (body : Option RequestValue) (read : IsCallOf c
 
   -- QUERY_DIRECTORY
   scanned_keeps : (scan : Scan) → Left (with_store server (scan_set server.store k scan))
-  scanned_keeps scan = stored (scan_set server.store k scan) refl (good_scanned server.store k scan h.store) (owned_scanned table k scan server.store.opens h.owned)
+  scanned_keeps scan = stored (scan_set server.store k scan) refl (owned_scanned table k scan server.store.opens h.owned)
 
   -- LOCK
   locked_keeps : (asks : List LockAsk) → Left (file_locked server call asks).server
   locked_keeps asks = where_done _ _ (is_success (lock_status server.store k asks)) refl (λ done.
-      stored _ (locks_kept (λ entry. locked server.store.locks entry k asks) server.store (open_view server.store k)) (good_locked server.store k asks h.store done)
+      stored _ (locks_kept (λ entry. locked server.store.locks entry k asks) server.store (open_view server.store k))
       (rw (locks_opens (λ entry. locked server.store.locks entry k asks) server.store (open_view server.store k)) h.owned))
 
   unlocked_at : (after : ServerState S) (status : NtStatus) (b : Bool) → Left after → Left (let x : CommandStep S = if b then record { server = after; response = success call.ids answers_lock } else refused after call.ids status in x).server
@@ -339,7 +324,7 @@ module _ {S : Type 0} (call : _) (body : Option RequestValue) (read : IsCallOf c
   unlocked_keeps : (asks : List LockAsk) → Left (file_unlocked server call asks).server
   unlocked_keeps asks =
       unlocked_at (with_store server (unlocked_through server.store k asks)) (unlock_status server.store k asks) (is_success (unlock_status server.store k asks))
-      (stored _ (locks_kept (λ entry. unlocked server.store.locks entry k asks) server.store (open_view server.store k)) (good_unlocked server.store k asks h.store)
+      (stored _ (locks_kept (λ entry. unlocked server.store.locks entry k asks) server.store (open_view server.store k))
       (rw (locks_opens (λ entry. unlocked server.store.locks entry k asks) server.store (open_view server.store k)) h.owned))
 
   locks_keep : (asks : List LockAsk) (b : Bool) → Left (let x : CommandStep S = if b then file_unlocked server call asks else file_locked server call asks in x).server
@@ -355,19 +340,12 @@ module _ {S : Type 0} (call : _) (body : Option RequestValue) (read : IsCallOf c
   unfolding file_written
   written_keeps asked =
       where_done _ _ (is_success (write_status server.store (most_at_once call.dialect) k asked.offset asked.buffer)) refl (λ done.
-      stored _ (written_kept server.store k asked.offset asked.buffer call.moment) (good_written server.store k asked.offset asked.buffer call.moment h.store (most_at_once call.dialect) done)
+      stored _ (written_kept server.store k asked.offset asked.buffer call.moment)
       (rw (opens_written server.store k asked.offset asked.buffer call.moment) h.owned))
 
   -- SET_INFO
-  set_good : (ask : SetAsked) → set_status server.store k ask ≡ Success → GoodStore (set_through server.store k call.moment ask)
-  set_good (asks_basic ask) done = good_based server.store k h.store ask call.moment done
-  set_good (asks_rename replace name) done = good_renamed server.store k h.store name replace call.moment done
-  set_good (asks_mark mark) done = good_deleted server.store k h.store mark done
-  set_good (asks_allocation size) done = good_sized server.store k h.store size true call.moment done
-  set_good (asks_end size) done = good_sized server.store k h.store size false call.moment done
-
   set_keeps : (ask : SetAsked) → set_status server.store k ask ≡ Success → Left (with_store server (set_through server.store k call.moment ask))
-  set_keeps ask done = stored _ (set_room server.store k call.moment ask) (set_good ask done) (rw (set_opens server.store k call.moment ask) h.owned)
+  set_keeps ask done = stored _ (set_room server.store k call.moment ask) (rw (set_opens server.store k call.moment ask) h.owned)
 
   -- NEGOTIATE
   negotiated_at : (m : Meaning S) (best : Option Dialect) →

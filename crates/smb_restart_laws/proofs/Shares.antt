@@ -35,6 +35,12 @@ use Rattle.smb_engine.proofs.Chains.{server-one_performed, first-server}
 use Rattle.smb_engine.proofs.Kept.{numbers-set, numbers-remove, numbers-insert, not_among}
 use Rattle.smb_engine.proofs.Order.{good_in_order, order_step}
 use Rattle.smb_engine.proofs.Streams.{arrived, bytes_step-none, bytes_step-some}
+use Rattle.smb_wire.specs.Limits.{most_in_any_dialect}
+use Rattle.smb_opens.specs.Steps.{StoreStep}
+use Rattle.smb_content_laws.proofs.GoodSteps.{steps_good}
+use Rattle.smb_run_laws.specs.Actions.{IsLeftBy}
+use Rattle.smb_run_laws.proofs.Requests.{request_left}
+use Rattle.smb_run_laws.proofs.Leading.{Steps, left_steps}
 use Rattle.smb_restart_laws.proofs.Closes.{with_keeps, good_close}
 use Rattle.smb_restart_laws.proofs.Requests.{IsTableHeld, IsServerHeld, Keeps, request_keeps}
 
@@ -45,17 +51,19 @@ numbers streams = map (λ entry. entry.0) streams
 pub record IsSound {S : Type 0} (server : ServerState S) : Type 0 where
   pub order : IsInOrder server
   pub held : IsServerHeld server
+  pub store : GoodStore server.store
 
 -- one step after another
 record Goes {S : Type 0} (before after : ServerState S) : Type 0 where
   kept : Keeps before after
   order : IsInOrder after
+  store : GoodStore after.store
 
 sound_then : {S : Type 0} (one two : ServerState S) → Goes one two → IsSound two
-sound_then one two g = record { order = g.order; held = g.kept.held }
+sound_then one two g = record { order = g.order; held = g.kept.held; store = g.store }
 
 goes_same : {S : Type 0} (server : ServerState S) → IsSound server → Goes server server
-goes_same server sound = record { kept = record { settings = refl; share = refl; room = refl; connections = refl; held = sound.held }; order = sound.order }
+goes_same server sound = record { kept = record { settings = refl; share = refl; room = refl; connections = refl; held = sound.held }; order = sound.order; store = sound.store }
 
 goes_then : {S : Type 0} (one two three : ServerState S) → Goes one two → (IsSound two → Goes two three) → Goes one three
 goes_then one two three first second =
@@ -69,7 +77,14 @@ goes_then one two three first second =
         held = later.kept.held;
       };
       order = later.order;
+      store = later.store;
     }
+
+-- a store stays good by the step of a request
+left_good : (asks : StoreStep → Type 0) (is_answered : Type 0) (one two : StoreState) → IsLeftBy asks is_answered one two → GoodStore one → GoodStore two
+left_good asks is_answered one two left good =
+    let it = left_steps asks is_answered one two left in
+    subst GoodStore it.leads (steps_good most_in_any_dialect one it.steps good it.succeed)
 
 module _ {S : Type 0} (m : Meaning S) (n : ℕ) (moment : ℕ) where
   -- the requests of a chain
@@ -78,6 +93,7 @@ module _ {S : Type 0} (m : Meaning S) (n : ℕ) (moment : ℕ) where
       subst (λ (after : ServerState S). Goes chain.server after) (sym (server-one_performed m (arrived n moment) chain request)) (record {
         kept = request_keeps m n moment chain.server chain.connection.dialect chain.context request sound.order sound.held;
         order = request_order m n moment chain.server chain.connection.dialect chain.context request sound.order;
+        store = left_good _ _ _ _ (request_left m n moment chain.server chain.connection.dialect chain.context request) sound.store;
       })
 
   all_go : (chain : ChainState S) (requests : List (List ℕ)) → IsSound chain.server → Goes chain.server (all_performed m (arrived n moment) chain requests).server
@@ -136,7 +152,8 @@ good_held s good = record {
   streams = good_in_order s good;
   sound = record {
     order = order_good s.server.sessions.table s.server.store good.sessions good.store;
-    held = record { table = record { next = good.sessions.next; known = good.sessions.known }; store = good.store; owned = good.owned };
+    held = record { table = record { next = good.sessions.next; known = good.sessions.known }; owned = good.owned };
+    store = good.store;
   };
   lawful = good.lawful;
   named = good.named;
@@ -166,9 +183,9 @@ sound_ended server n sound = record {
   order = (leaves_end (λ n session. ⊥) (λ x. true) n refl server sound.order).order;
   held = record {
     table = record { next = sound.held.table.next; known = known_without server.sessions.table.connections n server.sessions.table.sessions sound.held.table.known };
-    store = store_keeps GoodStore good_close server n sound.held.store;
     owned = (end_reads server n sound.order sound.held.owned).owned;
   };
+  store = store_keeps GoodStore good_close server n sound.store;
 }
 
 held_ended_by : {S : Type 0} (s t : ShareState S) (n : ℕ) → t.server ≡ connection_ended s.server n → t.streams ≡ remove_entry (is_at (nat_cmp n)) s.streams → StreamsInOrder t → IsShareHeld s → IsShareHeld t
@@ -198,9 +215,9 @@ sound_added server n sound = record {
   order = (leaves_start (λ n session. ⊥) (λ x. true) server n sound.order).order;
   held = record {
     table = table_connected server.sessions.table n (contains server.sessions.table.connections n) refl sound.held.table;
-    store = sound.held.store;
     owned = owned_connected server.sessions.table n server.store.opens sound.held.owned;
   };
+  store = sound.store;
 }
 
 connected-insert : (table : TableState) (streams : List (ℕ × StreamState)) (next : ℕ) → table.connections ≡ numbers streams → AllByRecursion (λ e. e.0 < next) streams →

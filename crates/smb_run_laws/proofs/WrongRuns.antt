@@ -1,0 +1,97 @@
+-- Wrong definitions of runs, which the laws refuse: with each the law is false.
+use Rattle.std.proofs.Common.{◌≡◌, ℕ, List, [], ◌∷◌, length, drop, None, Some, refl, sym, ap, arith, ◌∙◌}
+use Rattle.smb_session.specs.Authenticator.{Meaning}
+use Rattle.smb_opens.specs.State.{StoreState}
+use Rattle.smb_request.specs.State.{ServerState, connection_ended}
+use Rattle.smb_request_laws.proofs.Example.{server, session, opened, read_asked, read_request, write_asked, write_request}
+use Rattle.std.specs.Prelude.{slice_get}
+use Rattle.smb_wire.specs.Commands.{known_command}
+use Rattle.smb_wire.specs.Number.{spelling}
+use Rattle.smb_wire.specs.declared.nt_status.NtStatus.TheVariants.{Success}
+use Rattle.smb_head.specs.Headers.{header_of}
+use Rattle.smb_body.specs.Requests.{request_of}
+use Rattle.smb_body.specs.Replies.{reply_spelling, answers_read, answers_write}
+use Rattle.smb_opens.specs.Bytes.{written_to}
+use Rattle.smb_request.specs.Context.{first_context}
+use Rattle.smb_request.specs.Response.{ResponseState}
+use Rattle.smb_peers.specs.Event.{EventText, ends}
+use Rattle.smb_engine.specs.Run.{PerformedRequest, Ran, run}
+use Rattle.smb_engine.specs.State.{ShareState, new_stream}
+use Rattle.smb_run_laws.specs.Actions.{Action, serves, after, Lead, actions_of_run, ARunIsItsActions}
+use Rattle.smb_run_laws.specs.Written.{IsReadAsWritten}
+use Rattle.smb_run_laws.proofs.Leading.{run_leads}
+
+some_is : (x y : ℕ) → Some x ≡ Some y → x ≡ y
+some_is x y e = cc
+
+-- actions lead to one store only, which refuses each run that leaves another
+pub leads_to_one : {S : Type 0} (m : Meaning S) (store left other : StoreState) (actions : List (Action S)) → Lead m store actions left → Lead m store actions other → left ≡ other
+leads_to_one m store left other [] a b = sym a ∙ b
+leads_to_one m store left other (action ∷ actions) a b = leads_to_one m (after action).store left other actions a.2 b.2
+
+module _ {S : Type 0} (m : Meaning S) (accounts : S) where
+  abbrev ARunIsItsActionsBy : (ShareState S → List EventText → Ran S) → Type 0
+  ARunIsItsActionsBy play = (s : ShareState S) (events : List EventText) → Lead m s.server.store (actions_of_run m s events) (play s events).state.server.store
+
+  a_run_is_its_actions : ARunIsItsActions m ≡ ARunIsItsActionsBy (run m)
+  a_run_is_its_actions = refl
+
+  -- wrong: what a run did to the files is lost. The example has a connection with a session and an open, and it ends
+  abbrev forgets : ShareState S → List EventText → Ran S
+  forgets s events =
+      let ran = run m s events in
+      record ran { state = record ran.state { server = record ran.state.server { store = s.server.store } } }
+
+  abbrev share : ShareState S
+  share = record { server = server accounts ((1, session 1 (1 ∷ [])) ∷ []); streams = (1, new_stream) ∷ []; next = 2 }
+
+  pub forgets_is_refused : ARunIsItsActionsBy forgets → ⊥
+  unfolding connection_ended
+  forgets_is_refused law =
+      let events = ends 1 ∷ [] in
+      let same : (run m share events).state.server.store ≡ share.server.store =
+      leads_to_one m share.server.store (run m share events).state.server.store share.server.store (actions_of_run m share events) (run_leads m share events) (law share events) in
+      let opens : [] ≡ opened ∷ [] = ap (λ (store : StoreState). store.opens) same in
+      cc
+
+-- Wrong actions, which the laws refuse
+module _ {S : Type 0} (accounts : S) where
+  abbrev now : ServerState S
+  now = server accounts ((1, session 1 (1 ∷ [])) ∷ [])
+
+  abbrev answer : List ℕ → ResponseState
+  answer body = record { status = Success; ids = record { session_id = 1; tree_id = 1 }; body = body }
+
+  abbrev served : ServerState S → List ℕ → ServerState S → List ℕ → PerformedRequest S
+  served before request after body = record {
+    before = before;
+    dialect = None;
+    context = first_context;
+    request = Some request;
+    after = after;
+    response = Some (answer body);
+  }
+
+  abbrev later : ServerState S
+  later = record now { store = written_to now.store 1 0 (9 ∷ []) 0 }
+
+  -- a WRITE of the byte 9, and behind it a READ of the same place
+  abbrev writing : PerformedRequest S
+  writing = served now (write_request 1 1) later (reply_spelling (answers_write (record { count = 1 })))
+
+  -- wrong: it is answered by a zero
+  abbrev reading : PerformedRequest S
+  reading = served later (read_request 1 1) later (reply_spelling (answers_read (0 ∷ [])))
+
+  pub zeros_are_refused : IsReadAsWritten (serves 1 0 writing ∷ serves 1 0 reading ∷ []) → ⊥
+  unfolding header_of known_command request_of spelling
+  zeros_are_refused law =
+      let told = law [] [] [] 1 0 1 0 2 writing reading write_asked (read_asked 0) refl
+      (record { request = write_request 1 1; is_request = refl; says = refl; row = opened; through = refl; of_entry = refl; answered = refl })
+      (record { request = read_request 1 1; is_request = refl; says = refl; row = opened; through = refl; of_entry = refl; answered = refl }) in
+      let same : 0 ∷ [] ≡ told.0 = ap (drop 16) told.1 in
+      let long = ap length same in
+      let nine : slice_get told.0 0 ≡ Some 9 = told.2 0 0 (omega (arith, long)) (omega arith) refl tt in
+      let zero : slice_get told.0 0 ≡ Some 0 = ap (λ (xs : List ℕ). slice_get xs 0) (sym same) in
+      let both : 0 ≡ 9 = some_is 0 9 (sym zero ∙ nine) in
+      omega (arith, both)
