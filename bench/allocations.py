@@ -1,11 +1,7 @@
-#!/usr/bin/env python3
-"""Counts the proved program's allocations for a request, and prints the rows of bench/FIGURES.md.
-
-    (cd crates/smbshare && rt run < stdin > /dev/null)     builds crates/smbshare/out/smbshare
-    python3 bench/allocations.py [PROGRAM]
+"""Counts the proved program's allocations for a request.
 
 A row compares replays that differ in 1,000 requests, each in a piece of its own; before these stand as many and
-more, so that no buffer is new. tools/count_allocations.c counts: the counts are the same in each run. A time is the
+more, so that no buffer is new. tests/c/count_allocations.c counts: the counts are the same in each run. A time is the
 difference of the least times of some runs that are not counted, so it is rough where other work is done beside it.
 
 `CREATE and CLOSE` opens the one file that stands and closes it, in turn. `CLOSE` is alone: 1,000 opens are left
@@ -19,14 +15,13 @@ line of an ECHO costs there.
 """
 import os
 import re
-import subprocess
 import sys
 import tempfile
 
-import runs
-from frames import close, create, echoes, negotiate, session_setup, tree_connect
+from bench.runs import Replays, piece, succeeds
+from tests.smb.frames import close, create, echoes, negotiate, session_setup, tree_connect
+from tests.smb.preload import built
 
-SOURCE = os.path.join(os.path.dirname(__file__), '..', 'tools', 'count_allocations.c')
 READ_DATA, OPEN, CREATE = 1, 1, 2
 COUNT = 1_000
 # So many requests, and so many bytes of text, stand before the 1,000: since a vector doubles, none grows there.
@@ -78,10 +73,10 @@ def write_replay(path, before, number, after):
     with open(path, 'w') as text:
         text.write('+ 1\n+ 2\n- 2\n')
         for frame in before:
-            runs.piece(text, 1, frame)
+            piece(text, 1, frame)
         text.write('#' * (BEFORE_BYTES - text.tell()) + '\n')
         for frame in after:
-            runs.piece(text, number, frame)
+            piece(text, number, frame)
 
 
 def write_case(folder, before, after):
@@ -97,22 +92,22 @@ def write_case(folder, before, after):
     return replays
 
 
-def performed(folder, replay, wanted):
+def performed(replays, folder, replay, wanted):
     """Performs a replay, and gives its seconds; ends the benchmark where not so many requests succeed."""
     answers = os.path.join(folder, 'answers')
-    status, seconds, _ = runs.timed([], replay, answers)
+    status, seconds, _ = replays.timed(replay, answers)
     with open(answers) as lines:
-        found = sum(1 for line in lines if runs.succeeds(line))
+        found = sum(1 for line in lines if succeeds(line))
     if status != 0 or found != wanted:
         sys.exit(f'status {status}, {found} requests and not {wanted}')
     return seconds
 
 
-def counted(folder, library, replay, wanted):
+def counted(replays, folder, library, replay, wanted):
     """Performs a replay with the library, and gives how many allocations were made, and of how many bytes."""
     counts = os.path.join(folder, 'counts')
     os.environ.update(LD_PRELOAD=library, ALLOCATIONS=counts)
-    performed(folder, replay, wanted)
+    performed(replays, folder, replay, wanted)
     del os.environ['LD_PRELOAD'], os.environ['ALLOCATIONS']
     with open(counts) as line:
         return [int(number) for number in re.findall(r'\d+', line.read())[:2]]
@@ -122,17 +117,17 @@ def less(many, few):
     return [more - fewer for more, fewer in zip(many, few)]
 
 
-def least_times(folder, replays):
+def least_times(replays, folder, texts):
     """The least microseconds of each replay. They take turns, so that what is done beside them hits all alike."""
-    turns = [[performed(folder, *replay) for replay in replays] for _ in range(RUNS)]
+    turns = [[performed(replays, folder, *text) for text in texts] for _ in range(RUNS)]
     return [1e6 * min(seconds) for seconds in zip(*turns)]
 
 
-def measured(folder, library, cases):
+def measured(replays, folder, library, cases):
     """For each case the allocations, bytes and microseconds of a request that is counted, and of its line alone."""
-    replays = [replay for case in cases for replay in write_case(folder, *case())]
-    times = least_times(folder, replays)
-    costs = [[*counted(folder, library, *replay), time] for replay, time in zip(replays, times)]
+    texts = [text for case in cases for text in write_case(folder, *case())]
+    times = least_times(replays, folder, texts)
+    costs = [[*counted(replays, folder, library, *text), time] for text, time in zip(texts, times)]
     return [[[figure / COUNT for figure in less(costs[i + more], costs[i])] for more in (1, 2)]
             for i in range(0, len(costs), 3)]
 
@@ -142,12 +137,9 @@ def show(name, cost, line):
     print(f'| {name} | {cost[0]:.1f} | {cost[1]:,.0f} | {beyond[0]:.1f}, of {beyond[1]:,.0f} bytes | {cost[2]:.1f} |')
 
 
-def main():
-    runs.PROGRAM = sys.argv[1] if len(sys.argv) > 1 else runs.PROGRAM
-    with tempfile.TemporaryDirectory() as folder:
-        library = os.path.join(folder, 'count.so')
-        subprocess.run(['cc', '-shared', '-fPIC', '-O2', '-o', library, SOURCE], check=True)
-        lone, pair, closed = measured(folder, library, [echo_case, pair_case, close_case])
+def main(replays):
+    with tempfile.TemporaryDirectory() as folder, built('count_allocations') as library:
+        lone, pair, closed = measured(replays, folder, library, [echo_case, pair_case, close_case])
     print('| request | allocations a request | bytes a request | beyond the text\'s own | microseconds a request |')
     print('|---|---|---|---|---|')
     show('a line alone', lone[1], lone[1])
@@ -158,4 +150,4 @@ def main():
 
 
 if __name__ == '__main__':
-    main()
+    main(Replays(*sys.argv[1:2]))

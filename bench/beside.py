@@ -1,8 +1,6 @@
-#!/usr/bin/env python3
-"""Times the proved program beside smbd, where that is installed, and beside two limits; prints the rows of bench/FIGURES.md.
+"""Times the proved program beside smbd, where that is installed, and beside two limits.
 
-    (cd crates/smbshare && rt run < stdin > /dev/null)     builds crates/smbshare/out/smbshare
-    python3 bench/beside.py [PROGRAM [CHART]]
+    python3 -m bench.beside [PROGRAM [CHART]]
 
 One limit answers each request and does nothing else; the other keeps bytes, and copies those of a READ and a WRITE once
 (bench/limit.c). Each server has one client, which keeps so many requests in flight; the servers take turns, TIMES each.
@@ -21,22 +19,16 @@ import sys
 import tempfile
 import time
 
-HERE = pathlib.Path(__file__).resolve().parent
-sys.path.insert(0, str(HERE.parent / 'tools'))
-import served
-from exchanging import take
-from frames import chain, close, create, echoes, negotiate, read, session_setup, tree_connect, write
-from served import ALL_ACCESS, LONGEST_PIECE, OPEN_IF, Client
+from bench.exchanging import take
+from tests.smb import ntlm
+from tests.smb.client import ALL_ACCESS, LONGEST_PIECE, OPEN_IF, Client
+from tests.smb.frames import chain, close, create, echoes, negotiate, read, session_setup, tree_connect, write
+from tests.smb.program import TOP, Program
 
 TIMES, SMBD = 7, shutil.which('smbd')
 PIECE, RELATED = bytes(LONGEST_PIECE), 0xFFFF_FFFF_FFFF_FFFF
 TREE_AT, SESSION_AT, STATUS_AT = 40, 44, 12
-MORE_PROCESSING, PENDING = 0xC0000016, 0x103
-# A guest's login by NTLM: the two messages of a client without a password ([MS-NLMP] 2.2.1).
-NAME, NOTHING = 'somebody'.encode('utf-16-le'), struct.pack('<HHI', 0, 0, 64)
-NTLM_FIRST = b'NTLMSSP\0' + struct.pack('<II16x', 1, 1)
-NTLM_LAST = (b'NTLMSSP\0' + struct.pack('<I', 3) + NOTHING * 3 + struct.pack('<HHI', len(NAME), len(NAME), 64) + NOTHING * 2
-             + struct.pack('<I', 1) + NAME)
+PENDING = 0x103
 # What is exchanged, how often in a turn, how many are in flight, where a FileId is in its frame, and the frame of a MessageId.
 EXCHANGES = (
     ('ECHO', 6_000, 1, None, lambda i: echoes(i, 1)),
@@ -145,9 +137,9 @@ class Guest:
         """The session of a guest."""
         if not by_ntlm:
             return struct.unpack_from('<Q', self.asks(session_setup(self.take())), SESSION_AT - 4)[0]
-        first = self.asks(session_setup(self.take(), NTLM_FIRST), MORE_PROCESSING)
+        first = self.asks(session_setup(self.take(), ntlm.NEGOTIATE_OF_NOBODY), ntlm.MORE_PROCESSING)
         session = struct.unpack_from('<Q', first, SESSION_AT - 4)[0]
-        self.asks(session_setup(self.take(), NTLM_LAST, session))
+        self.asks(session_setup(self.take(), ntlm.authenticate('somebody'), session))
         return session
 
     def addressed(self, data, file_at=None):
@@ -211,7 +203,7 @@ def samba(folder, port):
 def limit(folder, kind):
     program = os.path.join(folder, 'limit')
     if not os.path.exists(program):
-        subprocess.run(['cc', '-O2', '-o', program, str(HERE / 'limit.c')], check=True)
+        subprocess.run(['cc', '-O2', '-o', program, os.path.join(TOP, 'bench', 'limit.c')], check=True)
     return Server({'nothing': 'answers alone', 'copy': 'one copy'}[kind], [program, kind])
 
 
@@ -264,9 +256,9 @@ def chart(found, names, file):
 
 
 def main(words):
-    served.PROGRAM = words[0] if words else served.PROGRAM
+    program = Program(*words[:1])
     with tempfile.TemporaryDirectory() as folder:
-        own = Server('smbshare', [served.PROGRAM, 'serve', '--listen', '127.0.0.1:0'])
+        own = Server('smbshare', [program.path, 'serve', '--listen', '127.0.0.1:0'])
         servers = [own] + ([samba(folder, 44_511)] if SMBD else []) + [limit(folder, 'copy'), limit(folder, 'nothing')]
         try:
             found = medians(servers)

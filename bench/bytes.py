@@ -1,16 +1,12 @@
-#!/usr/bin/env python3
 """Times the proved program on READ and WRITE, and on a CREATE of a file with other opens.
-
-Prints the rows of bench/FIGURES.md.
-
-    (cd crates/smbshare && rt run < stdin > /dev/null)     builds crates/smbshare/out/smbshare
-    python3 bench/bytes.py
 
 The file has 16 MiB: one byte is written at its end, and the rest are zeros. What a run without the requests takes is
 subtracted. The text of the requests and of the answers is hex, which is most of the time.
 """
-from frames import close, create, negotiate, read, session_setup, tree_connect, write
-from runs import piece, replayed, succeeds
+import sys
+
+from bench.runs import Replays, piece, succeeds
+from tests.smb.frames import close, create, negotiate, read, session_setup, tree_connect, write
 
 READ_AND_WRITE, READ_DATA, OPEN_IF = 3, 1, 3
 FILE_SIZE = 16 * 1024 * 1024
@@ -46,26 +42,26 @@ def write_opens(path, opens, pairs):
             piece(text, 1, close(5 + opens + 2 * i, opens + 1 + i, 1, 1))
 
 
-def seconds_of(write_replay, arguments, wanted):
-    return min(replayed(write_replay, arguments, succeeds, wanted)[0] for _ in range(3))
+def seconds_of(replays, write_replay, arguments, wanted):
+    return min(replays.replayed(write_replay, arguments, succeeds, wanted)[0] for _ in range(3))
 
 
-def main():
+def main(replays):
     print('| request | bytes | requests | microseconds a request | MB/s |')
     print('|---|---|---|---|---|')
     for command in ('READ', 'WRITE'):
         for size, count in ((4096, 4000), (65536, 400)):
-            base = seconds_of(write_bytes, (command, size, 0), 5)
-            seconds = seconds_of(write_bytes, (command, size, count), 5 + count) - base
+            base = seconds_of(replays, write_bytes, (command, size, 0), 5)
+            seconds = seconds_of(replays, write_bytes, (command, size, count), 5 + count) - base
             print(f'| {command} | {size:,} | {count:,} | {1e6 * seconds / count:.0f} | {size * count / 1e6 / seconds:.0f} |')
     print('\n| opens of the file | pairs of CREATE and CLOSE | microseconds a pair |')
     print('|---|---|---|')
     for opens in (1, 100, 1000):
         pairs = 10_000
-        base = seconds_of(write_opens, (opens, 0), 4 + opens)
-        seconds = seconds_of(write_opens, (opens, pairs), 4 + opens + 2 * pairs) - base
+        base = seconds_of(replays, write_opens, (opens, 0), 4 + opens)
+        seconds = seconds_of(replays, write_opens, (opens, pairs), 4 + opens + 2 * pairs) - base
         print(f'| {opens:,} | {pairs:,} | {1e6 * seconds / pairs:.0f} |')
 
 
 if __name__ == '__main__':
-    main()
+    main(Replays(*sys.argv[1:2]))

@@ -1,14 +1,12 @@
-#!/usr/bin/env python3
-"""Times the proved program on listings of directories; prints the rows of bench/FIGURES.md.
-
-    (cd crates/smbshare && rt run < stdin > /dev/null)     builds crates/smbshare/out/smbshare
-    python3 bench/directories.py
+"""Times the proved program on listings of directories.
 
 A folder of so many files is listed from the start to its end, by class 37 into 65,536 bytes, with `*` and with 100 times
 `*`. What a run without the listings takes is subtracted.
 """
-from frames import close, create, negotiate, query_directory, session_setup, tree_connect
-from runs import piece, replayed, succeeds
+import sys
+
+from bench.runs import Replays, piece, succeeds
+from tests.smb.frames import close, create, negotiate, query_directory, session_setup, tree_connect
 
 ALL_ACCESS, OPEN_IF, DIRECTORY_FILE = 0x1F01FF, 3, 1
 ID_BOTH_DIRECTORY, RESTART_SCANS = 37, 1
@@ -47,18 +45,18 @@ def write_listings(path, files, pattern, listings):
                 frames += 1
 
 
-def main():
+def main(replays):
     print('| files | pattern | listings | entries a second |')
     print('|---|---|---|---|')
     for files, listings in ((10, 5_000), (1_000, 10), (4_000, 1)):
         for pattern, told in (('*', '`*`'), ('*' * 100, '100 `*`')):
             def seconds(count):
                 frames = 4 + 2 * files + count * queries(files)
-                return min(replayed(write_listings, (files, pattern, count), succeeds, frames)[0] for _ in range(3))
+                return min(replays.replayed(write_listings, (files, pattern, count), succeeds, frames)[0] for _ in range(3))
 
             took = seconds(listings) - seconds(0)
             print(f'| {files:,} | {told} | {listings:,} | {(files + 2) * listings / took:,.0f} |')
 
 
 if __name__ == '__main__':
-    main()
+    main(Replays(*sys.argv[1:2]))

@@ -1,10 +1,4 @@
-#!/usr/bin/env python3
 """Times what another client waits for, over TCP, where the share drops what a client is owed.
-
-Prints the rows of a table for bench/FIGURES.md.
-
-    (cd crates/smbshare && rt run < stdin > /dev/null)     builds crates/smbshare/out/smbshare
-    python3 bench/drops.py [PROGRAM]
 
 A client sends READs of 65,536 bytes in one piece: 511 are answered by 33,531,820 bytes, which it may be owed; 560, as
 many as fit into a piece, by more than 33,554,432, which it may not. READs of 524,288 bytes are lent to the share one frame
@@ -14,18 +8,16 @@ time meanwhile, with the system's part in it. In the last row the program may ha
 """
 import contextlib
 import os
-import pathlib
 import signal
 import socket
 import statistics
 import sys
 import time
 
-sys.path.insert(0, str(pathlib.Path(__file__).resolve().parent.parent / 'tools'))
-import served
-from exchanging import processor_seconds
-from frames import charge_of, create, echoes, negotiate, read, session_setup, tree_connect, write
-from served import ALL_ACCESS, LONGEST_PIECE, OPEN_IF, Served, addresses_of, memory_of
+from bench.exchanging import processor_seconds
+from tests.smb.client import ALL_ACCESS, LONGEST_PIECE, OPEN_IF
+from tests.smb.frames import charge_of, create, echoes, negotiate, read, session_setup, tree_connect, write
+from tests.smb.program import addresses_of, memory_of, Program
 
 ROOM, TIMES = 24 << 20, 30
 # How many READs are answered by what may be owed, and how many fit into a piece.
@@ -145,13 +137,13 @@ ROWS = (('nothing', nothing, LONGEST_PIECE, None, False),
         ('511 READs come in a piece; memory runs out', a_piece, LONGEST_PIECE, ROOM, True))
 
 
-def drops():
-    with Served() as share:
+def drops(program):
+    with program.serve() as share:
         start = addresses_of(share)
     print('| beside the ECHOs | memory before, MB | median wait, ms | longest wait, ms | processor, median ms |')
     print('|---|---|---|---|---|')
     for name, prepared, size, room, is_ended in ROWS:
-        with Served(memory=room and start + room) as share:
+        with program.serve(memory=room and start + room) as share:
             taken, most = times_of(share, prepared, size, is_ended)
             waits, spent = zip(*taken)
             median, longest, processor = (1e3 * it for it in (statistics.median(waits), max(waits), statistics.median(spent)))
@@ -159,5 +151,4 @@ def drops():
 
 
 if __name__ == '__main__':
-    served.PROGRAM = sys.argv[1] if len(sys.argv) > 1 else served.PROGRAM
-    drops()
+    drops(Program(*sys.argv[1:2]))

@@ -1,14 +1,12 @@
-#!/usr/bin/env python3
-"""Times the proved program on ECHO requests, and prints the rows of bench/FIGURES.md.
-
-    (cd crates/smbshare && rt run < stdin > /dev/null)     builds crates/smbshare/out/smbshare
-    python3 bench/echo.py
+"""Times the proved program on ECHO requests.
 
 Eight connections take turns; each stream is cut into pieces of 1, 7 and 4,096 bytes. Frames of one ECHO,
 and of chains of 16. Four times the requests should cost about four times the time.
 """
-from frames import echoes, negotiate
-from runs import piece, replayed
+import sys
+
+from bench.runs import Replays, piece
+from tests.smb.frames import echoes, negotiate
 
 CONNECTIONS = 8
 PIECES = [1, 7, 4096]
@@ -36,21 +34,21 @@ def write_replay(path, each, chain):
                 piece(text, number, part)
 
 
-def measure(requests, chain):
+def measure(replays, requests, chain):
     each = requests // CONNECTIONS // chain
-    seconds, peak, text = replayed(write_replay, (each, chain), lambda line: True, CONNECTIONS * (1 + each))
+    seconds, peak, text = replays.replayed(write_replay, (each, chain), lambda line: True, CONNECTIONS * (1 + each))
     stream = CONNECTIONS * (len(negotiate()) + each * len(echoes(1, chain))) / 1e6
     print(f'| {requests:,} | {chain} | {stream:.1f} | {text:.1f} | {seconds:.2f} '
           f'| {stream / seconds:.1f} | {peak:.0f} |')
 
 
-def main():
+def main(replays):
     print('| requests | in a chain | MB of streams | MB of text | seconds | MB/s of streams | peak MiB |')
     print('|---|---|---|---|---|---|---|')
     for chain in (1, 16):
         for requests in (50_000, 200_000):
-            measure(requests, chain)
+            measure(replays, requests, chain)
 
 
 if __name__ == '__main__':
-    main()
+    main(Replays(*sys.argv[1:2]))

@@ -1,13 +1,11 @@
-#!/usr/bin/env python3
-"""Times the proved program on pairs of CREATE and CLOSE, and prints the rows of bench/FIGURES.md.
-
-    (cd crates/smbshare && rt run < stdin > /dev/null)     builds crates/smbshare/out/smbshare
-    python3 bench/files.py
+"""Times the proved program on pairs of CREATE and CLOSE.
 
 The files are made first, and then opened and closed in turn.
 """
-from frames import close, create, negotiate, session_setup, tree_connect
-from runs import piece, replayed, succeeds
+import sys
+
+from bench.runs import Replays, piece, succeeds
+from tests.smb.frames import close, create, negotiate, session_setup, tree_connect
 
 READ_DATA, OPEN, CREATE = 1, 1, 2
 
@@ -24,18 +22,18 @@ def write_replay(path, files, pairs):
             piece(text, 1, close(4 + 2 * i, 1 + i, 1, 1))
 
 
-def measure(files, pairs):
-    seconds, peak, _ = replayed(write_replay, (files, pairs), succeeds, 3 + 2 * (files + pairs))
+def measure(replays, files, pairs):
+    seconds, peak, _ = replays.replayed(write_replay, (files, pairs), succeeds, 3 + 2 * (files + pairs))
     print(f'| {files:,} | {pairs:,} | {seconds:.2f} | {1e6 * seconds / (files + pairs):.0f} | {peak:.0f} |')
 
 
-def main():
+def main(replays):
     print('| files | pairs | seconds | microseconds a pair | peak MiB |')
     print('|---|---|---|---|---|')
     for files in (10, 1_000):
         for pairs in (10_000, 40_000):
-            measure(files, pairs)
+            measure(replays, files, pairs)
 
 
 if __name__ == '__main__':
-    main()
+    main(Replays(*sys.argv[1:2]))

@@ -1,17 +1,14 @@
-#!/usr/bin/env python3
-"""Times the proved program on requests beside few and many entries and opens; prints the rows of bench/FIGURES.md.
+"""Times the proved program on requests beside few and many entries and opens.
 
-    (cd crates/smbshare && rt run < stdin > /dev/null)     builds crates/smbshare/out/smbshare
-    python3 bench/growth.py [PROGRAM [WORD]]
+    python3 -m bench.growth [PROGRAM [WORD]]
 
 Each request is of a file among others in one folder. It comes so often beside few entries or opens, and as often beside many; what a run without
 the requests takes is subtracted, and the least of some runs counts. `crates/smb_rows/out/smb_rows plain` replays over the plain tree and opens.
 """
 import sys
 
-import runs
-from frames import close, create, negotiate, query_directory, query_info, rename, session_setup, tree_connect
-from runs import piece, replayed, succeeds
+from bench.runs import Replays, piece, succeeds
+from tests.smb.frames import close, create, negotiate, query_directory, query_info, rename, session_setup, tree_connect
 
 ALL_ACCESS, CREATE, OPEN, DIRECTORY_FILE, FILE_STANDARD = 0x1F01FF, 2, 1, 1, 5
 ID_BOTH_DIRECTORY, RESTART_SCANS, TEN_ENTRIES = 37, 1, 1_300
@@ -92,11 +89,12 @@ def frames_of(fill, filled, request, count):
     return len(client.frames)
 
 
-def microseconds(fill, filled, request, count):
+def microseconds(replays, fill, filled, request, count):
     """What a request takes beside so many."""
     def seconds(times):
         wanted = frames_of(fill, filled, request, times)
-        return min(replayed(write_replay, (fill, filled, request, times), succeeds, wanted)[0] for _ in range(RUNS))
+        return min(replays.replayed(write_replay, (fill, filled, request, times), succeeds, wanted)[0]
+                   for _ in range(RUNS))
 
     return 1e6 * (seconds(count) - seconds(0)) / count
 
@@ -105,19 +103,15 @@ REQUEST_NAMES = ((open_and_close, 'CREATE, then CLOSE'), (query, 'QUERY_INFO, cl
 BESIDE = ((with_entries, 'entries', 10, 4_080), (with_opens_of_the_file, 'opens of the file', 1, 1_000), (with_opens_of_files, 'opens of as many files', 1, 1_000))
 
 
-def main():
-    count = REQUESTS
-    if len(sys.argv) > 1:
-        runs.PROGRAM = sys.argv[1]
-    if len(sys.argv) > 2:
-        runs.WORDS, count = sys.argv[2:], FEWER
+def main(replays):
+    count = FEWER if replays.words else REQUESTS
     print('| request | beside | microseconds | beside | microseconds | times |')
     print('|---|---|---|---|---|---|')
     for fill, what, few, many in BESIDE:
         for request, name in REQUEST_NAMES:
-            less, more = (microseconds(fill, filled, request, count) for filled in (few, many))
+            less, more = (microseconds(replays, fill, filled, request, count) for filled in (few, many))
             print(f'| {name} | {few:,} {what} | {less:.1f} | {many:,} | {more:.1f} | {more / less:.2f} |', flush=True)
 
 
 if __name__ == '__main__':
-    main()
+    main(Replays(*sys.argv[1:]))

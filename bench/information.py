@@ -1,16 +1,12 @@
-#!/usr/bin/env python3
 """Times the proved program on QUERY_INFO and SET_INFO, and on renames among other entries.
-
-Prints the rows of bench/FIGURES.md.
-
-    (cd crates/smbshare && rt run < stdin > /dev/null)     builds crates/smbshare/out/smbshare
-    python3 bench/information.py
 
 The file is five folders deep. A size is set to 0 and 4,096 in turn; a rename goes to another name in the same folder and back,
 and the other entries stand in that folder. What a run without the requests takes is subtracted.
 """
-from frames import close, create, negotiate, query_info, rename, session_setup, set_info, tree_connect
-from runs import piece, replayed, succeeds
+import sys
+
+from bench.runs import Replays, piece, succeeds
+from tests.smb.frames import close, create, negotiate, query_info, rename, session_setup, set_info, tree_connect
 
 ALL_ACCESS, OPEN_IF, DIRECTORY_FILE = 0x1F01FF, 3, 1
 FILE_STANDARD, FILE_ALL, FILE_NETWORK_OPEN, FILE_END_OF_FILE = 5, 18, 34, 20
@@ -61,27 +57,27 @@ def write_renames(path, others, requests):
             piece(text, 1, rename(frames + i, 6, f'{FOLDERS[-1]}\\{("name", "file")[i % 2]}', 1, 1))
 
 
-def microseconds(write_replay, arguments, frames, requests):
+def microseconds(replays, write_replay, arguments, frames, requests):
     """What a request takes, where so many frames come before the requests."""
     def seconds(count):
-        return min(replayed(write_replay, (*arguments, count), succeeds, frames + count)[0] for _ in range(3))
+        return min(replays.replayed(write_replay, (*arguments, count), succeeds, frames + count)[0] for _ in range(3))
 
     return 1e6 * (seconds(requests) - seconds(0)) / requests
 
 
-def main():
+def main(replays):
     print('| request | other entries | requests | microseconds a request |')
     print('|---|---|---|---|')
     frames = 4 + len(FOLDERS)
     for information_class in (FILE_ALL, FILE_STANDARD, FILE_NETWORK_OPEN):
-        time = microseconds(write_queries, (10, information_class), frames + 20, REQUESTS)
+        time = microseconds(replays, write_queries, (10, information_class), frames + 20, REQUESTS)
         print(f'| QUERY_INFO, class {information_class} | 10 | {REQUESTS:,} | {time:.1f} |')
-    time = microseconds(write_sizes, (10,), frames + 20, REQUESTS)
+    time = microseconds(replays, write_sizes, (10,), frames + 20, REQUESTS)
     print(f'| SET_INFO, class {FILE_END_OF_FILE} | 10 | {REQUESTS:,} | {time:.1f} |')
     for others, requests in ((10, REQUESTS), (4_000, REQUESTS // 20)):
-        time = microseconds(write_renames, (others,), frames + 2 * others, requests)
+        time = microseconds(replays, write_renames, (others,), frames + 2 * others, requests)
         print(f'| a rename | {others:,} | {requests:,} | {time:.1f} |')
 
 
 if __name__ == '__main__':
-    main()
+    main(Replays(*sys.argv[1:2]))

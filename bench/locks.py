@@ -1,14 +1,12 @@
-#!/usr/bin/env python3
-"""Times the proved program on LOCK, and on a CLOSE beside locks of other files; prints the rows of bench/FIGURES.md.
-
-    (cd crates/smbshare && rt run < stdin > /dev/null)     builds crates/smbshare/out/smbshare
-    python3 bench/locks.py
+"""Times the proved program on LOCK, and on a CLOSE beside locks of other files.
 
 A pair is a LOCK of a byte and a LOCK that unlocks it, which has to go through all locks of the file, since they are older;
 or a CREATE of a file and its CLOSE. What a run without the pairs takes is subtracted.
 """
-from frames import close, create, lock, negotiate, session_setup, tree_connect
-from runs import piece, replayed, succeeds
+import sys
+
+from bench.runs import Replays, piece, succeeds
+from tests.smb.frames import close, create, lock, negotiate, session_setup, tree_connect
 
 READ_AND_WRITE, OPEN_IF = 3, 3
 EXCLUSIVE, UNLOCK = 0x12, 4
@@ -53,26 +51,26 @@ def write_closes(path, files, have_locks, pairs):
             piece(text, 1, close(frames + 2 * i + 1, 2 + files + i, 1, 1))
 
 
-def microseconds(write_replay, arguments, frames):
+def microseconds(replays, write_replay, arguments, frames):
     """What a pair takes, where so many frames come before the pairs."""
     def seconds(pairs):
-        return min(replayed(write_replay, (*arguments, pairs), succeeds, frames + 2 * pairs)[0] for _ in range(3))
+        return min(replays.replayed(write_replay, (*arguments, pairs), succeeds, frames + 2 * pairs)[0] for _ in range(3))
 
     return 1e6 * (seconds(PAIRS) - seconds(0)) / PAIRS
 
 
-def main():
+def main(replays):
     print('| other locks of the file | other files, each with an open and a lock | pairs of LOCK | microseconds a pair |')
     print('|---|---|---|---|')
     for locks, files in ((1, 0), (255, 0), (1, 1000)):
-        time = microseconds(write_locks, (locks, files), 5 + 2 * files)
+        time = microseconds(replays, write_locks, (locks, files), 5 + 2 * files)
         print(f'| {locks} | {files:,} | {PAIRS:,} | {time:.1f} |')
     print('\n| other files, each with an open | a lock on each | pairs of CREATE and CLOSE | microseconds a pair |')
     print('|---|---|---|---|')
     for files, have_locks in ((0, False), (1000, False), (1000, True)):
-        time = microseconds(write_closes, (files, have_locks), 4 + (2 if have_locks else 1) * files)
+        time = microseconds(replays, write_closes, (files, have_locks), 4 + (2 if have_locks else 1) * files)
         print(f'| {files:,} | {"yes" if have_locks else "no"} | {PAIRS:,} | {time:.1f} |')
 
 
 if __name__ == '__main__':
-    main()
+    main(Replays(*sys.argv[1:2]))

@@ -1,8 +1,4 @@
-#!/usr/bin/env python3
-"""Times the proved program on logins by NTLM beside logins by a token, and prints the rows of bench/FIGURES.md.
-
-    (cd crates/smbshare && rt run < stdin > /dev/null)     builds crates/smbshare/out/smbshare
-    python3 bench/logins.py [PROGRAM]
+"""Times the proved program on logins by NTLM beside logins by a token.
 
 A set-up is a connection that opens, negotiates, logs in, connects to the share and ends: three requests by a token,
 four by NTLM. Of the accounts it is the last that logs in, since they are looked through in order. In a replay the
@@ -10,23 +6,18 @@ program alone is timed; the proofs of passwords are made before. Over TCP the sc
 figure, also that in which it makes a proof.
 """
 import hashlib
-import os
-import pathlib
 import struct
 import sys
 import tempfile
 import time
 
-sys.path.insert(0, str(pathlib.Path(__file__).resolve().parent.parent / 'tools'))
-import runs
-import serving
-from frames import negotiate, session_setup, tree_connect
-from runs import piece, replayed, succeeds
+from bench.runs import Replays, piece, succeeds
+from tests.smb import ntlm
+from tests.smb.frames import negotiate, session_setup, tree_connect
+from tests.smb.program import GUEST, Program
 
 SEED = bytes(range(16))
-# The NT hash of `Password` ([MS-NLMP] 4.2.2.1.2), which each account has.
-NT_HASH = bytes.fromhex('a4f49c406510bdcab6824ee7c30fd852')
-GUEST = str(pathlib.Path(__file__).resolve().parent.parent / 'guest.toml')
+NT_HASH = bytes.fromhex(ntlm.PASSWORD_HASH)
 
 
 def challenge_of(session):
@@ -37,8 +28,8 @@ def challenge_of(session):
 def login_of(user, session):
     """The last message of a user's login; a guest's where none is named."""
     if user is None:
-        return serving.ntlm_authenticate('somebody')
-    return serving.ntlm_authenticate(user, serving.ntlm_response(user, NT_HASH, challenge_of(session)))
+        return ntlm.authenticate('somebody')
+    return ntlm.authenticate(user, ntlm.response_to(challenge_of(session), user, NT_HASH))
 
 
 def write_by_token(path, count, _user):
@@ -58,7 +49,7 @@ def write_by_ntlm(path, count, user):
         for number in range(1, count + 1):
             text.write(f'+ {number}\n')
             piece(text, number, negotiate())
-            piece(text, number, session_setup(1, serving.NTLM_NEGOTIATE))
+            piece(text, number, session_setup(1, ntlm.NEGOTIATE))
             piece(text, number, session_setup(2, login_of(user, number), number))
             piece(text, number, tree_connect(3, number))
             text.write(f'- {number}\n')
@@ -66,11 +57,7 @@ def write_by_ntlm(path, count, user):
 
 def accounts_file(folder, count):
     """The name of a file of so many accounts."""
-    name = os.path.join(folder, 'accounts')
-    with open(os.open(name, os.O_CREAT | os.O_WRONLY, 0o600), 'w', encoding='ascii') as file:
-        for i in range(count):
-            file.write(f'[[account]]\nname = "user{i}"\nnt_hash = "{NT_HASH.hex()}"\n')
-    return name
+    return ntlm.accounts_file(folder, ''.join(ntlm.account(f'user{i}') for i in range(count)))
 
 
 def words_of(folder, accounts):
@@ -81,11 +68,10 @@ def words_of(folder, accounts):
     return ['--login', 'ntlm', '--seed', SEED.hex(), *named]
 
 
-def seconds_in_a_replay(words, user, count):
+def seconds_in_a_replay(program, words, user, count):
     """How long a replay of so many set-ups takes."""
-    runs.WORDS = ['replay', *words]
     write = write_by_ntlm if words else write_by_token
-    return replayed(write, (count, user), succeeds, 3 * count)[0]
+    return Replays(program.path, 'replay', *words).replayed(write, (count, user), succeeds, 3 * count)[0]
 
 
 def sets_up(client, user, number):
@@ -94,13 +80,13 @@ def sets_up(client, user, number):
         return (client.negotiates() and client.asks(session_setup(1)) == 0
                 and client.asks(tree_connect(2, number)) == 0)
     nt_hash = None if user is None else NT_HASH
-    return (serving.logs_in_by_ntlm(client, user or 'somebody', nt_hash) == serving.COMES_IN
+    return (ntlm.logs_in(client, user or 'somebody', nt_hash) == ntlm.COMES_IN
             and client.asks(tree_connect(3, number)) == 0)
 
 
-def seconds_over_tcp(words, user, count):
+def seconds_over_tcp(program, words, user, count):
     """How long so many set-ups take, one after the other."""
-    with serving.Served(*words) as share:
+    with program.serve(*words) as share:
         start = time.perf_counter()
         for number in range(1, count + 1):
             client = share.client()
@@ -119,21 +105,20 @@ LOGINS = (
 )
 
 
-def measure(where, seconds_for, count):
+def measure(program, where, seconds_for, count):
     for name, accounts, user in LOGINS:
         with tempfile.TemporaryDirectory() as folder:
-            took = seconds_for(words_of(folder, accounts), user, count)
+            took = seconds_for(program, words_of(folder, accounts), user, count)
         each = took / count * 1e6
         print(f'| {where} | {name} | {count:,} | {took:.2f} | {each:.1f} | {count / took:,.0f} |', flush=True)
 
 
-def main():
-    runs.PROGRAM = serving.PROGRAM
+def main(program):
     print('| where | login | set-ups | seconds | microseconds a set-up | a second |')
     print('|---|---|---|---|---|---|')
-    measure('replay', seconds_in_a_replay, 20_000)
-    measure('TCP', seconds_over_tcp, 5_000)
+    measure(program, 'replay', seconds_in_a_replay, 20_000)
+    measure(program, 'TCP', seconds_over_tcp, 5_000)
 
 
 if __name__ == '__main__':
-    main()
+    main(Program(*sys.argv[1:2]))

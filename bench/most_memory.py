@@ -1,10 +1,4 @@
-#!/usr/bin/env python3
 """The most memory that the program takes: full files, and 64 clients that read nothing of what they are owed.
-
-Prints the rows of a table for bench/FIGURES.md.
-
-    (cd crates/smbshare && rt run < stdin > /dev/null)     builds crates/smbshare/out/smbshare
-    python3 bench/most_memory.py [PROGRAM]
 
 Four files hold 16 MiB each, the capacity. Each client then sends, in one piece, so many READs of so many bytes, and takes
 nothing. 511 READs of 65,536 bytes are answered by 33,531,820 bytes: more than 33,554,432 may not be owed, and more are not
@@ -12,16 +6,14 @@ read of a client that does not take what it was sent. READs of 524,288 bytes are
 frame waits until the client took the answers before. In one row each frame has 16 of them, whose MessageIds the client
 guesses; in one each client sends a frame of 1,048,576 bytes, but for its last byte.
 """
-import pathlib
 import struct
 import sys
 import time
 
-sys.path.insert(0, str(pathlib.Path(__file__).resolve().parent.parent / 'tools'))
-import served
-from drops import AT_ONCE, IN_A_PIECE, MAY_BE_OWED, Reader, stopped
-from frames import read, write
-from served import LONGEST_PIECE, Served, descriptors_of, memory_of
+from bench.drops import AT_ONCE, IN_A_PIECE, MAY_BE_OWED, Reader, stopped
+from tests.smb.client import LONGEST_PIECE
+from tests.smb.frames import read, write
+from tests.smb.program import descriptors_of, memory_of, Program
 
 CLIENTS, FILES, PIECES, CHAINED = 64, 4, 256, 16
 LONGEST_PAYLOAD = 1_048_576
@@ -97,11 +89,11 @@ ROWS = (
 )
 
 
-def most_memory():
+def most_memory(program):
     print('| what each of 64 clients sends | MiB in files | bytes owed to each | before | with the files | most | once the clients went |')
     print('|---|---|---|---|---|---|---|')
     for name, owed, asks in ROWS:
-        with Served() as share:
+        with program.serve() as share:
             before = memory_of(share)
             readers = [Reader(share, f'file {i % FILES}') for i in range(CLIENTS)]
             fill(readers)
@@ -117,5 +109,4 @@ def most_memory():
 
 
 if __name__ == '__main__':
-    served.PROGRAM = sys.argv[1] if len(sys.argv) > 1 else served.PROGRAM
-    most_memory()
+    most_memory(Program(*sys.argv[1:2]))

@@ -1,23 +1,15 @@
-#!/usr/bin/env python3
 """Times READ and WRITE of a file that is kept in pages, over TCP, and what memory files take.
-
-Prints the rows of bench/FIGURES.md.
-
-    (cd crates/smbshare && rt run < stdin > /dev/null)     builds crates/smbshare/out/smbshare
-    python3 bench/pages.py [PROGRAM]
 
 One client has one request in flight. The file has 16 MiB: whole, or with holes, where only each second page was ever written. MB/s are by the clock,
 the script's part included, and by the program's processor time, which a busy machine disturbs less. Memory is what the program holds more than before.
 """
-import pathlib
 import random
 import sys
 
-sys.path.insert(0, str(pathlib.Path(__file__).resolve().parent.parent / 'tools'))
-import served
-from frames import create, read, set_info, write
-from served import ALL_ACCESS, LONGEST_PIECE, OPEN_IF, Served, opens_a_file
-from exchanging import processor_seconds, seconds_for
+from bench.exchanging import processor_seconds, seconds_for
+from tests.smb.client import ALL_ACCESS, LONGEST_PIECE, OPEN_IF, opens_a_file
+from tests.smb.frames import create, read, set_info, write
+from tests.smb.program import Program
 
 FILE_SIZE, PAGE, FILE_END_OF_FILE = 16 * 1024 * 1024, 4_096, 20
 
@@ -65,13 +57,13 @@ def at_random(size, count):
     return [places.randrange(FILE_SIZE - size + 1) for _ in range(count)]
 
 
-def exchanges():
+def exchanges(program):
     print('| request | bytes | places | file | count | MB/s by the clock | by processor time |')
     print('|---|---|---|---|---|---|---|')
     for filled, name in ((fill, 'whole'), (fill_with_holes, 'with holes')):
         for size, count in ((LONGEST_PIECE, 2_000), (PAGE, 8_000)):
             for places, where in ((in_sequence, 'in sequence'), (at_random, 'at random')):
-                with Served() as share:
+                with program.serve() as share:
                     writer = Writer(share)
                     filled(writer)
                     offsets = places(size, count)
@@ -95,11 +87,11 @@ def give_a_size(writer, number):
     writer.asks(set_info, number, FILE_END_OF_FILE, FILE_SIZE.to_bytes(8, 'little'))
 
 
-def memory():
+def memory(program):
     print('| files | what they hold | MiB in files | MiB of memory | times |')
     print('|---|---|---|---|---|')
     for hold, name in ((write_whole, '16 MiB each'), (give_a_size, 'a size of 16 MiB each, and no byte')):
-        with Served() as share:
+        with program.serve() as share:
             writer = Writer(share)
             before = resident(share.process)
             hold(writer, 1)
@@ -111,7 +103,6 @@ def memory():
 
 
 if __name__ == '__main__':
-    served.PROGRAM = sys.argv[1] if len(sys.argv) > 1 else served.PROGRAM
-    exchanges()
+    exchanges(Program(*sys.argv[1:2]))
     print()
-    memory()
+    memory(Program(*sys.argv[1:2]))

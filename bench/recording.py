@@ -1,8 +1,4 @@
-#!/usr/bin/env python3
-"""Times the proved program over TCP with what it keeps and what it logs, on one machine; prints the rows of bench/FIGURES.md.
-
-    (cd crates/smbshare && rt run < stdin > /dev/null)     builds crates/smbshare/out/smbshare
-    python3 bench/recording.py [PROGRAM]
+"""Times the proved program over TCP with what it keeps and what it logs, on one machine.
 
 Each kind of keeping, and then each level of a log, serves one client that sends a request, waits for its answer, and so
 on, ROUNDS times in turn; each figure is the median. Then a share with so many MiB of files is begun again from its
@@ -10,18 +6,16 @@ journal: from the start of the program until it listens; and the journal is repl
 system gives for temporary ones, on its disk.
 """
 import os
-import pathlib
 import statistics
 import subprocess
 import sys
 import tempfile
 import time
 
-sys.path.insert(0, str(pathlib.Path(__file__).resolve().parent.parent / 'tools'))
-import served
-from exchanging import seconds_for
-from frames import create, echoes, read, write
-from served import ALL_ACCESS, LONGEST_PIECE, OPEN_IF, Served, opens_a_file
+from bench.exchanging import seconds_for
+from tests.smb.client import ALL_ACCESS, LONGEST_PIECE, OPEN_IF, opens_a_file
+from tests.smb.frames import create, echoes, read, session_setup, tree_connect, write
+from tests.smb.program import Program
 
 ROUNDS = 5
 PIECE = os.urandom(LONGEST_PIECE)
@@ -42,9 +36,9 @@ def words_of(kind, folder, number):
     return kind + (os.path.join(folder, f'kept-{number}'),) if kind else ()
 
 
-def times_of(words):
+def times_of(program, words):
     """The microseconds of each exchange, one after the other, of one client of a new share."""
-    with Served(*words) as share:
+    with program.serve(*words) as share:
         client = share.client()
         if not opens_a_file(client):
             raise AssertionError('no file was opened')
@@ -56,11 +50,11 @@ def times_of(words):
         return found
 
 
-def exchanges(folder, kinds):
+def exchanges(program, folder, kinds):
     found = {kind: [] for kind, _ in kinds}
     for number in range(ROUNDS):
         for kind, words in kinds:
-            found[kind].append(times_of(words_of(words, folder, f'{number}-{kind.replace(" ", "").replace(",", "")}')))
+            found[kind].append(times_of(program, words_of(words, folder, f'{number}-{kind.replace(" ", "").replace(",", "")}')))
             for name in os.listdir(folder):
                 os.remove(os.path.join(folder, name))
     print('| served with | ' + ' | '.join(f'{name}, microseconds' for name, _, _ in EXCHANGES) + ' |')
@@ -82,30 +76,33 @@ def fill(client, megabytes):
         message_id = first + parts
 
 
-def restarts(folder):
+def restarts(program, folder):
     print('| MiB of files | MB of journal | seconds until it listens | seconds of `replay --recording` |')
     print('|---|---|---|---|')
     for megabytes in (1, 16, 64):
         path = os.path.join(folder, f'journal-{megabytes}')
-        with Served('--journal', path) as share:
+        with program.serve('--journal', path) as share:
             client = share.client()
-            if not client.negotiates() or client.asks(served.session_setup(1)) != 0 or client.asks(served.tree_connect(2, 1)) != 0:
+            if not client.negotiates() or any(client.asks(it) != 0 for it in (session_setup(1), tree_connect(2, 1))):
                 raise AssertionError('a client is not served')
             fill(client, megabytes)
         start = time.perf_counter()
-        with Served('--journal', path):
+        with program.serve('--journal', path):
             took = time.perf_counter() - start
         start = time.perf_counter()
-        subprocess.run([served.PROGRAM, 'replay', '--recording', path], stdout=subprocess.DEVNULL, check=True)
+        subprocess.run([program.path, 'replay', '--recording', path], stdout=subprocess.DEVNULL, check=True)
         again = time.perf_counter() - start
         print(f'| {megabytes} | {os.path.getsize(path) / 1e6:,.1f} | {took:.2f} | {again:.2f} |', flush=True)
 
 
-if __name__ == '__main__':
-    served.PROGRAM = sys.argv[1] if len(sys.argv) > 1 else served.PROGRAM
+def main(program):
     with tempfile.TemporaryDirectory() as room:
-        exchanges(room, KEPT)
+        exchanges(program, room, KEPT)
         print()
-        exchanges(room, LOGGED)
+        exchanges(program, room, LOGGED)
         print()
-        restarts(room)
+        restarts(program, room)
+
+
+if __name__ == '__main__':
+    main(Program(*sys.argv[1:2]))

@@ -1,12 +1,6 @@
-#!/usr/bin/env python3
 """Counts the requests by which smbclient puts and gets a file of 16 MiB, as a guest by NTLM, in dialect 2.1.
 
-Prints the rows of a table for bench/FIGURES.md. smbclient is Debian's package of that name.
-
-    (cd crates/smbshare && rt run < stdin > /dev/null)     builds crates/smbshare/out/smbshare
-    python3 bench/requests.py [PROGRAM]
-
-A proxy between the two reads each frame of the client: its requests by command, and of the first READ or WRITE the
+smbclient is Debian's package of that name. A proxy between the two reads each frame of the client: its requests by command, and of the first READ or WRITE the
 CreditCharge and the length.
 """
 import collections
@@ -19,10 +13,7 @@ import sys
 import tempfile
 import threading
 
-TOP = pathlib.Path(__file__).resolve().parent.parent
-sys.path.insert(0, str(TOP / 'tools'))
-import served
-from served import Served
+from tests.smb.program import GUEST, Program
 
 SIZE, PATIENCE = 16 << 20, 60
 CREDIT_CHARGE_AT, COMMAND_AT, NEXT_COMMAND_AT, LENGTH_AT = 6, 12, 20, 68
@@ -84,10 +75,10 @@ def counted_of(share, folder, words):
     return counted
 
 
-def requests():
+def requests(program):
     print('| smbclient | WRITEs | READs | bytes of each | CreditCharge | requests in all |')
     print('|---|---|---|---|---|---|')
-    with tempfile.TemporaryDirectory() as folder, Served('--config', str(TOP / 'guest.toml'), '--login', 'ntlm') as share:
+    with tempfile.TemporaryDirectory() as folder, program.serve('--config', GUEST, '--login', 'ntlm') as share:
         path = pathlib.Path(folder)
         (path / 'file').write_bytes(os.urandom(SIZE))
         for words in ('put file', 'get file back'):
@@ -99,5 +90,4 @@ def requests():
 
 
 if __name__ == '__main__':
-    served.PROGRAM = sys.argv[1] if len(sys.argv) > 1 else served.PROGRAM
-    requests()
+    requests(Program(*sys.argv[1:2]))

@@ -1,8 +1,8 @@
-#!/usr/bin/env python3
 """Runs all of bench/ over the proved program, and writes bench/FIGURES.md and bench/beside.svg.
 
     (cd crates/smbshare && rt run < stdin > /dev/null)     builds crates/smbshare/out/smbshare
-    python3 bench/run.py [SCRIPT ..]
+    python3 -m bench.run [SCRIPT ..]
+    python3 -m bench.NAME [PROGRAM]                        prints the rows of one script
 
 It takes some five minutes. smbd and smbclient are measured beside it where they are installed (Debian's packages samba and
 smbclient); without smbclient requests.py is left out. Where scripts are named, as `beside.py`, only these run, and the other sections
@@ -23,7 +23,7 @@ PAGE, CHART = HERE / 'FIGURES.md', HERE / 'beside.svg'
 PROGRAM = HERE.parent / 'crates' / 'smbshare' / 'out' / 'smbshare'
 HEAD = """# Figures
 
-`python3 bench/run.py` writes this page: a section for each script of this directory, which prints its rows. The program is the
+`python3 -m bench.run` writes this page: a section for each script of this directory, which prints its rows. The program is the
 proved one. Each section says on which day and machine it ran, and what the machine did beside it.
 """
 # In the order of the page: a script, its words behind its name, and what its figures are of.
@@ -54,7 +54,7 @@ SCRIPTS = [
     ('growth.py', [], 'The same request beside few and many entries or opens; the file that it is of is among others in one directory. The '
      'last column is the second time by the first.'),
     ('allocations.py', [], 'What one request allocates in a replay, counted by a small library that is loaded before the program '
-     '(`tools/count_allocations.c`), beyond what its line of the text takes. The counts are the same in each run.'),
+     '(`tests/c/count_allocations.c`), beyond what its line of the text takes. The counts are the same in each run.'),
     ('sessions.py', [], 'Connections that open, negotiate, set up a session, connect a tree and end, beside other open sessions.'),
     ('directories.py', [], 'A directory is listed from the start to its end, by class 37 into 65,536 bytes.'),
     ('information.py', [], 'QUERY_INFO and SET_INFO of a file that is five directories deep, and renames beside other entries.'),
@@ -96,7 +96,7 @@ def machine():
     """When and where a script runs, and beside what."""
     kit = first_line(['rt', 'version']).partition(' ')[0]
     beside = [it for it in (first_line(['smbd', '--version']), first_line(['smbclient', '--version'])) if it]
-    samba = f'; Samba: {beside[0].removeprefix("Version ")}' if beside else ''
+    samba = f'; Samba: {beside[0].replace("Version ", "")}' if beside else ''
     return (f'{datetime.date.today()}; {os.cpu_count()} processors, {processor()}; {platform.system()} {platform.release()}; {kit}{samba}; '
             f'load before it {os.getloadavg()[0]:.1f}.')
 
@@ -110,7 +110,8 @@ def section(script, words, about):
     """What a script prints, behind what its figures are of and where it ran."""
     where = machine()
     print(f'{script} ..', flush=True)
-    ran = subprocess.run([sys.executable, str(HERE / script), *map(str, words)], stdout=subprocess.PIPE, stdin=subprocess.DEVNULL, check=False)
+    command = [sys.executable, '-m', f'bench.{script[:-len(".py")]}', *map(str, words)]
+    ran = subprocess.run(command, cwd=HERE.parent, stdout=subprocess.PIPE, stdin=subprocess.DEVNULL, check=False)
     if ran.returncode != 0:
         sys.exit(f'{script} ended with status {ran.returncode}')
     return f'{folded(about)}\n\n{folded(where)}\n\n{ran.stdout.decode().strip()}'
@@ -130,4 +131,5 @@ def main(wanted):
             PAGE.write_text(text, encoding='utf-8')
 
 
-main(sys.argv[1:])
+if __name__ == '__main__':
+    main(sys.argv[1:])

@@ -1,23 +1,17 @@
-#!/usr/bin/env python3
-"""Times the proved program over TCP on one machine; prints the rows of bench/FIGURES.md.
-
-    (cd crates/smbshare && rt run < stdin > /dev/null)     builds crates/smbshare/out/smbshare
-    python3 bench/serving.py [PROGRAM]
+"""Times the proved program over TCP on one machine.
 
 A client keeps so many requests in flight: where that is one, it sends a request, waits for its answer, and so on. The script's own time is a
 part of each figure. A set-up is a connection that negotiates, sets up a session, connects to the share and ends. Idle: processor
 time of the program in ten seconds in which nobody says anything. READs and WRITEs of 65,536 and of 524,288 bytes, each of a CreditCharge of 8,
 stand beside each other, three times; the processor time for each MB is the program's own, with the system's part in it.
 """
-import pathlib
 import sys
 import time
 
-sys.path.insert(0, str(pathlib.Path(__file__).resolve().parent.parent / 'tools'))
-import served
-from exchanging import processor_seconds, seconds_for
-from frames import charge_of, close, create, echoes, read, session_setup, tree_connect, write
-from served import ALL_ACCESS, LONGEST_PIECE, OPEN_IF, Served, opens_a_file
+from bench.exchanging import processor_seconds, seconds_for
+from tests.smb.client import ALL_ACCESS, LONGEST_PIECE, OPEN_IF, opens_a_file
+from tests.smb.frames import charge_of, close, create, echoes, read, session_setup, tree_connect, write
+from tests.smb.program import Program
 
 IDLE_SECONDS = 10
 PIECE = bytes(LONGEST_PIECE)
@@ -67,11 +61,11 @@ def beside(share, count):
     return clients
 
 
-def exchanges():
+def exchanges(program):
     print('| exchange | in flight | other clients | count | microseconds each | a second | MB/s |')
     print('|---|---|---|---|---|---|---|')
     for others in (0, 63):
-        with Served() as share:
+        with program.serve() as share:
             clients = beside(share, others)
             client = share.client()
             if not opens_a_file(client):
@@ -84,10 +78,10 @@ def exchanges():
                 print(f'| {name} | {in_flight} | {len(clients)} | {count:,} | {took / count * 1e6:.1f} | {count / took:,.0f} | {rate} |', flush=True)
 
 
-def lengths():
+def lengths(program):
     print('| bytes in flight | request | bytes | in flight | MB | MB/s by the clock | processor microseconds for each MB |')
     print('|---|---|---|---|---|---|---|')
-    with Served() as share:
+    with program.serve() as share:
         client = share.client()
         if not opens_a_file(client):
             raise AssertionError('no file was opened')
@@ -105,10 +99,10 @@ def lengths():
                 print(f'| {asked:,} | {name} | {size:,} | {in_flight} | {megabytes:,.0f} | {megabytes / took:,.0f} | {spent / megabytes * 1e6:,.0f} |', flush=True)
 
 
-def set_ups(count=5_000):
+def set_ups(program, count=5_000):
     print('| set-ups | seconds | a second |')
     print('|---|---|---|')
-    with Served() as share:
+    with program.serve() as share:
         start = time.perf_counter()
         for i in range(count):
             client = share.client()
@@ -119,23 +113,22 @@ def set_ups(count=5_000):
         print(f'| {count:,} | {took:.2f} | {count / took:,.0f} |', flush=True)
 
 
-def idle():
+def idle(program):
     print('| clients | processor milliseconds in 10 s |')
     print('|---|---|')
     for count in (0, 1, 64):
-        with Served() as share:
+        with program.serve() as share:
             clients = beside(share, count)
             before = processor_seconds(share.process)
             time.sleep(IDLE_SECONDS)
             print(f'| {len(clients)} | {(processor_seconds(share.process) - before) * 1e3:.1f} |', flush=True)
 
 
+def main(program):
+    for place, measured in enumerate((exchanges, lengths, set_ups, idle)):
+        print('\n' * (place > 0), end='')
+        measured(program)
+
+
 if __name__ == '__main__':
-    served.PROGRAM = sys.argv[1] if len(sys.argv) > 1 else served.PROGRAM
-    exchanges()
-    print()
-    lengths()
-    print()
-    set_ups()
-    print()
-    idle()
+    main(Program(*sys.argv[1:2]))

@@ -1,14 +1,12 @@
-#!/usr/bin/env python3
-"""Times the proved program on connection set-ups, and prints the rows of bench/FIGURES.md.
-
-    (cd crates/smbshare && rt run < stdin > /dev/null)     builds crates/smbshare/out/smbshare
-    python3 bench/sessions.py
+"""Times the proved program on connection set-ups.
 
 A set-up is a connection that opens, negotiates, sets up a session, connects a tree and ends. Other sessions
 stand meanwhile, 16 on each of up to 63 connections: a set-up should cost the same however many there are.
 """
-from frames import negotiate, session_setup, tree_connect
-from runs import piece, replayed, succeeds
+import sys
+
+from bench.runs import Replays, piece, succeeds
+from tests.smb.frames import negotiate, session_setup, tree_connect
 
 
 def write_replay(path, standing, count):
@@ -29,19 +27,19 @@ def write_replay(path, standing, count):
             text.write(f'- {number}\n')
 
 
-def measure(standing, count):
-    seconds, peak, _ = replayed(write_replay, (standing, count), succeeds, 17 * standing + 3 * count)
+def measure(replays, standing, count):
+    seconds, peak, _ = replays.replayed(write_replay, (standing, count), succeeds, 17 * standing + 3 * count)
     print(f'| {count:,} | {16 * standing:,} | {seconds:.2f} | {1e6 * seconds / count:.0f} '
           f'| {peak:.0f} |')
 
 
-def main():
+def main(replays):
     print('| set-ups | sessions that stand | seconds | microseconds a set-up | peak MiB |')
     print('|---|---|---|---|---|')
     for standing in (0, 63):
         for count in (10_000, 40_000):
-            measure(standing, count)
+            measure(replays, standing, count)
 
 
 if __name__ == '__main__':
-    main()
+    main(Replays(*sys.argv[1:2]))

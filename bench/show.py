@@ -1,8 +1,4 @@
-#!/usr/bin/env python3
-"""Times `smbshare show` on long streams of requests, and prints the rows of bench/FIGURES.md.
-
-    (cd crates/smbshare && rt run < stdin > /dev/null)     builds crates/smbshare/out/smbshare
-    python3 bench/show.py
+"""Times `smbshare show` on long streams of requests.
 
 Mixed streams have NEGOTIATE, ECHO in chains of 16, CREATE, READ and WRITE of 4,096 bytes; the others a frame for
 each ECHO. The longest is as long as 64 MiB of hex hold. Half the stream should take about half the time.
@@ -13,8 +9,8 @@ import struct
 import sys
 import tempfile
 
-from frames import create, echoes, frame, header, negotiate
-from runs import timed, written
+from bench.runs import Replays, written
+from tests.smb.frames import create, echoes, frame, header, negotiate
 
 TEXT_LIMIT = 67108864
 SIZES = [8 << 20, 16 << 20, (TEXT_LIMIT - (1 << 20)) // 2]
@@ -70,11 +66,11 @@ def write_case(name, size, text, want):
             out.write(content)
 
 
-def measure(name, size):
+def measure(replays, name, size):
     with tempfile.TemporaryDirectory() as folder:
         text, want, listing = (os.path.join(folder, part) for part in ('text', 'want', 'listing'))
         written(write_case, name, size, text, want)
-        status, seconds, peak = timed(['show'], text, listing)
+        status, seconds, peak = replays.timed(text, listing, 'show')
         if status != 0 or not filecmp.cmp(listing, want, shallow=False):
             sys.exit(f'status {status}, or a wrong listing')
         with open(want) as lines:
@@ -84,13 +80,13 @@ def measure(name, size):
           f'| {peak:.0f} |')
 
 
-def main():
+def main(replays):
     print('| frames | MB of stream | requests | seconds | MB/s of stream | peak MiB |')
     print('|---|---|---|---|---|---|')
     for name in STREAMS:
         for size in SIZES:
-            measure(name, size)
+            measure(replays, name, size)
 
 
 if __name__ == '__main__':
-    main()
+    main(Replays(*sys.argv[1:2]))

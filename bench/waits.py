@@ -1,23 +1,15 @@
-#!/usr/bin/env python3
 """Times what clients wait for others, over TCP, beside one that searches a folder of 4,080 files with long names.
-
-Prints the rows of bench/FIGURES.md.
-
-    (cd crates/smbshare && rt run < stdin > /dev/null)     builds crates/smbshare/out/smbshare
-    python3 bench/waits.py [PROGRAM]
 
 One client sends a piece of 39 chains of 16 queries whose pattern matches no name, or of as many as fit; the other one
 ECHO after the other.
 """
-import pathlib
 import sys
 import threading
 import time
 
-sys.path.insert(0, str(pathlib.Path(__file__).resolve().parent.parent / 'tools'))
-import served
-from frames import chain, close, create, echoes, query_directory
-from served import ALL_ACCESS, LONGEST_PIECE, Served, opens_the_root
+from tests.smb.client import ALL_ACCESS, LONGEST_PIECE, opens_the_root
+from tests.smb.frames import chain, close, create, echoes, query_directory
+from tests.smb.program import Program
 
 FILES, NAME, CHAIN, CREATE, WANTED = 4_080, 251, 16, 2, 1_024
 # The first ends at the last unit of each name; the others are looked at up to its first one.
@@ -57,10 +49,10 @@ def take(client, count, ended):
     ended.set()
 
 
-def waits():
+def waits(program):
     print('| pattern | chains in a piece | one chain, ms | longest wait of another client, ms |')
     print('|---|---|---|---|')
-    with Served() as share:
+    with program.serve() as share:
         searching, beside = share.client(), share.client()
         if not opens_the_root(searching) or not beside.negotiates():
             raise AssertionError('no client is served')
@@ -82,5 +74,4 @@ def waits():
 
 
 if __name__ == '__main__':
-    served.PROGRAM = sys.argv[1] if len(sys.argv) > 1 else served.PROGRAM
-    waits()
+    waits(Program(*sys.argv[1:2]))

@@ -1,21 +1,16 @@
-#!/usr/bin/env python3
-"""Times single frames that ask as much as a frame may; prints the rows of bench/FIGURES.md.
-
-    (cd crates/smbshare && rt run < stdin > /dev/null)     builds crates/smbshare/out/smbshare
-    python3 bench/worst.py
+"""Times single frames that ask as much as a frame may.
 
 While one frame is performed every other client waits. Each case fills a share of its own, over TCP, and then sends frames of its
 kind, one at a time: a figure is the longest time until one was answered, the script's part included.
 """
-import pathlib
 import struct
 import sys
 import time
 
-sys.path.insert(0, str(pathlib.Path(__file__).resolve().parent.parent / 'tools'))
-from frames import (chain, close, create, frame, header, lock, query_directory, query_info, rename, session_setup, set_info, tree_connect,
+from tests.smb.frames import (chain, close, create, frame, header, lock, query_directory, query_info, rename, session_setup, set_info, tree_connect,
                     write)
-from served import ALL_ACCESS, OPEN_IF, Served
+from tests.smb.client import ALL_ACCESS, OPEN_IF
+from tests.smb.program import Program
 
 DIRECTORY_FILE, DELETE_ON_CLOSE, OPEN = 1, 0x1000, 1
 MOST_ENTRIES, MOST_OPENS, MOST_LOCKS, LONGEST_NAME = 4_096, 1_024, 256, 255
@@ -220,11 +215,11 @@ CASES = (
 )
 
 
-def main():
+def main(program):
     print('| frame | milliseconds |')
     print('|---|---|')
     for name, case in CASES:
-        with Served() as share:
+        with program.serve() as share:
             filler = Filler(share)
             frames = case(filler)
             longest = max(filler.took(requests) for requests, _ in zip(frames, range(REPEATS)))
@@ -232,4 +227,4 @@ def main():
 
 
 if __name__ == '__main__':
-    main()
+    main(Program(*sys.argv[1:2]))

@@ -11,7 +11,6 @@ import pathlib
 import re
 import sys
 
-sys.path.insert(0, str(pathlib.Path(__file__).resolve().parent))
 from frame import COMMANDS, ERROR, NAMES, REQUESTS, RESPONSES, layout, put_body, table, told
 
 TOP = pathlib.Path(__file__).resolve().parent.parent

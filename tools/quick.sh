@@ -1,7 +1,7 @@
 #!/usr/bin/env bash
 # What can be seen of a change without any proof, in some minutes: what must hold of the files, all rows, the Rust
-# tests, the stored run, what becomes of captures, and the program's words, its serving and its demo, over builds by
-# `rt try`. What is independent runs side by side. The last line is 'quick: N passed, M failed'.
+# tests, the stored run, and the tests over the program and over captures, over builds by `rt try`. What is independent
+# runs side by side. The last line is 'quick: N passed, M failed'.
 set -um
 cd "$(dirname "$0")/.." || exit 1
 logs=$(mktemp -d)
@@ -33,7 +33,7 @@ files() {
 
 # A row is one that passed where its line is among those that the program must print.
 rows() {
-    (cd crates/smb_rows && rt try --seconds 300 < stdin) > "$logs/rows.out"
+    (cd crates/smb_rows && rt try --seconds 600 < stdin) > "$logs/rows.out"
     local status=$?
     diff crates/smb_rows/stdout "$logs/rows.out" || status=1
     count rows "$(grep -cxFf crates/smb_rows/stdout "$logs/rows.out")" \
@@ -56,15 +56,9 @@ run_stored() {
 }
 
 the_program() {
-    python3 tools/unproved.py || return
+    bash tools/serve.sh --build > /dev/null || return
     run_stored
-    python3 tools/demo.py --check "$program"
-    python3 tools/program.py --unproved "$program"
-    python3 tools/serving.py "$program"
-    python3 tools/load.py --unproved "$program"
-    python3 tools/journal.py --unproved "$program"
-    python3 tools/logs.py --unproved "$program"
-    python3 tools/hostile.py --count 200 "$program"
+    python3 -m tests.run --unproved --jobs 2 --count 200 serving load hostile words keeping logging captures
 }
 
 # How many tasks run side by side: one a processor, and one for each 2 GB of memory that is free.
@@ -83,7 +77,6 @@ begin() {
 
 echo "quick.sh: rt try builds the program, the rows and two crates of tests, $lanes at a time: some minutes."
 begin files files
-begin pcap python3 tools/pcap_tests.py
 begin smbshare the_program
 begin smb_rows rows
 begin smb_tests tests_of smb_tests
@@ -100,6 +93,6 @@ Left out: all proofs, the must-fail edits, allocations and what is done where me
 and the second compiler. bash tools/test.sh has them all.
 END
 cd "$logs" || exit 1
-awk '/^(files|rows|smb_layer_tests|smb_tests|stored|demo|program|serving|load|hostile|journal|logs|pcap): [0-9]+ passed, [0-9]+ failed$/ {
+awk '/^(files|rows|smb_layer_tests|smb_tests|stored|tests): [0-9]+ passed, [0-9]+ failed$/ {
          passed += $2; failed += $4; tried++ }
-     END { failed += 13 - tried; print "quick: " passed " passed, " failed " failed"; exit failed > 0 }' "${names[@]}"
+     END { failed += 6 - tried; print "quick: " passed " passed, " failed " failed"; exit failed > 0 }' "${names[@]}"

@@ -1,17 +1,15 @@
-#!/usr/bin/env python3
 """record.py: records what a client and the share say to each other, as a row of crates/smb_rows.
 
-    python3 tools/record.py [--program PROGRAM] [--guest] [--ann] NAME COMMENT COMMAND ..
+    python3 -m tools.record [--program PROGRAM] [--guest] [--ann] NAME COMMENT COMMAND ..
 
 The share is served with `--login ntlm` and a given seed: to guests with `--guest`, to the account `ann`, whose password
-is `Password`, with `--ann`. Each moment in it is the start of 1970 (tools/odd_system.c), as in a row that names none.
+is `Password`, with `--ann`. Each moment in it is the start of 1970 (tests/c/odd_system.c), as in a row that names none.
 The command is run, with {port} in its words replaced by the port of a proxy that stands between the client and the
 share, and hands on whole frames. What the command says goes to standard error. The row goes to standard output: a line
 for each frame, in the order in which they came, with the words of tools/frame.py where it has them. It is a row only
 where the command's status is 0, and a replay of the client's frames answers what the client got; else the status is 1.
 """
 import argparse
-import os
 import re
 import selectors
 import socket
@@ -19,14 +17,13 @@ import subprocess
 import sys
 import tempfile
 
-TOP = os.path.dirname(os.path.dirname(os.path.abspath(__file__)))
-sys.path.insert(0, os.path.join(TOP, "tools"))
-import frame as frame_tool
+from tests.smb.ntlm import PASSWORD_HASH
+from tests.smb.preload import odd_system
+from tests.smb.program import PROVED, Program
+from tests.smb.rows import SEED, USER, line_of, login_words
+from tools import frame as frame_tool
 
-HOST, MOMENT = "127.0.0.1", 116_444_736_000_000_000
-SEED = "000102030405060708090a0b0c0d0e0f"
-# The account, by the NT hash of its password ([MS-NLMP] 4.2.2.1.2).
-NAME, NT_HASH = "ann", "a4f49c406510bdcab6824ee7c30fd852"
+HOST = "127.0.0.1"
 
 
 class Side:
@@ -100,54 +97,22 @@ class Proxy:
         return bool(ready)
 
 
-def odd_system(folder):
-    """The environment in which the program's clock is before 1970."""
-    library = os.path.join(folder, "odd.so")
-    source = os.path.join(TOP, "tools", "odd_system.c")
-    subprocess.run(["cc", "-shared", "-fPIC", "-O2", "-o", library, source], check=True)
-    return {**os.environ, "LD_PRELOAD": library, "ODD_SYSTEM": "clock"}
-
-
-def login_words(folder, words):
-    """The words of the program that say who logs in."""
-    found = ["--login", "ntlm", "--seed", SEED]
-    if words.guest:
-        found += ["--config", os.path.join(TOP, "guest.toml")]
-    if words.ann:
-        name = os.path.join(folder, "accounts")
-        with open(os.open(name, os.O_CREAT | os.O_WRONLY, 0o600), "w", encoding="ascii") as file:
-            file.write(f'[[account]]\nname = "{NAME}"\nnt_hash = "{NT_HASH}"\n')
-        found += ["--accounts", name]
-    return found
-
-
-def recorded(words, folder, login):
+def recorded(program, login, command):
     """What a command and the share say to each other; None where the command fails."""
-    serve = [words.program, "serve", "--listen", f"{HOST}:0", *login]
-    share = subprocess.Popen(serve, stderr=subprocess.PIPE, text=True, env=odd_system(folder))
-    try:
-        proxy = Proxy(int(share.stderr.readline().rsplit(":", 1)[1]))
-        command = [word.replace("{port}", str(proxy.port)) for word in words.command]
-        client = subprocess.Popen(command, stdin=subprocess.DEVNULL, stdout=sys.stderr)
+    with odd_system("clock") as system, program.serve(*login, system=system) as share:
+        proxy = Proxy(share.port)
+        client = subprocess.Popen([word.replace("{port}", str(proxy.port)) for word in command],
+                                  stdin=subprocess.DEVNULL, stdout=sys.stderr)
         while proxy.turn() or client.poll() is None:
             pass
         return proxy.said if client.returncode == 0 else None
-    finally:
-        share.kill()
-        share.communicate()
 
 
-def line_of(sign, number, frame):
-    """A line of a replay, or of its answers."""
-    moment = f" {MOMENT}" if sign == ">" else ""
-    return f"{sign} {number}{moment} {frame.hex()}".rstrip() + "\n"
-
-
-def is_repeated(words, login, said):
+def is_repeated(program, login, said):
     """Whether a replay of what came answers what was answered, in its order."""
     text = "".join(line_of(*one) for one in said if one[0] in "+>-")
-    ran = subprocess.run([words.program, "replay", *login], input=text, text=True, capture_output=True, check=False)
-    return (ran.returncode, ran.stdout) == (0, "".join(line_of(*one) for one in said if one[0] in "<x"))
+    status, output, _ = program.run("replay", *login, given=text.encode())
+    return (status, output.decode()) == (0, "".join(line_of(*one) for one in said if one[0] in "<x"))
 
 
 def without_zeros(raw):
@@ -182,7 +147,7 @@ def row_of(words, said):
         lines.append("config guest = false => guest = true")
     lines.append(f"ntlm {SEED}")
     if words.ann:
-        lines.append(f"account {NAME} {NT_HASH}")
+        lines.append(f"account {USER} {PASSWORD_HASH}")
     for sign, number, frame in said:
         lines.append(f"{sign} {number} {words_of(frame)}" if frame else f"{sign} {number}")
     return "\n".join(lines) + "\n"
@@ -190,7 +155,7 @@ def row_of(words, said):
 
 def read_words():
     reader = argparse.ArgumentParser(description=__doc__, formatter_class=argparse.RawDescriptionHelpFormatter)
-    reader.add_argument("--program", default=os.path.join(TOP, "crates", "smbshare", "out", "smbshare"))
+    reader.add_argument("--program", default=PROVED)
     for option in ("--guest", "--ann"):
         reader.add_argument(option, action="store_true")
     reader.add_argument("name")
@@ -201,10 +166,11 @@ def read_words():
 
 def main():
     words = read_words()
+    program = Program(words.program)
     with tempfile.TemporaryDirectory() as folder:
-        login = login_words(folder, words)
-        said = recorded(words, folder, login)
-        if said is None or not is_repeated(words, login, said):
+        login = login_words(folder, words.guest, words.ann)
+        said = recorded(program, login, words.command)
+        if said is None or not is_repeated(program, login, said):
             sys.exit("record.py: the command failed" if said is None else "record.py: a replay answers otherwise")
     print(row_of(words, said))
 

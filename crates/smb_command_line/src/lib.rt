@@ -8,7 +8,7 @@
 //! ```
 //!
 //! That the calls are safe and return is proved. Which words are taken, and what is said of others, is tested
-//! (tools/program.py).
+//! (tests/words).
 #![tactic(auto)]
 
 mod command_line;

@@ -12,7 +12,7 @@
 //! A caller makes the share and lends it to these calls: [`recorded_share`] makes one whose authenticator gives the recorded answers
 //! first. The files are of smb_journal, the requests of the program's own client of smb_folder.
 //!
-//! That the calls are safe and return is proved. That what was answered is not lost is tested (tools/journal.py), and what the
+//! That the calls are safe and return is proved. That what was answered is not lost is tested (tests/keeping), and what the
 //! system does with files is trusted.
 #![tactic(auto)]
 

@@ -20,7 +20,7 @@
 //! is cut behind 1,024 bytes, which `\u{..}` then says. Bytes of a user that are no UTF-8 are written as U+FFFD.
 //! A name is not quoted: one with blanks may look like the words behind it, but it stays in its field.
 //!
-//! That the calls are safe and return is proved. What the texts say is tested (tools/logs.py, crates/smb_tests/src/logs.rt).
+//! That the calls are safe and return is proved. What the texts say is tested (tests/logging, crates/smb_tests/src/logs.rt).
 #![tactic(auto)]
 
 mod access;

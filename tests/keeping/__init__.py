@@ -1,0 +1,23 @@
+"""What a share keeps in a file: nothing acknowledged is lost where the program is killed, a recording says what was
+answered, and what is done with one that is cut, changed, of another share or full; and folders."""
+from tests.keeping import anew, damaged, folders, killing, recordings, refused
+
+SEED, KILLS = 20_261_126, 20
+PARTS = {'recordings': recordings.TESTS, 'damaged': damaged.TESTS, 'folders': folders.TESTS, 'anew': anew.TESTS,
+         'refused': refused.TESTS}
+
+
+def add_words(reader):
+    reader.add_argument('--kills', type=int, default=KILLS, metavar='N',
+                        help='keeping: how often the program is killed')
+    reader.add_argument('--part', action='append', choices=('killed', *PARTS), help='keeping: a part alone')
+
+
+def tests(words):
+    """With an unproved program fewer places are tried, a journal is kept over fewer kills, and no allocation is
+    refused: it is slow, and has checks before them."""
+    program, wanted = words.program, words.part or ('killed', *PARTS)
+    kills = (killing.nothing_acknowledged_is_lost_behind_kills, program, words.kills, words.seed or SEED)
+    return [kills] * ('killed' in wanted) + [
+        (test, program) for part, tests in PARTS.items() if part in wanted
+        and not (part == 'refused' and program.is_unproved) for test in tests]

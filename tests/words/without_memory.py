@@ -1,0 +1,93 @@
+"""What the program does where its memory runs out, or is little.
+
+For some command lines tests/c/refuse_allocation.c refuses the first allocation that the program makes, then the second,
+and so on until a run makes fewer.
+"""
+import os
+import resource
+import tempfile
+from concurrent.futures import ThreadPoolExecutor
+
+from tests.smb.frames import frame
+from tests.smb.preload import built
+from tests.smb.program import TOP
+from tests.words.program import BY_NTLM, NOT_TEXT, accounts_file, ran
+from tests.words.refusals import ACCOUNTS, NEGOTIATE
+
+MOST_ALLOCATIONS = 10_000
+NO_MEMORY = (3, b'no memory\n')
+
+
+def ran_without(program, library, number, words, given):
+    """What a run gave, and whether the allocation of this number was refused in it."""
+    with tempfile.TemporaryDirectory() as folder:
+        mark = os.path.join(folder, 'refused')
+        system = {**os.environ, 'LD_PRELOAD': library, 'REFUSE': str(number), 'REFUSED': mark}
+        return ran(program, words, given, env=system), os.path.exists(mark)
+
+
+def ends_without_memory(program, *words, given=b''):
+    """Whether a run in which memory is refused ends for want of it, in at least one place, or as if there had been
+    enough. Several are tried at a time."""
+    enough, ended, at_once = ran(program, words, given), 0, 4 * os.cpu_count()
+    with built('refuse_allocation') as library, ThreadPoolExecutor(os.cpu_count()) as pool:
+        for first in range(1, MOST_ALLOCATIONS, at_once):
+            numbers = range(first, first + at_once)
+            tried = pool.map(lambda number: ran_without(program, library, number, words, given), numbers)
+            for number, (found, was_refused) in zip(numbers, tried):
+                if not was_refused:
+                    return ended > 0
+                is_end = found[::2] == NO_MEMORY
+                ended += is_end
+                if not is_end and found != enough:
+                    print(f'  refusal {number}: {found}')
+                    return False
+    return False
+
+
+def help_ends_without_memory(program):
+    return ends_without_memory(program, '--help') and ends_without_memory(program, 'serve', '--help')
+
+
+def version_ends_without_memory(program):
+    return ends_without_memory(program, '--version')
+
+
+def wrong_words_end_without_memory(program):
+    return all(ends_without_memory(program, *words) for words in (('other',), ('serve', '--turns', 'x'), (NOT_TEXT,)))
+
+
+def replay_ends_without_memory(program):
+    return ends_without_memory(program, 'replay', '--config', os.path.join(TOP, 'share.toml'), given=b'+ 1\n- 1\n')
+
+
+def replay_by_ntlm_ends_without_memory(program):
+    with accounts_file(ACCOUNTS.encode()) as name:
+        return ends_without_memory(program, *BY_NTLM, '--accounts', name, given=b'+ 1\n- 1\n')
+
+
+def nt_hash_ends_without_memory(program):
+    return ends_without_memory(program, 'nt-hash', given=b'Password')
+
+
+def show_ends_without_memory(program):
+    return ends_without_memory(program, 'show', given=b'00000044fe534d42')
+
+
+def fields_end_without_memory(program):
+    return ends_without_memory(program, 'show', '--fields', given=frame(NEGOTIATE).hex().encode())
+
+
+def replay_takes_a_small_multiple_of_its_text(program):
+    """A text of 8 MiB is replayed where the program may have 64 MiB; with all events read first it took 120."""
+    def limit():
+        resource.setrlimit(resource.RLIMIT_AS, (64 << 20, 64 << 20))
+    return ran(program, ('replay',), b'+ 1\n' + b'- 1\n' * (2 << 20), preexec_fn=limit) == (0, b'', b'')
+
+
+TESTS = (
+    help_ends_without_memory, version_ends_without_memory, wrong_words_end_without_memory,
+    replay_ends_without_memory, replay_by_ntlm_ends_without_memory, nt_hash_ends_without_memory,
+    show_ends_without_memory, fields_end_without_memory,
+    replay_takes_a_small_multiple_of_its_text,
+)

@@ -1,0 +1,1 @@
+"""What tools/pcap.py, tools/prove.py and tools/serve.sh are made of."""
