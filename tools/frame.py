@@ -9,11 +9,12 @@
 `write` prints the words of a row of smb_rows, and with `--hex` plain hex, as `smbshare replay` takes it. A response
 begins with `response` before its command. ` ; ` joins the requests, or the responses, of a chain. A field that is not
 named has the value that most messages give it. Numbers are decimal or begin with 0x; names of flags are joined by `|`;
-a buffer of bytes is hex, a text is ASCII without a blank. `read` prints what `write` takes, without the fields of usual
+a buffer of bytes is hex, or its text in quotes as tools/demo.py shows it; any other text is ASCII without a blank. `read` prints what `write` takes, without the fields of usual
 values. `check` reads each whole frame of rows and writes it again: the bytes must be the same. What is wrong is named
 in one line on standard error, and the status is 1. This tool is for people who write rows; nothing that is proved rests
 on it.
 """
+import ast
 import pathlib
 import re
 import sys
@@ -136,6 +137,8 @@ NAMES = {
 }
 CHOICES = ("Status", "CreateDisposition", "CreateAction", "DialectRevision")
 LOCK_FLAGS = {"SHARED": 1, "EXCLUSIVE": 2, "UNLOCK": 4, "FAIL_IMMEDIATELY": 16}
+# A word of `write`: a buffer in quotes may have blanks in it.
+WORD = re.compile(r"""Buffer=(?:'(?:[^'\\]|\\.)*'|"(?:[^"\\]|\\.)*")(?!\S)|\S+""")
 # How many bytes a word that repeats some says at most.
 LONGEST_WORD = 1 << 24
 
@@ -216,9 +219,17 @@ def usual(field):
     return number(name, width, default or "0")
 
 
+def quoted_bytes(name, text):
+    """The bytes of a text in quotes."""
+    try:
+        return ast.literal_eval(text).encode("ascii")
+    except (ValueError, SyntaxError):
+        raise Unread(f"{name}: {text} is no text of ASCII in quotes") from None
+
+
 def buffer_bytes(name, kind, text):
     if kind == "bytes":
-        return hex_bytes(name, text)
+        return quoted_bytes(name, text) if text[0] in "'\"" else hex_bytes(name, text)
     if kind == "text":
         try:
             return text.encode("utf-16-le")
@@ -329,7 +340,12 @@ def put_message(words, is_last):
 
 def write(text):
     """The words of a frame."""
-    messages = [it.split() for it in text.split(" ; ")]
+    messages = [[]]
+    for word in WORD.findall(text):
+        if word == ";":
+            messages.append([])
+        else:
+            messages[-1].append(word)
     parts = [part for i, it in enumerate(messages) for part in put_message(it, i + 1 == len(messages))]
     return as_words([sum(map(len, parts)).to_bytes(4, "big"), *parts])
 
@@ -498,6 +514,8 @@ WRONG = (
     (("write", "CREATE Name=" + "x" * 32_768), "NameLength: 65536 is no number of 2 bytes"),
     (("write", "CLOSE FileId=x"), "FileId: 'x' is no number"),
     (("write", "WRITE Buffer=0"), "Buffer: '0' is not hex"),
+    (("write", "WRITE Buffer='a"), "Buffer: 'a is no text of ASCII in quotes"),
+    (("write", "WRITE Buffer='a'b"), "Buffer: 'a'b is no text of ASCII in quotes"),
     (("write", "NEGOTIATE Dialects=0x202,x"), "Dialects: 'x' is no number"),
     (("write", "LOCK Locks=0:1"), "Locks: '0:1' is not OFFSET:LENGTH:FLAGS"),
     (("write", "LOCK Locks=0:1:OTHER"), "Locks: 'OTHER' is no number"),

@@ -128,7 +128,8 @@ def what_is_no_journal_is_refused(program):
                  for name, data in files.items()]
         absent = os.path.join(folder, 'absent', 'file')
         folders_found = tuple(begun(program, '--journal', it) for it in (folder, absent))
-        wanted = (1, 'journal: cannot be read: is a directory\n'), (1, 'journal: cannot be written: entity not found\n')
+        wanted = ((1, f'journal: {folder}: cannot be read: is a directory\n'),
+                  (1, f'journal: {absent}: cannot be written: no such file\n'))
         if folders_found != wanted:
             print(f'  {folders_found}', flush=True)
         return all(there) and stays_refused(program, record, 'journal: .+\n') and folders_found == wanted
@@ -180,7 +181,7 @@ def one_in_use_is_refused(program):
     with tempfile.TemporaryDirectory() as folder:
         journal, record = os.path.join(folder, 'journal'), os.path.join(folder, 'record')
         in_use = 'journal: in use by another program\n'
-        exists = (1, 'journal: cannot be written: entity already exists\n')
+        exists = (1, f'record: {record}: cannot be written: it exists already\n')
         with keeping(program, '--journal', journal) as share, keeping(program, '--record', record) as recorded:
             client = Looking(share).comes_in()
             refused = stays_refused(program, journal, in_use) and stays_refused(program, record, 'journal: .+\n')
@@ -197,7 +198,7 @@ def a_record_is_made_over_nothing(program):
         found = []
         for data in (b'', b'a text\n'):
             file = put(os.path.join(folder, 'file'), data)
-            found.append(begun(program, '--record', file) == (1, 'journal: cannot be written: entity already exists\n'))
+            found.append(begun(program, '--record', file) == (1, f'record: {file}: cannot be written: it exists already\n'))
             found.append(bytes_of(file) == data)
         return all(found)
 
@@ -211,7 +212,7 @@ def one_without_rights_is_refused(program):
         if os.geteuid() == 0:
             print('  left out, since all rights are there', flush=True)
             return True
-        denied = 'journal: cannot be read: permission denied\n'
+        denied = f'journal: {file}: cannot be read: permission denied\n'
         os.chmod(file, 0o400)
         refused = stays_refused(program, file, denied)
         os.chmod(file, 0o200)
@@ -239,7 +240,7 @@ def is_full_at(program, form, length):
         file = os.path.join(folder, 'kept')
         with keeping(program, form, file, longest=length) as share:
             count, end = written_until_it_ends(share), ended(share)
-        if end != (1, 'record: failed\n') or not 0 < count < length or os.path.getsize(file) != length:
+        if end != (1, f'{form[2:]}: {file}: cannot be written: file too large\n') or not 0 < count < length or os.path.getsize(file) != length:
             print(f'  {form}, at {length}: {end}, {count} bytes were acknowledged', flush=True)
             return False
         to = os.path.join(folder, 'left')
@@ -262,7 +263,7 @@ def a_full_file_does_not_begin(program):
         journal, new = make(program, os.path.join(folder, 'kept'), '--journal'), os.path.join(folder, 'new')
         found = [begun(program, '--journal', new, longest=20),
                  begun(program, '--journal', journal, longest=os.path.getsize(journal) + 3)]
-        wanted = [(1, 'journal: cannot be written: file too large\n'), (1, 'record: failed\n')]
+        wanted = [(1, f'journal: {name}: cannot be written: file too large\n') for name in (new, journal)]
         if found != wanted:
             print(f'  {found}', flush=True)
         with keeping(program, '--journal', journal) as share, keeping(program, '--journal', new) as other:
@@ -283,7 +284,7 @@ def a_full_file_takes_no_folder(program):
             refused = begun(program, '--journal', journal, '--from', source, longest=length)
             found.append((refused, os.path.exists(journal)))
             put(journal, b'')
-        if found != [((1, 'record: failed\n'), False)] * len(found):
+        if found != [((1, f'journal: {journal}: cannot be written: file too large\n'), False)] * len(found):
             print(f'  {found}', flush=True)
             return False
         return True

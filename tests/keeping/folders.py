@@ -142,7 +142,7 @@ def a_folder_is_not_put_into_an_old_share(program):
         a_file = begun(program, '--from', journal, '--journal', journal + '2')
         found = exists, absent, a_file
         wanted = ((1, 'journal: it exists already, so no folder can be put into it\n'),
-                  (1, f'folder: {source}2/: cannot be read: entity not found\n'),
+                  (1, f'folder: {source}2/: cannot be read: no such file\n'),
                   (1, f'folder: {journal}/: cannot be read: not a directory\n'))
         if found != wanted:
             print(f'  {found}', flush=True)

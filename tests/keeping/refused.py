@@ -24,6 +24,7 @@ class Refusing(Served):
     """The program, serving a share that it keeps, which may end before it listens; what it says, and its port."""
 
     def __init__(self, program, file, system=None, longest=None):
+        self.file = file
         self.process = begins_to_keep(program, file, '--clock', str(MOMENT), stdin=subprocess.DEVNULL,
                                       stdout=subprocess.DEVNULL, stderr=subprocess.PIPE, env=system,
                                       preexec_fn=limits(longest=longest) if longest else None)
@@ -38,7 +39,8 @@ class Refusing(Served):
     def ended_well(self):
         """Whether it has ended by itself, for want of memory: before it served, or since a line could not be made."""
         said = self.said + self.process.stderr.read().decode().splitlines(keepends=True)
-        return (self.process.wait(), *said[-1:]) in ((3, 'no memory\n'), (1, 'record: failed\n'))
+        unkept = f'journal: {self.file}: cannot be written: no memory\n'
+        return (self.process.wait(), *said[-1:]) in ((3, 'no memory\n'), (1, unkept))
 
 
 class Trial:

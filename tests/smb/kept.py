@@ -1,6 +1,7 @@
 """A share that is kept in a file, and a client that sees all of it."""
 import collections
 import os
+import re
 import struct
 import subprocess
 
@@ -15,6 +16,9 @@ READONLY, FOLDER, NO_MORE_FILES = 1, 0x10, 0x80000006
 BYTES_AT, ENTRIES_AT = 80, 72
 # How many units of 100 ns a second has, and which one is that of 1970.
 SECOND, OF_1970 = 10_000_000, 116_444_736_000_000_000
+
+# What is said of a recording whose last line is cut.
+CUT = r'(?:journal|record): standard input: its last line was cut: (?:1 byte is|\d+ bytes are) left out\n'
 
 # What a client sees of a file or a folder: its bytes, None of a folder; whether it is READONLY; and when it was
 # written, in seconds since 1970.
@@ -60,10 +64,10 @@ def answered_in(program, file):
 
 
 def extracted(program, file, folder):
-    """The status and standard error of an extraction of a file into a folder."""
+    """The status and standard error of an extraction of a file into a folder, without the line that its last line is cut."""
     with open(file, 'rb') as it:
         status, _, errors = program.ran('extract', folder, given=it)
-    return status, errors
+    return status, re.sub(CUT, '', errors)
 
 
 def bytes_of(file):

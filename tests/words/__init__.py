@@ -6,7 +6,7 @@ import os
 import sys
 
 from tests.smb.program import TOP
-from tests.words import program, without_memory
+from tests.words import faults, program, without_memory
 from tools.lib.demo import demo
 
 ANSWERS = 'examples/demo.answers'
@@ -24,4 +24,4 @@ def the_demo_prints_what_is_stored(it):
 def tests(words):
     """The run-time checks of an unproved program have memory of their own: there memory doesn't run out."""
     of_memory = () if words.program.is_unproved else without_memory.TESTS
-    return [(test, words.program) for test in (*of_memory, *program.TESTS, the_demo_prints_what_is_stored)]
+    return [(test, words.program) for test in (*of_memory, *program.TESTS, *faults.TESTS, the_demo_prints_what_is_stored)]

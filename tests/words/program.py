@@ -179,7 +179,7 @@ def accounts_are_read_as_a_configuration_is(program):
             and with_accounts(program, NOT_TEXT, '--explain') == (1, b'', ACCOUNTS_REFUSED + b'file: a text in UTF-8\n')
             and ran(program, (*BY_NTLM, '--accounts', '/nowhere')) == (1, b'', unread)
             and ran(program, (*BY_NTLM, '--explain', '--accounts', '/nowhere'))
-            == (1, b'', unread + b'/nowhere: entity not found\n'))
+            == (1, b'', unread + b'/nowhere: no such file\n'))
 
 
 def accounts_are_their_owners_alone(program):
@@ -275,7 +275,7 @@ def addresses_are_explained(program):
 
 
 def files_that_are_not_read_are_explained(program):
-    cases = (('/nowhere', b'entity not found'), ('/', b'is a directory'))
+    cases = (('/nowhere', b'no such file'), ('/', b'is a directory'))
     found = [ran(program, ('replay', '--explain', '--config', name)) for name, _ in cases]
     said = [(1, b'', b'config: cannot be read\n' + name.encode() + b': ' + why + b'\n') for name, why in cases]
     if found != said:

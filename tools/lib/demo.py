@@ -66,20 +66,21 @@ def names_in(raw):
 
 
 def shown(frame):
-    """A frame in words: with each status, without moments, and a buffer as the names or the text that it holds."""
+    """A frame in words that `frame.py write` takes: with each status, without moments, and a buffer as the text that it
+    holds. Behind a listing a line has its names."""
     try:
         words = read(frame).split(" ")
     except Unread as why:
         return f"{frame.hex()} ({why})"
-    buffer = buffer_of(words)
+    buffer, names = buffer_of(words), ""
     words = [it for it in words if it.partition("=")[0] not in MOMENTS]
     if words[:2] == ["response", "QUERY_DIRECTORY"] and buffer:
-        words[-1] = f"Names={','.join(names_in(buffer))}"
+        names = f"\n# The names in it: {' '.join(names_in(buffer))}"
     elif buffer and buffer.isascii() and buffer.decode().isprintable():
         words[-1] = f"Buffer={buffer.decode()!r}"
     if words[0] == "response" and not any(it.startswith("Status=") for it in words):
         words.insert(2, "Status=SUCCESS")
-    return " ".join(words)
+    return " ".join(words) + names
 
 
 def take_frame(stream):
@@ -133,8 +134,9 @@ def play(program, run, stored):
         pieces[number] = pieces.get(number, 0) + 1
         frame = take_frame(stream)
         while frame:
-            cut = f", in {pieces[number]} pieces" * (pieces[number] > 1)
-            print(f"> {number} {shown(frame)}{cut}")
+            if pieces[number] > 1:
+                print(f"# The next frame comes in {pieces[number]} pieces.")
+            print(f"> {number} {shown(frame)}")
             show_answers(lines, number, frame)
             pieces[number] = 0
             frame = take_frame(stream)

@@ -13,6 +13,7 @@
 
 mod command_line;
 mod commands;
+mod credential;
 mod login;
 mod mode;
 mod named_file;

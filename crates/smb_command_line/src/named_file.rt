@@ -1,6 +1,7 @@
 //! A file under a name that need not be text.
 
-use crate::mode::{everyone_writes, is_private};
+use crate::credential::is_credential;
+use crate::mode::{Others, everyone_writes, others_of};
 use smb_config::{ConfigFault, ConfigRule};
 use std::io;
 use std::io::Read;
@@ -25,12 +26,14 @@ impl NamedFile {
         Err(ConfigFault::from(last_error().kind()))
     }
 
-    /// Opens a file that nobody but its owner has a right to; any other breaks [`ConfigRule::Mode`].
+    /// Opens a file that nobody but its owner has a right to, or a credential of a service of systemd, which its group or whom an ACL
+    /// names may read too; any other breaks [`ConfigRule::Mode`].
     pub fn open_private(rt: &HostRuntime, name: &[u8]) -> Result<Self, ConfigFault> {
         let file = Self::open(name)?;
-        match is_private(rt, file.descriptor) {
-            Ok(true) => Ok(file),
-            Ok(false) => Err(ConfigFault::Refused(ConfigRule::Mode)),
+        match others_of(rt, file.descriptor) {
+            Ok(Others::Nobody) => Ok(file),
+            Ok(Others::Readers) if is_credential(rt, name) => Ok(file),
+            Ok(_) => Err(ConfigFault::Refused(ConfigRule::Mode)),
             Err(error) => Err(ConfigFault::from(error.kind())),
         }
     }

@@ -3,7 +3,7 @@
 use crate::fault::Fault;
 use crate::login::random_seed;
 use crate::replaying::{STANDARD_INPUT, check_input};
-use smb_journal::Store;
+use smb_journal::{Form, Store};
 use smb_kept::{KeptFault, write_anew, write_journal};
 use smb_replay::{CommandFault, Detail};
 use std::io;
@@ -34,7 +34,7 @@ pub fn compact(rt: &HostRuntime) -> Result<(), Fault> {
     };
     match write_journal(rt, STANDARD_INPUT, Output { writer }, token) {
         Ok(()) => Ok(()),
-        Err(KeptFault::RecordFailed) => Err(Fault::Command(CommandFault::OutputFailed)),
+        Err(KeptFault::RecordFailed(_)) => Err(Fault::Command(CommandFault::OutputFailed)),
         Err(fault) => Err(Fault::Kept(fault)),
     }
 }
@@ -42,7 +42,10 @@ pub fn compact(rt: &HostRuntime) -> Result<(), Fault> {
 /// Writes a journal anew.
 fn write_journal_anew(rt: &HostRuntime, path: &str) -> Result<(), Fault> {
     let token = random_seed()?;
-    Ok(write_anew(rt, path, token)?)
+    match write_anew(rt, path, token) {
+        Ok(()) => Ok(()),
+        Err(fault) => Err(Fault::Kept(fault).of_file(rt.alloc(), Form::Journal, path)),
+    }
 }
 
 /// Writes a journal anew; where that can't be done, standard error says in one line why it is gone on with as it is.

@@ -2,11 +2,12 @@
 
 use smb_config::ConfigFault;
 use smb_folder::FolderFault;
-use smb_journal::JournalFault;
+use smb_journal::{Form, JournalFault};
 use smb_kept::KeptFault;
+use smb_reason::{Reason, Shown};
 use smb_replay::{CommandFault, Detail};
 use std::alloc::{AllocError, Global};
-use std::io::{ErrorKind, Write};
+use std::io::Write;
 
 /// What ends a command.
 #[derive(Debug, Drop)]
@@ -14,10 +15,23 @@ pub enum Fault {
     Command(CommandFault),
     /// A share cannot be kept in a file, or not be made of one.
     Kept(KeptFault),
-    /// The file of a log can't be opened or made, for a reason of this kind.
-    Log(ErrorKind),
-    /// A line of the log could not be written, which had to be.
+    /// A file that a share is recorded in can't be read or written.
+    Recording(RecordingFault),
+    /// The file of a log can't be opened or made, for this reason.
+    Log(Reason),
+    /// A line of the log could not be written, which had to be. Standard error has its line already.
     LogFailed,
+    /// Files could not be taken out of a recording. Standard error has a line for each already.
+    NotExtracted,
+}
+
+/// Why a file can't be read or written that a share is recorded in.
+#[derive(Debug, Drop)]
+pub struct RecordingFault {
+    form: Form,
+    /// The file's name, as it was given.
+    path: String,
+    fault: JournalFault,
 }
 
 /// Writes what is printed of a share that cannot be kept, where there is memory and the configuration is none of its faults.
@@ -25,7 +39,7 @@ fn report_kept<E: Write>(fault: &KeptFault, errors: &mut E) {
     let _ = match fault {
         KeptFault::NoMemory | KeptFault::BadConfig => Ok(()),
         KeptFault::Journal(fault) => writeln!(errors, "journal: {fault}"),
-        KeptFault::RecordFailed => writeln!(errors, "record: failed"),
+        KeptFault::RecordFailed(reason) => writeln!(errors, "record: cannot be written: {reason}"),
         KeptFault::Folder(fault) => writeln!(errors, "folder: {fault}"),
         KeptFault::Copied(fault) => writeln!(errors, "journal: {fault}"),
     };
@@ -43,7 +57,40 @@ fn command_fault_of(fault: &KeptFault) -> Option<CommandFault> {
     }
 }
 
+/// What a share that cannot be kept is among the faults of recordings, where it is that their file can't be read or written.
+fn file_fault_of(fault: &KeptFault) -> Option<JournalFault> {
+    match fault {
+        KeptFault::Journal(JournalFault::Unread(reason)) => Some(JournalFault::Unread(*reason)),
+        KeptFault::Journal(JournalFault::Unwritten(reason)) | KeptFault::RecordFailed(reason) => {
+            Some(JournalFault::Unwritten(*reason))
+        }
+        _ => None,
+    }
+}
+
+impl RecordingFault {
+    /// Writes what is printed of it, in one line.
+    fn report<E: Write>(&self, errors: &mut E) {
+        let (word, path) = (self.form.word(), Shown(self.path.as_bytes()));
+        let _ = writeln!(errors, "{word}: {path}: {}", self.fault);
+    }
+}
+
 impl Fault {
+    /// The same fault with the name of its file, where it is that the file of a recording can't be read or written.
+    pub(crate) fn of_file(self, alloc: Global, form: Form, path: &str) -> Fault {
+        let Fault::Kept(kept) = &self else {
+            return self;
+        };
+        let Some(fault) = file_fault_of(kept) else {
+            return self;
+        };
+        match String::from_str(alloc, path) {
+            Ok(path) => Fault::Recording(RecordingFault { form, path, fault }),
+            Err(error) => Fault::from(error),
+        }
+    }
+
     /// Writes what is printed of it, and gives the exit status: 3 for want of memory, else 1. That the writer fails is passed over.
     pub fn report<E: Write>(&self, alloc: Global, detail: Detail<'_>, errors: &mut E) -> u8 {
         match self {
@@ -55,12 +102,15 @@ impl Fault {
                     1
                 }
             },
-            Fault::Log(kind) => {
-                let _ = writeln!(errors, "log: cannot be written: {kind}");
+            Fault::Recording(fault) => {
+                fault.report(errors);
                 1
             }
-            // Standard error has its line already.
-            Fault::LogFailed => 1,
+            Fault::Log(reason) => {
+                let _ = writeln!(errors, "log: cannot be written: {reason}");
+                1
+            }
+            Fault::LogFailed | Fault::NotExtracted => 1,
         }
     }
 }

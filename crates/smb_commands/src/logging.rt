@@ -3,6 +3,7 @@
 use crate::clock::ServeClock;
 use crate::fault::Fault;
 use smb_log::{ConnectionFacts, Level, Log, LoggedPeers, Visitors};
+use smb_reason::Reason;
 use smb_tcp::{PeerFacts, TcpPeers};
 use std::alloc::{AllocError, Global};
 use std::fs::{File, OpenOptions};
@@ -48,7 +49,7 @@ impl LogOutput {
                 file: Some(file),
                 errors,
             }),
-            Err(error) => Err(Fault::Log(error.kind())),
+            Err(error) => Err(Fault::Log(Reason(error.kind()))),
         }
     }
 }

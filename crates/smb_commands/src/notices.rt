@@ -1,6 +1,8 @@
-//! What `serve` says beside where it listens: who cannot log in, and what is not safe.
+//! What is said where all goes on: by `serve` who cannot log in and what is not safe, and of a recording that its last line is cut.
 
 use smb_command_line::{Login, Texts};
+use smb_journal::Form;
+use smb_reason::Shown;
 
 /// What is said of the configuration that is built in.
 const BUILT_IN_USER: &str =
@@ -26,6 +28,10 @@ const SEED_IS_GIVEN: &str =
 const EVERYONE_WRITES: &str =
     "the configuration holds users' tokens, and everyone may write to its file (chmod o-w)";
 
+/// What is said of a share whose name is that of something else.
+const NAMED_IPC: &str =
+    "the share is named IPC$: clients ask a share of that name for other things than files, and may not show these; give it another name";
+
 /// Who may come in to a share.
 #[derive(Clone, Copy, Debug)]
 pub struct Entrance {
@@ -35,6 +41,8 @@ pub struct Entrance {
     pub users: usize,
     /// How many accounts there are; none where clients do not log in by NTLM.
     pub accounts: usize,
+    /// Whether the share's name is `IPC$`, in any case.
+    pub is_named_ipc: bool,
 }
 
 /// Says a line on standard error, where it holds.
@@ -44,12 +52,13 @@ fn say(rt: &HostRuntime, holds: bool, line: &str) {
     }
 }
 
-/// Says on standard error who cannot log in, and what is not safe.
+/// Says on standard error who cannot log in, what is not safe, and what else may not be wanted.
 pub fn say_notices(rt: &HostRuntime, texts: &Texts, login: Login, entrance: Entrance) {
     let Entrance {
         guest,
         users,
         accounts,
+        is_named_ipc,
     } = entrance;
     match login {
         Login::Token => {
@@ -63,4 +72,15 @@ pub fn say_notices(rt: &HostRuntime, texts: &Texts, login: Login, entrance: Entr
         }
     }
     say(rt, texts.everyone_writes && users > 0, EVERYONE_WRITES);
+    say(rt, is_named_ipc, NAMED_IPC);
+}
+
+/// Says on standard error that the last line of a recording was cut, where so many bytes of it are left out.
+pub fn say_cut(rt: &HostRuntime, form: Form, name: &str, left_out: u64) {
+    let (word, name) = (form.word(), Shown(name.as_bytes()));
+    let _ = match left_out {
+        0 => Ok(()),
+        1 => eprintln!(rt; "{word}: {name}: its last line was cut: 1 byte is left out"),
+        _ => eprintln!(rt; "{word}: {name}: its last line was cut: {left_out} bytes are left out"),
+    };
 }

@@ -5,12 +5,14 @@ use crate::fault::Fault;
 use crate::hearing::Hearing;
 use crate::logging::LogWords;
 use crate::login::{ntlm_of, random_seed, read_accounts};
+use crate::notices::say_cut;
 use smb_command_line::{Login, Texts};
 use smb_config::Configuration;
 use smb_engine::{Answer, Authenticator, Config, Event, HandleTable, NodeTree, Share, Tokens};
-use smb_journal::{JournalFault, Mailbox, RecordedLogin};
+use smb_journal::{Form, JournalFault, Mailbox, RecordedLogin};
 use smb_kept::{Hears, KeptFault, nobody, perform_file, read_recording, recorded_login, share_of};
 use smb_log::{LoggedLogin, Visitors};
+use smb_reason::Reason;
 use smb_replay::{CommandFault, Detail, replay_heard, write_answers};
 use std::fs;
 use std::io::{BufWriter, ErrorKind, Write};
@@ -118,7 +120,7 @@ impl<W: Write + Drop> Hears for Printer<'_, W> {
         smb_replay::Hears::hear(&mut self.hearing, event, answers);
         if !answers.is_empty() && write_answers(answers, &mut self.output).is_err() {
             self.has_failed = true;
-            return Err(JournalFault::Unwritten(ErrorKind::BrokenPipe));
+            return Err(JournalFault::Unwritten(Reason(ErrorKind::BrokenPipe)));
         }
         Ok(())
     }
@@ -179,12 +181,8 @@ fn print_events<A: Authenticator + Drop>(
     }
 }
 
-/// Prints what a share answered that is recorded in a file, a line for each frame, and for each connection that it ended.
-pub fn print_recording(
-    rt: &HostRuntime,
-    path: &str,
-    log: Option<LogWords<'_>>,
-) -> Result<(), Fault> {
+/// Prints what a share answered that is recorded in a file, and logs it where the words ask for it.
+fn print_logged(rt: &HostRuntime, path: &str, log: Option<LogWords<'_>>) -> Result<(), Fault> {
     let mailbox = Mailbox::new(rt.alloc());
     mailbox.close();
     let visitors = Visitors::new(rt.alloc());
@@ -197,6 +195,18 @@ pub fn print_recording(
     }
 }
 
+/// Prints what a share answered that is recorded in a file, a line for each frame, and for each connection that it ended.
+pub fn print_recording(
+    rt: &HostRuntime,
+    path: &str,
+    log: Option<LogWords<'_>>,
+) -> Result<(), Fault> {
+    match print_logged(rt, path, log) {
+        Ok(()) => Ok(()),
+        Err(fault) => Err(fault.of_file(rt.alloc(), Form::Journal, path)),
+    }
+}
+
 /// Refuses a standard input that can't be read twice.
 pub fn check_input(rt: &HostRuntime) -> Result<(), Fault> {
     match fs::metadata(rt, STANDARD_INPUT) {
@@ -205,9 +215,19 @@ pub fn check_input(rt: &HostRuntime) -> Result<(), Fault> {
     }
 }
 
-/// Makes a new folder of the files and folders that the recording on standard input leaves.
+/// Makes a new folder of the files and folders that the recording on standard input leaves. Standard error says where its last line was
+/// cut, and has a line for each file or folder that was not taken out whole.
 pub fn extract(rt: &HostRuntime, folder: &str) -> Result<(), Fault> {
     check_input(rt)?;
     let token = random_seed()?;
-    Ok(smb_kept::extract(rt, STANDARD_INPUT, folder, token)?)
+    let extracted = smb_kept::extract(rt, STANDARD_INPUT, folder, token)?;
+    say_cut(rt, extracted.form, "standard input", extracted.left_out);
+    for fault in extracted.refused.iter() {
+        let _ = eprintln!(rt; "folder: {fault}");
+    }
+    if extracted.refused.is_empty() {
+        Ok(())
+    } else {
+        Err(Fault::NotExtracted)
+    }
 }

@@ -250,6 +250,7 @@ fn serve_configured(rt: &HostRuntime, words: &ServeWords<'_>) -> Result<Served, 
         guest: configuration.guest,
         users: configuration.users,
         accounts: 0,
+        is_named_ipc: configuration.config.share.eq_ignore_ascii_case("IPC$"),
     };
     match words.login {
         Login::Token => serve_by_token(rt, words, entrance, configuration),
@@ -257,9 +258,8 @@ fn serve_configured(rt: &HostRuntime, words: &ServeWords<'_>) -> Result<Served, 
     }
 }
 
-/// Serves a share of a configuration, for so many turns. A journal that is much longer than its files ask for is written anew first;
-/// where that can't be done, standard error says why, and it is gone on with as it is.
-pub fn serve_share(rt: &HostRuntime, words: &ServeWords<'_>) -> Result<(), Fault> {
+/// Serves a share of a configuration, once its journal was written anew where that is to be done.
+fn serve_shortened(rt: &HostRuntime, words: &ServeWords<'_>) -> Result<(), Fault> {
     if serve_configured(rt, words)? == Served::Done {
         return Ok(());
     }
@@ -272,4 +272,13 @@ pub fn serve_share(rt: &HostRuntime, words: &ServeWords<'_>) -> Result<(), Fault
     };
     let _ = serve_configured(rt, &words)?;
     Ok(())
+}
+
+/// Serves a share of a configuration, for so many turns. A journal that is much longer than its files ask for is written anew first;
+/// where that can't be done, standard error says why, and it is gone on with as it is.
+pub fn serve_share(rt: &HostRuntime, words: &ServeWords<'_>) -> Result<(), Fault> {
+    match (serve_shortened(rt, words), words.record) {
+        (Err(fault), Some(record)) => Err(fault.of_file(rt.alloc(), record.form, record.path)),
+        (served, _) => served,
+    }
 }

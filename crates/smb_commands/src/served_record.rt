@@ -3,7 +3,7 @@
 use crate::clock::ServeClock;
 use crate::fault::Fault;
 use crate::logging::ServedPeers;
-use crate::notices::Entrance;
+use crate::notices::{Entrance, say_cut};
 use crate::serve::{ServeWords, Served, end_of, listening_peers, serve_peers};
 use smb_engine::{Authenticator, Config};
 use smb_journal::{Form, GivenAnswer, Mailbox, RecordedClock, RecordedPeers, Recorder, Store};
@@ -72,10 +72,10 @@ fn recorded_peers<'a>(
 fn end_of_recorded(recorded: Recorded<'_>) -> Result<Served, Fault> {
     let (recorder, peers) = recorded.finish();
     let ended = end_of(peers);
-    if recorder.has_failed() {
-        return Err(Fault::Kept(KeptFault::RecordFailed));
+    match recorder.failure() {
+        None => ended,
+        Some(reason) => Err(Fault::Kept(KeptFault::RecordFailed(reason))),
     }
-    ended
 }
 
 /// Serves a share of which all is recorded.
@@ -109,6 +109,9 @@ fn serve_kept<A: Authenticator + Drop>(
     mailbox: &Mailbox,
 ) -> Result<Served, Fault> {
     let begun = keeping.begin(serving.rt, share, mailbox)?;
+    if let Some(record) = serving.words.record {
+        say_cut(serving.rt, record.form, record.path, begun.left_out);
+    }
     if serving.words.writes_anew && is_long(begun.length, share.usage()) {
         return Ok(Served::NotYet);
     }

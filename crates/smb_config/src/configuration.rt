@@ -9,10 +9,10 @@ ghost use Rattle.smb_request.specs.Settings.{settings_of, is_lawful};
 
 use crate::rule::ConfigRule;
 use hex::{FromHex, FromHexError};
+use smb_reason::Reason;
 use smb_request::Config;
 use smb_session::{Tokens, User};
 use std::alloc::{AllocError, Global};
-use std::io::ErrorKind;
 use thiserror::Error;
 use toml::{Table, Value};
 
@@ -58,9 +58,9 @@ const LEAST_CAPACITY: u64 = 4_096;
 /// Why a configuration is not taken.
 #[derive(Clone, Copy, Debug, PartialEq, Eq, Error)]
 pub enum ConfigFault {
-    /// The file cannot be read, for a reason of this kind.
+    /// The file cannot be read, for this reason.
     #[error("the configuration cannot be read: {0}")]
-    Unread(ErrorKind),
+    Unread(Reason),
     /// It breaks this rule, the first that it breaks.
     #[error("the configuration is refused: {0}")]
     Refused(ConfigRule),

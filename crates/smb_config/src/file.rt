@@ -2,6 +2,7 @@
 
 use crate::configuration::ConfigFault;
 use crate::rule::ConfigRule;
+use smb_reason::Reason;
 use std::alloc::Global;
 use std::io;
 use std::io::{ErrorKind, Read};
@@ -17,10 +18,10 @@ pub fn read_past<R: Read + Drop>(alloc: Global, file: R, limit: u64) -> io::Resu
 }
 
 impl From<ErrorKind> for ConfigFault {
-    fn from(reason: ErrorKind) -> ConfigFault {
-        match reason {
+    fn from(kind: ErrorKind) -> ConfigFault {
+        match kind {
             ErrorKind::OutOfMemory => ConfigFault::NoMemory,
-            _ => ConfigFault::Unread(reason),
+            _ => ConfigFault::Unread(Reason(kind)),
         }
     }
 }

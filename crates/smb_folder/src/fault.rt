@@ -2,6 +2,7 @@
 
 use super::names::shown;
 use smb_client::{ClientFault, Status};
+use smb_reason::Reason;
 use std::alloc::{AllocError, AllocFailed, Global};
 use std::io;
 use std::io::ErrorKind;
@@ -42,12 +43,12 @@ pub enum FolderRule {
     NoTime,
     #[error("it exists already")]
     Exists,
-    /// The system does not let it be read, for a reason of this kind.
+    /// The system does not let it be read, for this reason.
     #[error("cannot be read: {0}")]
-    Unread(ErrorKind),
-    /// The system does not let it be made or written, for a reason of this kind.
+    Unread(Reason),
+    /// The system does not let it be made or written, for this reason.
     #[error("cannot be written: {0}")]
-    Unwritten(ErrorKind),
+    Unwritten(Reason),
     /// The share refuses a request of it, for another reason.
     #[error("the share answers {0}")]
     Refused(Status),
@@ -109,12 +110,26 @@ impl From<ClientFault> for Trouble {
     }
 }
 
+impl FolderFault {
+    /// Whether nothing more can be done behind it: memory could not be had, or the share hears nothing more.
+    pub(crate) fn is_the_end(&self) -> bool {
+        matches!(
+            self,
+            FolderFault::NoMemory
+                | FolderFault::Refused {
+                    rule: FolderRule::NotAsked(_),
+                    ..
+                }
+        )
+    }
+}
+
 impl Trouble {
     /// What a refusal of the system to read is.
     pub(crate) fn unread(error: io::Error) -> Trouble {
         match error.kind() {
             ErrorKind::OutOfMemory => Trouble::NoMemory,
-            kind => Trouble::Rule(FolderRule::Unread(kind)),
+            kind => Trouble::Rule(FolderRule::Unread(Reason(kind))),
         }
     }
 
@@ -123,7 +138,7 @@ impl Trouble {
         match error.kind() {
             ErrorKind::OutOfMemory => Trouble::NoMemory,
             ErrorKind::AlreadyExists => Trouble::Rule(FolderRule::Exists),
-            kind => Trouble::Rule(FolderRule::Unwritten(kind)),
+            kind => Trouble::Rule(FolderRule::Unwritten(Reason(kind))),
         }
     }
 

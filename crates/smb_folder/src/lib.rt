@@ -9,7 +9,7 @@
 //! [`copy_share`] copies one share into another, with all that a request can set: all four times and all attributes.
 //!
 //! What cannot be moved is a [`FolderFault`], which names the path and the rule, and is the end: what was moved before
-//! stays. Neither needs more memory than the names in the folders that are being walked, and one part of a file.
+//! stays. But [`take_folder`] goes on behind it, and tells of all that it could not take. None needs more memory than the names in the folders that are being walked, and one part of a file.
 //!
 //! That the calls are safe and return is proved; what they make of files and requests is tested.
 #![tactic(auto)]
@@ -28,4 +28,4 @@ pub use copy::copy_share;
 pub use counts::Counts;
 pub use fault::{FolderFault, FolderRule};
 pub use put::put_folder;
-pub use take::take_folder;
+pub use take::{Taken, take_folder};

@@ -1,6 +1,7 @@
 //! Names and paths.
 
 use super::fault::{FolderRule, Trouble};
+use smb_reason::Shown;
 use smb_wire::limits::MOST_ENTRIES;
 use std::alloc::{AllocError, Global};
 use std::fs::Files;
@@ -43,32 +44,9 @@ pub(crate) fn joined(alloc: Global, relative: &[u8], name: &[u8]) -> Result<Vec<
     Ok(path)
 }
 
-/// Adds a text, its control characters escaped.
-fn push_shown(text: &mut String, part: &str) -> Result<(), AllocError> {
-    for character in part.chars() {
-        if character.is_control() {
-            for escaped in character.escape_default() {
-                text.push(escaped)?;
-            }
-        } else {
-            text.push(character)?;
-        }
-    }
-    Ok(())
-}
-
-/// A path below a folder as it can be shown in one line: control characters are escaped, and bytes that are no UTF-8
-/// are in hex, as `\xFF`.
+/// A path below a folder as it can be shown in one line.
 pub(crate) fn shown(alloc: Global, base: &str, relative: &[u8]) -> Result<String, AllocError> {
-    let mut text = String::new(alloc);
-    push_shown(&mut text, base)?;
-    for chunk in relative.utf8_chunks() {
-        push_shown(&mut text, chunk.valid())?;
-        for byte in chunk.invalid() {
-            write!(text, "\\x{byte:02X}")?;
-        }
-    }
-    Ok(text)
+    format!(in alloc; "{}{}", Shown(base.as_bytes()), Shown(relative))
 }
 
 /// Adds the names that were read, but for `.` and `..`.

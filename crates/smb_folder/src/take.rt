@@ -40,6 +40,16 @@ struct Taking<'a, 'l, 'c, R: Files, L: Line> {
     /// What is left to do, the next step last.
     steps: Vec<Step>,
     counts: Counts,
+    refused: Vec<FolderFault>,
+}
+
+/// What was taken of a share.
+#[derive(Drop)]
+pub struct Taken {
+    /// What was taken whole.
+    pub counts: Counts,
+    /// What was not taken, or not whole: a file, or a folder with all that is in it. In the order of the share.
+    pub refused: Vec<FolderFault>,
 }
 
 /// Sets the times of a file or a folder, and then takes all rights to write where it is READONLY.
@@ -84,10 +94,14 @@ impl<R: Files, L: Line> Taking<'_, '_, '_, R, L> {
         system_path(self.alloc, &self.base, relative)
     }
 
-    /// Makes a folder, and has what is in it taken next.
+    /// Makes a folder.
     fn make_folder(&mut self, relative: &str) -> Result<(), Trouble> {
         let path = self.path(relative)?;
-        fs::create_dir(self.rt, &path).map_err(Trouble::unwritten)?;
+        fs::create_dir(self.rt, &path).map_err(Trouble::unwritten)
+    }
+
+    /// Has what is in a folder taken next.
+    fn enter(&mut self, relative: &str) -> Result<(), Trouble> {
         let listed = self.talk.list(relative)?;
         for entry in listed.into_iter().rev() {
             let child = child_of(self.alloc, relative, &entry.name)?;
@@ -98,9 +112,10 @@ impl<R: Files, L: Line> Taking<'_, '_, '_, R, L> {
 
     /// Takes a folder.
     fn take_folder(&mut self, relative: &str, kept: Kept) -> Result<(), Trouble> {
+        self.make_folder(relative)?;
         let name = String::from_str(self.alloc, relative)?;
         self.steps.push(Step::Mark(name, kept))?;
-        self.make_folder(relative)?;
+        self.enter(relative)?;
         self.counts.add_folder();
         Ok(())
     }
@@ -118,22 +133,33 @@ impl<R: Files, L: Line> Taking<'_, '_, '_, R, L> {
         Ok(offset)
     }
 
-    /// Takes a file.
-    fn take_file(&mut self, relative: &str, entry: &Listed) -> Result<(), Trouble> {
+    /// Makes a file of what is open in the share.
+    fn write_file(
+        &mut self,
+        relative: &str,
+        file_id: FileId,
+        entry: &Listed,
+    ) -> Result<(), Trouble> {
         let path = self.path(relative)?;
-        let file_id = self.talk.open(relative, Purpose::ReadFile)?;
         let mut file = OpenOptions::new()
             .write(true)
             .create_new(true)
             .open(self.rt, &path)
             .map_err(Trouble::unwritten)?;
         let count = self.copy(file_id, &mut file)?;
-        self.talk.close(file_id)?;
         if count != entry.size {
             return Err(Trouble::Rule(FolderRule::Changed));
         }
-        mark(&file, &entry.kept)?;
-        self.counts.add_file(count);
+        mark(&file, &entry.kept)
+    }
+
+    /// Takes a file. Whatever comes of it, it is open in the share no more.
+    fn take_file(&mut self, relative: &str, entry: &Listed) -> Result<(), Trouble> {
+        let file_id = self.talk.open(relative, Purpose::ReadFile)?;
+        let written = self.write_file(relative, file_id, entry);
+        self.talk.close(file_id)?;
+        written?;
+        self.counts.add_file(entry.size);
         Ok(())
     }
 
@@ -159,9 +185,27 @@ impl<R: Files, L: Line> Taking<'_, '_, '_, R, L> {
         }
     }
 
+    /// Notes that a step could not be done, or ends all of them where nothing more can be done.
+    fn refuse(&mut self, trouble: Trouble, step: &Step) -> Result<(), FolderFault> {
+        let fault = trouble.at(self.alloc, &self.base, step.relative().as_bytes());
+        if fault.is_the_end() {
+            return Err(fault);
+        }
+        match self.refused.push(fault) {
+            Ok(()) => Ok(()),
+            Err(_) => Err(FolderFault::NoMemory),
+        }
+    }
+
+    /// Makes the new folder, and has all of the share taken next.
+    fn begin(&mut self) -> Result<(), Trouble> {
+        self.make_folder("")?;
+        self.enter("")
+    }
+
     /// Does all steps, from the new folder on.
     fn run(&mut self) -> Result<(), FolderFault> {
-        if let Err(trouble) = self.make_folder("") {
+        if let Err(trouble) = self.begin() {
             return Err(trouble.at(self.alloc, &self.base, b""));
         }
         for _ in 0..u64::MAX {
@@ -169,30 +213,32 @@ impl<R: Files, L: Line> Taking<'_, '_, '_, R, L> {
                 break;
             };
             if let Err(trouble) = self.perform(&step) {
-                return Err(trouble.at(self.alloc, &self.base, step.relative().as_bytes()));
+                self.refuse(trouble, &step)?;
             }
         }
         Ok(())
     }
 }
 
-/// Takes the files and folders of a share into a new folder of the system, and tells how many there were. The client
-/// has its session and its tree, and may read.
+/// Takes the files and folders of a share into a new folder of the system, and tells what was taken. The client has its
+/// session and its tree, and may read.
 ///
 /// A folder that exists is a fault, and so is any file that exists where one is made: nothing is written over. Files
 /// and folders get the times of the last write and the last access that they have in the share, in units of 100 ns, one
 /// before 1970 as 1970, and where they are READONLY nobody has a right to write. The new folder keeps the times of its
 /// making.
 ///
-/// The first thing that cannot be taken ends it with a [`FolderFault`]: what was taken before is in the folder then.
-/// The share is not changed, but that an open may be left until the client's connection ends. What others have open
-/// there without sharing it to be read cannot be taken, so their connections are ended first.
+/// A file or folder that cannot be taken is a fault of what was [`Taken`], and the others are taken all the same: of a
+/// file there may be a part in the folder then, and of a folder nothing. Where the new folder cannot be made, memory
+/// runs out, or the share hears nothing more, a [`FolderFault`] ends it, and what was taken before is in the folder.
+/// The share is not changed. What others have open there without sharing it to be read cannot be taken, so their
+/// connections are ended first.
 pub fn take_folder<R: Files + AllocGlobal, L: Line>(
     rt: &R,
     folder: &str,
     line: &mut L,
     client: &mut Client,
-) -> Result<Counts, FolderFault> {
+) -> Result<Taken, FolderFault> {
     let alloc = rt.alloc();
     let mut taking = Taking {
         rt,
@@ -201,7 +247,11 @@ pub fn take_folder<R: Files + AllocGlobal, L: Line>(
         talk: Talk::new(alloc, line, client),
         steps: Vec::new(alloc),
         counts: Counts::default(),
+        refused: Vec::new(alloc),
     };
     taking.run()?;
-    Ok(taking.counts)
+    Ok(Taken {
+        counts: taking.counts,
+        refused: taking.refused,
+    })
 }

@@ -1,5 +1,6 @@
 //! Why a recording is not read, performed or written.
 
+use smb_reason::Reason;
 use std::alloc::{AllocError, AllocFailed};
 use std::io;
 use std::io::ErrorKind;
@@ -8,12 +9,12 @@ use thiserror::Error;
 /// A refusal of a recording. Lines are counted from 1; the bytes behind the head of a piece are no lines of their own.
 #[derive(Clone, Copy, Debug, PartialEq, Eq, Error)]
 pub enum JournalFault {
-    /// A read of it failed, for a reason of this kind.
+    /// It cannot be opened or read, for this reason.
     #[error("cannot be read: {0}")]
-    Unread(ErrorKind),
-    /// It cannot be opened, made or written, for a reason of this kind.
+    Unread(Reason),
+    /// It cannot be made or written, for this reason.
     #[error("cannot be written: {0}")]
-    Unwritten(ErrorKind),
+    Unwritten(Reason),
     /// Another program writes to it.
     #[error("in use by another program")]
     InUse,
@@ -50,7 +51,7 @@ impl JournalFault {
     pub fn of_read(error: io::Error) -> JournalFault {
         match error.kind() {
             ErrorKind::OutOfMemory => JournalFault::NoMemory,
-            kind => JournalFault::Unread(kind),
+            kind => JournalFault::Unread(Reason(kind)),
         }
     }
 
@@ -58,7 +59,7 @@ impl JournalFault {
     pub fn of_write(error: io::Error) -> JournalFault {
         match error.kind() {
             ErrorKind::OutOfMemory => JournalFault::NoMemory,
-            kind => JournalFault::Unwritten(kind),
+            kind => JournalFault::Unwritten(Reason(kind)),
         }
     }
 }

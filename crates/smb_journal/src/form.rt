@@ -17,6 +17,14 @@ pub enum Form {
 }
 
 impl Form {
+    /// The word for a file of this form, as it is said what is wrong with one.
+    pub fn word(self) -> &'static str {
+        match self {
+            Form::Recording => "record",
+            Form::Journal => "journal",
+        }
+    }
+
     /// How many bytes the line of a piece of 65,536 bytes takes at most.
     pub(crate) fn line_room(self) -> usize {
         match self {

@@ -58,6 +58,12 @@ impl<R: Read + Drop> Lines<R> {
         self.offset
     }
 
+    /// How many bytes stand behind the last whole line: those of a last line that is cut, once [`Lines::next_line`] has given
+    /// None.
+    pub fn left_out(&self) -> u64 {
+        self.bytes.len().saturating_sub(self.start) as u64
+    }
+
     /// The bytes that are held from one index up to another; none where these are not there.
     fn part(&self, from: usize, to: usize) -> &[u8] {
         self.bytes.get(from..to).unwrap_or(&[])

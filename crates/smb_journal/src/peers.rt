@@ -77,7 +77,7 @@ impl<'a, P: Peers + Drop, C: Clock + Drop, S: Store + Drop> RecordedPeers<'a, P,
         self.next = connection.saturating_add(1);
         self.recorder.opened(connection);
         if self.pairs.push(Pair { number, connection }).is_err() {
-            self.recorder.fail();
+            self.recorder.fail_without_memory();
         }
     }
 
@@ -199,9 +199,9 @@ impl<P: Peers + Drop, C: Clock + Drop, S: Store + Drop> Peers for RecordedPeers<
 
 impl<P: Peers + Stopping + Drop, C: Clock + Drop, S: Store + Drop> Stopping
     for RecordedPeers<'_, P, C, S> {
-    ghost use Rattle.std.specs.Prelude.{◌||◌};
+    ghost use Rattle.std.specs.Prelude.{◌||◌, is_some};
 
-    ghost stopped = { λ p. p.recorder.has_failed || P.stopped p.peers };
+    ghost stopped = { λ p. is_some p.recorder.failure || P.stopped p.peers };
 
     fn is_stopped(&self) -> bool {
         self.recorder.has_failed() || self.peers.is_stopped()

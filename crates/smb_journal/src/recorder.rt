@@ -1,14 +1,15 @@
 //! Writes what happens to a share, line by line.
 
-ghost use Rattle.std.specs.Prelude.{◌≡◌};
+ghost use Rattle.std.specs.Prelude.{◌≡◌, is_some};
 
 use crate::check::check_of;
 use crate::fault::JournalFault;
 use crate::form::{Form, Header};
 use crate::mailbox::Mailbox;
 use crate::store::Store;
+use smb_reason::Reason;
 use std::alloc::Global;
-use std::io::Write;
+use std::io::{ErrorKind, Write};
 use std::{io, mem};
 
 /// How many bytes of a piece are made hex at a time.
@@ -28,7 +29,8 @@ pub struct Recorder<S: Store + Drop> {
     /// Whether what was written is not settled yet, and whether it is to be.
     is_dirty: bool,
     settles: bool,
-    has_failed: bool,
+    /// Why what failed first has failed, once something has.
+    failure: Option<Reason>,
 }
 
 /// Adds bytes as hex to a line.
@@ -63,7 +65,7 @@ impl<S: Store + Drop> Recorder<S> {
             check,
             is_dirty: false,
             settles,
-            has_failed: false,
+            failure: None,
         })
     }
 
@@ -83,24 +85,40 @@ impl<S: Store + Drop> Recorder<S> {
 
     /// Whether a write failed.
     pub fn has_failed(&self) -> bool
-        ensures { result ≡ self.now.has_failed }
+        ensures { result ≡ is_some self.now.failure }
     {
-        self.has_failed
+        self.failure.is_some()
     }
 
-    /// Notes that something can't be recorded.
-    pub(crate) fn fail(&mut self) {
-        self.has_failed = true;
+    /// Why the first write that failed has failed; None where none has.
+    pub fn failure(&self) -> Option<Reason> {
+        self.failure
     }
 
-    /// Writes the line that was made, or notes that it couldn't be.
+    /// Notes why something can't be recorded, where nothing failed before.
+    fn fail(&mut self, kind: ErrorKind) {
+        if self.failure.is_none() {
+            self.failure = Some(Reason(kind));
+        }
+    }
+
+    /// Notes that something can't be recorded for want of memory.
+    pub(crate) fn fail_without_memory(&mut self) {
+        self.fail(ErrorKind::OutOfMemory);
+    }
+
+    /// Writes the line that was made, or notes why it couldn't be.
     fn write(&mut self, made: io::Result<()>) {
-        if self.has_failed {
+        if self.has_failed() {
             return;
         }
         self.is_dirty = true;
-        if made.is_err() || self.store.add(&self.line).is_err() {
-            self.has_failed = true;
+        let written = match made {
+            Ok(()) => self.store.add(&self.line),
+            Err(error) => Err(error),
+        };
+        if let Err(error) = written {
+            self.fail(error.kind());
         }
     }
 
@@ -177,7 +195,7 @@ impl<S: Store + Drop> Recorder<S> {
         let mut lines = mem::replace(&mut self.answers, Vec::new(self.alloc));
         lines.clear();
         if !mailbox.take(&mut lines) || mailbox.has_lost() {
-            self.has_failed = true;
+            self.fail_without_memory();
         }
         self.write_answers(&lines);
         self.answers = lines;
@@ -199,12 +217,12 @@ impl<S: Store + Drop> Recorder<S> {
 
     /// Has what was written settled, where it is to be, and tells whether all of it is kept.
     pub fn settle(&mut self) -> bool {
-        if self.settles && self.is_dirty && !self.has_failed {
-            if self.store.settle().is_err() {
-                self.has_failed = true;
+        if self.settles && self.is_dirty && !self.has_failed() {
+            if let Err(error) = self.store.settle() {
+                self.fail(error.kind());
             }
             self.is_dirty = false;
         }
-        !self.has_failed
+        !self.has_failed()
     }
 }

@@ -105,7 +105,7 @@ fn write_left<S: Store + Drop>(
     left: &mut Left<'_>,
     store: S,
 ) -> Result<(), KeptFault> {
-    leave(rt, file, &mut left.share)?;
+    let _ = leave(rt, file, &mut left.share)?;
     let mut recorder = new_recorder(rt.alloc(), &mut left.leaving.header, store)?;
     write_copy(rt, left, &mut recorder)
 }

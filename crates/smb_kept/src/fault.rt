@@ -3,7 +3,9 @@
 use smb_client::ClientFault;
 use smb_folder::FolderFault;
 use smb_journal::JournalFault;
+use smb_reason::Reason;
 use std::alloc::AllocError;
+use std::io::ErrorKind;
 
 /// What ends a call.
 #[derive(Debug, Drop)]
@@ -13,8 +15,8 @@ pub enum KeptFault {
     BadConfig,
     /// A file that a share is recorded in, or made from.
     Journal(JournalFault),
-    /// What the program's own client asked could not be recorded.
-    RecordFailed,
+    /// What happened to a share could not be recorded, for this reason.
+    RecordFailed(Reason),
     /// A file or folder that can't be put into the share, or taken out of it.
     Folder(FolderFault),
     /// A file or folder of a recording that can't be made by requests.
@@ -53,7 +55,7 @@ impl From<ClientFault> for KeptFault {
     fn from(fault: ClientFault) -> KeptFault {
         match fault {
             ClientFault::NoMemory => KeptFault::NoMemory,
-            _ => KeptFault::RecordFailed,
+            _ => KeptFault::RecordFailed(Reason(ErrorKind::Other)),
         }
     }
 }

@@ -31,6 +31,8 @@ pub struct Keeping<'w> {
     file: File,
     header: Header,
     is_new: bool,
+    /// How many bytes of a cut first line were taken off.
+    left_out: u64,
 }
 
 /// A recorder behind all that a share has performed.
@@ -41,6 +43,8 @@ pub struct Begun {
     pub next: u64,
     /// How many bytes its journal had before.
     pub length: u64,
+    /// How many bytes of a cut last line were behind them, which are taken off.
+    pub left_out: u64,
 }
 
 /// The file of a record or a journal, and whether it was made now. That of a record must not be there yet.
@@ -57,25 +61,28 @@ fn open_file(rt: &HostRuntime, words: KeepWords<'_>) -> Result<(File, bool), Kep
     Ok((lock(made)?, true))
 }
 
-/// Whether a file has nothing but the beginning of a first line: it was made, and the program was ended before it was written.
-fn is_begun(rt: &HostRuntime, path: &str, header: &Header) -> Result<bool, KeptFault> {
+/// How many bytes a file has that has nothing but the beginning of a first line, since it was made, and the program was ended before
+/// that line was written; None of any other file.
+fn begun_bytes(rt: &HostRuntime, path: &str, header: &Header) -> Result<Option<u64>, KeptFault> {
     let line = header.line(rt.alloc())?;
     let bytes = first_bytes(rt, path, line.len())?;
-    Ok(bytes.len() < line.len() && line.starts_with(&bytes))
+    let is_begun = bytes.len() < line.len() && line.starts_with(&bytes);
+    Ok(is_begun.then_some(bytes.len() as u64))
 }
 
-/// Whether a file is to be begun: it was made now, or has the beginning of a first line alone, which is taken off.
-fn is_to_begin(
+/// Takes off what a file has that has the beginning of a first line alone, and tells how many bytes these were; None of a file that is
+/// to be gone on with.
+fn cut_begun(
     rt: &HostRuntime,
     path: &str,
     header: &Header,
     file: &File,
-) -> Result<bool, KeptFault> {
-    if !is_begun(rt, path, header)? {
-        return Ok(false);
+) -> Result<Option<u64>, KeptFault> {
+    let found = begun_bytes(rt, path, header)?;
+    if found.is_some() {
+        cut(file, 0)?;
     }
-    cut(file, 0)?;
-    Ok(true)
+    Ok(found)
 }
 
 /// Records what was answered anew, and the ends of all connections that are open.
@@ -88,10 +95,10 @@ fn record_ends(
     for connection in performed.open.iter() {
         recorder.ended(*connection);
     }
-    if recorder.settle() {
-        Ok(())
-    } else {
-        Err(KeptFault::RecordFailed)
+    let _ = recorder.settle();
+    match recorder.failure() {
+        None => Ok(()),
+        Some(reason) => Err(KeptFault::RecordFailed(reason)),
     }
 }
 
@@ -116,12 +123,17 @@ impl<'w> Keeping<'w> {
     ) -> Result<Self, KeptFault> {
         let header = Header::of(rt.alloc(), words.form, config, hello)?;
         let (file, is_made) = open_file(rt, words)?;
-        let is_new = is_made || is_to_begin(rt, words.path, &header, &file)?;
+        let begun = if is_made {
+            Some(0)
+        } else {
+            cut_begun(rt, words.path, &header, &file)?
+        };
         Ok(Keeping {
             words,
             file,
             header,
-            is_new,
+            is_new: begun.is_some(),
+            left_out: begun.unwrap_or(0),
         })
     }
 
@@ -149,6 +161,7 @@ impl<'w> Keeping<'w> {
             file,
             header,
             is_new: _,
+            left_out,
         } = self;
         let mut recorder = Recorder::new(alloc, file, words.form, words.settles, 0)?;
         recorder.begin(alloc, &header, VERSION)?;
@@ -156,6 +169,7 @@ impl<'w> Keeping<'w> {
             recorder,
             next: 1,
             length: 0,
+            left_out,
         })
     }
 
@@ -182,6 +196,7 @@ impl<'w> Keeping<'w> {
             recorder,
             next: done.performed.opened.saturating_add(1),
             length: done.end,
+            left_out: done.left_out,
         })
     }
 

@@ -71,15 +71,15 @@ pub(crate) fn new_left<'m>(
     Ok(Left { share, leaving })
 }
 
-/// Performs a recording on its share, and ends all connections.
+/// Performs a recording on its share, ends all connections, and tells how many bytes of a cut last line were left out.
 pub(crate) fn leave<A: Authenticator + Drop, T: Tree + Drop, O: Opens + Drop>(
     rt: &HostRuntime,
     file: &str,
     share: &mut Share<A, T, O>,
-) -> Result<(), KeptFault> {
-    let _ = perform_file(rt, file, share, &mut Deaf)?;
+) -> Result<u64, KeptFault> {
+    let done = perform_file(rt, file, share, &mut Deaf)?;
     share.end_all();
-    Ok(())
+    Ok(done.left_out)
 }
 
 /// A connection of the program's own to a share, of which nothing is recorded. All that is said comes at one moment, in units of 100 ns

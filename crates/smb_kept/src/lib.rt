@@ -33,7 +33,7 @@ mod steps;
 pub use anew::{write_anew, write_journal};
 pub use fault::KeptFault;
 pub use keeping::{Begun, KeepWords, Keeping};
-pub use left::extract;
+pub use left::{Extracted, extract};
 pub use length::is_long;
 pub use own_client::{own_answer, own_answers, path_of};
 pub use performed::{Deaf, Hears, Performed, perform};

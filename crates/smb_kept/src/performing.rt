@@ -7,12 +7,14 @@ use smb_engine::{Authenticator, Opens, Share, Tree};
 use smb_journal::{GivenAnswer, Header, given_answers};
 use std::collections::VecDeque;
 
-/// What was performed of a recording, how many bytes its whole lines take, and the check of the last of them.
+/// What was performed of a recording, how many bytes its whole lines take, the check of the last of them, and how many bytes of a
+/// cut last line are behind it.
 #[derive(Drop)]
 pub struct Done {
     pub(crate) performed: Performed,
     pub(crate) end: u64,
     pub(crate) check: u64,
+    pub(crate) left_out: u64,
 }
 
 /// The first line of a recording, and the answers of the authenticator in it. All of it is read, and nothing is performed.
@@ -40,5 +42,6 @@ pub fn perform_file<A: Authenticator + Drop, T: Tree + Drop, O: Opens + Drop, H:
         performed,
         end: lines.offset(),
         check: lines.check(),
+        left_out: lines.left_out(),
     })
 }

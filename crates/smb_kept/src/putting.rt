@@ -8,6 +8,7 @@ use smb_folder::{FolderFault, put_folder};
 use smb_journal::{Mailbox, Recorder, Store};
 use smb_pair::client_fault;
 use smb_peers::Clock;
+use smb_reason::Reason;
 use smb_session::Answer;
 
 /// A connection of the program's own to a share: each piece is recorded before the share takes it.
@@ -65,11 +66,12 @@ impl<
         Ok(connection)
     }
 
-    /// Ends the connection, and tells whether all of it is recorded.
-    fn end(&mut self, connection: u64) -> bool {
+    /// Ends the connection, and tells why not all of it is recorded; None where all of it is.
+    fn end(&mut self, connection: u64) -> Option<Reason> {
         self.recorder.ended(connection);
         self.share.ended(connection);
-        self.recorder.settle()
+        let _ = self.recorder.settle();
+        self.recorder.failure()
     }
 
     /// Records the answer that lets the client in, behind the piece that it answers.
@@ -149,11 +151,10 @@ fn put_by<F: Filling, L: Line>(
 }
 
 /// What came of putting files in, where all of it had to be recorded.
-fn put_and_kept(put: Result<(), KeptFault>, is_kept: bool) -> Result<(), KeptFault> {
-    if is_kept {
-        put
-    } else {
-        Err(KeptFault::RecordFailed)
+fn put_and_kept(put: Result<(), KeptFault>, failure: Option<Reason>) -> Result<(), KeptFault> {
+    match failure {
+        None => put,
+        Some(reason) => Err(KeptFault::RecordFailed(reason)),
     }
 }
 

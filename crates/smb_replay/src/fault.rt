@@ -2,6 +2,7 @@
 
 use crate::script::Expected;
 use smb_config::{ConfigFault, ConfigRule, write_place};
+use smb_reason::Reason;
 use std::alloc::{AllocError, Global};
 use std::io;
 use std::io::{ErrorKind, Write};
@@ -36,15 +37,15 @@ impl From<ErrorKind> for ListenFault {
 /// What ends a command. Its text is what is printed.
 #[derive(Clone, Copy, Debug, PartialEq, Eq, Error)]
 pub enum CommandFault {
-    /// The configuration's file cannot be opened or read, for a reason of this kind.
+    /// The configuration's file cannot be opened or read, for this reason.
     #[error("config: cannot be read")]
-    ConfigUnread(ErrorKind),
+    ConfigUnread(Reason),
     /// The configuration breaks this rule; None where the share itself refuses it.
     #[error("config: refused")]
     ConfigRefused(Option<ConfigRule>),
-    /// The file of accounts cannot be opened or read, for a reason of this kind.
+    /// The file of accounts cannot be opened or read, for this reason.
     #[error("accounts: cannot be read")]
-    AccountsUnread(ErrorKind),
+    AccountsUnread(Reason),
     /// The accounts break this rule.
     #[error("accounts: refused")]
     AccountsRefused(ConfigRule),
