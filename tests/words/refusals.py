@@ -111,8 +111,8 @@ BROKEN_ACCOUNTS = (
     ('name = "bob"', "name = 'Guest'", f"{GUEST_RULE}; account 2; line 7: 'Guest'"),
     ('name = "bob"', 'name = "ANN"', f'{TAKEN_RULE}; account 2; line 7: "ANN"'),
 )
-BY_NTLM = ('login by NTLM: `hello` and the users\' tokens of the configuration are not used; its `guest` says whether '
-           'guests come in, and `guest_readonly` whether these may only read')
+BY_NTLM = ("login by NTLM: of the configuration `guest` and `guest_readonly` count; its users' tokens are not used, "
+           'accounts are in the file of --accounts')
 NO_USER = 'no client can log in: the configuration has no user, and its `guest` is false'
 NO_ACCOUNT = "no client can log in: there is no account (--accounts FILE), and the configuration's `guest` is false"
 EVERYONE = "the configuration holds users' tokens, and everyone may write to its file (chmod o-w)"
@@ -128,7 +128,7 @@ NOTICES = (
     (False, 'true', 0o666, None, ()),
     (True, 'false', 0o600, ACCOUNTS, (BY_NTLM,)),
     (True, 'false', 0o600, '', (BY_NTLM, NO_ACCOUNT)),
-    (False, 'true', 0o600, '', (BY_NTLM,)),
+    (False, 'true', 0o600, '', ()),
     (True, 'false', 0o666, '', (BY_NTLM, NO_ACCOUNT, EVERYONE)),
     (True, 'true', 0o602, ACCOUNTS, (BY_NTLM, EVERYONE)),
 )

@@ -59,7 +59,7 @@ def hold(folder, say):
     try:
         fcntl.flock(lock, fcntl.LOCK_EX | fcntl.LOCK_NB)
     except BlockingIOError:
-        say(f"Another call works in {folder.relative_to(TOP)}; this one waits for it.")
+        say(f"note: another call builds in {folder.relative_to(TOP)}; this one goes on once that has ended")
         fcntl.flock(lock, fcntl.LOCK_EX)
     except OSError:
         # Some file systems have no locks.

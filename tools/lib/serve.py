@@ -6,6 +6,7 @@
     bash tools/serve.sh show < FILE      its standard input and its exit status; so do
     printf %s Password | bash tools/serve.sh nt-hash
     bash tools/serve.sh serve --listen 127.0.0.1:4455 --config guest.toml --login ntlm
+                                         and every other command of the program, which says itself what it does not know
     bash tools/serve.sh --build          builds the program, and prints its path
     bash tools/serve.sh --proved ..      proves the program first, with any of these words behind it
     bash tools/serve.sh --help           prints this, and what the program says of its words
@@ -26,9 +27,9 @@ import unproved
 from unproved import TOP, say
 
 HOST, PORT = "127.0.0.1", 4450
-UNPROVED = ("This build is unproved and slow: `rt try` makes it, not optimised and with run-time checks, "
+UNPROVED = ("note: this build is unproved and slow: `rt try` makes it, not optimised and with run-time checks, "
             "30 to 80 times slower than the proved one.")
-PROVED = "The program is proved first. From nothing that takes most of an hour; what was proved before is kept."
+PROVED = "note: the program is proved first. From nothing that takes most of an hour; what was proved before is kept."
 SERVED = f"""The share `data` is served, to guests. In another terminal, at the top of the repository:
 
     smbclient -N //{HOST}/data -p {PORT} -c ls
@@ -96,10 +97,8 @@ def start(words):
     """Does what the words say, and gives the exit status."""
     is_proved = words[:1] == ["--proved"]
     words = words[is_proved:]
-    known = ("replay", "show", "serve", "nt-hash", "--demo", "--build", "--help", "-h", "--version")
-    unknown = words[1:] if words[:1] in (["--demo"], ["--build"]) else [it for it in words[:1] if it not in known]
-    if unknown:
-        say(f"{__doc__.strip()}\n\nserve.sh: it does not know {unknown[0]!r}")
+    if words[:1] in (["--demo"], ["--build"]) and words[1:]:
+        say(f"{__doc__.strip()}\n\nserve.sh: {words[0]} takes no word, and {words[1]!r} was given")
         return 2
     if words[:1] in (["--help"], ["-h"]):
         say(f"{__doc__.strip()}\n")

@@ -12,9 +12,9 @@ const BUILT_IN_USER: &str =
 const NO_USER: &str =
     "no client can log in: the configuration has no user, and its `guest` is false";
 
-/// What is said of a configuration where clients log in by NTLM.
+/// What is said of a configuration with users where clients log in by NTLM.
 const NO_TOKENS: &str =
-    "login by NTLM: `hello` and the users' tokens of the configuration are not used; its `guest` says whether guests come in, and `guest_readonly` whether these may only read";
+    "login by NTLM: of the configuration `guest` and `guest_readonly` count; its users' tokens are not used, accounts are in the file of --accounts";
 
 /// What is said where clients log in by NTLM, and no login is right.
 const NO_ACCOUNT: &str =
@@ -66,7 +66,7 @@ pub fn say_notices(rt: &HostRuntime, texts: &Texts, login: Login, entrance: Entr
             say(rt, !guest && users == 0, NO_USER);
         }
         Login::Ntlm(seed) => {
-            say(rt, true, NO_TOKENS);
+            say(rt, users > 0, NO_TOKENS);
             say(rt, !guest && accounts == 0, NO_ACCOUNT);
             say(rt, seed.is_some(), SEED_IS_GIVEN);
         }

@@ -63,7 +63,7 @@ fn faults(rt: HostRuntime) {
         (&[0, 16, 0, 0], None),
         (&[0, 16, 0, 1], Some(FrameFault::TooLong)),
     ] {
-        assert_eq!(rt; fault_of(rt.alloc(), bytes), fault, "{bytes:?}");
+        assert!(rt; fault_of(rt.alloc(), bytes) == fault, "{bytes:?}");
     }
 }
 
@@ -80,8 +80,8 @@ fn front_of(alloc: Global, length: usize) -> Result<[u8; 4], FrameFault> {
 
 #[test]
 fn puts_a_frame(rt: HostRuntime) {
-    assert_eq!(rt; front_of(rt.alloc(), 3), Ok([0, 0, 0, 3]));
-    assert_eq!(rt; front_of(rt.alloc(), 16_777_215), Ok([0, 0xff, 0xff, 0xff]));
+    assert!(rt; front_of(rt.alloc(), 3) == Ok([0, 0, 0, 3]));
+    assert!(rt; front_of(rt.alloc(), 16_777_215) == Ok([0, 0xff, 0xff, 0xff]));
     let too_long = front_of(rt.alloc(), 16_777_216);
-    assert_eq!(rt; too_long, Err(FrameFault::PayloadTooLong));
+    assert!(rt; too_long == Err(FrameFault::PayloadTooLong));
 }

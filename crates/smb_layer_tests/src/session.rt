@@ -42,10 +42,7 @@ fn users(alloc: Global) -> Option<Vec<User>>
         token: Vec::from_slice(alloc, b"b").ok()?,
         read_only: true,
     };
-    let mut users = Vec::new(alloc);
-    users.push(ann).ok()?;
-    users.push(bob).ok()?;
-    Some(users)
+    vec![in alloc; ann, bob].ok()
 }
 
 /// Sessions by the tokens of the two.
@@ -114,10 +111,15 @@ fn ends_two(sessions: &mut Sessions<Tokens>) -> bool {
         && sessions.end_connection(2).is_none()
 }
 
+/// Whether users and guests come in, and a connection ends with its sessions.
+fn lets_in_and_ends(sessions: &mut Sessions<Tokens>) -> bool {
+    lets_in(sessions) && ends_two(sessions)
+}
+
 #[test]
 fn knows_users_and_guests(rt: HostRuntime) {
     let is_so = match by_tokens(rt.alloc(), true) {
-        Some(mut sessions) => lets_in(&mut sessions) && ends_two(&mut sessions),
+        Some(mut sessions) => lets_in_and_ends(&mut sessions),
         None => false,
     };
     assert!(rt; is_so);
@@ -190,17 +192,20 @@ fn denies_strangers(sessions: &mut Sessions<Tokens>) -> bool {
     setup(sessions, 1, 0, 0, b'a') == ann && setup(sessions, 1, 0, 0, b'?') == denied
 }
 
+/// Whether Ann comes, connects to the share by two paths and no other, and leaves.
+fn comes_and_goes(sessions: &mut Sessions<Tokens>, alloc: Global) -> bool {
+    denies_strangers(sessions)
+        && connects(sessions, alloc, b"\\\\s\\data", 1)
+        && connects(sessions, alloc, b"\\\\server\\DaTa", 2)
+        && connects_no_other(sessions, alloc)
+        && leaves(sessions)
+}
+
 #[test]
 fn connects_and_leaves(rt: HostRuntime) {
     let alloc = rt.alloc();
     let is_so = match by_tokens(alloc, false) {
-        Some(mut sessions) => {
-            denies_strangers(&mut sessions)
-                && connects(&mut sessions, alloc, b"\\\\s\\data", 1)
-                && connects(&mut sessions, alloc, b"\\\\server\\DaTa", 2)
-                && connects_no_other(&mut sessions, alloc)
-                && leaves(&mut sessions)
-        }
+        Some(mut sessions) => comes_and_goes(&mut sessions, alloc),
         None => false,
     };
     assert!(rt; is_so);

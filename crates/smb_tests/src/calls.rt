@@ -59,92 +59,112 @@ fn takes_each(share: &mut Served, bytes: &[u8], out: &mut Vec<u8>) -> bool {
     true
 }
 
-/// What connection 1 is answered that takes two frames byte by byte, and then ends by the first byte of a third.
-fn fed(share: &mut Served, alloc: Global) -> Option<Vec<u8>> {
-    let both = frames(alloc, &[NEGOTIATE, ECHO])?;
-    let mut out = Vec::new(alloc);
-    let is_so = opens(share, 1, 2)
-        && takes_each(share, &both, &mut out)
-        && takes(share, 1, &[0x85], &mut out, Fate::Ended);
-    if is_so { Some(out) } else { None }
+/// Whether bytes are these frames.
+fn are_frames(alloc: Global, found: &[u8], words: &[&str]) -> bool {
+    match frames(alloc, words) {
+        Some(wanted) => found == wanted.as_slice(),
+        None => false,
+    }
 }
 
-/// Whether connection 2 ends by a length over the limit, in two pieces, alone.
+/// Whether connection 1 takes two frames byte by byte, and then ends by the first byte of a third.
+fn takes_both(share: &mut Served, both: &[u8], out: &mut Vec<u8>) -> bool {
+    opens(share, 1, 2) && takes_each(share, both, out) && takes(share, 1, &[0x85], out, Fate::Ended)
+}
+
+/// Whether connection 1 is answered as it should be then.
+fn is_fed_byte_by_byte(share: &mut Served, alloc: Global) -> bool {
+    let Some(both) = frames(alloc, &[NEGOTIATE, ECHO]) else {
+        return false;
+    };
+    let mut out = Vec::new(alloc);
+    let takes_all = takes_both(share, &both, &mut out);
+    takes_all && are_frames(alloc, &out, &[NEGOTIATED, ECHOED])
+}
+
+/// Whether connection 2 ends by a length over the limit, in two pieces.
+fn ends_by_length(share: &mut Served, out: &mut Vec<u8>) -> bool {
+    takes(share, 2, &[0, 16, 0], out, Fate::Open) && takes(share, 2, &[1], out, Fate::Ended)
+}
+
+/// Whether connection 2 ends so, alone and with no answer.
 fn ends_alone(share: &mut Served, alloc: Global) -> bool {
     let mut out = Vec::new(alloc);
-    let is_so = takes(share, 2, &[0, 16, 0], &mut out, Fate::Open)
-        && takes(share, 2, &[1], &mut out, Fate::Ended);
-    is_so && out.is_empty() && !share.is_open(2)
+    let ends = ends_by_length(share, &mut out);
+    ends && out.is_empty() && !share.is_open(2)
+}
+
+/// Whether connection 1 is fed byte by byte, and connection 2 ends.
+fn feeds_and_ends(share: &mut Served, alloc: Global) -> bool {
+    is_fed_byte_by_byte(share, alloc) && ends_alone(share, alloc)
 }
 
 #[test]
 fn feeds_byte_by_byte(rt: HostRuntime) {
-    let alloc = rt.alloc();
-    let found = match built_in(alloc) {
-        Some(mut share) => {
-            let found = fed(&mut share, alloc);
-            if ends_alone(&mut share, alloc) {
-                found
-            } else {
-                None
-            }
-        }
-        None => None,
+    let is_so = match built_in(rt.alloc()) {
+        Some(mut share) => feeds_and_ends(&mut share, rt.alloc()),
+        None => false,
     };
-    let is_so = found.is_some() && found == frames(alloc, &[NEGOTIATED, ECHOED]);
     assert!(rt; is_so);
     laws_of_shares::<Tokens>();
 }
 
-/// What connection 1 is answered that takes a frame, and then one with the longest payload.
-fn fed_long(share: &mut Served, alloc: Global) -> Option<Vec<u8>> {
-    let first = frames(alloc, &[NEGOTIATE])?;
-    let second = frames(alloc, &[LONG_ECHO])?;
+/// Whether connection 1 takes a frame, and then another one.
+fn takes_two(share: &mut Served, first: &[u8], second: &[u8], out: &mut Vec<u8>) -> bool {
+    opens(share, 1, 1)
+        && takes(share, 1, first, out, Fate::Open)
+        && takes(share, 1, second, out, Fate::Open)
+}
+
+/// Whether connection 1 is answered as it should be that takes a frame, and then one with the longest payload.
+fn is_fed_long(share: &mut Served, alloc: Global, first: &[u8], second: &[u8]) -> bool {
     let mut out = Vec::new(alloc);
-    let is_so = opens(share, 1, 1)
-        && takes(share, 1, &first, &mut out, Fate::Open)
-        && takes(share, 1, &second, &mut out, Fate::Open);
-    if is_so { Some(out) } else { None }
+    let takes_all = takes_two(share, first, second, &mut out);
+    takes_all && are_frames(alloc, &out, &[NEGOTIATED, ECHOED])
+}
+
+/// Whether a new share does so.
+fn feeds_long(alloc: Global, first: &[u8], second: &[u8]) -> bool {
+    match built_in(alloc) {
+        Some(mut share) => is_fed_long(&mut share, alloc, first, second),
+        None => false,
+    }
 }
 
 #[test]
 fn takes_the_longest_payload(rt: HostRuntime) {
-    let alloc = rt.alloc();
-    let found = match built_in(alloc) {
-        Some(mut share) => fed_long(&mut share, alloc),
-        None => None,
+    let first = frames(rt.alloc(), &[NEGOTIATE]);
+    let second = frames(rt.alloc(), &[LONG_ECHO]);
+    let is_so = match (&first, &second) {
+        (Some(first), Some(second)) => feeds_long(rt.alloc(), first, second),
+        _ => false,
     };
-    let is_so = found.is_some() && found == frames(alloc, &[NEGOTIATED, ECHOED]);
     assert!(rt; is_so);
+}
+
+/// A piece that comes on a connection.
+fn piece(alloc: Global, connection: u64, words: &str) -> Option<Event> {
+    let piece = frames(alloc, &[words])?;
+    Some(Event::Bytes {
+        connection,
+        moment: MOMENT,
+        piece,
+    })
 }
 
 /// Two connections: the first negotiates and ends, twice; the second sends what is no frame.
 fn events(alloc: Global) -> Option<Vec<Event>> {
-    let mut events = Vec::new(alloc);
-    events.push(Event::Opened(1)).ok()?;
-    events.push(Event::Opened(2)).ok()?;
-    for (connection, words) in [(1, NEGOTIATE), (2, "85")] {
-        let piece = frames(alloc, &[words])?;
-        let event = Event::Bytes {
-            connection,
-            moment: MOMENT,
-            piece,
-        };
-        events.push(event).ok()?;
-    }
-    events.push(Event::Ended(1)).ok()?;
-    events.push(Event::Ended(1)).ok()?;
-    Some(events)
-}
-
-/// What events are answered.
-fn ran(share: &mut Served, alloc: Global) -> Option<Vec<Answer>> {
-    let events = events(alloc)?;
-    let mut answers = Vec::new(alloc);
-    match share.run(&events, &mut answers) {
-        Ok(()) => Some(answers),
-        Err(_) => None,
-    }
+    let asked = piece(alloc, 1, NEGOTIATE)?;
+    let no_frame = piece(alloc, 2, "85")?;
+    let events = vec![in alloc;
+        Event::Opened(1),
+        Event::Opened(2),
+        asked,
+        no_frame,
+        Event::Ended(1),
+        Event::Ended(1),
+    ];
+    events.ok()
 }
 
 /// Whether these are the answers to them.
@@ -158,28 +178,42 @@ fn are_right(alloc: Global, answers: &[Answer]) -> bool {
     }
 }
 
-/// Whether the second event of a run is refused.
-fn refuses(share: &mut Served, alloc: Global, event: Event) -> bool {
+/// Whether events run to their end, with the right answers.
+fn answers(share: &mut Served, alloc: Global, events: &[Event]) -> bool {
+    let mut answers = Vec::new(alloc);
+    let ran = share.run(events, &mut answers);
+    ran.is_ok() && are_right(alloc, &answers)
+}
+
+/// Whether those of the two connections do.
+fn answers_two(share: &mut Served, alloc: Global) -> bool {
+    match events(alloc) {
+        Some(events) => answers(share, alloc, &events),
+        None => false,
+    }
+}
+
+/// Whether the second event of a run is refused, which opens a connection by a number that is not the next.
+fn refuses(share: &mut Served, alloc: Global) -> bool {
     let mut answers = Vec::new(alloc);
     let refused = RunFault {
         place: 1,
         connection: 2,
         fault: ServeFault::BadEvent,
     };
-    let ran = share.run(&[Event::Ended(1), event], &mut answers);
+    let ran = share.run(&[Event::Ended(1), Event::Opened(2)], &mut answers);
     ran == Err(refused) && answers.is_empty()
+}
+
+/// Whether a share answers events, and then refuses one.
+fn answers_and_refuses(share: &mut Served, alloc: Global) -> bool {
+    answers_two(share, alloc) && refuses(share, alloc)
 }
 
 #[test]
 fn runs_events(rt: HostRuntime) {
-    let alloc = rt.alloc();
-    let is_so = match built_in(alloc) {
-        Some(mut share) => match ran(&mut share, alloc) {
-            Some(answers) => {
-                are_right(alloc, &answers) && refuses(&mut share, alloc, Event::Opened(2))
-            }
-            None => false,
-        },
+    let is_so = match built_in(rt.alloc()) {
+        Some(mut share) => answers_and_refuses(&mut share, rt.alloc()),
         None => false,
     };
     assert!(rt; is_so);

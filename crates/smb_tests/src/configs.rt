@@ -55,12 +55,15 @@ fn knows_ann(authenticator: &mut Tokens) -> bool {
         && brings_no_one(authenticator, b"b")
 }
 
+/// Whether a configuration is the built-in one.
+fn is_of_ann(configuration: &mut Configuration) -> bool {
+    is_built_in(configuration) && knows_ann(&mut configuration.authenticator)
+}
+
 #[test]
 fn reads_the_built_in(rt: HostRuntime) {
     let is_so = match Configuration::read(rt.alloc(), BUILT_IN) {
-        Ok(mut configuration) => {
-            is_built_in(&configuration) && knows_ann(&mut configuration.authenticator)
-        }
+        Ok(mut configuration) => is_of_ann(&mut configuration),
         Err(_) => false,
     };
     assert!(rt; is_so);
@@ -97,30 +100,33 @@ hello = \"\"                                  # what the authenticator offers fi
 guest = true                                # whether a client may come in without a name
 ";
 
+/// Whether a configuration is the built-in one, and lets no guests in.
+fn is_without_guests(configuration: &mut Configuration) -> bool {
+    !configuration.guest && !configuration.guest_read_only && is_of_ann(configuration)
+}
+
 #[test]
 fn reads_a_share_of_before(rt: HostRuntime) {
     let is_so = match Configuration::read(rt.alloc(), SHARE_OF_BEFORE) {
-        Ok(mut configuration) => {
-            is_built_in(&configuration)
-                && !configuration.guest
-                && !configuration.guest_read_only
-                && knows_ann(&mut configuration.authenticator)
-        }
+        Ok(mut configuration) => is_without_guests(&mut configuration),
         Err(_) => false,
     };
     assert!(rt; is_so);
 }
 
+/// Whether a share is as the built-in configuration says, but for guests alone, who may write.
+fn is_of_guests(configuration: &mut Configuration) -> bool {
+    is_built_in(configuration)
+        && configuration.guest
+        && !configuration.guest_read_only
+        && configuration.users == 0
+        && brings(&mut configuration.authenticator, b"a", b"guest", 1, false)
+}
+
 #[test]
 fn reads_guests_of_before(rt: HostRuntime) {
     let is_so = match Configuration::read(rt.alloc(), GUESTS_OF_BEFORE) {
-        Ok(mut configuration) => {
-            is_built_in(&configuration)
-                && configuration.guest
-                && !configuration.guest_read_only
-                && configuration.users == 0
-                && brings(&mut configuration.authenticator, b"a", b"guest", 1, false)
-        }
+        Ok(mut configuration) => is_of_guests(&mut configuration),
         Err(_) => false,
     };
     assert!(rt; is_so);
@@ -141,16 +147,19 @@ user = [
 ]
 ";
 
+/// Whether guests and bob may only read, and ann may write.
+fn is_of_readers(configuration: &mut Configuration) -> bool {
+    let authenticator = &mut configuration.authenticator;
+    configuration.guest_read_only
+        && brings(authenticator, b"a", b"ann", 0, false)
+        && brings(authenticator, b"b", b"bob", 0, true)
+        && brings(authenticator, b"?", b"guest", 1, true)
+}
+
 #[test]
 fn reads_who_may_only_read(rt: HostRuntime) {
     let is_so = match Configuration::read(rt.alloc(), READERS) {
-        Ok(mut configuration) => {
-            let authenticator = &mut configuration.authenticator;
-            configuration.guest_read_only
-                && brings(authenticator, b"a", b"ann", 0, false)
-                && brings(authenticator, b"b", b"bob", 0, true)
-                && brings(authenticator, b"?", b"guest", 1, true)
-        }
+        Ok(mut configuration) => is_of_readers(&mut configuration),
         Err(_) => false,
     };
     assert!(rt; is_so);
@@ -178,7 +187,7 @@ fn fault_of(alloc: Global, length: u32) -> Option<ConfigFault> {
 
 #[test]
 fn bounds_a_hello(rt: HostRuntime) {
-    assert_eq!(rt; fault_of(rt.alloc(), 4_096), None);
+    assert!(rt; fault_of(rt.alloc(), 4_096).is_none());
     let refused = Some(ConfigFault::Refused(ConfigRule::Hello));
-    assert_eq!(rt; fault_of(rt.alloc(), 4_097), refused);
+    assert!(rt; fault_of(rt.alloc(), 4_097) == refused);
 }

@@ -4,17 +4,15 @@
 ghost use Rattle.std.specs.Prelude.{IfSome, IsTrue};
 ghost use Rattle.smb_serving.specs.MemoryPeers.{are_distinct, opened_by};
 
-use super::calls::{Served, built_in};
 use super::reads::{OPENING, byte_at};
-use super::talk::{Talk, comes_in, is_told, logs_in, made};
+use super::serving::serves_anew;
+use super::talk::{Talk, comes_in, is_told, logs_in, made, new_pair};
 use smb_client::{
     AdditionalInformation, Capabilities, Client, ClientFault, Dialects, Guid, InfoType,
     InformationClass, NegotiateRequest, Replies, Reply, Request, SecurityMode, SetInfoRequest,
 };
 use smb_layer_tests::words::{MOMENT, frames};
-use smb_pair::Pair;
-use smb_peers::ListClock;
-use smb_serving::{MemoryPeers, PeerStep, serve, taken_from};
+use smb_serving::{MemoryPeers, PeerStep, taken_from};
 use smb_wire::{FileId, NtStatus};
 use std::alloc::Global;
 
@@ -78,41 +76,20 @@ fn reads(alloc: Global, count: usize) -> Option<Vec<u8>> {
 fn script(alloc: Global, count: usize) -> Option<Vec<PeerStep>>
     ensures { IfSome result (λ script. IsTrue (are_distinct (opened_by script.items))) }
 {
-    let mut script = Vec::new(alloc);
-    script.push(PeerStep::Opened(1)).ok()?;
-    script.push(PeerStep::Bytes(1, opening(alloc)?)).ok()?;
-    script.push(PeerStep::Bytes(1, reads(alloc, count)?)).ok()?;
-    Some(script)
+    let opening = opening(alloc)?;
+    let reads = reads(alloc, count)?;
+    let script = vec![in alloc;
+        PeerStep::Opened(1),
+        PeerStep::Bytes(1, opening),
+        PeerStep::Bytes(1, reads),
+    ];
+    script.ok()
 }
 
-/// What a client took, and how often it was closed.
-#[derive(Drop)]
-struct Met {
-    heard: Vec<u8>,
-    closed: u64,
-}
-
-/// What the client meets of a share, where memory does not run out.
-fn played(alloc: Global, share: &mut Served, count: usize) -> Option<Met> {
-    let sends = Vec::new(alloc);
-    let mut peers = MemoryPeers::new(alloc, script(alloc, count)?, sends, 100, 17_000_000).ok()?;
-    let mut clock = ListClock::new(alloc, &[MOMENT]).ok()?;
-    let ran_out = serve(share, &mut peers, &mut clock, 8);
-    let heard = taken_from(alloc, &peers, 1).ok()?;
-    let closed = peers.closed(1);
-    if ran_out == 0 {
-        Some(Met { heard, closed })
-    } else {
-        None
-    }
-}
-
-/// What it meets of a new share.
-fn met_anew(alloc: Global, count: usize) -> Option<Met> {
-    match built_in(alloc) {
-        Some(mut share) => played(alloc, &mut share, count),
-        None => None,
-    }
+/// That client.
+fn client(alloc: Global, count: usize) -> Option<MemoryPeers> {
+    let script = script(alloc, count)?;
+    MemoryPeers::new(alloc, script, Vec::new(alloc), 100, 17_000_000).ok()
 }
 
 /// Whether a reply to a READ took so many MessageIds from this one on, and brings these bytes.
@@ -142,22 +119,56 @@ fn are_read(heard: &[u8], count: usize, file: &[u8]) -> bool {
     replies.next_reply().is_none()
 }
 
+/// Whether the client took five replies and so many to the READs.
+fn took_reads(alloc: Global, peers: &MemoryPeers, count: usize, file: &[u8]) -> bool {
+    match taken_from(alloc, peers, 1) {
+        Ok(heard) => are_read(&heard, count, file),
+        Err(_) => false,
+    }
+}
+
+/// What a client met: how often it was closed, and how many READs were answered.
+#[derive(Clone, Copy)]
+struct Met {
+    closed: u64,
+    count: usize,
+}
+
+/// Whether the client meets this of a new share.
+fn meets(alloc: Global, peers: &mut MemoryPeers, met: Met, file: &[u8]) -> bool {
+    serves_anew(alloc, peers, MOMENT, 8)
+        && peers.closed(1) == met.closed
+        && took_reads(alloc, peers, met.count, file)
+}
+
+/// Whether one with so many READs does.
+fn meets_by(alloc: Global, count: usize, met: Met, file: &[u8]) -> bool {
+    match client(alloc, count) {
+        Some(mut peers) => meets(alloc, &mut peers, met, file),
+        None => false,
+    }
+}
+
 #[test]
 fn reads_a_whole_window_by_eight_credits(rt: HostRuntime) {
-    let is_so = match (met_anew(rt.alloc(), AT_ONCE), bytes_of(rt.alloc(), LENGTH)) {
-        (Some(met), Some(file)) => met.closed == 0 && are_read(&met.heard, AT_ONCE, &file),
-        _ => false,
+    let met = Met {
+        closed: 0,
+        count: AT_ONCE,
+    };
+    let is_so = match bytes_of(rt.alloc(), LENGTH) {
+        Some(file) => meets_by(rt.alloc(), AT_ONCE, met, &file),
+        None => false,
     };
     assert!(rt; is_so);
 }
 
 #[test]
 fn ends_one_that_is_owed_too_much(rt: HostRuntime) {
-    let is_so = match met_anew(rt.alloc(), TOO_MANY) {
-        Some(met) => met.closed == 1 && are_read(&met.heard, 0, &[]),
-        None => false,
+    let met = Met {
+        closed: 1,
+        count: 0,
     };
-    assert!(rt; is_so);
+    assert!(rt; meets_by(rt.alloc(), TOO_MANY, met, &[]));
 }
 
 /// A READ, and the CreditCharge, the status and the data of the response that it must get.
@@ -343,41 +354,53 @@ fn talks_by_one(pair: &mut Talk, file: &[u8]) -> bool {
     }
 }
 
+/// Whether a client of a new share is answered by what is due.
+fn answers_what_is_due(alloc: Global, file: &[u8]) -> bool {
+    match new_pair(alloc) {
+        Some(mut pair) => talks_by_what_is_due(&mut pair, file),
+        None => false,
+    }
+}
+
 #[test]
 fn a_client_takes_what_is_due(rt: HostRuntime) {
-    let alloc = rt.alloc();
-    let is_so = match (built_in(alloc), bytes_of(alloc, 131_073)) {
-        (Some(share), Some(file)) => {
-            let mut pair = Pair::new(alloc, share, MOMENT);
-            talks_by_what_is_due(&mut pair, &file)
-        }
-        _ => false,
+    let is_so = match bytes_of(rt.alloc(), 131_073) {
+        Some(file) => answers_what_is_due(rt.alloc(), &file),
+        None => false,
     };
     assert!(rt; is_so);
+}
+
+/// Whether a client of a new share writes as much as it may.
+fn takes_as_much_as_it_may(alloc: Global, bytes: &[u8]) -> bool {
+    match new_pair(alloc) {
+        Some(mut pair) => writes_as_much_as_it_may(&mut pair, bytes),
+        None => false,
+    }
 }
 
 #[test]
 fn a_write_has_a_greatest_length(rt: HostRuntime) {
-    let alloc = rt.alloc();
-    let is_so = match (built_in(alloc), vec![in alloc; 0u8; 589_825]) {
-        (Some(share), Ok(bytes)) => {
-            let mut pair = Pair::new(alloc, share, MOMENT);
-            writes_as_much_as_it_may(&mut pair, &bytes)
-        }
-        _ => false,
+    let is_so = match vec![in rt.alloc(); 0u8; 589_825] {
+        Ok(bytes) => takes_as_much_as_it_may(rt.alloc(), &bytes),
+        Err(_) => false,
     };
     assert!(rt; is_so);
 }
 
+/// Whether a client of a new share that is of dialect 2.0.2 is answered by one MessageId each.
+fn answers_by_one(alloc: Global, file: &[u8]) -> bool {
+    match new_pair(alloc) {
+        Some(mut pair) => talks_by_one(&mut pair, file),
+        None => false,
+    }
+}
+
 #[test]
 fn a_client_of_dialect_2_0_2_takes_one(rt: HostRuntime) {
-    let alloc = rt.alloc();
-    let is_so = match (built_in(alloc), bytes_of(alloc, 65_536)) {
-        (Some(share), Some(file)) => {
-            let mut pair = Pair::new(alloc, share, MOMENT);
-            talks_by_one(&mut pair, &file)
-        }
-        _ => false,
+    let is_so = match bytes_of(rt.alloc(), 65_536) {
+        Some(file) => answers_by_one(rt.alloc(), &file),
+        None => false,
     };
     assert!(rt; is_so);
 }

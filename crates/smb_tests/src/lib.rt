@@ -20,6 +20,8 @@ mod scripted;
 #[cfg(test)]
 mod served;
 #[cfg(test)]
+mod serving;
+#[cfg(test)]
 mod shown;
 #[cfg(test)]
 mod talk;

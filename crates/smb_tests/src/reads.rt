@@ -3,10 +3,9 @@
 ghost use Rattle.std.specs.Prelude.{◌<◌, IfSome, IsTrue};
 ghost use Rattle.smb_serving.specs.MemoryPeers.{are_distinct, opened_by};
 
-use super::calls::{Served, built_in};
+use super::serving::serves_anew;
 use smb_layer_tests::words::{MOMENT, frames};
-use smb_peers::ListClock;
-use smb_serving::{MemoryPeers, PeerStep, serve};
+use smb_serving::{MemoryPeers, PeerStep};
 use std::alloc::Global;
 
 /// How many MessageIds a window holds at most, and the first of the READs.
@@ -75,11 +74,19 @@ fn reads(alloc: Global) -> Option<Vec<u8>> {
 fn script(alloc: Global) -> Option<Vec<PeerStep>>
     ensures { IfSome result (λ script. IsTrue (are_distinct (opened_by script.items))) }
 {
-    let mut script = Vec::new(alloc);
-    script.push(PeerStep::Opened(1)).ok()?;
-    script.push(PeerStep::Bytes(1, opening(alloc)?)).ok()?;
-    script.push(PeerStep::Bytes(1, reads(alloc)?)).ok()?;
-    Some(script)
+    let opening = opening(alloc)?;
+    let reads = reads(alloc)?;
+    let script = vec![in alloc;
+        PeerStep::Opened(1),
+        PeerStep::Bytes(1, opening),
+        PeerStep::Bytes(1, reads),
+    ];
+    script.ok()
+}
+
+/// That client.
+fn client(alloc: Global) -> Option<MemoryPeers> {
+    MemoryPeers::new(alloc, script(alloc)?, Vec::new(alloc), 100, 17_000_000).ok()
 }
 
 /// Whether the reply to a READ is where it should be, with its MessageId, SUCCESS and the bytes of the file.
@@ -108,19 +115,15 @@ fn are_read(peers: &MemoryPeers) -> bool {
 }
 
 /// Whether a share answers all of them, and the client is not closed.
-fn answers_all(alloc: Global, share: &mut Served) -> Option<bool> {
-    let sends = Vec::new(alloc);
-    let mut peers = MemoryPeers::new(alloc, script(alloc)?, sends, 100, 17_000_000).ok()?;
-    let mut clock = ListClock::new(alloc, &[MOMENT]).ok()?;
-    let ran_out = serve(share, &mut peers, &mut clock, 8);
-    Some(ran_out == 0 && peers.closed(1) == 0 && are_read(&peers))
+fn answers_all(alloc: Global, peers: &mut MemoryPeers) -> bool {
+    serves_anew(alloc, peers, MOMENT, 8) && peers.closed(1) == 0 && are_read(peers)
 }
 
 #[test]
 fn reads_a_whole_window_in_one_piece(rt: HostRuntime) {
-    let is_so = match built_in(rt.alloc()) {
-        Some(mut share) => answers_all(rt.alloc(), &mut share),
-        None => None,
+    let is_so = match client(rt.alloc()) {
+        Some(mut peers) => answers_all(rt.alloc(), &mut peers),
+        None => false,
     };
-    assert!(rt; is_so == Some(true));
+    assert!(rt; is_so);
 }

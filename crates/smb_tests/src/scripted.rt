@@ -68,16 +68,19 @@ fn answers(share: &mut Told, alloc: Global, request: &str, reply: &str) -> bool 
     takes(share, 1, &piece, &mut out, Fate::Open) && frames(alloc, &[reply]) == Some(out)
 }
 
+/// Whether a client is asked for more, and then denied.
+fn follows(share: &mut Told, alloc: Global) -> bool {
+    opens(share, 1, 1)
+        && answers(share, alloc, NEGOTIATE, NEGOTIATED)
+        && answers(share, alloc, SETUP, MORE)
+        && answers(share, alloc, NEXT, DENIED)
+}
+
 #[test]
 fn a_script_is_followed(rt: HostRuntime) {
     let alloc = rt.alloc();
     let is_so = match told_share(alloc) {
-        Some(mut share) => {
-            opens(&mut share, 1, 1)
-                && answers(&mut share, alloc, NEGOTIATE, NEGOTIATED)
-                && answers(&mut share, alloc, SETUP, MORE)
-                && answers(&mut share, alloc, NEXT, DENIED)
-        }
+        Some(mut share) => follows(&mut share, alloc),
         None => false,
     };
     assert!(rt; is_so);

@@ -62,18 +62,26 @@ fn says_a_status_by_its_name(rt: HostRuntime) {
     assert!(rt; named && unnamed);
 }
 
-#[test]
-fn shows_how_many_entries_a_tree_has(rt: HostRuntime) {
-    let alloc = rt.alloc();
-    let nodes = match NodeTree::new(alloc, 0, 4_096) {
+/// Whether a new tree of nodes is shown with its root.
+fn shows_nodes(alloc: Global) -> bool {
+    match NodeTree::new(alloc, 0, 4_096) {
         Ok(tree) => shows(alloc, &tree, "NodeTree { entries: 1, used: 0, .. }"),
         Err(_) => false,
-    };
-    let plain = match PlainTree::new(alloc, 0, 4_096) {
+    }
+}
+
+/// Whether a new plain tree is.
+fn shows_plain(alloc: Global) -> bool {
+    match PlainTree::new(alloc, 0, 4_096) {
         Ok(tree) => shows(alloc, &tree, "PlainTree { entries: 1, used: 0, .. }"),
         Err(_) => false,
-    };
-    assert!(rt; nodes && plain);
+    }
+}
+
+#[test]
+fn shows_how_many_entries_a_tree_has(rt: HostRuntime) {
+    assert!(rt; shows_nodes(rt.alloc()));
+    assert!(rt; shows_plain(rt.alloc()));
 }
 
 #[test]

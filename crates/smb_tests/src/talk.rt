@@ -3,14 +3,14 @@
 ghost use Rattle.std.specs.Prelude.{IfSome, IsTrue};
 ghost use Rattle.smb_serving.specs.MemoryPeers.{are_distinct, opened_by};
 
-use super::calls::{Served, built_in};
+use super::calls::built_in;
+use super::serving::serves_anew;
 use smb_client::{Client, ClientFault, Replies};
 use smb_handles::HandleTable;
 use smb_layer_tests::words::MOMENT;
 use smb_nodes::NodeTree;
 use smb_pair::Pair;
-use smb_peers::ListClock;
-use smb_serving::{MemoryPeers, PeerStep, serve, taken_from};
+use smb_serving::{MemoryPeers, PeerStep, taken_from};
 use smb_session::Tokens;
 use smb_wire::{CreateDisposition, FileId, NtStatus};
 use std::alloc::Global;
@@ -102,47 +102,59 @@ fn talks(pair: &mut Talk) -> bool {
     }
 }
 
+/// A pair of the built-in configuration.
+pub(crate) fn new_pair(alloc: Global) -> Option<Talk> {
+    Some(Pair::new(alloc, built_in(alloc)?, MOMENT))
+}
+
 #[test]
 fn talks_to_a_share(rt: HostRuntime) {
-    let alloc = rt.alloc();
-    let is_so = match built_in(alloc) {
-        Some(share) => {
-            let mut pair = Pair::new(alloc, share, MOMENT);
-            talks(&mut pair)
-        }
+    let is_so = match new_pair(rt.alloc()) {
+        Some(mut pair) => talks(&mut pair),
         None => false,
     };
     assert!(rt; is_so);
 }
 
-/// The script of a client that negotiates and asks for an echo.
-fn script(alloc: Global) -> Option<Vec<PeerStep>>
-    ensures { IfSome result (λ script. IsTrue (are_distinct (opened_by script.items))) }
-{
+/// The frames of a client that negotiates and asks for an echo.
+fn both_requests(alloc: Global) -> Option<Vec<u8>> {
     let mut client = Client::new(alloc, 1);
     client.negotiate().ok()?;
     client.echo().ok()?;
-    let mut script = Vec::new(alloc);
-    script.push(PeerStep::Opened(1)).ok()?;
-    script.push(PeerStep::Bytes(1, client.take_frames())).ok()?;
-    Some(script)
+    Some(client.take_frames())
+}
+
+/// The script of that client.
+fn script(alloc: Global) -> Option<Vec<PeerStep>>
+    ensures { IfSome result (λ script. IsTrue (are_distinct (opened_by script.items))) }
+{
+    let frames = both_requests(alloc)?;
+    vec![in alloc; PeerStep::Opened(1), PeerStep::Bytes(1, frames)].ok()
+}
+
+/// That client.
+fn client(alloc: Global) -> Option<MemoryPeers> {
+    MemoryPeers::new(alloc, script(alloc)?, Vec::new(alloc), 100, 1_000).ok()
+}
+
+/// Whether a client took so many replies, each with success.
+fn took_good(alloc: Global, peers: &MemoryPeers, count: usize) -> bool {
+    match taken_from(alloc, peers, 1) {
+        Ok(heard) => are_good(&mut Replies::of(&heard), count),
+        Err(_) => false,
+    }
 }
 
 /// Whether a share answers both requests of that client over peers in memory.
-fn answers_both(alloc: Global, share: &mut Served) -> Option<bool> {
-    let sends = Vec::new(alloc);
-    let mut peers = MemoryPeers::new(alloc, script(alloc)?, sends, 100, 1_000).ok()?;
-    let mut clock = ListClock::new(alloc, &[MOMENT]).ok()?;
-    let ran_out = serve(share, &mut peers, &mut clock, 8);
-    let heard = taken_from(alloc, &peers, 1).ok()?;
-    Some(ran_out == 0 && are_good(&mut Replies::of(&heard), 2))
+fn answers_both(alloc: Global, peers: &mut MemoryPeers) -> bool {
+    serves_anew(alloc, peers, MOMENT, 8) && took_good(alloc, peers, 2)
 }
 
 #[test]
 fn talks_over_memory(rt: HostRuntime) {
-    let is_so = match built_in(rt.alloc()) {
-        Some(mut share) => answers_both(rt.alloc(), &mut share),
-        None => None,
+    let is_so = match client(rt.alloc()) {
+        Some(mut peers) => answers_both(rt.alloc(), &mut peers),
+        None => false,
     };
-    assert!(rt; is_so == Some(true));
+    assert!(rt; is_so);
 }

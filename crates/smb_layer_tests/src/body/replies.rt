@@ -151,13 +151,16 @@ fn other_replies(rt: HostRuntime) {
 #[test]
 fn replies_without_fields(rt: HostRuntime) {
     let alloc = rt.alloc();
-    let reserved = [4, 0, 0, 0];
     assert!(rt; is_written(alloc, &Reply::Error, &[9, 0, 0, 0, 0, 0, 0, 0, 0]));
-    assert!(rt; is_written(alloc, &Reply::Logoff, &reserved));
-    assert!(rt; is_written(alloc, &Reply::TreeDisconnect, &reserved));
-    assert!(rt; is_written(alloc, &Reply::Flush, &reserved));
-    assert!(rt; is_written(alloc, &Reply::Lock, &reserved));
-    assert!(rt; is_written(alloc, &Reply::Echo, &reserved));
+    for reply in [
+        Reply::Logoff,
+        Reply::TreeDisconnect,
+        Reply::Flush,
+        Reply::Lock,
+        Reply::Echo,
+    ] {
+        assert!(rt; is_written(alloc, &reply, &[4, 0, 0, 0]));
+    }
     assert!(rt; is_written(alloc, &Reply::SetInfo, &[2, 0]));
 }
 

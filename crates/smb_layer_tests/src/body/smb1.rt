@@ -35,10 +35,10 @@ fn found_in(alloc: Global, words: &str) -> Option<(bool, bool)> {
 #[test]
 fn smb1_negotiate(rt: HostRuntime) {
     for (words, found) in LISTS {
-        assert_eq!(rt; found_in(rt.alloc(), words), Some(found), "{words}");
+        assert!(rt; found_in(rt.alloc(), words) == Some(found), "{words}");
     }
     for words in MISFORMED.lines() {
-        assert_eq!(rt; found_in(rt.alloc(), words), None, "{words}");
+        assert!(rt; found_in(rt.alloc(), words).is_none(), "{words}");
     }
     laws_of_smb1();
 }

@@ -41,7 +41,7 @@ fn unreadable(rt: HostRuntime) {
         assert!(rt; is_unreadable(rt.alloc(), line), "{line}");
     }
     let short = read_body(13, &[0; 60]).err();
-    assert_eq!(rt; short, Some(BodyFault::Unreadable), "no whole header");
+    assert!(rt; short == Some(BodyFault::Unreadable), "no whole header");
 }
 
 /// Where the buffer of a SESSION_SETUP or a TREE_CONNECT stands, and how long it is.
@@ -59,7 +59,7 @@ fn place_of_buffer(alloc: Global, command: u16, words: &str) -> Option<(u16, usi
 #[test]
 fn buffers_elsewhere(rt: HostRuntime) {
     let far = place_of_buffer(rt.alloc(), 1, "1900 z10 7e00 0200 z48");
-    assert_eq!(rt; far, Some((126, 2)));
+    assert!(rt; far == Some((126, 2)));
     let empty = place_of_buffer(rt.alloc(), 3, "0900 0000 ffff 0000 z56");
-    assert_eq!(rt; empty, Some((65_535, 0)));
+    assert!(rt; empty == Some((65_535, 0)));
 }

@@ -71,7 +71,7 @@ fn lawful_components(rt: HostRuntime) {
     }
     // Lone surrogates, and a unit past them.
     let count = count_of(&[0x00, 0xd8, 0xff, 0xdf, 0xff, 0xff]);
-    assert_eq!(rt; count, Some(Ok(1)));
+    assert!(rt; count == Some(Ok(1)));
     laws_of_components();
 }
 
