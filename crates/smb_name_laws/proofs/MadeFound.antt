@@ -1,8 +1,7 @@
 -- What the name of a CREATE finds once it is performed.
-use Rattle.std.proofs.Common.{◌≡◌, ℕ, List, [], ◌∷◌, ◌++◌, Bool, true, false, ◌&&◌, ◌||◌, if◌then◌else◌, Option, None, Some, refl, sym, ap, arith, ◌∙◌}
+use Rattle.std.proofs.Common.{◌≡◌, ◌≢◌, ℕ, List, [], ◌∷◌, ◌++◌, Bool, true, false, ◌&&◌, ◌||◌, if◌then◌else◌, Option, None, Some, refl, sym, ap, arith, ◌∙◌}
 use Rattle.std.proofs.lemmas.Bool.Decides.{nat_tests}
-use Rattle.smb_wire.specs.Dispositions.{overwrites_by}
-use Rattle.smb_wire.specs.declared.nt_status.NtStatus.TheVariants.{Success}
+use Rattle.smb_wire.specs.Dispositions.{supersedes_by, overwrites_by}
 use Rattle.smb_tree.specs.Content.{Content, entry_at}
 use Rattle.smb_tree.specs.Entries.{Entry, is_folder, is_folder_kind}
 use Rattle.smb_tree.specs.Good.{GoodContent}
@@ -14,13 +13,13 @@ use Rattle.smb_access.specs.Parts.{asks_file, overwritten_tree, opened_by}
 use Rattle.smb_access.specs.Effect.{overwritten, entry_after, tree_after}
 use Rattle.smb_access.specs.Found.{path_asked}
 use Rattle.smb_access.specs.Opens.{open_of, AreAllBelow}
-use Rattle.smb_opens.specs.Create.{access_granted, create_status}
+use Rattle.smb_opens.specs.Create.{access_granted}
 use Rattle.smb_opens.specs.Effect.{created}
 use Rattle.smb_opens.specs.Found.{entry_asked}
 use Rattle.smb_opens.specs.Good.{GoodStore}
 use Rattle.smb_opens.specs.State.{StoreState}
 use Rattle.smb_opens.proofs.Returned.{returned_shown}
-use Rattle.smb_name_laws.specs.Creates.{ACreateFindsItsEntry}
+use Rattle.smb_name_laws.specs.Creates.{ACreateFindsItsEntry, AnOverwriteRenewsItsFile}
 use Rattle.smb_name_laws.proofs.KeptOut.{no_row}
 
 -- an open that comes last is found by its number, which is above all others
@@ -59,9 +58,16 @@ finds state ask moment good =
 no_folder : (f a o : Bool) → (f && (a || o)) ≡ false → o ≡ true → f ≡ false
 no_folder f a o h e = grind (arith, h, e)
 
-pub no_bytes : (state : StoreState) (ask : FileAsked) (moment : ℕ) (before : Entry) → GoodStore state → create_status state ask ≡ Success → entry_asked state ask ≡ Some before → overwrites_by ask.disposition ≡ true →
-    (after : Entry) × (entry_at (created state ask moment).tree.rows (path_asked ask) ≡ Some after) × (after.number ≡ before.number) × (is_folder_kind after.kind ≡ false) × (after.bytes ≡ [])
-no_bytes state ask moment before good e h o =
+-- a time that SUPERSEDE alone renews
+renewed_by : (d moment time : ℕ) → d ≡ 0 → (if supersedes_by d then moment else time) ≡ moment
+renewed_by d moment time h = rw h refl
+
+left_by : (d moment time : ℕ) → d ≢ 0 → (if supersedes_by d then moment else time) ≡ time
+left_by d moment time h =
+    let other : supersedes_by d ≡ false = grind (arith, nat_tests, h) in ap (λ (b : Bool). if b then moment else time) other
+
+pub renews : AnOverwriteRenewsItsFile
+renews state ask moment before good e h o =
     let rows = no_row state ask e in
     let row : (is_folder (entry_asked state ask) && (asks_file ask || overwrites_by ask.disposition)) ≡ false = rows.1.1.1.1.1.1.1.1.1.1.1.1.0 in
     let folder : is_folder (entry_asked state ask) ≡ false = no_folder (is_folder (entry_asked state ask)) (asks_file ask) (overwrites_by ask.disposition) row o in
@@ -70,9 +76,16 @@ no_bytes state ask moment before good e h o =
     ap (entry_after state.tree ask moment) h ∙ ap (λ (b : Bool). if b then overwritten ask moment before else before) o in (
       overwritten ask moment before,
       found_after state.tree ask moment (entry_asked state ask) good.tree refl ∙ ap (λ (x : Entry). Some x) after,
-      refl,
       file,
       refl,
+      record { number = refl; kind = refl; spelling = refl; mark = refl },
+      refl,
+      refl,
+      refl,
+      renewed_by ask.disposition moment before.basic.creation_time,
+      renewed_by ask.disposition moment before.basic.last_access_time,
+      left_by ask.disposition moment before.basic.creation_time,
+      left_by ask.disposition moment before.basic.last_access_time,
     )
 
 -- where the name found nothing, it finds the new entry

@@ -1,10 +1,11 @@
 -- What a CREATE makes its name find, in a user's words ([MS-SMB2] 3.3.5.9).
-use Rattle.std.specs.Prelude.{◌≡◌, ◌⊎◌, ℕ, ◌<◌, true, false, List, [], ◌∷◌, ◌++◌, length, All, None, Some}
+use Rattle.std.specs.Prelude.{◌≡◌, ◌≢◌, ◌⊎◌, ℕ, ◌<◌, true, false, List, [], ◌∷◌, ◌++◌, length, All, bit_and, bit_or, None, Some}
 use Rattle.smb_wire.specs.Dispositions.{overwrites_by}
 use Rattle.smb_wire.specs.Paths.{is_separator}
 use Rattle.smb_wire.specs.declared.nt_status.NtStatus.TheVariants.{Success}
 use Rattle.smb_tree.specs.Content.{Path, is_same_path, entry_at, numbered}
 use Rattle.smb_tree.specs.Entries.{Entry, is_folder_kind}
+use Rattle.smb_tree.specs.declared.entry.Kind.TheVariants.{File, Folder}
 use Rattle.smb_access.specs.declared.open_row.OpenRow.{OpenRow}
 use Rattle.smb_access.specs.Asked.{FileAsked, kind_asked}
 use Rattle.smb_access.specs.Found.{path_asked}
@@ -16,6 +17,7 @@ use Rattle.smb_opens.specs.Found.{entry_asked}
 use Rattle.smb_opens.specs.Good.{GoodStore}
 use Rattle.smb_opens.specs.State.{StoreState}
 use Rattle.smb_opens.specs.Views.{open_view}
+use Rattle.smb_name_laws.specs.Settings.{HasKeptItsName}
 
 -- once a CREATE is performed, its name finds an entry, and its open, whose number was the next, is of this entry; the view
 -- that it returns is what the open shows of it
@@ -28,17 +30,29 @@ ACreateFindsItsEntry =
     × (result.number ≡ state.next) × (open_of after.opens state.next ≡ Some row) × (row.entry ≡ entry.number)
     × (open_view after state.next ≡ Some result.view) × (result.view ≡ view_of row.access entry)
 
--- a CREATE that succeeds and overwrites leaves a file under its name, of the number that was there, without bytes
-abbrev pub AnOverwriteLeavesNoBytes : Type 0
-AnOverwriteLeavesNoBytes =
+-- a CREATE that succeeds and overwrites leaves a file under its name without bytes: of the number, the spelling and the
+-- mark that were there, last written and changed at the moment. Where it supersedes, by disposition 0, its creation and
+-- its last access are at the moment too, and else as they were. Of the attributes READONLY 1, HIDDEN 2, SYSTEM 4 and
+-- ARCHIVE 0x20 it has those that are asked for, and ARCHIVE ([MS-SMB2] 2.2.13, [MS-FSA] 2.1.5.1.2)
+abbrev pub AnOverwriteRenewsItsFile : Type 0
+AnOverwriteRenewsItsFile =
     (state : StoreState) (ask : FileAsked) (moment : ℕ) (before : Entry) → GoodStore state →
     create_status state ask ≡ Success → entry_asked state ask ≡ Some before → overwrites_by ask.disposition ≡ true →
+    let was = before.basic in
     (after : Entry) × (entry_at (created state ask moment).tree.rows (path_asked ask) ≡ Some after)
-    × (after.number ≡ before.number) × (is_folder_kind after.kind ≡ false) × (after.bytes ≡ [])
+    × (is_folder_kind after.kind ≡ false) × (after.bytes ≡ []) × HasKeptItsName after before
+    × (after.basic.last_write_time ≡ moment) × (after.basic.change_time ≡ moment)
+    × (after.basic.attributes.0 ≡ bit_and (bit_or ask.attributes 0x20) 0x27)
+    × (ask.disposition ≡ 0 → after.basic.creation_time ≡ moment)
+    × (ask.disposition ≡ 0 → after.basic.last_access_time ≡ moment)
+    × (ask.disposition ≢ 0 → after.basic.creation_time ≡ was.creation_time)
+    × (ask.disposition ≢ 0 → after.basic.last_access_time ≡ was.last_access_time)
 
 -- a CREATE of a name that finds nothing makes a new entry there: of the kind that is asked for, without bytes and
--- without a mark, under a number that no entry had; its four times are the moment ([MS-FSA] 2.1.5.1.1); and it is spelled
--- in the letters of the name, as the whole name or as what is behind its last separator, a backslash ([MS-FSCC] 2.1.5)
+-- without a mark, under a number that no entry had; its four times are the moment ([MS-FSA] 2.1.5.1.1); of the attributes
+-- READONLY 1, HIDDEN 2, SYSTEM 4 and ARCHIVE 0x20 it has those that are asked for, and a file has ARCHIVE; and it is
+-- spelled in the letters of the name, as the whole name or as what is behind its last separator, a backslash ([MS-FSCC]
+-- 2.1.5)
 abbrev pub AnAbsentEntryIsMade : Type 0
 AnAbsentEntryIsMade =
     (state : StoreState) (ask : FileAsked) (moment : ℕ) → GoodStore state → entry_asked state ask ≡ None →
@@ -47,6 +61,8 @@ AnAbsentEntryIsMade =
     × (made.mark ≡ false)
     × (made.basic.creation_time ≡ moment) × (made.basic.last_access_time ≡ moment)
     × (made.basic.last_write_time ≡ moment) × (made.basic.change_time ≡ moment)
+    × (made.kind ≡ File → made.basic.attributes.0 ≡ bit_and (bit_or ask.attributes 0x20) 0x27)
+    × (made.kind ≡ Folder → made.basic.attributes.0 ≡ bit_and ask.attributes 0x27)
     × ((front last : List ℕ) → (ask.name ≡ last) ⊎ (ask.name ≡ front ++ 92 ∷ last) → 0 < length last →
     All (λ unit. is_separator unit ≡ false) last → made.spelling ≡ last)
 
