@@ -10,6 +10,7 @@ mod OthersLeft
 mod PlainNames
 mod MadeNew
 mod OpenedAs
+mod LeftOut
 mod SetAs
 mod OwnerGone
 mod ExampleStore

@@ -34,6 +34,7 @@ use Rattle.smb_opens.specs.State.{StoreState}
 use Rattle.smb_opens.specs.Views.{open_view}
 use Rattle.smb_opens.proofs.Decided.{rows_by, MayReplace, passes, code_of, status_moved}
 use Rattle.smb_opens.proofs.Passing.{pass_at}
+use Rattle.smb_name_laws.proofs.LastParts.{last_of}
 use Rattle.smb_name_laws.specs.Names.{IsRenamed, ARenameMovesItsEntry, NamesOfOneCaseFindTheSame, ARenameDeletesWhatItReplaces}
 
 -- the first rows of those of which none decides
@@ -192,6 +193,13 @@ moves_entry state number name moment row from entry renamed =
       λ other held opened own. opens_go_on state number name moment row from entry other held (after_move name moment entry) renamed opened own found,
       λ part rest. beneath state number name moment row from entry part rest renamed,
       λ path apart away. others state number name moment row from entry path renamed apart away,
+      refl,
+      refl,
+      refl,
+      refl,
+      refl,
+      refl,
+      λ front last spelled some all. last_of name front last spelled some all,
     )
 
 -- an entry that is gone

@@ -58,7 +58,7 @@ pub asked_for : (state : StoreState) (ask : FileAsked) (moment : ℕ) → GoodSt
 asked_for state ask moment good = (row_made state ask moment, is_made state ask moment good, none_of state.opens state.next good.below, refl, refl, refl, refl)
 
 -- its access is what is granted
-granted_to : (state : StoreState) (ask : FileAsked) (moment : ℕ) (row : OpenRow) → GoodStore state → open_of (created state ask moment).opens state.next ≡ Some row →
+pub granted_to : (state : StoreState) (ask : FileAsked) (moment : ℕ) (row : OpenRow) → GoodStore state → open_of (created state ask moment).opens state.next ≡ Some row →
     (access_granted state ask).0 ≡ row.access.0
 granted_to state ask moment row good h =
     let both : Some (row_made state ask moment) ≡ Some row = sym (is_made state ask moment good) ∙ h in

@@ -144,7 +144,7 @@ IsLastWritten later row path entry moment =
     × (after.basic.last_write_time ≡ moment) × (after.basic.change_time ≡ moment)
     × (after.basic.creation_time ≡ entry.basic.creation_time)
     × (after.basic.last_access_time ≡ entry.basic.last_access_time)
-    × HasKeptItsName after entry
+    × HasKeptItsName after entry × (after.basic.attributes.0 ≡ kept_attributes entry.basic.attributes.0)
 
 writes : (state : StoreState) (number offset : ℕ) (buffer : List ℕ) (moment : ℕ) (row : OpenRow) (path : Path) (entry : Entry) → IsOpenOf state number row path entry → 0 < length buffer → IsLastWritten (written_to state number offset buffer moment) row path entry moment
 writes state number offset buffer moment row path entry o h = (
@@ -155,6 +155,7 @@ writes state number offset buffer moment row path entry o h = (
   refl,
   refl,
   record { number = refl; kind = refl; spelling = refl; mark = refl },
+  refl,
 )
 
 sizes : (state : StoreState) (number size moment : ℕ) (row : OpenRow) (path : Path) (entry : Entry) → IsOpenOf state number row path entry → IsLastWritten (size_set_through state number size false moment) row path entry moment
@@ -166,6 +167,7 @@ sizes state number size moment row path entry o = (
   refl,
   refl,
   record { number = refl; kind = refl; spelling = refl; mark = refl },
+  refl,
 )
 
 pub last_writes : AWriteIsTheLastOne

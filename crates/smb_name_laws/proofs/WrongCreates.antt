@@ -127,14 +127,11 @@ a_supersede_of_old_breaks_it law =
     let old : 0 ≡ 9 = found_has (λ entry. entry.basic.creation_time) _ after.0 after.1 ∙ after.8 refl in omega (arith, old)
 
 -- wrong: OVERWRITE renews it
-four_is_not_zero : 4 ≢ 0
-four_is_not_zero h = omega (arith, h)
-
 an_overwrite_as_if_new_breaks_it : AnOverwriteRenewsItsFileBy (and_then (with_creation_time 9)) → ⊥
 an_overwrite_as_if_new_breaks_it law =
     let after = law (with_opens []) (asks file_name FILE_SHARE_ALL Overwrite) 9 file
     is_good_without_opens refl refl refl in
-    let new : 9 ≡ 0 = found_has (λ entry. entry.basic.creation_time) _ after.0 after.1 ∙ after.10 four_is_not_zero in
+    let new : 9 ≡ 0 = found_has (λ entry. entry.basic.creation_time) _ after.0 after.1 ∙ after.10 (λ e. omega (arith, e)) in
     omega (arith, new)
 
 -- wrong: it has the attributes that it had, whatever is asked for

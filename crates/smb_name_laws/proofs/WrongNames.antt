@@ -1,9 +1,11 @@
--- A wrong definition of a rename, with a law of specs/Names that refuses it.
+-- Wrong definitions of a rename, with a law of specs/Names that refuses each.
 -- A law whose name ends in By says of any definition what that of specs/ says of the right one, as the line below it
--- shows; then come the wrong definition, and the proof that the law is false of it.
-use Rattle.std.proofs.Common.{◌≡◌, ℕ, List, [], ◌∷◌, ◌++◌, false, Option, None, Some, refl}
+-- shows; then come the wrong definitions, and the proofs that the law is false of them.
+use Rattle.std.proofs.Common.{◌≡◌, ◌⊎◌, ℕ, ◌<◌, List, [], ◌∷◌, ◌++◌, length, All, bit_and, false, Option, None, Some}
+use Rattle.std.proofs.Common.{refl, ap, arith, ◌∙◌}
 use Rattle.std.specs.Option.{option_map_or}
-use Rattle.smb_tree.specs.Content.{Path, Row, Content, is_same_path, entry_at, numbered}
+use Rattle.smb_wire.specs.Paths.{is_separator}
+use Rattle.smb_tree.specs.Content.{Path, Row, Content, is_same_path, entry_at, numbered, changed}
 use Rattle.smb_tree.specs.Entries.{Entry}
 use Rattle.smb_tree.specs.Moves.{is_within}
 use Rattle.smb_access.specs.declared.open_row.OpenRow.{OpenRow}
@@ -33,6 +35,13 @@ ARenameMovesItsEntryBy rename =
     entry_at after.tree.rows (to ++ part ∷ rest) ≡ entry_at state.tree.rows (from ++ part ∷ rest))
     × ((path : Path) → is_within from path ≡ false → is_within to path ≡ false →
     entry_at after.tree.rows path ≡ entry_at state.tree.rows path)
+    × (moved.mark ≡ entry.mark) × (moved.basic.change_time ≡ moment)
+    × (moved.basic.creation_time ≡ entry.basic.creation_time)
+    × (moved.basic.last_access_time ≡ entry.basic.last_access_time)
+    × (moved.basic.last_write_time ≡ entry.basic.last_write_time)
+    × (moved.basic.attributes.0 ≡ bit_and entry.basic.attributes.0 0x27)
+    × ((front last : List ℕ) → (name ≡ last) ⊎ (name ≡ front ++ 92 ∷ last) → 0 < length last →
+    All (λ unit. is_separator unit ≡ false) last → moved.spelling ≡ last)
 
 a_rename_moves_its_entry : ARenameMovesItsEntry ≡ ARenameMovesItsEntryBy renamed_through
 a_rename_moves_its_entry = refl
@@ -55,3 +64,36 @@ a_rename_beside_old_breaks_it law =
     let moved = law (with_opens (sharing ∷ [])) 2 new_name 0 sharing path file
     (record { good = is_good_with_sharing; opened = refl; found = refl; replace = false; status = refl }) in
     is_not_gone (moved.5 refl) refl
+
+-- of two entries that are found alike each part is the same
+found_has : {T : Type 0} (of : Entry → T) (one other : Entry) → Some one ≡ Some other → of one ≡ of other
+found_has of one other h = let same : one ≡ other = cc in ap of same
+
+-- what a rename leaves, but that the file, of number 2, is made another
+abbrev and_then : (ℕ → Entry → Entry) → StoreState → ℕ → List ℕ → ℕ → StoreState
+and_then made state number name moment = record (renamed_through state number name moment) {
+  tree = record (renamed_through state number name moment).tree {
+    rows = changed (made moment) (renamed_through state number name moment).tree.rows 2;
+  };
+}
+
+-- wrong: a rename is the creation of its entry
+abbrev as_created : ℕ → Entry → Entry
+as_created moment entry = record entry { basic = record entry.basic { creation_time = moment } }
+
+a_rename_as_created_breaks_it : ARenameMovesItsEntryBy (and_then as_created) → ⊥
+a_rename_as_created_breaks_it law =
+    let moved = law (with_opens (sharing ∷ [])) 2 new_name 9 sharing path file
+    (record { good = is_good_with_sharing; opened = refl; found = refl; replace = false; status = refl }) in
+    let new : 9 ≡ 0 = found_has (λ entry. entry.basic.creation_time) _ moved.0 moved.1 ∙ moved.11 in omega (arith, new)
+
+-- wrong: it hides its entry
+abbrev as_hidden : ℕ → Entry → Entry
+as_hidden moment entry = record entry { basic = record entry.basic { attributes = record { 0 = 2 } } }
+
+a_rename_that_hides_breaks_it : ARenameMovesItsEntryBy (and_then as_hidden) → ⊥
+a_rename_that_hides_breaks_it law =
+    let moved = law (with_opens (sharing ∷ [])) 2 new_name 9 sharing path file
+    (record { good = is_good_with_sharing; opened = refl; found = refl; replace = false; status = refl }) in
+    let hidden : 2 ≡ 0 = found_has (λ entry. entry.basic.attributes.0) _ moved.0 moved.1 ∙ moved.14 in
+    omega (arith, hidden)

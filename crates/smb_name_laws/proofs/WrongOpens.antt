@@ -1,10 +1,11 @@
 -- Wrong definitions of the open that a CREATE makes, and of a CLOSE, each with a law of specs/Opened that refuses it.
 -- A law whose name ends in By says of any definition what that of specs/ says of the right one, as the line below it
 -- shows; then come the wrong definitions, and the proofs that the law is false of them.
-use Rattle.std.proofs.Common.{◌≡◌, ◌≢◌, ℕ, ◌==◌, [], ◌∷◌, map, Bool, true, false, not, bit_and, if◌then◌else◌}
+use Rattle.std.proofs.Common.{◌≡◌, ◌≢◌, ℕ, ◌==◌, [], ◌∷◌, map, Bool, true, false, not, bit_and, bit_or, if◌then◌else◌}
 use Rattle.std.proofs.Common.{None, Some, is_some, refl, ap, arith, ◌∙◌}
 use Rattle.smb_wire.specs.Access.{has_any, FILE_READ_DATA, FILE_WRITE_DATA, FILE_EXECUTE}
-use Rattle.smb_wire.specs.Access.{FILE_ALL_ACCESS, FILE_SHARE_ALL}
+use Rattle.smb_wire.specs.Access.{FILE_ALL_ACCESS, FILE_SHARE_ALL, FILE_GENERIC_READ, FILE_GENERIC_WRITE}
+use Rattle.smb_wire.specs.Access.{FILE_GENERIC_EXECUTE}
 use Rattle.smb_wire.specs.Access.{MAXIMUM_ALLOWED, GENERIC_ALL, GENERIC_EXECUTE, GENERIC_WRITE, GENERIC_READ}
 use Rattle.smb_wire.specs.CreateOptions.{FILE_DELETE_ON_CLOSE}
 use Rattle.smb_wire.specs.declared.disposition.CreateDisposition.TheVariants.{Open}
@@ -20,7 +21,7 @@ use Rattle.smb_opens.specs.Found.{entry_asked}
 use Rattle.smb_opens.specs.Good.{GoodStore}
 use Rattle.smb_opens.specs.State.{StoreState}
 use Rattle.smb_name_laws.specs.Opened.{AnOpenIsAsItWasAskedFor, RightsAreGrantedAsAskedFor, rights_to_change}
-use Rattle.smb_name_laws.specs.Opened.{AReaderGetsNoRightToChange, ACloseEndsItsOpenAlone}
+use Rattle.smb_name_laws.specs.Opened.{NoRightAskedForIsLeftOut, AReaderGetsNoRightToChange, ACloseEndsItsOpenAlone}
 use Rattle.smb_name_laws.proofs.ExampleStore.{deleting, sharing, with_opens, file_name, asks, is_good_without_opens}
 
 -- the open of the number that a CREATE returns is as it was asked for
@@ -108,6 +109,49 @@ a_create_with_all_breaks_it law =
     let all : FILE_ALL_ACCESS ≡ FILE_READ_DATA =
     (law (with_opens []) asks_alone 0 _ is_good_without_opens refl).0 refl in
     omega (arith, all)
+
+-- whatever else is asked for, an open has all that each right asked for stands for
+abbrev NoRightAskedForIsLeftOutBy : (StoreState → FileAsked → ℕ → StoreState) → Type 0
+NoRightAskedForIsLeftOutBy create =
+    (state : StoreState) (ask : FileAsked) (moment : ℕ) (row : OpenRow) → GoodStore state →
+    open_of (create state ask moment).opens (create_result state ask moment).number ≡ Some row →
+    let HasAll : ℕ → Type 0 = λ rights. bit_and row.access.0 rights ≡ rights in
+    let asks : ℕ → Bool = has_any ask.access in
+    HasAll (bit_and ask.access FILE_ALL_ACCESS) × (asks GENERIC_READ ≡ true → HasAll FILE_GENERIC_READ)
+    × (asks GENERIC_WRITE ≡ true → HasAll FILE_GENERIC_WRITE)
+    × (asks GENERIC_EXECUTE ≡ true → HasAll FILE_GENERIC_EXECUTE)
+    × (asks GENERIC_ALL ≡ true → HasAll FILE_ALL_ACCESS)
+    × (asks MAXIMUM_ALLOWED ≡ true → ask.read_only ≡ true → HasAll 0x1200A9)
+    × (asks MAXIMUM_ALLOWED ≡ true → ask.read_only ≡ false → is_read_only_file (entry_asked state ask) ≡ true →
+    HasAll 0x1F01F9)
+    × (asks MAXIMUM_ALLOWED ≡ true → ask.read_only ≡ false → is_read_only_file (entry_asked state ask) ≡ false →
+    HasAll FILE_ALL_ACCESS)
+
+no_right_asked_for_is_left_out : NoRightAskedForIsLeftOut ≡ NoRightAskedForIsLeftOutBy created
+no_right_asked_for_is_left_out = refl
+
+-- wrong: of two generic rights one is granted
+abbrev created_with_one : StoreState → FileAsked → ℕ → StoreState
+created_with_one = created_with
+    (λ ask row. if has_any ask.access GENERIC_READ then record row { access = record { 0 = FILE_GENERIC_READ } } else row)
+
+a_create_with_one_breaks_it : NoRightAskedForIsLeftOutBy created_with_one → ⊥
+a_create_with_one_breaks_it law =
+    let both : FileAsked = record asks_alone { access = bit_or GENERIC_READ GENERIC_WRITE } in
+    let gives = law (with_opens []) both 0 _ is_good_without_opens refl in
+    let less : bit_and FILE_GENERIC_READ FILE_GENERIC_WRITE ≡ FILE_GENERIC_WRITE = gives.2 refl in omega (arith, less)
+
+-- wrong: beside a right MAXIMUM_ALLOWED adds none
+abbrev created_with_that_right : StoreState → FileAsked → ℕ → StoreState
+created_with_that_right = created_with (λ ask row.
+    if has_any ask.access FILE_ALL_ACCESS then record row { access = record { 0 = bit_and ask.access FILE_ALL_ACCESS } }
+    else row)
+
+a_create_with_that_right_breaks_it : NoRightAskedForIsLeftOutBy created_with_that_right → ⊥
+a_create_with_that_right_breaks_it law =
+    let most : FileAsked = record asks_alone { access = bit_or FILE_READ_DATA MAXIMUM_ALLOWED } in
+    let gives = law (with_opens []) most 0 _ is_good_without_opens refl in
+    let less : bit_and FILE_READ_DATA FILE_ALL_ACCESS ≡ FILE_ALL_ACCESS = gives.7 refl refl refl in omega (arith, less)
 
 -- no CREATE that succeeds gives a right to change something to a session that may only read
 abbrev AReaderGetsNoRightToChangeBy : (StoreState → FileAsked → ℕ → StoreState) → Type 0

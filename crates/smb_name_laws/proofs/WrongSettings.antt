@@ -111,7 +111,7 @@ AWriteIsTheLastOneBy write set =
     × (after.basic.last_write_time ≡ moment) × (after.basic.change_time ≡ moment)
     × (after.basic.creation_time ≡ entry.basic.creation_time)
     × (after.basic.last_access_time ≡ entry.basic.last_access_time)
-    × HasKeptItsName after entry)
+    × HasKeptItsName after entry × (after.basic.attributes.0 ≡ bit_and entry.basic.attributes.0 0x27))
     (write state number offset buffer moment ∷ set state number size false moment ∷ [])
 
 a_write_is_the_last_one : AWriteIsTheLastOne ≡ AWriteIsTheLastOneBy written_to size_set_through
@@ -146,3 +146,24 @@ a_size_without_times_breaks_it law =
     let after = (law with_file 2 0 5 (8 ∷ []) 9 sharing path file file_is_open (lit< tt)).1.0 in
     let old : 0 ≡ 9 = found_has (λ row. row.1.basic.last_write_time) _ (path, after.0) after.1 ∙ after.2 in
     omega (arith, old)
+
+-- the same file, but hidden
+abbrev hidden_file : Entry
+hidden_file = record file { basic = record file.basic { attributes = record { 0 = 2 } } }
+
+-- wrong: a SET_INFO of a size shows its file
+abbrev size_set_and_shown : StoreState → ℕ → ℕ → Bool → ℕ → StoreState
+size_set_and_shown state number size is_allocation moment = option_map_or
+    (λ (row : OpenRow). with_rows state
+    (changed (λ entry. record entry {
+      bytes = resized size entry.bytes;
+      basic = record entry.basic { last_write_time = moment; change_time = moment; attributes = record { 0 = 0 } };
+    }) state.tree.rows row.entry))
+    (open_of state.opens number) state
+
+a_size_that_shows_breaks_it : AWriteIsTheLastOneBy written_to size_set_and_shown → ⊥
+a_size_that_shows_breaks_it law =
+    let hidden : StoreState = with_rows with_file ((path, hidden_file) ∷ []) in
+    let after = (law hidden 2 0 5 (8 ∷ []) 9 sharing path hidden_file (record { opened = refl; found = refl }) (lit< tt)).1.0 in
+    let shown : 0 ≡ 2 = found_has (λ row. row.1.basic.attributes.0) _ (path, after.0) after.1 ∙ after.7 in
+    omega (arith, shown)

@@ -1,5 +1,6 @@
 -- What a rename makes names find, in a user's words ([MS-FSA] 2.1.5.15.11).
-use Rattle.std.specs.Prelude.{◌≡◌, ◌≢◌, ℕ, Bool, true, false, List, ◌∷◌, ◌++◌, None, Some}
+use Rattle.std.specs.Prelude.{◌≡◌, ◌≢◌, ◌⊎◌, ℕ, ◌<◌, Bool, true, false, List, ◌∷◌, ◌++◌, length, All, bit_and, None, Some}
+use Rattle.smb_wire.specs.Paths.{is_separator}
 use Rattle.smb_wire.specs.declared.nt_status.NtStatus.TheVariants.{Success}
 use Rattle.smb_tree.specs.Content.{Path, Row, is_same_path, entry_at, numbered}
 use Rattle.smb_tree.specs.Entries.{Entry, is_folder_kind}
@@ -25,7 +26,9 @@ pub record IsRenamed (state : StoreState) (number : ℕ) (name : List ℕ) (row 
 
 -- once an entry is renamed, the new name finds it, with the same number, kind and bytes, and the old name finds nothing,
 -- unless the two differ in case alone; each open of it goes on, and shows it; what lay beneath a folder's old name lies
--- beneath its new one, with the same rest; and a path that is neither name, nor beneath one of them, finds what it found
+-- beneath its new one, with the same rest; and a path that is neither name, nor beneath one of them, finds what it
+-- found. The entry was last changed at the moment; its mark, its other times and its attributes are as they were; and it
+-- is spelled in the letters of the name, as the whole name or as what is behind its last separator, a backslash
 abbrev pub ARenameMovesItsEntry : Type 0
 ARenameMovesItsEntry =
     (state : StoreState) (number : ℕ) (name : List ℕ) (moment : ℕ) (row : OpenRow) (from : Path) (entry : Entry) →
@@ -41,6 +44,13 @@ ARenameMovesItsEntry =
     entry_at after.tree.rows (to ++ part ∷ rest) ≡ entry_at state.tree.rows (from ++ part ∷ rest))
     × ((path : Path) → is_within from path ≡ false → is_within to path ≡ false →
     entry_at after.tree.rows path ≡ entry_at state.tree.rows path)
+    × (moved.mark ≡ entry.mark) × (moved.basic.change_time ≡ moment)
+    × (moved.basic.creation_time ≡ entry.basic.creation_time)
+    × (moved.basic.last_access_time ≡ entry.basic.last_access_time)
+    × (moved.basic.last_write_time ≡ entry.basic.last_write_time)
+    × (moved.basic.attributes.0 ≡ bit_and entry.basic.attributes.0 0x27)
+    × ((front last : List ℕ) → (name ≡ last) ⊎ (name ≡ front ++ 92 ∷ last) → 0 < length last →
+    All (λ unit. is_separator unit ≡ false) last → moved.spelling ≡ last)
 
 -- paths that differ in case alone find the same, whatever entries there are
 abbrev pub NamesOfOneCaseFindTheSame : Type 0

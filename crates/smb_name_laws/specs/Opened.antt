@@ -1,7 +1,8 @@
 -- What the open is like that a CREATE makes ([MS-SMB2] 3.3.5.9), and which open a CLOSE ends, in a user's words.
 use Rattle.std.specs.Prelude.{◌≡◌, ◌≢◌, ℕ, Bool, true, false, bit_and, None, Some}
 use Rattle.smb_wire.specs.Access.{has_any, FILE_READ_DATA, FILE_WRITE_DATA, FILE_EXECUTE}
-use Rattle.smb_wire.specs.Access.{FILE_ALL_ACCESS, FILE_SHARE_ALL}
+use Rattle.smb_wire.specs.Access.{FILE_ALL_ACCESS, FILE_SHARE_ALL, FILE_GENERIC_READ, FILE_GENERIC_WRITE}
+use Rattle.smb_wire.specs.Access.{FILE_GENERIC_EXECUTE}
 use Rattle.smb_wire.specs.Access.{MAXIMUM_ALLOWED, GENERIC_ALL, GENERIC_EXECUTE, GENERIC_WRITE, GENERIC_READ}
 use Rattle.smb_wire.specs.CreateOptions.{FILE_DELETE_ON_CLOSE}
 use Rattle.smb_wire.specs.declared.nt_status.NtStatus.TheVariants.{Success}
@@ -53,6 +54,26 @@ RightsAreGrantedAsAskedFor =
     (has FILE_READ_DATA ≡ true) × (has rights_to_change ≡ false))
     × (ask.access ≡ MAXIMUM_ALLOWED → ask.read_only ≡ false → is_read_only_file (entry_asked state ask) ≡ false →
     row.access.0 ≡ FILE_ALL_ACCESS)
+
+-- whatever else is asked for, an open has the rights that are asked for by name, all that each generic right asked for
+-- stands for, and where MAXIMUM_ALLOWED is asked for all that are allowed: to a session that may only read
+-- FILE_GENERIC_READ and FILE_GENERIC_EXECUTE; on a file that is read-only all but FILE_WRITE_DATA and FILE_APPEND_DATA;
+-- else every right ([MS-SMB2] 2.2.13.1)
+abbrev pub NoRightAskedForIsLeftOut : Type 0
+NoRightAskedForIsLeftOut =
+    (state : StoreState) (ask : FileAsked) (moment : ℕ) (row : OpenRow) → GoodStore state →
+    open_of (created state ask moment).opens (create_result state ask moment).number ≡ Some row →
+    let HasAll : ℕ → Type 0 = λ rights. bit_and row.access.0 rights ≡ rights in
+    let asks : ℕ → Bool = has_any ask.access in
+    HasAll (bit_and ask.access FILE_ALL_ACCESS) × (asks GENERIC_READ ≡ true → HasAll FILE_GENERIC_READ)
+    × (asks GENERIC_WRITE ≡ true → HasAll FILE_GENERIC_WRITE)
+    × (asks GENERIC_EXECUTE ≡ true → HasAll FILE_GENERIC_EXECUTE)
+    × (asks GENERIC_ALL ≡ true → HasAll FILE_ALL_ACCESS)
+    × (asks MAXIMUM_ALLOWED ≡ true → ask.read_only ≡ true → HasAll 0x1200A9)
+    × (asks MAXIMUM_ALLOWED ≡ true → ask.read_only ≡ false → is_read_only_file (entry_asked state ask) ≡ true →
+    HasAll 0x1F01F9)
+    × (asks MAXIMUM_ALLOWED ≡ true → ask.read_only ≡ false → is_read_only_file (entry_asked state ask) ≡ false →
+    HasAll FILE_ALL_ACCESS)
 
 -- no CREATE that succeeds gives a right to change something to a session that may only read
 abbrev pub AReaderGetsNoRightToChange : Type 0

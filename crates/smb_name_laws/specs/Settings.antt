@@ -71,8 +71,8 @@ TimesAreSetAsAskedFor =
     × HasKeptItsName after entry × (after.bytes ≡ entry.bytes)
 
 -- a WRITE of some bytes, and a SET_INFO of a size, is the last write and the last change of its file, at the moment; the
--- times of its creation and last access are as they were; it is at its path, with its number, kind, spelling and mark
--- ([MS-FSA] 2.1.5.3, 2.1.5.15.4)
+-- times of its creation and last access, and READONLY 1, HIDDEN 2, SYSTEM 4 and ARCHIVE 0x20 of its attributes, are as
+-- they were; it is at its path, with its number, kind, spelling and mark ([MS-FSA] 2.1.5.3, 2.1.5.15.4)
 abbrev pub AWriteIsTheLastOne : Type 0
 AWriteIsTheLastOne =
     (state : StoreState) (number offset size : ℕ) (buffer : List ℕ) (moment : ℕ) (row : OpenRow) (path : Path)
@@ -84,5 +84,5 @@ AWriteIsTheLastOne =
     × (after.basic.last_write_time ≡ moment) × (after.basic.change_time ≡ moment)
     × (after.basic.creation_time ≡ entry.basic.creation_time)
     × (after.basic.last_access_time ≡ entry.basic.last_access_time)
-    × HasKeptItsName after entry)
+    × HasKeptItsName after entry × (after.basic.attributes.0 ≡ bit_and entry.basic.attributes.0 0x27))
     (written_to state number offset buffer moment ∷ size_set_through state number size false moment ∷ [])
