@@ -7,12 +7,17 @@ use Rattle.smb_head.specs.Headers.{fields}
 use Rattle.smb_head.specs.declared.header.Header.{Header}
 use Rattle.smb_body.specs.Close.{close_fields}
 use Rattle.smb_body.specs.Create.{create_fields, CreateAsked}
+use Rattle.smb_body.specs.Flush.{flush_fields}
+use Rattle.smb_body.specs.Lock.{LockAsked, lock_request_fields}
+use Rattle.smb_body.specs.Locks.{lock_bytes}
 use Rattle.smb_body.specs.Read.{read_fields}
 use Rattle.smb_body.specs.Reserved.{reserved_fields}
 use Rattle.smb_body.specs.SessionSetup.{session_setup_fields, SessionSetupAsked}
 use Rattle.smb_body.specs.TreeConnect.{tree_connect_fields, TreeConnectAsked}
 use Rattle.smb_body.specs.Write.{write_fields, WriteAsked}
 use Rattle.smb_body.specs.declared.close.CloseRequest.{CloseRequest}
+use Rattle.smb_body.specs.SetInfo.{SetInfoAsked, set_info_fields}
+use Rattle.smb_body.specs.declared.flush.FlushRequest.{FlushRequest}
 use Rattle.smb_body.specs.declared.read.ReadRequest.{ReadRequest}
 use Rattle.smb_body.specs.declared.reserved.ReservedRequest.{ReservedRequest}
 use Rattle.smb_tree.specs.declared.entry.Kind.TheVariants.{File, Folder}
@@ -143,6 +148,42 @@ close_asked = record { flags = record { 0 = 0 }; reserved = 0; file_id = file_id
 
 abbrev pub close_request : ℕ → ℕ → List ℕ
 close_request session tree = joined (fields (header 6 session tree)) ++ joined (close_fields close_asked)
+
+-- a FLUSH of open 1
+abbrev pub flush_asked : FlushRequest
+flush_asked = record { reserved1 = 0; reserved2 = 0; file_id = file_id }
+
+abbrev pub flush_request : ℕ → ℕ → List ℕ
+flush_request session tree = joined (fields (header 7 session tree)) ++ joined (flush_fields flush_asked)
+
+-- a LOCK of the first byte through open 1: exclusive, and at once or not at all
+abbrev pub locking_asked : LockAsked
+locking_asked = record {
+  lock_sequence = record { 0 = 0 };
+  file_id = file_id;
+  locks = record { offset = 0; length = 1; flags = record { 0 = 0x12 }; reserved = 0 } ∷ [];
+}
+
+abbrev pub lock_request : ℕ → ℕ → List ℕ
+lock_request session tree =
+    joined (fields (header 10 session tree)) ++ joined (lock_request_fields locking_asked)
+    ++ lock_bytes locking_asked.locks
+
+-- a SET_INFO of FileEndOfFileInformation through open 1: the file has no bytes
+abbrev pub end_asked : SetInfoAsked
+end_asked = record {
+  info_type = record { 0 = 1 };
+  file_info_class = record { 0 = 20 };
+  buffer = 0 ∷ 0 ∷ 0 ∷ 0 ∷ 0 ∷ 0 ∷ 0 ∷ 0 ∷ [];
+  buffer_offset = 96;
+  reserved = 0;
+  additional_information = record { 0 = 0 };
+  file_id = file_id;
+}
+
+abbrev pub end_request : ℕ → ℕ → List ℕ
+end_request session tree =
+    joined (fields (header 17 session tree)) ++ joined (set_info_fields end_asked) ++ end_asked.buffer
 
 -- a CREATE of a new file `B`, to read it
 abbrev pub create_asked : CreateAsked

@@ -2,6 +2,7 @@ mod Turned
 pub mod Under
 pub mod Answered
 pub mod Done
+mod Changed
 mod Joined
 mod Names
 mod Kept

@@ -2,7 +2,7 @@
 -- A law whose name ends in By says of any definition what that of specs/ says of the right one, as the line below it
 -- shows; then come the wrong definition, and the proof that the law is false of it. `right_rules` shows that by the
 -- right rules a request leaves what it does leave.
-use Rattle.std.proofs.Common.{◌≡◌, ◌≢◌, ◌+◌, ◌-◌, ◌^◌, ◌++◌, ℕ, Bool, true, false, List, [], ◌∷◌, length, drop, None, Some, IfSome, refl, ap, arith}
+use Rattle.std.proofs.Common.{◌≡◌, ◌≢◌, ◌⊎◌, ◌∙◌, ◌+◌, ◌-◌, ◌^◌, ◌++◌, ℕ, Bool, true, false, List, [], ◌∷◌, length, drop, None, Some, IfSome, refl, sym, ap, arith}
 use Rattle.smb_wire.specs.Names.{is_same_name}
 use Rattle.smb_wire.specs.Commands.{known_command}
 use Rattle.smb_wire.specs.NtStatus.{is_success}
@@ -16,10 +16,15 @@ use Rattle.smb_body.specs.Read.{read_fields}
 use Rattle.std.specs.Option.{option_map_or}
 use Rattle.smb_body.specs.Create.{CreateAsked}
 use Rattle.smb_body.specs.Replies.{reply_spelling, answers_read, answers_write, answers_tree_connect}
-use Rattle.smb_body.specs.Requests.{RequestValue, file_id_of, request_of, asks_logoff, asks_tree_connect, asks_tree_disconnect, asks_create, asks_close, asks_read, asks_write}
+use Rattle.smb_body.specs.Requests.{RequestValue, file_id_of, request_of, asks_logoff, asks_tree_connect, asks_tree_disconnect, asks_create, asks_close, asks_flush, asks_read, asks_write, asks_lock, asks_echo, asks_query_directory, asks_query_info, asks_set_info}
+use Rattle.smb_body.specs.Lock.{LockAsked}
+use Rattle.smb_body.specs.QueryDirectory.{QueryDirectoryAsked}
+use Rattle.smb_body.specs.SetInfo.{SetInfoAsked}
 use Rattle.smb_body.specs.TreeConnect.{TreeConnectAsked}
 use Rattle.smb_body.specs.Write.{WriteAsked}
 use Rattle.smb_body.specs.declared.close.CloseRequest.{CloseRequest}
+use Rattle.smb_body.specs.declared.flush.FlushRequest.{FlushRequest}
+use Rattle.smb_body.specs.declared.query_info.QueryInfoRequest.{QueryInfoRequest}
 use Rattle.smb_body.specs.declared.read.ReadRequest.{ReadRequest}
 use Rattle.smb_body.specs.declared.reserved.ReservedRequest.{ReservedRequest}
 use Rattle.smb_session.specs.Authenticator.{Meaning}
@@ -31,7 +36,12 @@ use Rattle.smb_access.specs.Access.{most_allowed}
 use Rattle.smb_opens.specs.Bytes.{file_bytes, written_to}
 use Rattle.smb_opens.specs.Close.{closed, closed_all}
 use Rattle.smb_opens.specs.Effect.{created}
+use Rattle.smb_opens.specs.Locks.{locked_through, unlocked_through}
+use Rattle.smb_opens.specs.Scans.{scan_set}
 use Rattle.smb_opens.specs.State.{StoreState}
+use Rattle.smb_opens.specs.Steps.{stepped}
+use Rattle.smb_access.specs.declared.scan.Scan.{Scan}
+use Rattle.smb_info.specs.SetInformation.{SetAsked, asks_end, set_of}
 use Rattle.smb_request.specs.Bytes.{file_read, file_written}
 use Rattle.smb_request.specs.declared.context.ContextOpen.TheVariants.{Named}
 use Rattle.smb_request.specs.Call.{body_of, call_of}
@@ -39,12 +49,13 @@ use Rattle.smb_request.specs.Context.{first_context}
 use Rattle.smb_request.specs.Files.{file_created, file_closed}
 use Rattle.smb_request.specs.Laws.{IsInOrder, IsOver, request_ids}
 use Rattle.smb_request.specs.Response.{Performed, ResponseState, with_body}
+use Rattle.smb_request.specs.SetInfo.{information_set}
 use Rattle.smb_request.specs.Session.{session_logged_off, tree_joined, tree_left}
 use Rattle.smb_request.specs.State.{ServerState}
 use Rattle.smb_request_laws.specs.Acting.{command_in, IsNotRefusedBySuccess}
-use Rattle.smb_request_laws.specs.Doing.{Sent, Succeeds, answered, open_asked, response_body, create_ask, may_change_though_refused, ARequestNamesItsOpen, AReadTellsTheFile, AWriteIsInTheFile, ACreateOpens, ACloseCloses, ATreeConnectJoins, ATreeDisconnectLeaves, ALogoffEndsItsSession, ARefusalChangesNothing}
+use Rattle.smb_request_laws.specs.Doing.{Sent, Succeeds, answered, open_asked, response_body, create_ask, may_change_though_refused, ARequestNamesItsOpen, AReadTellsTheFile, AWriteIsInTheFile, ACreateOpens, ACloseCloses, ATreeConnectJoins, ATreeDisconnectLeaves, ALogoffEndsItsSession, ARefusalChangesNothing, ALockLocks, ASetInfoSets, AQuestionChangesNothing, elements_asked, is_unlock, set_step}
 use Rattle.smb_request_laws.proofs.Altered.{Rules, right, performed_by_rules}
-use Rattle.smb_request_laws.proofs.Example.{server, session, header, read_asked, read_request, read_request_at, write_asked, write_request, create_asked, create_request, close_asked, close_request, connect_asked, connect_request, disconnect_request, nothing_asked, logoff_request, byte_is}
+use Rattle.smb_request_laws.proofs.Example.{server, session, header, read_asked, read_request, read_request_at, write_asked, write_request, create_asked, create_request, close_asked, close_request, connect_asked, connect_request, disconnect_request, nothing_asked, logoff_request, flush_asked, flush_request, locking_asked, lock_request, end_asked, end_request, byte_is}
 
 fair : IsNotRefusedBySuccess first_context
 fair e = cc
@@ -226,6 +237,95 @@ module _ {S : Type 0} (m : Meaning S) (accounts : S) where
   nothing_closed_is_refused law =
       let left = law (sent (close_request 1 1)) close_asked (record { says = refl; context = fair; status = refl }) in
       let same : 1 ≡ 0 = ap (λ (s : StoreState). length s.opens) left in
+      omega (arith, same)
+
+  -- a LOCK that succeeds has locked its ranges, or unlocked them
+  abbrev ALockLocksBy : (Sent S → Performed S) → Type 0
+  ALockLocksBy perform =
+      (it : Sent S) (asked : LockAsked) → Succeeds it (perform it) (asks_lock asked) →
+      let ranges = elements_asked asked in
+      let left = (perform it).server.store in
+      (is_unlock ranges ≡ false → left ≡ locked_through it.server.store (open_asked it) ranges)
+      × (is_unlock ranges ≡ true → left ≡ unlocked_through it.server.store (open_asked it) ranges)
+
+  a_lock_locks : ALockLocks m ≡ ALockLocksBy (answered m)
+  a_lock_locks = refl
+
+  -- wrong: a LOCK is answered, and locks nothing
+  abbrev nothing_locked : Rules S
+  nothing_locked = record right {
+    done = λ server ids asked step. elim asked [ asks_lock it ↦ record step { server = server } | _ ↦ step ];
+  }
+
+  nothing_locked_is_refused : ALockLocksBy (answered_by nothing_locked) → ⊥
+  unfolding header_of known_command request_of spelling is_success
+  nothing_locked_is_refused law =
+      let left = (law (sent (lock_request 1 1)) locking_asked (record { says = refl; context = fair; status = refl })).0 refl in
+      let same : 0 ≡ 1 = ap (λ (s : StoreState). length s.locks) left in
+      omega (arith, same)
+
+  -- a SET_INFO that succeeds has set what it asks for
+  abbrev ASetInfoSetsBy : (Sent S → Performed S) → Type 0
+  ASetInfoSetsBy perform =
+      (it : Sent S) (asked : SetInfoAsked) → Succeeds it (perform it) (asks_set_info asked) →
+      (ask : SetAsked) × (set_of asked.file_info_class.0 asked.buffer ≡ Some ask)
+      × ((perform it).server.store ≡ stepped it.server.store (set_step (open_asked it) it.moment ask))
+
+  a_set_info_sets : ASetInfoSets m ≡ ASetInfoSetsBy (answered m)
+  a_set_info_sets = refl
+
+  -- wrong: a SET_INFO is answered, and sets nothing
+  abbrev nothing_set : Rules S
+  nothing_set = record right {
+    done = λ server ids asked step. elim asked [ asks_set_info it ↦ record step { server = server } | _ ↦ step ];
+  }
+
+  same_asked : (one other : SetAsked) → Some one ≡ Some other → one ≡ other
+  same_asked one other e = cc
+
+  -- how many bytes the file of the example has once this is set
+  abbrev bytes_set : SetAsked → ℕ
+  bytes_set ask = length (bytes_of (stepped (sent []).server.store (set_step 1 0 ask)).tree.rows 2)
+
+  nothing_set_is_refused : ASetInfoSetsBy (answered_by nothing_set) → ⊥
+  unfolding header_of known_command request_of spelling information_set is_success
+  nothing_set_is_refused law =
+      let left = law (sent (end_request 1 1)) end_asked (record { says = refl; context = fair; status = refl }) in
+      let asked : asks_end 0 ≡ left.0 = same_asked _ _ left.1 in
+      let same : 1 ≡ bytes_set left.0 = ap (λ (s : StoreState). length (bytes_of s.tree.rows 2)) left.2 in
+      let none : 1 ≡ 0 = same ∙ sym (ap bytes_set asked) in
+      omega (arith, none)
+
+  -- a FLUSH, an ECHO and a QUERY_INFO change nothing, and a QUERY_DIRECTORY nothing but the scan of its open
+  abbrev AQuestionChangesNothingBy : (Sent S → Performed S) → Type 0
+  AQuestionChangesNothingBy perform =
+      (it : Sent S) →
+      let ran = perform it in
+      ((asked : FlushRequest) → Succeeds it ran (asks_flush asked) → ran.server ≡ it.server)
+      × ((asked : ReservedRequest) → Succeeds it ran (asks_echo asked) → ran.server ≡ it.server)
+      × ((asked : QueryInfoRequest) → Succeeds it ran (asks_query_info asked) → ran.server ≡ it.server)
+      × ((asked : QueryDirectoryAsked) → Succeeds it ran (asks_query_directory asked) →
+      (ran.server ≡ it.server)
+      ⊎ ((scan : Scan) × (ran.server ≡ record it.server { store = scan_set it.server.store (open_asked it) scan })))
+
+  a_question_changes_nothing : AQuestionChangesNothing m ≡ AQuestionChangesNothingBy (answered m)
+  a_question_changes_nothing = refl
+
+  -- wrong: a FLUSH ends all opens
+  abbrev ended_by_flush : Rules S
+  ended_by_flush = record right {
+    done = λ server ids asked step. elim asked [
+      | asks_flush it ↦ record step { server = record server { store = record server.store { opens = [] } } }
+      | _ ↦ step
+    ];
+  }
+
+  a_flush_that_ends_is_refused : AQuestionChangesNothingBy (answered_by ended_by_flush) → ⊥
+  unfolding header_of known_command request_of spelling is_success
+  a_flush_that_ends_is_refused law =
+      let left =
+      (law (sent (flush_request 1 1))).0 flush_asked (record { says = refl; context = fair; status = refl }) in
+      let same : 0 ≡ 1 = ap (λ (s : ServerState S). length s.store.opens) left in
       omega (arith, same)
 
   -- a TREE_CONNECT that succeeds names the share, and its session has the tree connect that the response tells

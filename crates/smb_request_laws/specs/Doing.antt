@@ -1,6 +1,7 @@
 -- What is answered is what was done.
-use Rattle.std.specs.Prelude.{◌≡◌, ◌≢◌, ℕ, ◌-◌, ◌^◌, Bool, true, false, List, [], length, Option, Some, IfSome}
+use Rattle.std.specs.Prelude.{◌≡◌, ◌≢◌, ◌⊎◌, ℕ, ◌-◌, ◌^◌, ◌==◌, bit_and, Bool, true, false, List, [], ◌∷◌, length, map, Option, Some, IfSome}
 use Rattle.std.specs.Option.{option_map, option_map_or}
+use Rattle.smb_wire.specs.LockFlags.{UNLOCK}
 use Rattle.smb_wire.specs.Names.{is_same_name}
 use Rattle.smb_wire.specs.declared.command.Command.TheVariants.{SessionSetup, Lock, QueryDirectory}
 use Rattle.smb_wire.specs.declared.dialect.Dialect.{Dialect}
@@ -9,20 +10,32 @@ use Rattle.smb_wire.specs.declared.nt_status.NtStatus.TheVariants.{Success}
 use Rattle.smb_head.specs.Chains.{is_related}
 use Rattle.smb_body.specs.Create.{CreateAsked}
 use Rattle.smb_body.specs.Replies.{reply_spelling, answers_read, answers_write}
-use Rattle.smb_body.specs.Requests.{RequestValue, file_id_of, asks_logoff, asks_tree_connect, asks_tree_disconnect, asks_create, asks_close, asks_read, asks_write}
+use Rattle.smb_body.specs.Requests.{RequestValue, file_id_of, asks_logoff, asks_tree_connect, asks_tree_disconnect, asks_create, asks_close, asks_flush, asks_read, asks_write, asks_lock, asks_echo, asks_query_directory, asks_query_info, asks_set_info}
+use Rattle.smb_body.specs.Lock.{LockAsked}
+use Rattle.smb_body.specs.QueryDirectory.{QueryDirectoryAsked}
+use Rattle.smb_body.specs.SetInfo.{SetInfoAsked}
 use Rattle.smb_body.specs.TreeConnect.{TreeConnectAsked}
 use Rattle.smb_body.specs.Write.{WriteAsked}
 use Rattle.smb_body.specs.declared.close.CloseRequest.{CloseRequest}
+use Rattle.smb_body.specs.declared.flush.FlushRequest.{FlushRequest}
+use Rattle.smb_body.specs.declared.lock_element.LockElement.{LockElement}
+use Rattle.smb_body.specs.declared.query_info.QueryInfoRequest.{QueryInfoRequest}
 use Rattle.smb_body.specs.declared.read.ReadRequest.{ReadRequest}
 use Rattle.smb_body.specs.declared.reserved.ReservedRequest.{ReservedRequest}
 use Rattle.smb_session.specs.Authenticator.{Meaning}
 use Rattle.smb_session.specs.Path.{path_parts, share_in}
 use Rattle.smb_session.specs.Table.{knows_tree, read_only_of}
+use Rattle.smb_locks.specs.declared.ask.LockAsk.{LockAsk}
 use Rattle.smb_access.specs.declared.open_row.Owner.TheVariants.{Tree}
+use Rattle.smb_access.specs.declared.scan.Scan.{Scan}
 use Rattle.smb_access.specs.Asked.{FileAsked}
+use Rattle.smb_info.specs.SetInformation.{SetAsked, asks_basic, asks_rename, asks_mark, asks_allocation, asks_end, set_of}
 use Rattle.smb_opens.specs.Bytes.{file_bytes, written_to}
 use Rattle.smb_opens.specs.Close.{closed, closed_all}
 use Rattle.smb_opens.specs.Effect.{created}
+use Rattle.smb_opens.specs.Locks.{locked_through, unlocked_through}
+use Rattle.smb_opens.specs.Scans.{scan_set}
+use Rattle.smb_opens.specs.Steps.{StoreStep, sets_delete, sets_size, sets_basic, renames, stepped}
 use Rattle.smb_request.specs.declared.context.Context.{Context}
 use Rattle.smb_request.specs.declared.context.ContextOpen.TheVariants.{Named}
 use Rattle.smb_request.specs.Call.{body_of, call_of}
@@ -73,6 +86,27 @@ pub record Succeeds {S : Type 0} (it : Sent S) (ran : Performed S) (asked : Requ
   pub says : body_of (command_in it.request) it.request ≡ Some asked
   pub context : IsNotRefusedBySuccess it.context
   pub status : option_map (λ response. response.status) ran.response ≡ Some Success
+
+-- the step of the store that a SET_INFO asks for, through the open of a number
+abbrev pub set_step : ℕ → ℕ → SetAsked → StoreStep
+set_step number moment (asks_basic ask) = sets_basic number ask moment
+set_step number moment (asks_rename replace name) = renames number name moment
+set_step number moment (asks_mark mark) = sets_delete number mark
+set_step number moment (asks_allocation size) = sets_size number size true moment
+set_step number moment (asks_end size) = sets_size number size false moment
+
+-- what the elements of a LOCK ask (2.2.26.1)
+abbrev pub elements_asked : LockAsked → List LockAsk
+elements_asked asked =
+    let element_asked : LockElement → LockAsk =
+    λ element. record { offset = element.offset; length = element.length; flags = element.flags } in
+    map element_asked asked.locks
+
+-- a LOCK unlocks where its first element has UNLOCK (3.3.5.14)
+abbrev pub is_unlock : List LockAsk → Bool
+is_unlock asks =
+    let first : Bool = elim asks [ [] ↦ false | ask ∷ others ↦ bit_and ask.flags.0 UNLOCK == UNLOCK ] in
+    first
 
 -- a request that may change something though it is refused: a SESSION_SETUP that goes on or is denied (3.3.5.5.3), a
 -- LOCK that unlocked some of its ranges (3.3.5.14.1), and a QUERY_DIRECTORY that began a scan (3.3.5.18)
@@ -160,6 +194,35 @@ module _ {S : Type 0} (authenticator : Meaning S) where
       (it : Sent S) (asked : ReservedRequest) → IsInOrder it.server →
       Succeeds it (answered authenticator it) (asks_logoff asked) →
       IsOver (answered authenticator it).server (request_ids it.context it.request).session_id
+
+  -- a LOCK that succeeds has locked its ranges; or unlocked them, where its first element has UNLOCK (3.3.5.14)
+  abbrev pub ALockLocks : Type 0
+  ALockLocks =
+      (it : Sent S) (asked : LockAsked) → Succeeds it (answered authenticator it) (asks_lock asked) →
+      let ranges = elements_asked asked in
+      let left = (answered authenticator it).server.store in
+      (is_unlock ranges ≡ false → left ≡ locked_through it.server.store (open_asked it) ranges)
+      × (is_unlock ranges ≡ true → left ≡ unlocked_through it.server.store (open_asked it) ranges)
+
+  -- a SET_INFO that succeeds has set what its class and its buffer ask for (3.3.5.21.1)
+  abbrev pub ASetInfoSets : Type 0
+  ASetInfoSets =
+      (it : Sent S) (asked : SetInfoAsked) → Succeeds it (answered authenticator it) (asks_set_info asked) →
+      (ask : SetAsked) × (set_of asked.file_info_class.0 asked.buffer ≡ Some ask)
+      × ((answered authenticator it).server.store ≡ stepped it.server.store (set_step (open_asked it) it.moment ask))
+
+  -- a FLUSH, an ECHO and a QUERY_INFO that succeed change nothing, and a QUERY_DIRECTORY nothing but the scan of its open
+  -- (3.3.5.11, 3.3.5.17, 3.3.5.18, 3.3.5.20)
+  abbrev pub AQuestionChangesNothing : Type 0
+  AQuestionChangesNothing =
+      (it : Sent S) →
+      let ran = answered authenticator it in
+      ((asked : FlushRequest) → Succeeds it ran (asks_flush asked) → ran.server ≡ it.server)
+      × ((asked : ReservedRequest) → Succeeds it ran (asks_echo asked) → ran.server ≡ it.server)
+      × ((asked : QueryInfoRequest) → Succeeds it ran (asks_query_info asked) → ran.server ≡ it.server)
+      × ((asked : QueryDirectoryAsked) → Succeeds it ran (asks_query_directory asked) →
+      (ran.server ≡ it.server)
+      ⊎ ((scan : Scan) × (ran.server ≡ record it.server { store = scan_set it.server.store (open_asked it) scan })))
 
   -- what is refused changes nothing, but for the three that are named above (2.2.2)
   abbrev pub ARefusalChangesNothing : Type 0

@@ -67,7 +67,8 @@ use Rattle.smb_request.specs.State.{ServerState}
 use Rattle.smb_request.proofs.InfoApart.{yes_success, queried_left}
 use Rattle.smb_request.proofs.Listings.{listed_left}
 use Rattle.smb_content_laws.specs.GoodStores.{Succeeds}
-use Rattle.smb_run_laws.specs.Actions.{IsAskedFor, IsLeftBy, set_step}
+use Rattle.smb_request_laws.specs.Doing.{set_step}
+use Rattle.smb_run_laws.specs.Actions.{IsAskedFor, IsLeftBy}
 
 -- what one request may bring in one dialect it may bring in the one that allows most
 more_at : (most size : ℕ) (rest : List StatusRow) (b : Bool) → nat_lt most size ≡ b → most ≤ 524288 →

@@ -22,6 +22,7 @@ use Rattle.smb_request.specs.Call.{body_of, call_of}
 use Rattle.smb_request.specs.declared.context.ContextOpen.TheVariants.{Refused}
 use Rattle.smb_request.specs.Request.{performed}
 use Rattle.smb_request.specs.State.{ServerState, connection_ended}
+use Rattle.smb_request_laws.specs.Doing.{set_step, elements_asked, is_unlock}
 use Rattle.smb_peers.specs.Event.{EventText, opens, brings, ends}
 use Rattle.smb_engine.specs.Run.{PerformedRequest, piece_step, event_step, event_refusal, run}
 use Rattle.smb_engine.specs.State.{StreamState, ShareState, stream_of}
@@ -42,27 +43,6 @@ after (serves connection moment served) = served.after
 after (disconnects server connection) = connection_ended server connection
 
 -- WHAT A REQUEST ASKS OF THE FILES
-
--- the step that a SET_INFO asks for, through the open of a number
-abbrev pub set_step : ℕ → ℕ → SetAsked → StoreStep
-set_step number moment (asks_basic ask) = sets_basic number ask moment
-set_step number moment (asks_rename replace name) = renames number name moment
-set_step number moment (asks_mark mark) = sets_delete number mark
-set_step number moment (asks_allocation size) = sets_size number size true moment
-set_step number moment (asks_end size) = sets_size number size false moment
-
--- what the elements of a LOCK ask (2.2.26.1)
-abbrev pub elements_asked : LockAsked → List LockAsk
-elements_asked asked =
-    let element_asked : LockElement → LockAsk =
-    λ element. record { offset = element.offset; length = element.length; flags = element.flags } in
-    map element_asked asked.locks
-
--- a LOCK unlocks where its first element has UNLOCK (3.3.5.14)
-abbrev pub is_unlock : List LockAsk → Bool
-is_unlock asks =
-    let first : Bool = elim asks [ [] ↦ false | ask ∷ others ↦ bit_and ask.flags.0 UNLOCK == UNLOCK ] in
-    first
 
 -- the step of the store that a body asks for: under this session and tree connect, through the open of this number,
 -- and at this moment. A CREATE's has the leave to write of its session, a QUERY_DIRECTORY's any scan

@@ -11,7 +11,8 @@ use Rattle.smb_locks.specs.Ranges.{Overlap}
 use Rattle.smb_access.specs.Opens.{open_of}
 use Rattle.smb_opens.specs.Steps.{StoreStep, unlocks}
 use Rattle.smb_engine.specs.Run.{PerformedRequest}
-use Rattle.smb_run_laws.specs.Actions.{Action, serves, disconnects, elements_asked, is_unlock, AsksFor}
+use Rattle.smb_request_laws.specs.Doing.{elements_asked, is_unlock}
+use Rattle.smb_run_laws.specs.Actions.{Action, serves, disconnects, AsksFor}
 use Rattle.smb_run_laws.specs.Written.{SucceedsOn}
 
 -- an UNLOCK by the open that holds a lock, of the lock's own range

@@ -1,4 +1,5 @@
 use Rattle.smb_request_laws.proofs.Done.{read_tells, write_leaves, create_opens, close_closes, logoff_ends}
+use Rattle.smb_request_laws.proofs.Changed.{lock_locks, set_info_sets, question_keeps}
 use Rattle.smb_request_laws.proofs.Names.{names_own, names_last}
 use Rattle.smb_request_laws.proofs.Joined.{connect_joins, disconnect_leaves}
 use Rattle.smb_request_laws.proofs.Kept.{refusal_keeps}
@@ -30,6 +31,15 @@ returns-clause-disconnect g c = disconnect_leaves g.A.Authenticator.meaning
 
 pub returns-clause-logoff : goal.returns-clause-logoff
 returns-clause-logoff g c = logoff_ends g.A.Authenticator.meaning
+
+pub returns-clause-lock : goal.returns-clause-lock
+returns-clause-lock g c = lock_locks g.A.Authenticator.meaning
+
+pub returns-clause-set : goal.returns-clause-set
+returns-clause-set g c = set_info_sets g.A.Authenticator.meaning
+
+pub returns-clause-question : goal.returns-clause-question
+returns-clause-question g c = question_keeps g.A.Authenticator.meaning
 
 pub returns-clause-refusal : goal.returns-clause-refusal
 returns-clause-refusal g c = refusal_keeps g.A.Authenticator.meaning
