@@ -4,7 +4,7 @@ import os
 import tempfile
 
 from tests.keeping.damaged import FULL, written_until_it_ends
-from tests.keeping.recordings import make
+from tests.keeping.recordings import lines_of, make
 from tests.smb.client import ALL_ACCESS, LONGEST_PIECE
 from tests.smb.frames import write
 from tests.smb.kept import Looking, begun, bytes_in, bytes_of, ended, keeping, killed, put, tree_in, tree_of
@@ -67,7 +67,7 @@ def a_start_says_what_it_leaves_out(program):
     """Of a last line in which there is one byte, 17, or all but its line feed; of a piece; and of a first line. Else nothing."""
     with tempfile.TemporaryDirectory() as folder:
         data, wrong = bytes_of(make(program, os.path.join(folder, 'kept'), '--journal')), []
-        ends = data.rindex(b'\n', 0, len(data) - 1) + 1
+        ends = len(data) - len(lines_of(data)[-1])
         first = data.index(b'\n') + 1
         for length, count in ((len(data), 0), (ends + 1, 1), (ends + 17, 17), (len(data) - 1, len(data) - 1 - ends),
                               (ends, 0), (60, 60), (first - 1, first - 1), (0, 0)):
