@@ -1,26 +1,31 @@
 -- A CREATE of a plain name that is absent succeeds.
 use Rattle.std.proofs.Common.{◌≡◌, ◌⊎◌, inl, inr, ℕ, ◌-◌, ◌==◌, nat_le, nat_lt, List, [], ◌∷◌, ◌++◌, length, slice_index, bit_and, Bool, true, false, not, ◌&&◌, ◌||◌, Option, None, Some, is_some, refl, sym, ap, subst, arith, ◌∙◌}
 use Rattle.std.proofs.lemmas.Bool.Decides.{nat_tests}
-use Rattle.std.specs.List.{AllByRecursion}
+use Rattle.std.specs.List.{AllByRecursion, list_any}
 use Rattle.std.specs.Option.{option_map, option_map_or}
 use Rattle.smb_wire.specs.Access.{has_any}
 use Rattle.smb_wire.specs.CreateOptions.{FILE_DELETE_ON_CLOSE}
 use Rattle.smb_wire.specs.Counters.{is_spent}
-use Rattle.smb_wire.specs.Dispositions.{overwrites_by, must_exist_by}
+use Rattle.smb_wire.specs.Dispositions.{overwrites_by, must_exist_by, must_be_new_by}
 use Rattle.smb_wire.specs.Limits.{most_opens, most_entries}
 use Rattle.smb_wire.specs.Paths.{is_separator, path_fault, folded_path}
 use Rattle.smb_wire.specs.declared.nt_status.NtStatus.TheVariants.{Success}
 use Rattle.smb_tree.specs.Content.{Path, entry_at, parent}
-use Rattle.smb_tree.specs.Entries.{Entry}
+use Rattle.smb_tree.specs.Entries.{Entry, is_folder_kind}
 use Rattle.smb_access.specs.Asked.{FileAsked}
-use Rattle.smb_access.specs.Found.{path_asked, is_pending, is_reached}
+use Rattle.smb_access.specs.declared.open_row.OpenRow.{OpenRow}
+use Rattle.smb_access.specs.Access.{granted}
+use Rattle.smb_access.specs.Found.{path_asked, is_pending, is_reached, is_read_only_file}
+use Rattle.smb_access.specs.Opens.{has_open}
+use Rattle.smb_access.specs.Sharing.{use_asked, is_conflict}
+use Rattle.smb_opens.specs.Found.{entry_asked}
 use Rattle.smb_access.specs.Looked.{target_of, is_folder_target}
 use Rattle.smb_access.specs.StatusRows.{StatusRow, first_status}
 use Rattle.smb_access.proofs.Trees.{reached_told}
 use Rattle.smb_opens.specs.Create.{create_rows, create_status}
 use Rattle.smb_opens.specs.Good.{GoodStore}
 use Rattle.smb_opens.specs.State.{StoreState}
-use Rattle.smb_name_laws.specs.NewNames.{AsksToMake, NamesAbsent, HasRoom}
+use Rattle.smb_name_laws.specs.NewNames.{AsksToMake, NamesPlainly, HasRoom, AsksToOpen, IsFree, AFreeFileIsOpened}
 use Rattle.smb_name_laws.proofs.PlainNames.{spells, begins, no_fault, parent_of}
 
 -- where no row holds
@@ -53,7 +58,7 @@ kind_off a b c (inl e) k = rw e refl
 kind_off a b c (inr e) k = and_off_by a (b || c) (or_off b c e k)
 
 -- the folder
-module _ (state : StoreState) (ask : FileAsked) (good : GoodStore state) (names : NamesAbsent state ask) where
+module _ (state : StoreState) (ask : FileAsked) (good : GoodStore state) (names : NamesPlainly state ask) where
   path_is : path_asked ask ≡ folded_path (names.above ++ names.last ∷ [])
   path_is = ap (λ (n : List ℕ). path_asked (record ask { name = n })) names.name ∙ ap folded_path (spells names.above names.last names.plain)
 
@@ -65,10 +70,10 @@ module _ (state : StoreState) (ask : FileAsked) (good : GoodStore state) (names 
       sym (reached_told state.tree good.tree (path_asked ask) (option_map target_of (entry_at state.tree.rows (parent (path_asked ask)))) refl)
       ∙ ap (λ (o : Option Entry). is_folder_target (option_map target_of o)) folder_is ∙ names.kind
 
-  pending : is_pending state.tree.rows (path_asked ask) ≡ false
-  pending =
+  pending : (o : Option Entry) → entry_asked state ask ≡ o → option_map_or (λ (entry : Entry). entry.mark) o false ≡ false → is_pending state.tree.rows (path_asked ask) ≡ false
+  pending o is unmarked =
       or_off (option_map_or (λ (entry : Entry). entry.mark) (entry_at state.tree.rows (path_asked ask)) false) (option_map_or (λ (entry : Entry). entry.mark) (entry_at state.tree.rows (parent (path_asked ask))) false)
-      (ap (λ (o : Option Entry). option_map_or (λ (entry : Entry). entry.mark) o false) names.absent)
+      (ap (λ (o : Option Entry). option_map_or (λ (entry : Entry). entry.mark) o false) is ∙ unmarked)
       (ap (λ (o : Option Entry). option_map_or (λ (entry : Entry). entry.mark) o false) folder_is ∙ names.unmarked)
 
   faultless : is_some (path_fault ask.name) ≡ false
@@ -80,9 +85,9 @@ module _ (state : StoreState) (ask : FileAsked) (good : GoodStore state) (names 
 access_off : (z r d x : Bool) → z ≡ false → r ≡ true → d ≡ false → (z || not r || d && x) ≡ false
 access_off z r d x h k l = rw (h, k, l) refl
 
-none_hold : (state : StoreState) (ask : FileAsked) → GoodStore state → AsksToMake ask → NamesAbsent state ask → HasRoom state →
+none_hold : (state : StoreState) (ask : FileAsked) → GoodStore state → AsksToMake ask → NamesPlainly state ask → entry_asked state ask ≡ None → HasRoom state →
     AllByRecursion (λ row. row.0 ≡ false) (create_rows state ask None)
-none_hold state ask good asks names room =
+none_hold state ask good asks names absent room =
     let makes = makes_by ask.disposition asks.disposition in
     let some = asks.some in
     let rights = asks.rights in
@@ -106,7 +111,7 @@ none_hold state ask good asks names room =
                   (
                     ap not (reached state ask good names),
                     (
-                      pending state ask good names,
+                      pending state ask good names None absent refl,
                       (
                         makes.new,
                         (
@@ -148,6 +153,94 @@ none_hold state ask good asks names room =
       ),
     )
 
-pub succeeds : (state : StoreState) (ask : FileAsked) → GoodStore state → AsksToMake ask → NamesAbsent state ask → HasRoom state → create_status state ask ≡ Success
-succeeds state ask good asks names room =
-    ap (λ (o : Option Entry). first_status (create_rows state ask o)) names.absent ∙ none_holds (create_rows state ask None) (none_hold state ask good asks names room)
+pub succeeds : (state : StoreState) (ask : FileAsked) → GoodStore state → AsksToMake ask → NamesPlainly state ask → entry_asked state ask ≡ None → HasRoom state → create_status state ask ≡ Success
+succeeds state ask good asks names absent room =
+    ap (λ (o : Option Entry). first_status (create_rows state ask o)) absent ∙ none_holds (create_rows state ask None) (none_hold state ask good asks names absent room)
+
+-- A file that is there.
+
+-- the disposition
+record Opens (d : ℕ) : Type 0 where
+  known : nat_lt 5 d ≡ false
+  leaves : overwrites_by d ≡ false
+  old : must_be_new_by d ≡ false
+
+opens_by : (d : ℕ) → (d ≡ 1) ⊎ (d ≡ 3) → Opens d
+opens_by d (inl e) = subst Opens (sym e) (record { known = refl; leaves = refl; old = refl })
+opens_by d (inr e) = subst Opens (sym e) (record { known = refl; leaves = refl; old = refl })
+
+first_off : (a b : Bool) → (a || b) ≡ false → a ≡ false
+first_off a b h = grind (arith, h)
+
+second_off : (a b : Bool) → (a || b) ≡ false → b ≡ false
+second_off a b h = grind (arith, h)
+
+-- where nobody has an entry open, nothing conflicts
+none_against : (rows : List OpenRow) (n : ℕ) (against : OpenRow → Bool) → has_open rows n ≡ false → list_any (λ (row : OpenRow). row.entry == n && against row) rows ≡ false
+none_against [] n against h = refl
+none_against (x ∷ rows) n against h =
+    or_off (x.entry == n && against x) (list_any (λ (row : OpenRow). row.entry == n && against row) rows)
+    (and_off (x.entry == n) (against x) (first_off (x.entry == n) (has_open rows n) h))
+    (none_against rows n against (second_off (x.entry == n) (has_open rows n) h))
+
+pub opens_free : AFreeFileIsOpened
+opens_free state ask file good asks names there free few numbers =
+    let does = opens_by ask.disposition asks.disposition in
+    let some = asks.some in
+    let rights = asks.rights in
+    ap (λ (o : Option Entry). first_status (create_rows state ask o)) there
+    ∙ none_holds (create_rows state ask (Some file)) (
+      does.known,
+      (
+        and_off _ _ asks.kind,
+        (
+          begun state ask good names,
+          (
+            asks.by_name,
+            (
+              faultless state ask good names,
+              (
+                access_off (ask.access == 0) (bit_and ask.access 0xF21F01FF == ask.access) (has_any ask.options FILE_DELETE_ON_CLOSE) _ (grind (arith, nat_tests, some)) (grind (arith, nat_tests, rights)) asks.stays,
+                (
+                  and_off _ _ asks.writer,
+                  (
+                    ap not (reached state ask good names),
+                    (
+                      pending state ask good names (Some file) there free.unmarked,
+                      (
+                        refl,
+                        (
+                          and_off _ _ asks.writer,
+                          (
+                            does.old,
+                            (
+                              and_off _ _ free.kind,
+                              (
+                                and_off_by _ _ asks.kind,
+                                (
+                                  and_off _ _ (and_off_by (not (is_folder_kind file.kind)) _ free.writable),
+                                  (
+                                    and_off _ _ asks.stays,
+                                    (
+                                      none_against state.opens file.number (λ row. is_conflict (use_asked ask (granted ask.access ask.read_only (is_read_only_file (Some file)))) (row.access, row.share)) free.unopened,
+                                      (
+                                        or_off (nat_le most_opens (length state.opens)) (is_spent 64 state.next) (grind (arith, nat_tests, few)) (grind (arith, nat_tests, numbers)),
+                                        (refl, tt),
+                                      ),
+                                    ),
+                                  ),
+                                ),
+                              ),
+                            ),
+                          ),
+                        ),
+                      ),
+                    ),
+                  ),
+                ),
+              ),
+            ),
+          ),
+        ),
+      ),
+    )

@@ -1,25 +1,28 @@
 -- Wrong definitions of which CREATE succeeds, each refused by the law of specs/NewNames.
 -- The law whose name ends in By says of any definition what that of specs/ says of the right one, as the line below it
 -- shows; then come the wrong definitions, and the proofs that the law is false of them.
-use Rattle.std.proofs.Common.{◌≡◌, inl, ℕ, zero, suc, ◌==◌, nat_le, List, [], ◌∷◌, length, if◌then◌else◌, All, true}
+use Rattle.std.proofs.Common.{◌≡◌, inl, ℕ, zero, suc, ◌<◌, ◌-◌, ◌^◌, ◌==◌, nat_le, None, Some, List, [], ◌∷◌, length, if◌then◌else◌, All, true}
 use Rattle.std.proofs.Common.{lit<, lit≤, refl, arith}
 use Rattle.smb_wire.specs.Access.{FILE_SHARE_ALL}
-use Rattle.smb_wire.specs.declared.disposition.CreateDisposition.TheVariants.{Create}
+use Rattle.smb_wire.specs.declared.disposition.CreateDisposition.TheVariants.{Create, Open}
 use Rattle.smb_wire.specs.declared.nt_status.NtStatus.{NtStatus}
-use Rattle.smb_wire.specs.declared.nt_status.NtStatus.TheVariants.{Success, ObjectNameInvalid, TooManyOpenedFiles}
+use Rattle.smb_wire.specs.declared.nt_status.NtStatus.TheVariants.{Success, ObjectNameInvalid, TooManyOpenedFiles, SharingViolation}
+use Rattle.smb_wire.specs.Limits.{most_opens}
+use Rattle.smb_tree.specs.Entries.{Entry}
 use Rattle.smb_access.specs.declared.open_row.OpenRow.{OpenRow}
 use Rattle.smb_access.specs.Asked.{FileAsked}
 use Rattle.smb_opens.specs.Create.{create_status}
+use Rattle.smb_opens.specs.Found.{entry_asked}
 use Rattle.smb_opens.specs.Good.{GoodStore}
 use Rattle.smb_opens.specs.State.{StoreState}
-use Rattle.smb_name_laws.specs.NewNames.{is_plain_unit, IsPlain, AsksToMake, NamesAbsent, HasRoom, APlainNameIsMade}
-use Rattle.smb_name_laws.proofs.ExampleStore.{sharing, with_opens, asks, is_good_without_opens, is_good_with_sharing}
+use Rattle.smb_name_laws.specs.NewNames.{is_plain_unit, IsPlain, AsksToMake, NamesPlainly, HasRoom, APlainNameIsMade, AsksToOpen, IsFree, AFreeFileIsOpened}
+use Rattle.smb_name_laws.proofs.ExampleStore.{file, file_name, sharing, with_opens, asks, is_good_without_opens, is_good_with_sharing}
 
 -- a CREATE of a plain name that is absent succeeds
 abbrev APlainNameIsMadeBy : (StoreState → FileAsked → NtStatus) → Type 0
 APlainNameIsMadeBy status =
-    (state : StoreState) (ask : FileAsked) → GoodStore state → AsksToMake ask → NamesAbsent state ask →
-    HasRoom state → status state ask ≡ Success
+    (state : StoreState) (ask : FileAsked) → GoodStore state → AsksToMake ask → NamesPlainly state ask →
+    entry_asked state ask ≡ None → HasRoom state → status state ask ≡ Success
 
 a_plain_name_is_made : APlainNameIsMade ≡ APlainNameIsMadeBy create_status
 a_plain_name_is_made = refl
@@ -51,7 +54,7 @@ two_asked = record {
   writer = refl;
 }
 
-two_named : (opens : List OpenRow) → NamesAbsent (with_opens opens) asks_two
+two_named : (opens : List OpenRow) → NamesPlainly (with_opens opens) asks_two
 two_named opens = record {
   above = [];
   last = two_letters;
@@ -62,7 +65,6 @@ two_named opens = record {
   found = refl;
   kind = refl;
   unmarked = refl;
-  absent = refl;
 }
 
 -- wrong: a name of two letters is refused
@@ -72,7 +74,7 @@ status_not_of_two state ask = if length ask.name == 2 then ObjectNameInvalid els
 a_status_not_of_two_breaks_it : APlainNameIsMadeBy status_not_of_two → ⊥
 a_status_not_of_two_breaks_it law =
     let made : ObjectNameInvalid ≡ Success =
-    law (with_opens []) asks_two is_good_without_opens two_asked (two_named [])
+    law (with_opens []) asks_two is_good_without_opens two_asked (two_named []) refl
     (record { opens = lit< tt; open_numbers = lit< tt; entries = lit≤ tt; entry_numbers = lit< tt }) in cc
 
 -- wrong: a store has one open, and no more
@@ -82,5 +84,35 @@ status_of_one state ask = if nat_le 1 (length state.opens) then TooManyOpenedFil
 a_status_of_one_breaks_it : APlainNameIsMadeBy status_of_one → ⊥
 a_status_of_one_breaks_it law =
     let made : TooManyOpenedFiles ≡ Success =
-    law (with_opens (sharing ∷ [])) asks_two is_good_with_sharing two_asked (two_named (sharing ∷ []))
+    law (with_opens (sharing ∷ [])) asks_two is_good_with_sharing two_asked (two_named (sharing ∷ [])) refl
     (record { opens = lit< tt; open_numbers = lit< tt; entries = lit≤ tt; entry_numbers = lit< tt }) in cc
+
+-- a file that nobody has open is opened
+abbrev AFreeFileIsOpenedBy : (StoreState → FileAsked → NtStatus) → Type 0
+AFreeFileIsOpenedBy status =
+    (state : StoreState) (ask : FileAsked) (file : Entry) → GoodStore state → AsksToOpen ask → NamesPlainly state ask →
+    entry_asked state ask ≡ Some file → IsFree state file → length state.opens < most_opens →
+    state.next < 2 ^ 64 - 1 → status state ask ≡ Success
+
+a_free_file_is_opened : AFreeFileIsOpened ≡ AFreeFileIsOpenedBy create_status
+a_free_file_is_opened = refl
+
+-- wrong: a CREATE that shares nothing conflicts with itself
+abbrev status_alone : StoreState → FileAsked → NtStatus
+status_alone state ask = if ask.share == 0 then SharingViolation else create_status state ask
+
+plain_unit : All (λ unit. is_plain_unit unit ≡ true) file_name
+plain_unit zero d l = refl
+plain_unit (suc k) d l = absurd (omega (arith, l))
+
+plain_part : All IsPlain (file_name ∷ [])
+plain_part zero d l = record { some = lit< tt; short = lit≤ tt; units = plain_unit }
+plain_part (suc k) d l = absurd (omega (arith, l))
+
+a_status_alone_breaks_it : AFreeFileIsOpenedBy status_alone → ⊥
+a_status_alone_breaks_it law =
+    let opened : SharingViolation ≡ Success =
+    law (with_opens []) (asks file_name 0 Open) file is_good_without_opens
+    (record { disposition = inl refl; some = lit< tt; rights = refl; kind = refl; by_name = refl; stays = refl; writer = refl })
+    (record { above = []; last = file_name; folder = _; name = refl; plain = plain_part; few = lit≤ tt; found = refl; kind = refl; unmarked = refl })
+    refl (record { kind = refl; unmarked = refl; writable = refl; unopened = refl }) (lit< tt) (lit< tt) in cc
