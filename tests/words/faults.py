@@ -5,6 +5,7 @@ import re
 import shlex
 import socket
 import subprocess
+import sys
 import tempfile
 
 from tests.smb.client import PATIENCE, Client
@@ -18,6 +19,15 @@ NOT_PRIVATE = (1, b'', b'accounts: refused\nfile: no rights for anyone but its o
 CARRIAGE_RETURN = b'the password ends in a carriage return, which is taken as a part of it\n'
 NAMED_IPC = ('the share is named IPC$: clients ask a share of that name for other things than files, and may not show '
              'these; give it another name')
+
+# tools/serve.sh, where the program is built.
+SERVE = '''
+import sys
+sys.path.insert(0, 'tools/lib')
+import serve
+serve.program_for = lambda is_proved: sys.argv[1]
+sys.exit(serve.start(sys.argv[2:]))
+'''
 
 
 def ran(program, words, given=b'', system=None):
@@ -189,6 +199,19 @@ def the_example_is_in_the_document(_program):
         return '\n'.join(lines) in it.read()
 
 
+def serve_sh_hands_on_every_word(program):
+    """What it does with a command's words is what the program does, but for a note; and so with words of no command."""
+    wrong = []
+    for words in (('extract', '--help'), ('compact', '--help'), ('nt-hash',), ('sevre',), ('replay', '--other')):
+        run = subprocess.run((sys.executable, '-c', SERVE, program.path, *words), cwd=TOP, input=b'Password',
+                             capture_output=True, timeout=PATIENCE)
+        note, _, errors = run.stderr.partition(b'\n')
+        wrong += [differs((run.returncode, run.stdout, errors), ran(program, words, b'Password'), words),
+                  differs(note[:6], b'note: ', words)]
+    return not any(wrong)
+
+
 TESTS = (a_credential_may_be_read_by_its_group, no_other_file_may_be_read_by_its_group, a_credential_has_no_other_rights,
-         reasons_are_said_in_plain_words, a_share_named_ipc_is_said, a_carriage_return_in_a_password_is_said,
-         what_the_demo_shows_can_be_written, the_unit_serves, the_example_is_in_the_document)
+         serve_sh_hands_on_every_word, reasons_are_said_in_plain_words, a_share_named_ipc_is_said,
+         a_carriage_return_in_a_password_is_said, what_the_demo_shows_can_be_written, the_unit_serves,
+         the_example_is_in_the_document)
