@@ -1,5 +1,6 @@
 """The words of the program: which it takes, and what it says of a fault."""
 import contextlib
+import functools
 import hashlib
 import os
 import pty
@@ -124,18 +125,25 @@ def endless_configuration_is_refused(program):
     return ran(program, ('replay', '--config', '/dev/zero')) == (1, b'', REFUSED)
 
 
-def broken_rules_are_explained(program):
-    for old, new, said in BROKEN:
-        if share_toml().count(old) != 1:
-            raise AssertionError(f'{old!r} is not once in share.toml')
-        text = share_toml().replace(old, new).encode()
-        status, output, errors = with_config(program, text, '--explain')
-        if (status, output) != (1, b'') or errors != REFUSED + said.encode() + b'\n':
+def explains(run, whole, broken, refused):
+    """Whether a text is refused by each change that breaks a rule, and says why where it is asked to."""
+    for old, new, said in broken:
+        if whole.count(old) != 1:
+            raise AssertionError(f'{old!r} is not once in the text')
+        text = whole.replace(old, new).encode()
+        status, output, errors = run(text, '--explain')
+        if (status, output) != (1, b'') or errors != refused + said.encode() + b'\n':
             print(f'  {new!r}: {status}, {errors!r}')
             return False
-        if with_config(program, text) != (1, b'', REFUSED):
+        if run(text) != (1, b'', refused):
             return False
-    return with_config(program, NOT_TEXT, '--explain') == (1, b'', REFUSED + b'file: a text in UTF-8\n')
+    return True
+
+
+def broken_rules_are_explained(program):
+    run = functools.partial(with_config, program)
+    return (explains(run, share_toml(), BROKEN, REFUSED)
+            and run(NOT_TEXT, '--explain') == (1, b'', REFUSED + b'file: a text in UTF-8\n'))
 
 
 def tokens_are_never_shown(program):
@@ -148,17 +156,7 @@ def tokens_are_never_shown(program):
 
 
 def broken_accounts_are_explained(program):
-    for old, new, said in BROKEN_ACCOUNTS:
-        if ACCOUNTS.count(old) != 1:
-            raise AssertionError(f'{old!r} is not once in the accounts')
-        text = ACCOUNTS.replace(old, new).encode()
-        status, output, errors = with_accounts(program, text, '--explain')
-        if (status, output) != (1, b'') or errors != ACCOUNTS_REFUSED + said.encode() + b'\n':
-            print(f'  {new!r}: {status}, {errors!r}')
-            return False
-        if with_accounts(program, text) != (1, b'', ACCOUNTS_REFUSED):
-            return False
-    return True
+    return explains(functools.partial(with_accounts, program), ACCOUNTS, BROKEN_ACCOUNTS, ACCOUNTS_REFUSED)
 
 
 def accounts_are_read_as_a_configuration_is(program):
