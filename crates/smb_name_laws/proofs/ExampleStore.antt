@@ -121,7 +121,7 @@ lawful_content = (
 )
 
 -- where no row is marked, the entry of no number is
-unmarked_rows : (rows : List Row) (number : ℕ) → AllByRecursion (λ row. row.1.mark ≡ false) rows →
+pub unmarked_rows : (rows : List Row) (number : ℕ) → AllByRecursion (λ row. row.1.mark ≡ false) rows →
     has_mark rows number ≡ false
 unmarked_rows [] number none = refl
 unmarked_rows (x ∷ rows) number none =
@@ -149,7 +149,7 @@ is_good_with opens present rising below few masked compatible = record {
   held = λ f lock h. absurd (grind (arith, h));
 }
 
-none_compatible : AreCompatible []
+pub none_compatible : AreCompatible []
 none_compatible one other first second a b c d = absurd (cc)
 
 pub is_good_without_opens : GoodStore (with_opens [])

@@ -1,5 +1,6 @@
 mod Gone
 mod KeptOut
+mod Marked
 mod MadeFound
 mod MovedFound
 pub mod GivenOnce
@@ -8,12 +9,17 @@ mod LastParts
 mod Spelled
 mod OthersLeft
 mod PlainNames
+mod NoneHold
+mod NamedPlainly
 mod MadeNew
+mod RenamedPlainly
 mod OpenedAs
 mod LeftOut
 mod SetAs
 mod OwnerGone
 mod ExampleStore
+mod ExampleFolder
+mod ExampleNames
 mod WrongDeletes
 mod WrongSharing
 mod WrongCreates
@@ -21,4 +27,5 @@ mod WrongNames
 mod WrongNumbers
 mod WrongOpens
 mod WrongNewNames
+mod WrongRenames
 mod WrongSettings

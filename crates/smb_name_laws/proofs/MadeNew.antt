@@ -1,47 +1,28 @@
 -- A CREATE of a plain name that is absent succeeds.
-use Rattle.std.proofs.Common.{◌≡◌, ◌⊎◌, inl, inr, ℕ, ◌-◌, ◌==◌, nat_le, nat_lt, List, [], ◌∷◌, ◌++◌, length, slice_index, bit_and, Bool, true, false, not, ◌&&◌, ◌||◌, Option, None, Some, is_some, refl, sym, ap, subst, arith, ◌∙◌}
+use Rattle.std.proofs.Common.{◌≡◌, ◌⊎◌, inl, inr, ℕ, ◌-◌, ◌==◌, nat_le, nat_lt, List, [], ◌∷◌, length, bit_and, Bool, true, false, not, ◌&&◌, ◌||◌, Option, None, Some, refl, sym, ap, subst, arith, ◌∙◌}
 use Rattle.std.proofs.lemmas.Bool.Decides.{nat_tests}
 use Rattle.std.specs.List.{AllByRecursion, list_any}
-use Rattle.std.specs.Option.{option_map, option_map_or}
 use Rattle.smb_wire.specs.Access.{has_any}
 use Rattle.smb_wire.specs.CreateOptions.{FILE_DELETE_ON_CLOSE}
 use Rattle.smb_wire.specs.Counters.{is_spent}
 use Rattle.smb_wire.specs.Dispositions.{overwrites_by, must_exist_by, must_be_new_by}
 use Rattle.smb_wire.specs.Limits.{most_opens, most_entries}
-use Rattle.smb_wire.specs.Paths.{is_separator, path_fault, folded_path}
 use Rattle.smb_wire.specs.declared.nt_status.NtStatus.TheVariants.{Success}
-use Rattle.smb_tree.specs.Content.{Path, entry_at, parent}
 use Rattle.smb_tree.specs.Entries.{Entry, is_folder_kind}
 use Rattle.smb_access.specs.Asked.{FileAsked}
 use Rattle.smb_access.specs.declared.open_row.OpenRow.{OpenRow}
 use Rattle.smb_access.specs.Access.{granted}
-use Rattle.smb_access.specs.Found.{path_asked, is_pending, is_reached, is_read_only_file}
+use Rattle.smb_access.specs.Found.{is_read_only_file}
 use Rattle.smb_access.specs.Opens.{has_open}
 use Rattle.smb_access.specs.Sharing.{use_asked, is_conflict}
 use Rattle.smb_opens.specs.Found.{entry_asked}
-use Rattle.smb_access.specs.Looked.{target_of, is_folder_target}
-use Rattle.smb_access.specs.StatusRows.{StatusRow, first_status}
-use Rattle.smb_access.proofs.Trees.{reached_told}
+use Rattle.smb_access.specs.StatusRows.{first_status}
 use Rattle.smb_opens.specs.Create.{create_rows, create_status}
 use Rattle.smb_opens.specs.Good.{GoodStore}
 use Rattle.smb_opens.specs.State.{StoreState}
-use Rattle.smb_name_laws.specs.NewNames.{AsksToMake, NamesPlainly, HasRoom, AsksToOpen, IsFree, AFreeFileIsOpened}
-use Rattle.smb_name_laws.proofs.PlainNames.{spells, begins, no_fault, parent_of}
-
--- where no row holds
-none_holds : (rows : List StatusRow) → AllByRecursion (λ row. row.0 ≡ false) rows → first_status rows ≡ Success
-none_holds [] h = refl
-none_holds (row ∷ rows) h = rw h.0 (none_holds rows h.1)
-
-or_off : (a b : Bool) → a ≡ false → b ≡ false → (a || b) ≡ false
-or_off a b h k = rw (h, k) refl
-
-and_off : (a b : Bool) → a ≡ false → (a && b) ≡ false
-and_off a b h = rw h refl
-
-and_off_by : (a b : Bool) → b ≡ false → (a && b) ≡ false
-and_off_by true b h = h
-and_off_by false b h = refl
+use Rattle.smb_name_laws.specs.NewNames.{AsksToMake, NamesPlainly, HasRoom, AFreeFileIsOpened}
+use Rattle.smb_name_laws.proofs.NamedPlainly.{reached, pending, faultless, begun}
+use Rattle.smb_name_laws.proofs.NoneHold.{none_holds, or_off, and_off, and_off_by, first_off, second_off}
 
 -- the disposition
 record Makes (d : ℕ) : Type 0 where
@@ -57,35 +38,10 @@ kind_off : (a b c : Bool) → (a ≡ false) ⊎ (b ≡ false) → c ≡ false �
 kind_off a b c (inl e) k = rw e refl
 kind_off a b c (inr e) k = and_off_by a (b || c) (or_off b c e k)
 
--- the folder
-module _ (state : StoreState) (ask : FileAsked) (good : GoodStore state) (names : NamesPlainly state ask) where
-  path_is : path_asked ask ≡ folded_path (names.above ++ names.last ∷ [])
-  path_is = ap (λ (n : List ℕ). path_asked (record ask { name = n })) names.name ∙ ap folded_path (spells names.above names.last names.plain)
-
-  folder_is : entry_at state.tree.rows (parent (path_asked ask)) ≡ Some names.folder
-  folder_is = ap (λ (p : Path). entry_at state.tree.rows (parent p)) path_is ∙ ap (entry_at state.tree.rows) (parent_of names.above names.last) ∙ names.found
-
-  reached : is_reached state.tree.rows (path_asked ask) ≡ true
-  reached =
-      sym (reached_told state.tree good.tree (path_asked ask) (option_map target_of (entry_at state.tree.rows (parent (path_asked ask)))) refl)
-      ∙ ap (λ (o : Option Entry). is_folder_target (option_map target_of o)) folder_is ∙ names.kind
-
-  pending : (o : Option Entry) → entry_asked state ask ≡ o → option_map_or (λ (entry : Entry). entry.mark) o false ≡ false → is_pending state.tree.rows (path_asked ask) ≡ false
-  pending o is unmarked =
-      or_off (option_map_or (λ (entry : Entry). entry.mark) (entry_at state.tree.rows (path_asked ask)) false) (option_map_or (λ (entry : Entry). entry.mark) (entry_at state.tree.rows (parent (path_asked ask))) false)
-      (ap (λ (o : Option Entry). option_map_or (λ (entry : Entry). entry.mark) o false) is ∙ unmarked)
-      (ap (λ (o : Option Entry). option_map_or (λ (entry : Entry). entry.mark) o false) folder_is ∙ names.unmarked)
-
-  faultless : is_some (path_fault ask.name) ≡ false
-  faultless = ap (λ (n : List ℕ). is_some (path_fault n)) names.name ∙ no_fault names.above names.last names.plain names.few
-
-  begun : is_separator (slice_index ask.name 0) ≡ false
-  begun = ap (λ (n : List ℕ). is_separator (slice_index n 0)) names.name ∙ begins names.above names.last names.plain
-
 access_off : (z r d x : Bool) → z ≡ false → r ≡ true → d ≡ false → (z || not r || d && x) ≡ false
 access_off z r d x h k l = rw (h, k, l) refl
 
-none_hold : (state : StoreState) (ask : FileAsked) → GoodStore state → AsksToMake ask → NamesPlainly state ask → entry_asked state ask ≡ None → HasRoom state →
+none_hold : (state : StoreState) (ask : FileAsked) → GoodStore state → AsksToMake ask → NamesPlainly state ask.name → entry_asked state ask ≡ None → HasRoom state →
     AllByRecursion (λ row. row.0 ≡ false) (create_rows state ask None)
 none_hold state ask good asks names absent room =
     let makes = makes_by ask.disposition asks.disposition in
@@ -99,19 +55,19 @@ none_hold state ask good asks names absent room =
       (
         kind_off _ _ _ asks.kind makes.leaves,
         (
-          begun state ask good names,
+          begun state ask.name good names,
           (
             asks.by_name,
             (
-              faultless state ask good names,
+              faultless state ask.name good names,
               (
                 access_off (ask.access == 0) (bit_and ask.access 0xF21F01FF == ask.access) (has_any ask.options FILE_DELETE_ON_CLOSE) _ (grind (arith, nat_tests, some)) (grind (arith, nat_tests, rights)) asks.stays,
                 (
                   and_off _ _ asks.writer,
                   (
-                    ap not (reached state ask good names),
+                    ap not (reached state ask.name good names),
                     (
-                      pending state ask good names None absent refl,
+                      pending state ask.name good names None absent refl,
                       (
                         makes.new,
                         (
@@ -153,7 +109,7 @@ none_hold state ask good asks names absent room =
       ),
     )
 
-pub succeeds : (state : StoreState) (ask : FileAsked) → GoodStore state → AsksToMake ask → NamesPlainly state ask → entry_asked state ask ≡ None → HasRoom state → create_status state ask ≡ Success
+pub succeeds : (state : StoreState) (ask : FileAsked) → GoodStore state → AsksToMake ask → NamesPlainly state ask.name → entry_asked state ask ≡ None → HasRoom state → create_status state ask ≡ Success
 succeeds state ask good asks names absent room =
     ap (λ (o : Option Entry). first_status (create_rows state ask o)) absent ∙ none_holds (create_rows state ask None) (none_hold state ask good asks names absent room)
 
@@ -168,12 +124,6 @@ record Opens (d : ℕ) : Type 0 where
 opens_by : (d : ℕ) → (d ≡ 1) ⊎ (d ≡ 3) → Opens d
 opens_by d (inl e) = subst Opens (sym e) (record { known = refl; leaves = refl; old = refl })
 opens_by d (inr e) = subst Opens (sym e) (record { known = refl; leaves = refl; old = refl })
-
-first_off : (a b : Bool) → (a || b) ≡ false → a ≡ false
-first_off a b h = grind (arith, h)
-
-second_off : (a b : Bool) → (a || b) ≡ false → b ≡ false
-second_off a b h = grind (arith, h)
 
 -- where nobody has an entry open, nothing conflicts
 none_against : (rows : List OpenRow) (n : ℕ) (against : OpenRow → Bool) → has_open rows n ≡ false → list_any (λ (row : OpenRow). row.entry == n && against row) rows ≡ false
@@ -194,19 +144,19 @@ opens_free state ask file good asks names there free few numbers =
       (
         and_off _ _ asks.kind,
         (
-          begun state ask good names,
+          begun state ask.name good names,
           (
             asks.by_name,
             (
-              faultless state ask good names,
+              faultless state ask.name good names,
               (
                 access_off (ask.access == 0) (bit_and ask.access 0xF21F01FF == ask.access) (has_any ask.options FILE_DELETE_ON_CLOSE) _ (grind (arith, nat_tests, some)) (grind (arith, nat_tests, rights)) asks.stays,
                 (
                   and_off _ _ asks.writer,
                   (
-                    ap not (reached state ask good names),
+                    ap not (reached state ask.name good names),
                     (
-                      pending state ask good names (Some file) there free.unmarked,
+                      pending state ask.name good names (Some file) there free.unmarked,
                       (
                         refl,
                         (

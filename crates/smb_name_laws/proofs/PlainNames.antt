@@ -89,6 +89,13 @@ spells above last h =
     ap components kept
     ∙ components_joined (above ++ last ∷ []) (λ k d l. none_separator (get_or (above ++ last ∷ []) k d) (h k d l)) (not_empty above last plain)
 
+pub some_unit : (above : List (List ℕ)) (last : List ℕ) → All IsPlain (above ++ last ∷ []) → 0 < length (joined_by_separators (above ++ last ∷ []))
+some_unit above last h =
+    let ends = ends_with above last in
+    let some = (last_plain above last h).some in
+    let whole = ap (λ (units : List ℕ). length units) ends.whole in
+    omega (arith, some, whole, length-append ends.front last)
+
 first_unit : (part : List ℕ) (rest : List (List ℕ)) → 0 < length part → slice_index (joined_by_separators (part ∷ rest)) 0 ≡ slice_index part 0
 first_unit [] rest h = absurd (omega arith)
 first_unit (u ∷ us) [] h = refl

@@ -1,22 +1,31 @@
 -- Wrong definitions of a CLOSE and of the end of an owner's opens, each with a law of specs/Deletes that refuses it.
 -- A law whose name ends in By says of any definition what that of specs/ says of the right one, as the line below it
 -- shows; then come the wrong definition, and the proof that the law is false of it.
-use Rattle.std.proofs.Common.{◌≡◌, ◌≢◌, ℕ, [], ◌∷◌, true, false, None, Some, refl, sym, arith, ◌∙◌}
+use Rattle.std.proofs.Common.{◌≡◌, ◌≢◌, ◌⊎◌, inl, ℕ, [], ◌∷◌, true, false, if◌then◌else◌, None, Some, is_some, refl, sym, arith, ◌∙◌}
 use Rattle.std.specs.Option.{option_map_or}
-use Rattle.smb_tree.specs.Content.{Path, Row, is_same_path, entry_at, numbered}
+use Rattle.smb_wire.specs.Access.{FILE_SHARE_ALL}
+use Rattle.smb_wire.specs.declared.disposition.CreateDisposition.TheVariants.{Open}
+use Rattle.smb_wire.specs.declared.nt_status.NtStatus.{NtStatus}
+use Rattle.smb_wire.specs.declared.nt_status.NtStatus.TheVariants.{Success, ObjectNameNotFound}
+use Rattle.smb_tree.specs.Content.{Path, Row, is_same_path, entry_at, numbered, parent, changed}
 use Rattle.smb_tree.specs.Entries.{Entry}
 use Rattle.smb_access.specs.declared.open_row.OpenRow.{OpenRow}
 use Rattle.smb_access.specs.declared.open_row.Owner.{Owner}
 use Rattle.smb_access.specs.declared.open_row.Owner.TheVariants.{Session}
+use Rattle.smb_access.specs.Asked.{FileAsked}
+use Rattle.smb_access.specs.Found.{path_asked}
 use Rattle.smb_access.specs.Parts.{tree_marked, tree_cleared}
 use Rattle.smb_access.specs.Opens.{open_of, first_held_by, is_held_by}
 use Rattle.smb_opens.specs.Close.{closed, closed_all}
+use Rattle.smb_opens.specs.Create.{create_status}
+use Rattle.smb_opens.specs.Found.{entry_asked}
 use Rattle.smb_opens.specs.Good.{GoodStore}
 use Rattle.smb_opens.specs.State.{StoreState}
 use Rattle.smb_opens.proofs.Closing.{number_found}
 use Rattle.smb_name_laws.specs.Deletes.{ACloseDeletesWhatIsToBeDeleted, NothingElseGoes, AnEntryGoesWithItsOwner}
-use Rattle.smb_name_laws.specs.Deletes.{is_to_be_deleted, HasNoOtherOpen}
+use Rattle.smb_name_laws.specs.Deletes.{is_to_be_deleted, HasNoOtherOpen, NothingMarkedIsOpened}
 use Rattle.smb_name_laws.proofs.ExampleStore.{path, file, deleting, sharing, with_opens, open_among, is_not_gone}
+use Rattle.smb_name_laws.proofs.ExampleStore.{file_name, asks}
 use Rattle.smb_name_laws.proofs.ExampleStore.{is_good_with_deleting, is_good_with_both}
 
 -- an entry that is to be deleted is gone once its last open is closed; with another open it is left, and marked; an entry
@@ -109,3 +118,28 @@ a_close_of_the_first_breaks_it law =
     let gone = law (with_opens (deleting ∷ sharing ∷ [])) (Session 1) 1 deleting path file is_good_with_both refl refl
     both_held refl in
     is_not_gone gone.0 refl
+
+-- what is marked is not opened
+abbrev NothingMarkedIsOpenedBy : (StoreState → FileAsked → NtStatus) → Type 0
+NothingMarkedIsOpenedBy status =
+    (state : StoreState) (ask : FileAsked) (entry : Entry) → entry.mark ≡ true →
+    (entry_at state.tree.rows (path_asked ask) ≡ Some entry)
+    ⊎ (entry_at state.tree.rows (parent (path_asked ask)) ≡ Some entry) →
+    status state ask ≢ Success
+
+nothing_marked_is_opened : NothingMarkedIsOpened ≡ NothingMarkedIsOpenedBy create_status
+nothing_marked_is_opened = refl
+
+-- wrong: whatever is there is opened
+abbrev opens_what_is_there : StoreState → FileAsked → NtStatus
+opens_what_is_there state ask = if is_some (entry_asked state ask) then Success else ObjectNameNotFound
+
+-- the store with the file marked
+abbrev with_mark : StoreState
+with_mark =
+    let state : StoreState = with_opens [] in
+    record state { tree = record state.tree { rows = changed (λ entry. record entry { mark = true }) state.tree.rows 2 } }
+
+opens_what_is_there_is_refused : NothingMarkedIsOpenedBy opens_what_is_there → ⊥
+opens_what_is_there_is_refused law =
+    law with_mark (asks file_name FILE_SHARE_ALL Open) (record file { mark = true }) refl (inl refl) refl

@@ -1,8 +1,8 @@
 -- Wrong definitions of which CREATE succeeds, each refused by the law of specs/NewNames.
 -- The law whose name ends in By says of any definition what that of specs/ says of the right one, as the line below it
 -- shows; then come the wrong definitions, and the proofs that the law is false of them.
-use Rattle.std.proofs.Common.{◌≡◌, inl, ℕ, zero, suc, ◌<◌, ◌-◌, ◌^◌, ◌==◌, nat_le, None, Some, List, [], ◌∷◌, length, if◌then◌else◌, All, true}
-use Rattle.std.proofs.Common.{lit<, lit≤, refl, arith}
+use Rattle.std.proofs.Common.{◌≡◌, inl, ◌<◌, ◌-◌, ◌^◌, ◌==◌, nat_le, None, Some, List, [], ◌∷◌, length, if◌then◌else◌}
+use Rattle.std.proofs.Common.{lit<, lit≤, refl}
 use Rattle.smb_wire.specs.Access.{FILE_SHARE_ALL}
 use Rattle.smb_wire.specs.declared.disposition.CreateDisposition.TheVariants.{Create, Open}
 use Rattle.smb_wire.specs.declared.nt_status.NtStatus.{NtStatus}
@@ -15,33 +15,22 @@ use Rattle.smb_opens.specs.Create.{create_status}
 use Rattle.smb_opens.specs.Found.{entry_asked}
 use Rattle.smb_opens.specs.Good.{GoodStore}
 use Rattle.smb_opens.specs.State.{StoreState}
-use Rattle.smb_name_laws.specs.NewNames.{is_plain_unit, IsPlain, AsksToMake, NamesPlainly, HasRoom, APlainNameIsMade, AsksToOpen, IsFree, AFreeFileIsOpened}
+use Rattle.smb_name_laws.specs.NewNames.{AsksToMake, NamesPlainly, HasRoom, APlainNameIsMade, AsksToOpen, IsFree, AFreeFileIsOpened}
 use Rattle.smb_name_laws.proofs.ExampleStore.{file, file_name, sharing, with_opens, asks, is_good_without_opens, is_good_with_sharing}
+use Rattle.smb_name_laws.proofs.ExampleNames.{two_letters, plain_letter, plain_two_letters, one_part}
 
 -- a CREATE of a plain name that is absent succeeds
 abbrev APlainNameIsMadeBy : (StoreState → FileAsked → NtStatus) → Type 0
 APlainNameIsMadeBy status =
-    (state : StoreState) (ask : FileAsked) → GoodStore state → AsksToMake ask → NamesPlainly state ask →
+    (state : StoreState) (ask : FileAsked) → GoodStore state → AsksToMake ask → NamesPlainly state ask.name →
     entry_asked state ask ≡ None → HasRoom state → status state ask ≡ Success
 
 a_plain_name_is_made : APlainNameIsMade ≡ APlainNameIsMadeBy create_status
 a_plain_name_is_made = refl
 
--- a name of two letters, `no`, and a CREATE of it
-abbrev two_letters : List ℕ
-two_letters = 110 ∷ 111 ∷ []
-
+-- a CREATE of a name of two letters
 abbrev asks_two : FileAsked
 asks_two = asks two_letters FILE_SHARE_ALL Create
-
-plain_units : All (λ unit. is_plain_unit unit ≡ true) two_letters
-plain_units zero d l = refl
-plain_units (suc zero) d l = refl
-plain_units (suc (suc k)) d l = absurd (omega (arith, l))
-
-plain_parts : All IsPlain (two_letters ∷ [])
-plain_parts zero d l = record { some = lit< tt; short = lit≤ tt; units = plain_units }
-plain_parts (suc k) d l = absurd (omega (arith, l))
 
 two_asked : AsksToMake asks_two
 two_asked = record {
@@ -54,13 +43,13 @@ two_asked = record {
   writer = refl;
 }
 
-two_named : (opens : List OpenRow) → NamesPlainly (with_opens opens) asks_two
+two_named : (opens : List OpenRow) → NamesPlainly (with_opens opens) two_letters
 two_named opens = record {
   above = [];
   last = two_letters;
   folder = _;
-  name = refl;
-  plain = plain_parts;
+  spelled = refl;
+  plain = one_part two_letters plain_two_letters;
   few = lit≤ tt;
   found = refl;
   kind = refl;
@@ -90,9 +79,9 @@ a_status_of_one_breaks_it law =
 -- a file that nobody has open is opened
 abbrev AFreeFileIsOpenedBy : (StoreState → FileAsked → NtStatus) → Type 0
 AFreeFileIsOpenedBy status =
-    (state : StoreState) (ask : FileAsked) (file : Entry) → GoodStore state → AsksToOpen ask → NamesPlainly state ask →
-    entry_asked state ask ≡ Some file → IsFree state file → length state.opens < most_opens →
-    state.next < 2 ^ 64 - 1 → status state ask ≡ Success
+    (state : StoreState) (ask : FileAsked) (file : Entry) → GoodStore state → AsksToOpen ask →
+    NamesPlainly state ask.name → entry_asked state ask ≡ Some file → IsFree state file →
+    length state.opens < most_opens → state.next < 2 ^ 64 - 1 → status state ask ≡ Success
 
 a_free_file_is_opened : AFreeFileIsOpened ≡ AFreeFileIsOpenedBy create_status
 a_free_file_is_opened = refl
@@ -101,18 +90,10 @@ a_free_file_is_opened = refl
 abbrev status_alone : StoreState → FileAsked → NtStatus
 status_alone state ask = if ask.share == 0 then SharingViolation else create_status state ask
 
-plain_unit : All (λ unit. is_plain_unit unit ≡ true) file_name
-plain_unit zero d l = refl
-plain_unit (suc k) d l = absurd (omega (arith, l))
-
-plain_part : All IsPlain (file_name ∷ [])
-plain_part zero d l = record { some = lit< tt; short = lit≤ tt; units = plain_unit }
-plain_part (suc k) d l = absurd (omega (arith, l))
-
 a_status_alone_breaks_it : AFreeFileIsOpenedBy status_alone → ⊥
 a_status_alone_breaks_it law =
     let opened : SharingViolation ≡ Success =
     law (with_opens []) (asks file_name 0 Open) file is_good_without_opens
     (record { disposition = inl refl; some = lit< tt; rights = refl; kind = refl; by_name = refl; stays = refl; writer = refl })
-    (record { above = []; last = file_name; folder = _; name = refl; plain = plain_part; few = lit≤ tt; found = refl; kind = refl; unmarked = refl })
+    (record { above = []; last = file_name; folder = _; spelled = refl; plain = one_part file_name (plain_letter 97 refl); few = lit≤ tt; found = refl; kind = refl; unmarked = refl })
     refl (record { kind = refl; unmarked = refl; writable = refl; unopened = refl }) (lit< tt) (lit< tt) in cc

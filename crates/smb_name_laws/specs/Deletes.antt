@@ -1,13 +1,17 @@
 -- What the end of an open deletes, in a user's words ([MS-FSA] 2.1.5.4).
-use Rattle.std.specs.Prelude.{◌≡◌, ◌≢◌, ℕ, ◌==◌, ◌||◌, ◌&&◌, Bool, true, false, not, List, None, Some, is_some}
+use Rattle.std.specs.Prelude.{◌≡◌, ◌≢◌, ◌⊎◌, ℕ, ◌==◌, ◌||◌, ◌&&◌, Bool, true, false, not, List, None, Some, is_some}
 use Rattle.std.specs.List.{list_any}
 use Rattle.smb_tree.specs.Children.{is_child}
-use Rattle.smb_tree.specs.Content.{Path, Row, is_same_path, entry_at, numbered}
+use Rattle.smb_wire.specs.declared.nt_status.NtStatus.TheVariants.{Success}
+use Rattle.smb_tree.specs.Content.{Path, Row, is_same_path, entry_at, numbered, parent}
 use Rattle.smb_tree.specs.Entries.{Entry, is_folder_kind}
 use Rattle.smb_access.specs.declared.open_row.OpenRow.{OpenRow}
 use Rattle.smb_access.specs.declared.open_row.Owner.{Owner}
+use Rattle.smb_access.specs.Asked.{FileAsked}
+use Rattle.smb_access.specs.Found.{path_asked}
 use Rattle.smb_access.specs.Opens.{open_of, is_held_by}
 use Rattle.smb_opens.specs.Close.{closed, closed_all}
+use Rattle.smb_opens.specs.Create.{create_status}
 use Rattle.smb_opens.specs.Good.{GoodStore}
 use Rattle.smb_opens.specs.State.{StoreState}
 use Rattle.smb_opens.specs.Steps.{StoreStep, creates, writes, locks, unlocks, sets_delete, sets_size, sets_basic}
@@ -86,3 +90,11 @@ abbrev pub NoOtherRequestDeletes : Type 0
 NoOtherRequestDeletes =
     (state : StoreState) (step : StoreStep) (entry : ℕ) → ends_or_renames step ≡ false →
     is_some (numbered state.tree.rows entry) ≡ true → is_some (numbered (stepped state step).tree.rows entry) ≡ true
+
+-- what is marked is not opened, and in a folder that is marked nothing is opened or made ([MS-FSA] 2.1.5.1)
+abbrev pub NothingMarkedIsOpened : Type 0
+NothingMarkedIsOpened =
+    (state : StoreState) (ask : FileAsked) (entry : Entry) → entry.mark ≡ true →
+    (entry_at state.tree.rows (path_asked ask) ≡ Some entry)
+    ⊎ (entry_at state.tree.rows (parent (path_asked ask)) ≡ Some entry) →
+    create_status state ask ≢ Success

@@ -6,3 +6,4 @@ pub mod Numbers
 pub mod Opened
 pub mod Settings
 pub mod NewNames
+pub mod RenamesSucceed

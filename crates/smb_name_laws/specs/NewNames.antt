@@ -49,12 +49,12 @@ pub record AsksToMake (ask : FileAsked) : Type 0 where
   pub stays : has_any ask.options FILE_DELETE_ON_CLOSE ≡ false
   pub writer : ask.read_only ≡ false
 
--- it names an entry by at most 32 plain parts, in a folder that exists and is not marked
-pub record NamesPlainly (state : StoreState) (ask : FileAsked) : Type 0 where
+-- a name has at most 32 plain parts, and the folder that it is in exists and is not marked
+pub record NamesPlainly (state : StoreState) (name : List ℕ) : Type 0 where
   pub above : List (List ℕ)
   pub last : List ℕ
   pub folder : Entry
-  pub name : ask.name ≡ joined_by_separators (above ++ last ∷ [])
+  pub spelled : name ≡ joined_by_separators (above ++ last ∷ [])
   pub plain : All IsPlain (above ++ last ∷ [])
   pub few : length (above ++ last ∷ []) ≤ most_components
   pub found : entry_at state.tree.rows (folded_path above) ≡ Some folder
@@ -71,7 +71,7 @@ pub record HasRoom (state : StoreState) : Type 0 where
 -- such a CREATE succeeds: no plain name is refused, and none where there is room ([MS-SMB2] 3.3.5.9, [MS-FSCC] 2.1.5)
 abbrev pub APlainNameIsMade : Type 0
 APlainNameIsMade =
-    (state : StoreState) (ask : FileAsked) → GoodStore state → AsksToMake ask → NamesPlainly state ask →
+    (state : StoreState) (ask : FileAsked) → GoodStore state → AsksToMake ask → NamesPlainly state ask.name →
     entry_asked state ask ≡ None → HasRoom state → create_status state ask ≡ Success
 
 -- a CREATE asks for a file to be opened as it is: with FILE_OPEN or FILE_OPEN_IF; with some rights, generic ones or
@@ -99,6 +99,6 @@ pub record IsFree (state : StoreState) (file : Entry) : Type 0 where
 -- a file that nobody has open is opened by whoever may write, where there is room for an open ([MS-SMB2] 3.3.5.9)
 abbrev pub AFreeFileIsOpened : Type 0
 AFreeFileIsOpened =
-    (state : StoreState) (ask : FileAsked) (file : Entry) → GoodStore state → AsksToOpen ask → NamesPlainly state ask →
-    entry_asked state ask ≡ Some file → IsFree state file → length state.opens < most_opens →
-    state.next < 2 ^ 64 - 1 → create_status state ask ≡ Success
+    (state : StoreState) (ask : FileAsked) (file : Entry) → GoodStore state → AsksToOpen ask →
+    NamesPlainly state ask.name → entry_asked state ask ≡ Some file → IsFree state file →
+    length state.opens < most_opens → state.next < 2 ^ 64 - 1 → create_status state ask ≡ Success

@@ -3,9 +3,9 @@
 //! Nothing here runs: each public function has an empty body, and its `ensures` clauses are the laws.
 //! [`laws_of_deletes`] says which entry goes with which CLOSE; [`laws_of_sharing`] whom an open keeps out;
 //! [`laws_of_creates`] and [`laws_of_renames`] what a name finds afterwards; [`laws_of_new_names`] which names can be
-//! made; [`laws_of_opens`] what an open is like that is made; [`laws_of_settings`] what a SET_INFO and a WRITE set of
-//! an entry; [`laws_of_numbers`] that no number of an open or an entry is given twice. For each kind of law,
-//! proofs/Wrong*.antt have a wrong definition that it refuses.
+//! made, and which an entry can be renamed to; [`laws_of_opens`] what an open is like that is made;
+//! [`laws_of_settings`] what a SET_INFO and a WRITE set of an entry; [`laws_of_numbers`] that no number of an open or
+//! an entry is given twice. For each kind of law, proofs/Wrong*.antt have a wrong definition that it refuses.
 #![tactic(auto)]
 
 mod creates;

@@ -3,6 +3,7 @@ pub mod Under
 pub mod Answered
 pub mod Done
 mod Changed
+mod Described
 mod Joined
 mod Names
 mod Kept
@@ -13,8 +14,13 @@ mod Served
 mod Granted
 pub mod Example
 mod Altered
+mod NextChild
+mod ComingOnce
+mod ListedOnce
 mod WrongActing
 mod WrongDoing
+mod WrongResponses
 mod WrongAdmission
 mod WrongServing
 mod WrongCredits
+mod WrongScans

@@ -57,16 +57,16 @@ use Rattle.smb_request_laws.specs.Doing.{Sent, Succeeds, answered, open_asked, r
 use Rattle.smb_request_laws.proofs.Altered.{Rules, right, performed_by_rules}
 use Rattle.smb_request_laws.proofs.Example.{server, session, header, read_asked, read_request, read_request_at, write_asked, write_request, create_asked, create_request, close_asked, close_request, connect_asked, connect_request, disconnect_request, nothing_asked, logoff_request, flush_asked, flush_request, locking_asked, lock_request, end_asked, end_request, byte_is}
 
-fair : IsNotRefusedBySuccess first_context
+pub fair : IsNotRefusedBySuccess first_context
 fair e = cc
 
 module _ {S : Type 0} (m : Meaning S) (accounts : S) where
   -- what a request leaves by these rules
-  abbrev answered_by : Rules S → Sent S → Performed S
+  abbrev pub answered_by : Rules S → Sent S → Performed S
   answered_by rules it = performed_by_rules m rules it.connection it.moment it.server it.dialect it.context it.request
 
   -- a request on connection 1, to a share where session 1 has tree connect 1
-  abbrev sent : List ℕ → Sent S
+  abbrev pub sent : List ℕ → Sent S
   sent request = record {
     connection = 1;
     moment = 0;

@@ -1,5 +1,6 @@
 -- Wrong definitions of runs, which the laws refuse: with each the law is false.
-use Rattle.std.proofs.Common.{◌≡◌, ℕ, List, [], ◌∷◌, length, drop, None, Some, refl, sym, ap, arith, ◌∙◌}
+use Rattle.std.proofs.Common.{◌≡◌, ℕ, true, false, List, [], ◌∷◌, ◌++◌, length, map, drop, None, Some, refl, sym, ap, arith, ◌∙◌}
+use Rattle.std.specs.List.{AllByRecursion, flat_map}
 use Rattle.smb_session.specs.Authenticator.{Meaning}
 use Rattle.smb_opens.specs.State.{StoreState}
 use Rattle.smb_request.specs.State.{ServerState, connection_ended}
@@ -16,8 +17,13 @@ use Rattle.smb_request.specs.Context.{first_context}
 use Rattle.smb_request.specs.Response.{ResponseState}
 use Rattle.smb_peers.specs.Event.{EventText, ends}
 use Rattle.smb_engine.specs.Run.{PerformedRequest, Ran, run}
-use Rattle.smb_engine.specs.State.{ShareState, new_stream}
+use Rattle.smb_engine.specs.Output.{Output, frame_to, reply_frame}
+use Rattle.smb_engine.specs.State.{ShareState, new_stream, is_open, ended}
+use Rattle.smb_head.specs.Replies.{Reply, joined_replies}
+use Rattle.smb_serving.specs.Happenings.{Happening, run_of}
 use Rattle.smb_run_laws.specs.Actions.{Action, serves, after, Lead, actions_of_run, ARunIsItsActions}
+use Rattle.smb_run_laws.specs.Answers.{AnsweredPayload, AreReplies, AreAnsweredInOrder, requests_in, ARunIsAnsweredInOrder}
+use Rattle.smb_run_laws.specs.Rules.{LetGoOn, WhoKeepsTheRulesIsServedOn}
 use Rattle.smb_run_laws.specs.Written.{IsReadAsWritten}
 use Rattle.smb_run_laws.proofs.Leading.{run_leads}
 
@@ -95,3 +101,66 @@ module _ {S : Type 0} (accounts : S) where
       let zero : slice_get told.0 0 ≡ Some 0 = ap (λ (xs : List ℕ). slice_get xs 0) (sym same) in
       let both : 0 ≡ 9 = some_is 0 9 (sym zero ∙ nine) in
       omega (arith, both)
+
+-- ---- what is put out, and who is ended
+
+abbrev pairs : {S : Type 0} → ℕ → List (PerformedRequest S) → List (ℕ × PerformedRequest S)
+pairs connection requests = map (λ served. (connection, served)) requests
+
+module _ {S : Type 0} (m : Meaning S) (accounts : S) where
+  -- the requests that a run performs are answered in order, and nothing else is put out
+  abbrev ARunIsAnsweredInOrderBy : (ShareState S → List EventText → Ran S) → Type 0
+  ARunIsAnsweredInOrderBy play =
+      (s : ShareState S) (events : List EventText) → AreAnsweredInOrder (requests_in (actions_of_run m s events)) (play s events).outputs
+
+  a_run_is_answered : ARunIsAnsweredInOrder m ≡ ARunIsAnsweredInOrderBy (run m)
+  a_run_is_answered = refl
+
+  -- wrong: a frame is put out that answers nothing
+  abbrev speaks_first : ShareState S → List EventText → Ran S
+  speaks_first s events =
+      let ran = run m s events in
+      record ran { outputs = frame_to 1 (0 ∷ []) ∷ ran.outputs }
+
+  -- where no request was performed there is no frame
+  no_frame_by : (one : AnsweredPayload S) → pairs one.connection one.requests ≡ [] → AreReplies one.requests one.replies → reply_frame one.connection (joined_replies one.replies) ≡ []
+  unfolding joined_replies
+  no_frame_by one none replies = by_requests one.connection one.requests one.replies none replies
+    where
+      by_requests : (connection : ℕ) (requests : List (PerformedRequest S)) (replies : List Reply) → pairs connection requests ≡ [] → AreReplies requests replies → reply_frame connection (joined_replies replies) ≡ []
+      by_requests connection [] replies none h = ap (λ (rs : List Reply). reply_frame connection (joined_replies rs)) h
+      by_requests connection (served ∷ requests) replies none h = cc
+
+  front_none : {A : Type 0} (one two : List A) → one ++ two ≡ [] → (one ≡ []) × (two ≡ [])
+  front_none [] two e = (refl, e)
+  front_none (x ∷ one) two e = cc
+
+  no_frames : (answered : List (AnsweredPayload S)) → [] ≡ flat_map (λ one. pairs one.connection one.requests) answered →
+      AllByRecursion (λ one. AreReplies one.requests one.replies) answered → flat_map (λ one. reply_frame one.connection (joined_replies one.replies)) answered ≡ []
+  no_frames [] e h = refl
+  no_frames (one ∷ answered) e h =
+      let parts = front_none (pairs one.connection one.requests) (flat_map (λ one. pairs one.connection one.requests) answered) (sym e) in
+      ap (λ (os : List Output). os ++ flat_map (λ one. reply_frame one.connection (joined_replies one.replies)) answered) (no_frame_by one parts.0 h.0) ∙ no_frames answered (sym parts.1) h.1
+
+  speaks_first_is_refused : ARunIsAnsweredInOrderBy speaks_first → ⊥
+  speaks_first_is_refused law =
+      let told = law (share m accounts) [] in
+      let none : frame_to 1 (0 ∷ []) ∷ [] ≡ [] = told.2 ∙ no_frames told.0 told.1 told.3 in
+      cc
+
+  -- the connection of a client who keeps the rules stays open
+  abbrev WhoKeepsTheRulesIsServedOnBy : (ShareState S → List Happening → Ran S) → Type 0
+  WhoKeepsTheRulesIsServedOnBy play =
+      (s : ShareState S) (connection : ℕ) (happenings : List Happening) → is_open s connection ≡ true → LetGoOn m connection s happenings →
+      is_open (play s happenings).state connection ≡ true
+
+  who_keeps_the_rules_is_served_on : WhoKeepsTheRulesIsServedOn m ≡ WhoKeepsTheRulesIsServedOnBy (run_of m)
+  who_keeps_the_rules_is_served_on = refl
+
+  -- wrong: a client who says nothing is ended
+  abbrev ends_the_silent : ShareState S → List Happening → Ran S
+  ends_the_silent s [] = record { state = ended s 1; outputs = []; stop = None }
+  ends_the_silent s (happening ∷ happenings) = run_of m s (happening ∷ happenings)
+
+  ends_the_silent_is_refused : WhoKeepsTheRulesIsServedOnBy ends_the_silent → ⊥
+  ends_the_silent_is_refused law = let same : false ≡ true = law (share m accounts) 1 [] refl tt in cc

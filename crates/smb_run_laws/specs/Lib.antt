@@ -4,3 +4,4 @@ pub mod Written
 pub mod OpenFiles
 pub mod Locks
 pub mod Answers
+pub mod Rules

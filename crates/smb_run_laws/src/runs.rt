@@ -5,7 +5,8 @@ ghost use Rattle.smb_run_laws.specs.Written.{IsReadAsWritten};
 ghost use Rattle.smb_run_laws.specs.OpenFiles.{OpenFilesKeepTheirBytes, NumbersAreGivenOnce};
 ghost use Rattle.smb_run_laws.specs.Locks.{LocksBarOthers};
 ghost use Rattle.smb_run_laws.specs.MemoryRuns.{AServedRunIsItsActions, HoldsOfRuns};
-ghost use Rattle.smb_run_laws.specs.Answers.{AChainIsAnsweredInOrder};
+ghost use Rattle.smb_run_laws.specs.Answers.{ARunIsAnsweredInOrder};
+ghost use Rattle.smb_run_laws.specs.Rules.{WhoKeepsTheRulesIsServedOn};
 
 use smb_session::Authenticator;
 
@@ -20,8 +21,11 @@ use smb_session::Authenticator;
 ///   one for ever.
 /// - What is locked bars others while the open of the lock is there and asks for no UNLOCK of that range: under an
 ///   exclusive lock the READs and WRITEs of other opens, under a shared one every WRITE.
-/// - Each request of a chain but a CANCEL is answered once, in order, under its MessageId, and nothing else is in the
-///   chain's frame.
+/// - Each request that is performed, but a CANCEL, is answered once, in order, under its MessageId, on its connection, in
+///   one frame with those of its chain; and nothing else is sent. (Where memory runs out in a piece none of it is answered.)
+/// - The connection of a client stays open whose frames are whole and not too long, whose payloads are chains of which
+///   NEGOTIATE is the first, alone, and whose MessageIds are in the window, each once; until the client ends it, or memory
+///   runs out in a piece of it.
 ///
 /// The laws hold of every authenticator: the contract is the statement, and the body does nothing.
 pub fn laws_of_runs<A: Authenticator>()
@@ -32,5 +36,6 @@ pub fn laws_of_runs<A: Authenticator>()
     ensures numbers { HoldsOfRuns A.meaning NumbersAreGivenOnce }
     ensures bars { HoldsOfRuns A.meaning LocksBarOthers }
     ensures served { AServedRunIsItsActions A.meaning }
-    ensures answers { AChainIsAnsweredInOrder A.meaning }
+    ensures answers { ARunIsAnsweredInOrder A.meaning }
+    ensures rules { WhoKeepsTheRulesIsServedOn A.meaning }
 {}

@@ -9,7 +9,7 @@ use Rattle.smb_session.specs.Authenticator.{Meaning}
 use Rattle.smb_engine.specs.State.{ended}
 use Rattle.smb_peers.specs.Record.{Keeping, PeerCall, next_opened, next_bytes, next_ended, next_idle, send, close}
 use Rattle.smb_serving.specs.ServedPeers.{PeerState, peer_of, with_peer}
-use Rattle.smb_serving.specs.Serving.{ServingState, Turns, OpeningFollows, is_done, is_refused, has_no_memory, is_passed_over, PieceFollows, is_answered, runs_out, is_left, Follows, settled, IsServed, is_sent, fails, owes_nothing, AreServed}
+use Rattle.smb_serving.specs.Serving.{ServingState, Turn, Turns, OpeningFollows, is_done, is_refused, has_no_memory, is_passed_over, PieceFollows, is_answered, runs_out, is_left, Follows, settled, IsServed, is_sent, fails, owes_nothing, AreServed}
 use Rattle.smb_serving.specs.ServingParts.{opens_in, told, stays, dropped}
 use Rattle.smb_serving.specs.ServingLaws.{is_opened, OpensEachOnce}
 use Rattle.smb_serving.specs.Openings.{OpensIn, TurnOf, OpenedSince}
@@ -192,6 +192,10 @@ since_none calls opened = record { more = []; behind = sym (append-nil calls); o
 pub since_more : {S : Type 0} (m : Meaning S) (before : List PeerCall) (opened opened' : List ℕ) (call : PeerCall) (s t : ServingState S) → OpenedSince before s.calls opened → OpensIn call opened opened' → TurnOf m call s t →
     OpenedSince before t.calls opened'
 since_more m before opened opened' call s t o h turn = turn_since before s.calls opened o call t.calls opened' h (turn_grows m call s t turn)
+
+-- a turn that begins with a call is a turn
+pub turn_by : {S : Type 0} (m : Meaning S) (s t : ServingState S) (call : PeerCall) → TurnOf m call s t → Turn m s t
+turn_by m s t call one = (call, one.0, one.1, one.2)
 
 -- a turn more, behind those so far
 pub one_more : {S : Type 0} (m : Meaning S) (kept keeps keeps' : Bool) (i : ℕ) (start middle after : ServingState S) (before : List PeerCall) (opened opened' : List ℕ) →

@@ -1,5 +1,5 @@
 -- How a share is served to its peers, turn by turn.
-use Rattle.std.specs.Prelude.{◌≡◌, ℕ, zero, suc, ◌+◌, ◌≤◌, true, false, ◌||◌, nat_lt, List, [], ◌∷◌, ◌++◌, length, take, drop, None, Some, is_some, if◌then◌else◌}
+use Rattle.std.specs.Prelude.{◌≡◌, ◌⊎◌, ℕ, zero, suc, ◌+◌, ◌<◌, ◌≤◌, Bool, true, false, ◌||◌, nat_lt, List, [], ◌∷◌, ◌++◌, length, take, drop, None, Some, is_some, if◌then◌else◌}
 use Rattle.std.specs.Option.{option_map_or}
 use Rattle.std.specs.List.{flat_map}
 use Rattle.smb_session.specs.Authenticator.{Meaning}
@@ -135,3 +135,25 @@ module _ {S : Type 0} (authenticator : Meaning S) where
       (served_peers : List PeerState) × Turns turns
       (record { share = share; served_peers = []; calls = calls; moments = moments; ran_out = 0 })
       (record { share = share'; served_peers = served_peers; calls = calls'; moments = moments'; ran_out = ran_out })
+
+module _ {S P : Type 0} (authenticator : Meaning S) (calls : P → List PeerCall) (stopped : P → Bool) where
+  -- turns behind each of which the peers asked for no stop, with the peers as they were behind each, the last turn first
+  abbrev pub TurnsUnstopped : List P → ServingState S → ServingState S → Type 0
+  TurnsUnstopped [] s t = t ≡ s
+  TurnsUnstopped (peers ∷ before) s t =
+      (middle : ServingState S) × TurnsUnstopped before s middle × Turn authenticator middle t × (t.calls ≡ calls peers)
+      × (stopped peers ≡ false)
+
+  -- so many turns; or fewer, the last of them the first behind which the peers, as they are now, ask for a stop
+  abbrev pub TurnsUntilStopped : ℕ → P → ServingState S → ServingState S → Type 0
+  TurnsUntilStopped turns peers s t =
+      (before : List P) × (middle : ServingState S) × TurnsUnstopped before s middle
+      × (((length before ≡ turns) × (t ≡ middle))
+      ⊎ ((length before < turns) × Turn authenticator middle t × (stopped peers ≡ true)))
+
+  -- so a share is served, as by `Served`: with the peers as they were and as they are
+  abbrev pub ServedUntilStopped : ℕ → ShareState S → P → List ℕ → ShareState S → P → List ℕ → ℕ → Type 0
+  ServedUntilStopped turns share peers moments share' peers' moments' ran_out =
+      (served_peers : List PeerState) × TurnsUntilStopped turns peers'
+      (record { share = share; served_peers = []; calls = calls peers; moments = moments; ran_out = 0 })
+      (record { share = share'; served_peers = served_peers; calls = calls peers'; moments = moments'; ran_out = ran_out })

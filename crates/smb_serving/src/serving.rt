@@ -6,7 +6,7 @@ ghost use Rattle.smb_peers.specs.Record.{Keeping, PeerCall, close};
 ghost use Rattle.smb_peers.specs.Peers.{call_of, OpensOnce};
 ghost use Rattle.smb_serving.specs.ServedPeers.{peer_of};
 ghost use Rattle.smb_serving.specs.ServingParts.{place_of, place_for, serving, told, PieceTaken, IsSent, stays, share_behind_end, peers_behind_end};
-ghost use Rattle.smb_serving.specs.Serving.{OpeningFollows, PieceFollows, Follows, AreServed, Served};
+ghost use Rattle.smb_serving.specs.Serving.{OpeningFollows, PieceFollows, Follows, AreServed, Served, ServedUntilStopped};
 ghost use Rattle.smb_serving.specs.Openings.{Begins, OpensIn, TurnOf};
 ghost use Rattle.smb_serving.specs.ServingLaws.{OpensEachOnce};
 
@@ -314,7 +314,7 @@ pub fn serve<A: Authenticator + Drop, T: Tree + Drop, O: Opens + Drop, P: Peers,
     count
 }
 
-/// The same, for so many turns at most: where the peers ask for it, it ends behind the turn in which they did.
+/// The same, for so many turns at most: it ends behind the first turn behind which the peers ask for a stop.
 pub fn serve_until<
     A: Authenticator + Drop,
     T: Tree + Drop,
@@ -325,6 +325,8 @@ pub fn serve_until<
     ensures served { Keeping (P.keeps peers.old && C.keeps clock.old) (P.keeps peers.new && C.keeps clock.new)
         ((performed : ℕ) × (performed ≤ turns) × (performed < turns → P.stopped peers.new ≡ true)
         × Served A.meaning performed share.old (P.calls peers.old) (C.moments clock.old) share.new (P.calls peers.new) (C.moments clock.new) result) }
+    ensures stops { Keeping (P.keeps peers.old && C.keeps clock.old) (P.keeps peers.new && C.keeps clock.new)
+        (ServedUntilStopped A.meaning P.calls P.stopped turns share.old peers.old (C.moments clock.old) share.new peers.new (C.moments clock.new) result) }
     ensures once { Keeping (P.keeps peers.old && C.keeps clock.old) (P.keeps peers.new && C.keeps clock.new)
         ((more : List PeerCall) → P.calls peers.new ≡ P.calls peers.old ++ more → OpensEachOnce more) }
 {

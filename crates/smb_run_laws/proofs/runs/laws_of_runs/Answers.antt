@@ -1,4 +1,5 @@
-use Rattle.smb_run_laws.proofs.InOrder.{chain_answered}
+use Rattle.smb_run_laws.proofs.InOrder.{run_answered}
+use Rattle.smb_run_laws.proofs.Rules.{served_on}
 use Rattle.smb_run_laws.proofs.Served.{served_leads}
 use Rattle.smb_run_laws.proofs.Locks.{lock_bars}
 use Rattle.smb_run_laws.proofs.OpenFiles.{file_kept, number_once}
@@ -28,4 +29,7 @@ pub returns-clause-served : goal.returns-clause-served
 returns-clause-served g c = served_leads g.A.Authenticator.meaning
 
 pub returns-clause-answers : goal.returns-clause-answers
-returns-clause-answers g c = chain_answered g.A.Authenticator.meaning
+returns-clause-answers g c = run_answered g.A.Authenticator.meaning
+
+pub returns-clause-rules : goal.returns-clause-rules
+returns-clause-rules g c = λ s connection happenings. served_on g.A.Authenticator.meaning connection s happenings
