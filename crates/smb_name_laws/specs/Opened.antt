@@ -55,8 +55,8 @@ RightsAreGrantedAsAskedFor =
     × (ask.access ≡ MAXIMUM_ALLOWED → ask.read_only ≡ false → is_read_only_file (entry_asked state ask) ≡ false →
     row.access.0 ≡ FILE_ALL_ACCESS)
 
--- whatever else is asked for, an open has the rights that are asked for by name, all that each generic right asked for
--- stands for, and where MAXIMUM_ALLOWED is asked for all that are allowed: to a session that may only read
+-- whatever else is asked for, an open has the rights that are asked for by name, all rights that each generic right asked
+-- for gives, and where MAXIMUM_ALLOWED is asked for all that are allowed: to a session that may only read
 -- FILE_GENERIC_READ and FILE_GENERIC_EXECUTE; on a file that is read-only all but FILE_WRITE_DATA and FILE_APPEND_DATA;
 -- else every right ([MS-SMB2] 2.2.13.1)
 abbrev pub NoRightAskedForIsLeftOut : Type 0

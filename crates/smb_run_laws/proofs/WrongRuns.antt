@@ -16,13 +16,15 @@ use Rattle.smb_opens.specs.Bytes.{written_to}
 use Rattle.smb_request.specs.Context.{first_context}
 use Rattle.smb_request.specs.Response.{ResponseState}
 use Rattle.smb_peers.specs.Event.{EventText, ends}
-use Rattle.smb_engine.specs.Run.{PerformedRequest, Ran, run}
+use Rattle.smb_engine.specs.declared.arrival.Arrival.{Arrival}
+use Rattle.smb_engine.specs.declared.connection.Connection.{Connection}
+use Rattle.smb_engine.specs.Run.{PerformedRequest, Step, chain_step, Ran, run}
 use Rattle.smb_engine.specs.Output.{Output, frame_to, reply_frame}
 use Rattle.smb_engine.specs.State.{ShareState, new_stream, is_open, ended}
 use Rattle.smb_head.specs.Replies.{Reply, joined_replies}
 use Rattle.smb_serving.specs.Happenings.{Happening, run_of}
 use Rattle.smb_run_laws.specs.Actions.{Action, serves, after, Lead, actions_of_run, ARunIsItsActions}
-use Rattle.smb_run_laws.specs.Answers.{AnsweredPayload, AreReplies, AreAnsweredInOrder, requests_in, ARunIsAnsweredInOrder}
+use Rattle.smb_run_laws.specs.Answers.{AnsweredPayload, AreReplies, AreAnsweredInOrder, requests_in, AChainIsAnsweredInOrder, ARunIsAnsweredInOrder}
 use Rattle.smb_run_laws.specs.Rules.{LetGoOn, WhoKeepsTheRulesIsServedOn}
 use Rattle.smb_run_laws.specs.Written.{IsReadAsWritten}
 use Rattle.smb_run_laws.proofs.Leading.{run_leads}
@@ -146,6 +148,33 @@ module _ {S : Type 0} (m : Meaning S) (accounts : S) where
   speaks_first_is_refused law =
       let told = law (share m accounts) [] in
       let none : frame_to 1 (0 ∷ []) ∷ [] ≡ [] = told.2 ∙ no_frames told.0 told.1 told.3 in
+      cc
+
+  -- a chain is answered by one frame of the replies to its requests
+  abbrev AChainIsAnsweredInOrderBy : (Arrival → ServerState S → Connection → List ℕ → Step S) → Type 0
+  AChainIsAnsweredInOrderBy play =
+      (arrival : Arrival) (server : ServerState S) (connection : Connection) (payload : List ℕ) →
+      let step = play arrival server connection payload in
+      (replies : List Reply) × (step.outputs ≡ reply_frame arrival.connection_id (joined_replies replies)) × AreReplies step.requests replies
+
+  a_chain_is_answered : AChainIsAnsweredInOrder m ≡ AChainIsAnsweredInOrderBy (chain_step m)
+  a_chain_is_answered = refl
+
+  -- wrong: a payload of which nothing is performed is answered
+  abbrev answers_nothing : Arrival → ServerState S → Connection → List ℕ → Step S
+  answers_nothing arrival server connection payload = record {
+    server = server;
+    connection = connection;
+    outputs = frame_to arrival.connection_id (0 ∷ []) ∷ [];
+    stays_open = true;
+    requests = [];
+  }
+
+  answers_nothing_is_refused : AChainIsAnsweredInOrderBy answers_nothing → ⊥
+  unfolding joined_replies
+  answers_nothing_is_refused law =
+      let told = law (record { connection_id = 1; moment = 0 }) (share m accounts).server new_stream.connection [] in
+      let none : frame_to 1 (0 ∷ []) ∷ [] ≡ [] = told.1 ∙ ap (λ (rs : List Reply). reply_frame 1 (joined_replies rs)) told.2 in
       cc
 
   -- the connection of a client who keeps the rules stays open

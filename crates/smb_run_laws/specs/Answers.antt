@@ -9,9 +9,12 @@ use Rattle.smb_head.specs.Headers.{header_of}
 use Rattle.smb_head.specs.Replies.{Reply, joined_replies}
 use Rattle.smb_session.specs.Authenticator.{Meaning}
 use Rattle.smb_request.specs.Response.{ResponseState}
+use Rattle.smb_request.specs.State.{ServerState}
 use Rattle.smb_peers.specs.Event.{EventText}
+use Rattle.smb_engine.specs.declared.arrival.Arrival.{Arrival}
+use Rattle.smb_engine.specs.declared.connection.Connection.{Connection}
 use Rattle.smb_engine.specs.Output.{Output, frame_to, end_of, reply_frame}
-use Rattle.smb_engine.specs.Run.{PerformedRequest, run}
+use Rattle.smb_engine.specs.Run.{PerformedRequest, chain_step, run}
 use Rattle.smb_engine.specs.State.{ShareState}
 use Rattle.smb_run_laws.specs.Actions.{Action, serves, disconnects, actions_of_run}
 
@@ -39,7 +42,7 @@ AreReplies (served ∷ requests) replies = MatchOption served.request
     × ((reply : Reply) × (others : List Reply) × (replies ≡ reply ∷ others) × IsReplyTo request response reply
     × AreReplies requests others)))
 
--- a payload whose requests were performed on a connection, and the replies to them
+-- requests that were performed on a connection, and the replies to them in one frame
 pub record AnsweredPayload (S : Type 0) : Type 0 where
   pub connection : ℕ
   pub requests : List (PerformedRequest S)
@@ -55,8 +58,8 @@ requests_in [] = []
 requests_in (serves connection moment served ∷ actions) = (connection, served) ∷ requests_in actions
 requests_in (disconnects server connection ∷ actions) = requests_in actions
 
--- a list of answered payloads has all requests that were performed, in order, and their replies, a frame for each
--- payload that has some, are all frames that are put out, in order (3.3.4.1, 3.3.5.2.7)
+-- all requests that were performed are in a list, in order, and the frames of their replies are all that are put out, in
+-- order; which requests share a frame the law of a chain says
 abbrev pub AreAnsweredInOrder : {S : Type 0} → List (ℕ × PerformedRequest S) → List Output → Type 0
 AreAnsweredInOrder {S} requests outputs =
     (answered : List (AnsweredPayload S))
@@ -65,6 +68,14 @@ AreAnsweredInOrder {S} requests outputs =
     × AllByRecursion (λ one. AreReplies one.requests one.replies) answered
 
 module _ {S : Type 0} (authenticator : Meaning S) where
+  -- a chain that is performed is answered by one frame of the replies to its requests (3.3.4.1, 3.3.5.2.7)
+  abbrev pub AChainIsAnsweredInOrder : Type 0
+  AChainIsAnsweredInOrder =
+      (arrival : Arrival) (server : ServerState S) (connection : Connection) (payload : List ℕ) →
+      let step = chain_step authenticator arrival server connection payload in
+      (replies : List Reply) × (step.outputs ≡ reply_frame arrival.connection_id (joined_replies replies))
+      × AreReplies step.requests replies
+
   -- the requests that a run performs are answered in order, and nothing else is put out
   abbrev pub ARunIsAnsweredInOrder : Type 0
   ARunIsAnsweredInOrder =

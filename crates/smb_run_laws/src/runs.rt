@@ -5,7 +5,7 @@ ghost use Rattle.smb_run_laws.specs.Written.{IsReadAsWritten};
 ghost use Rattle.smb_run_laws.specs.OpenFiles.{OpenFilesKeepTheirBytes, NumbersAreGivenOnce};
 ghost use Rattle.smb_run_laws.specs.Locks.{LocksBarOthers};
 ghost use Rattle.smb_run_laws.specs.MemoryRuns.{AServedRunIsItsActions, HoldsOfRuns};
-ghost use Rattle.smb_run_laws.specs.Answers.{ARunIsAnsweredInOrder};
+ghost use Rattle.smb_run_laws.specs.Answers.{AChainIsAnsweredInOrder, ARunIsAnsweredInOrder};
 ghost use Rattle.smb_run_laws.specs.Rules.{WhoKeepsTheRulesIsServedOn};
 
 use smb_session::Authenticator;
@@ -36,6 +36,7 @@ pub fn laws_of_runs<A: Authenticator>()
     ensures numbers { HoldsOfRuns A.meaning NumbersAreGivenOnce }
     ensures bars { HoldsOfRuns A.meaning LocksBarOthers }
     ensures served { AServedRunIsItsActions A.meaning }
+    ensures chains { AChainIsAnsweredInOrder A.meaning }
     ensures answers { ARunIsAnsweredInOrder A.meaning }
     ensures rules { WhoKeepsTheRulesIsServedOn A.meaning }
 {}

@@ -1,4 +1,4 @@
-use Rattle.smb_run_laws.proofs.InOrder.{run_answered}
+use Rattle.smb_run_laws.proofs.InOrder.{chain_answered, run_answered}
 use Rattle.smb_run_laws.proofs.Rules.{served_on}
 use Rattle.smb_run_laws.proofs.Served.{served_leads}
 use Rattle.smb_run_laws.proofs.Locks.{lock_bars}
@@ -33,3 +33,6 @@ returns-clause-answers g c = run_answered g.A.Authenticator.meaning
 
 pub returns-clause-rules : goal.returns-clause-rules
 returns-clause-rules g c = λ s connection happenings. served_on g.A.Authenticator.meaning connection s happenings
+
+pub returns-clause-chains : goal.returns-clause-chains
+returns-clause-chains g c = chain_answered g.A.Authenticator.meaning
