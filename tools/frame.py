@@ -9,7 +9,7 @@
 `write` prints the words of a row of smb_rows, and with `--hex` plain hex, as `smbshare replay` takes it. A response
 begins with `response` before its command. ` ; ` joins the requests, or the responses, of a chain. A field that is not
 named has the value that most messages give it. Numbers are decimal or begin with 0x; names of flags are joined by `|`;
-a buffer of bytes is hex, or its text in quotes as tools/demo.py shows it; any other text is ASCII without a blank. `read` prints what `write` takes, without the fields of usual
+a buffer of bytes is hex, or its text in quotes as tools/lib/demo.py shows it; any other text is ASCII without a blank. `read` prints what `write` takes, without the fields of usual
 values. `check` reads each whole frame of rows and writes it again: the bytes must be the same. What is wrong is named
 in one line on standard error, and the status is 1. This tool is for people who write rows; nothing that is proved rests
 on it.

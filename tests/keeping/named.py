@@ -59,7 +59,7 @@ def a_name_is_shown_in_one_line(program):
             for form, found in (('record', begun(program, '--record', f'{absent}/{name}')),
                                 ('journal', begun(program, '--journal', f'{absent}/{name}'))):
                 said = f'{form}: {absent}/{shown}: cannot be written: no such file\n'
-                wrong.append(differs(found, (1, said), name))
+                wrong.append(differs(found, (1, said), repr(name)))
         return not any(wrong)
 
 
@@ -72,11 +72,10 @@ def a_start_says_what_it_leaves_out(program):
         for length, count in ((len(data), 0), (ends + 1, 1), (ends + 17, 17), (len(data) - 1, len(data) - 1 - ends),
                               (ends, 0), (60, 60), (first - 1, first - 1), (0, 0)):
             file = put(os.path.join(folder, f'cut at {length}'), data[:length])
-            status, errors = begun(program, '--journal', file)
-            said = [line for line in errors.splitlines(keepends=True) if not line.startswith('listening on ')]
-            wanted = (0, [cut_line('journal', file, count)] if count else [])
-            wrong += [differs((status, said), wanted, f'cut at {length} of {len(data)}'),
-                      differs([line for line in begun(program, '--journal', file)[1].splitlines() if 'cut' in line], [], 'again')]
+            for wanted, what in (((0, [cut_line('journal', file, count)] if count else []), ''), ((0, []), ', again')):
+                status, errors = begun(program, '--journal', file)
+                said = [line for line in errors.splitlines(keepends=True) if not line.startswith('listening on ')]
+                wrong.append(differs((status, said), wanted, f'cut at {length} of {len(data)}{what}'))
         return not any(wrong)
 
 
@@ -163,15 +162,17 @@ def many_that_cannot_be_made_leave_no_open(program):
 
 
 def a_share_goes_on_behind_what_it_left_out(program):
-    """Once it has said so, with the files that were acknowledged."""
+    """Once it has said so, with the files that were acknowledged; and the cut line is in its file no more."""
     with tempfile.TemporaryDirectory() as folder:
         file = make(program, os.path.join(folder, 'kept'), '--journal')
         data = bytes_of(file)
         put(file, data + b'+ 9')
         with keeping(program, '--journal', file) as share:
-            there = bytes_in(tree_in(share))
+            said, there = share.before, bytes_in(tree_in(share))
             killed(share)
-        return there == {'a': b'textmore'} and bytes_of(file).startswith(data)
+        return not any([differs(said, [cut_line('journal', file, 3)], 'what is said'),
+                        differs(there, {'a': b'textmore'}, 'what is there'),
+                        not bytes_of(file).startswith(data), bytes_of(file).startswith(data + b'+ 9')])
 
 
 TESTS = (a_write_that_fails_is_named, a_name_is_shown_in_one_line, a_start_says_what_it_leaves_out,

@@ -39,12 +39,13 @@ def waits_for(file, count, what=b'\n'):
 
 
 def works(share):
-    """Makes a file, renames and reads it, and asks for two that can't be had. Gives the client."""
+    """Makes a file, renames it, reads it and behind its end, and asks for two that can't be had. Gives the client."""
     client = Looking(share).comes_in()
     number = client.opens('june.txt', ALL_ACCESS, CREATE)
     client.asks(write(client.next_id(), number, 0, b'secret bytes', client.session, 1), 0, None)
     client.asks(rename(client.next_id(), number, 'july.txt', client.session, 1), 0, None)
     client.asks(read(client.next_id(), number, 0, 100, client.session, 1), 0, None)
+    client.any_status(read(client.next_id(), number, 100, 1, client.session, 1))
     client.asks(close(client.next_id(), number, client.session, 1), 0, None)
     client.any_status(create(client.next_id(), 'none', ALL_ACCESS, OPEN, 0, client.session, 1))
     client.any_status(create(client.next_id(), HOSTILE, ALL_ACCESS, OPEN, 0, client.session, 1))
@@ -80,7 +81,8 @@ def is_like(found, wanted):
 
 
 def refusals_are_logged(program):
-    """Where nothing else is asked for: who came and went, and what was refused, in one line each."""
+    """Where nothing else is asked for: who came and went, and what was refused, in one line each; the end of a file is no
+    refusal."""
     found, data = logged(program)
     return b'secret' not in data and is_like(
         found, [('-', 'opened', '-'), *REFUSED, ('guest', 'ended: by the client', '-')])
@@ -101,7 +103,7 @@ def requests_are_logged(program):
         ('guest', 'TREE_CONNECT ', done), ('guest', 'CREATE june.txt CREATE access=read,write', done),
         ('guest', 'WRITE june.txt offset=0 length=12', done),
         ('guest', 'SET_INFO june.txt rename to july.txt', done), ('guest', 'READ june.txt offset=0 length=100', done),
-        ('guest', 'CLOSE june.txt', done), *REFUSED, ('guest', 'ended: by the client', '-')])
+        ('guest', 'READ june.txt offset=100 length=1', 'STATUS_END_OF_FILE'), ('guest', 'CLOSE june.txt', done), *REFUSED, ('guest', 'ended: by the client', '-')])
 
 
 def why_a_client_ended_is_logged(program):

@@ -65,17 +65,18 @@ class Served:
         self.process = program.begins('serve', '--listen', '127.0.0.1:0', *words, stdin=subprocess.DEVNULL,
                                       stdout=subprocess.PIPE, stderr=subprocess.PIPE, env=system,
                                       preexec_fn=limits(descriptors, memory, longest))
+        # What a share that is kept says before it listens.
+        self.before = []
         self.patience = program.patience
         self.port = int(self.first_line().rsplit(':', 1)[1])
 
     def first_line(self):
-        """The line that says where it listens. What a share that is kept says before is passed over."""
-        said = []
+        """The line that says where it listens."""
         for line in iter(self.process.stderr.readline, b''):
-            said.append(line.decode())
-            if said[-1].startswith('listening on 127.0.0.1:'):
-                return said[-1]
-        raise AssertionError(f'it does not listen, and says {said!r}')
+            self.before.append(line.decode())
+            if self.before[-1].startswith('listening on 127.0.0.1:'):
+                return self.before.pop()
+        raise AssertionError(f'it does not listen, and says {self.before!r}')
 
     def __enter__(self):
         return self

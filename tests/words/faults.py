@@ -74,8 +74,10 @@ def no_other_file_may_be_read_by_its_group(program):
         os.mkdir(inner)
         os.mkdir(beside)
         name = put(os.path.join(inner, 'accounts.toml'), ACCOUNTS, 0o440)
-        others = (None, '', '/', folder, beside, os.path.join(inner, 'accounts.toml'), 'in', inner[1:], inner + 'x', '/' * 5_000)
-        return not any([differs(with_accounts(program, name, other), NOT_PRIVATE, other and other[:99]) for other in others])
+        others = (None, '', '/', folder, beside, name, name[:-5], 'in', inner[1:], inner + 'x', '/' * 5_000)
+        wrong = [differs(with_accounts(program, name, other), NOT_PRIVATE, other and other[:99]) for other in others]
+        relative = with_accounts(program, os.path.relpath(name), os.path.relpath(inner))
+        return not any([*wrong, differs(relative, NOT_PRIVATE, 'paths that do not begin at the root')])
 
 
 def a_credential_has_no_other_rights(program):
@@ -94,13 +96,16 @@ def a_credential_has_no_other_rights(program):
 
 
 def reasons_are_said_in_plain_words(program):
-    """Of a configuration, accounts, a log, a folder, a record, a journal and a recording; never in the words of the system's library."""
+    """Of a configuration, accounts, a log, a folder, a record, a journal and a recording, each named in one line; never in the
+    words of the system's library."""
     serve = ('serve', '--listen', '127.0.0.1:0', '--turns', '1')
     with tempfile.TemporaryDirectory() as folder:
         file, absent = put(os.path.join(folder, 'file'), 'a text'), os.path.join(folder, 'absent', 'file')
-        below = os.path.join(file, 'below')
+        below, odd, shown = os.path.join(file, 'below'), os.path.join(folder, 'a\nb'), os.path.join(folder, 'a\\nb')
         cases = ((('replay', '--explain', '--config', absent), f'config: cannot be read\n{absent}: no such file\n'),
                  (('replay', '--explain', '--config', folder), f'config: cannot be read\n{folder}: is a directory\n'),
+                 (('replay', '--explain', '--config', odd), f'config: cannot be read\n{shown}: no such file\n'),
+                 ((*BY_NTLM, '--accounts', odd), f'accounts: cannot be read\n{shown}: no such file\n'),
                  ((*BY_NTLM, '--accounts', absent), f'accounts: cannot be read\n{absent}: no such file\n'),
                  ((*BY_NTLM, '--accounts', below), f'accounts: cannot be read\n{below}: not a directory\n'),
                  ((*serve, '--log', absent), 'log: cannot be written: no such file\n'),

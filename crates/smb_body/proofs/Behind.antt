@@ -1,13 +1,11 @@
 -- Parts that were written one behind the other.
 use Rattle.std.proofs.Common.{◌≡◌, ℕ, ◌≤◌, List, ◌++◌, length, take, drop, refl, sym, ap, ◌∙◌, append_assoc, arith}
 use Rattle.std.proofs.lemmas.List.{drop_at, take_at, length-take, take-take}
-use Rattle.smb_wire.specs.Fields.{Field, joined, appended}
-use Rattle.smb_wire.proofs.FieldTables.{appended-joined}
 
 -- a table that was put, and bytes behind it
-pub joined_behind : (old first out : List ℕ) (fields : List Field) (bytes text : List ℕ) → first ≡ appended old fields → out ≡ first ++ bytes → bytes ≡ text → out ≡ old ++ (joined fields ++ text)
-joined_behind old first out fields bytes text e f g =
-    f ∙ ap (λ (xs : List ℕ). first ++ xs) g ∙ ap (λ (xs : List ℕ). xs ++ text) (e ∙ appended-joined old fields) ∙ append_assoc old (joined fields) text
+pub table_behind : (old first out table bytes text : List ℕ) → first ≡ old ++ table → out ≡ first ++ bytes → bytes ≡ text → out ≡ old ++ (table ++ text)
+table_behind old first out table bytes text e f g =
+    f ∙ ap (λ (xs : List ℕ). first ++ xs) g ∙ ap (λ (xs : List ℕ). xs ++ text) e ∙ append_assoc old table text
 
 -- what was put behind a header is its request's body
 pub body_behind : (header bytes : List ℕ) → length header ≡ 64 → drop 64 (header ++ bytes) ≡ bytes
@@ -21,10 +19,10 @@ kept_longer old first out e f =
     sym n ∙ ap (λ (xs : List ℕ). take (length old) xs) f ∙ e
 
 -- a table that was put, bytes behind it, and more behind those
-pub joined_twice_behind : (old first second out : List ℕ) (fields : List Field) (bytes text rest : List ℕ) → first ≡ appended old fields → second ≡ first ++ bytes → bytes ≡ text → out ≡ second ++ rest → out ≡ old ++ (joined fields ++ (text ++ rest))
-joined_twice_behind old first second out fields bytes text rest e f g h =
-    h ∙ ap (λ (xs : List ℕ). xs ++ rest) (joined_behind old first second fields bytes text e f g)
-    ∙ append_assoc old (joined fields ++ text) rest ∙ ap (λ (xs : List ℕ). old ++ xs) (append_assoc (joined fields) text rest)
+pub table_twice_behind : (old first second out table bytes text rest : List ℕ) → first ≡ old ++ table → second ≡ first ++ bytes → bytes ≡ text → out ≡ second ++ rest → out ≡ old ++ (table ++ (text ++ rest))
+table_twice_behind old first second out table bytes text rest e f g h =
+    h ∙ ap (λ (xs : List ℕ). xs ++ rest) (table_behind old first second table bytes text e f g)
+    ∙ append_assoc old (table ++ text) rest ∙ ap (λ (xs : List ℕ). old ++ xs) (append_assoc table text rest)
 
 -- more bytes behind keep the old ones
 pub kept_append : (old first out bytes : List ℕ) → take (length old) first ≡ old → out ≡ first ++ bytes → take (length old) out ≡ old

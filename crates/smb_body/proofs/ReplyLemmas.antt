@@ -2,13 +2,13 @@
 use Rattle.std.proofs.Common.{◌≡◌, ℕ, ◌+◌, List, [], ◌++◌, length, sym, ap, arith, ◌∙◌, append-nil, length-append}
 use Rattle.std.proofs.Common.{rules, refl, ◌-◌, drop, Some}
 use Rattle.std.proofs.lemmas.List.{drop_at}
-use Rattle.smb_wire.specs.Fields.{Field, number_in, AllFit, AllStand, InOrder, joined, appended, width_of}
-use Rattle.smb_wire.proofs.FieldTables.{appended-joined, length-joined, stand_behind}
+use Rattle.smb_wire.specs.Fields.{Field, number_in, AllFit, AllStand, InOrder, joined, width_of}
+use Rattle.smb_wire.proofs.FieldTables.{length-joined, stand_behind}
 use Rattle.smb_body.specs.Replies.{ReplyValue, answers_error, answers_negotiate, answers_session_setup, answers_logoff, answers_tree_connect, answers_tree_disconnect, answers_create, answers_close, answers_flush, answers_read, answers_write, answers_lock, answers_echo, answers_query_directory, answers_query_info, answers_set_info, reply_fields, reply_buffer, reply_spelling, reply_length, HasBufferAtItsOffset}
 
 -- a table that was put, and no buffer
-pub joined_alone : (old out : List ℕ) (fields : List Field) → out ≡ appended old fields → out ≡ old ++ (joined fields ++ [])
-joined_alone old out fields e = e ∙ appended-joined old fields ∙ ap (λ (xs : List ℕ). old ++ xs) (sym (append-nil (joined fields)))
+pub joined_alone : (old out : List ℕ) (fields : List Field) → out ≡ old ++ joined fields → out ≡ old ++ (joined fields ++ [])
+joined_alone old out fields e = e ∙ ap (λ (xs : List ℕ). old ++ xs) (sym (append-nil (joined fields)))
 
 pub reply_size : (v : ReplyValue) (old out : List ℕ) → AllFit (reply_fields v) → out ≡ old ++ reply_spelling v → length out ≡ length old + reply_length v
 reply_size v old out f e =

@@ -1,4 +1,5 @@
 pub mod Buffers
+pub mod Numbers
 pub mod Refusals
 pub mod Dialects
 pub mod Negotiate

@@ -1,12 +1,15 @@
 //! CLOSE ([MS-SMB2] 2.2.15, 2.2.16).
 
-ghost use Rattle.std.specs.Prelude.{◌≡◌, length, take, is_some, IfSome, OnOk};
-ghost use Rattle.smb_wire.specs.Fields.{AllFit, appended};
+ghost use Rattle.std.specs.Prelude.{◌≡◌, ◌++◌, length, take, is_some, IfSome, OnOk};
+ghost use Rattle.smb_wire.specs.Fields.{AllFit, joined};
 ghost use Rattle.smb_body.specs.Close.{close_fields, FitsClose, close_response_fields};
 ghost use Rattle.smb_body.specs.Readings.{is_close, close_of};
 
 use super::buffer::{body, file_id_in};
-use smb_wire::{FileAttributes, FileId, WireFault, put_u16, put_u32, put_u64, u16_in, u32_in};
+use super::numbers::{Number, put_numbers};
+use smb_wire::{
+    FileAttributes, FileId, WireFault, in_eight, in_two, put_bytes, put_u32, u16_in, u32_in,
+};
 
 /// Flags of CLOSE ([MS-SMB2] 2.2.15, 2.2.16).
 #[derive(Clone, Copy)]
@@ -43,16 +46,20 @@ pub(crate) fn read_close(request: &[u8]) -> Option<CloseRequest>
 
 /// Adds the body. After an error some of it stands there.
 pub(crate) fn put_close(request: CloseRequest, out: &mut Vec<u8>) -> Result<(), WireFault>
-    ensures ok { OnOk result (out.new.items ≡ appended out.old.items (close_fields request)) }
+    ensures ok { OnOk result (out.new.items ≡ out.old.items ++ joined (close_fields request)) }
     ensures fits { OnOk result (FitsClose request) }
     ensures kept { take (length out.old.items) out.new.items ≡ out.old.items }
 {
-    put_u16(out, 24)?;
-    put_u16(out, request.flags.0)?;
-    put_u32(out, request.reserved)?;
-    put_u64(out, request.file_id.persistent)?;
-    put_u64(out, request.file_id.volatile)?;
-    Ok(())
+    put_numbers(
+        &[
+            Number::U16(24),
+            Number::U16(request.flags.0),
+            Number::U32(request.reserved),
+            Number::U64(request.file_id.persistent),
+            Number::U64(request.file_id.volatile),
+        ],
+        out,
+    )
 }
 
 /// A CLOSE response ([MS-SMB2] 2.2.16).
@@ -75,19 +82,21 @@ pub(crate) fn put_close_response(
     out: &mut Vec<u8>,
 ) -> Result<(), WireFault>
     ensures ok { OnOk result (out.new.items ≡
-        appended out.old.items (close_response_fields response)) }
+        out.old.items ++ joined (close_response_fields response)) }
     ensures fits { OnOk result (AllFit (close_response_fields response)) }
     ensures kept { take (length out.old.items) out.new.items ≡ out.old.items }
 {
-    put_u16(out, 60)?;
-    put_u16(out, response.flags.0)?;
+    put_bytes(out, [in_two(60), in_two(response.flags.0)].as_flattened())?;
     put_u32(out, 0)?;
-    put_u64(out, response.creation_time)?;
-    put_u64(out, response.last_access_time)?;
-    put_u64(out, response.last_write_time)?;
-    put_u64(out, response.change_time)?;
-    put_u64(out, response.allocation_size)?;
-    put_u64(out, response.end_of_file)?;
+    let times_and_sizes = [
+        in_eight(response.creation_time),
+        in_eight(response.last_access_time),
+        in_eight(response.last_write_time),
+        in_eight(response.change_time),
+        in_eight(response.allocation_size),
+        in_eight(response.end_of_file),
+    ];
+    put_bytes(out, times_and_sizes.as_flattened())?;
     put_u32(out, response.file_attributes.0)?;
     Ok(())
 }

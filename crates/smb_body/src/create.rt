@@ -1,7 +1,7 @@
 //! CREATE ([MS-SMB2] 2.2.13, 2.2.14).
 
 ghost use Rattle.std.specs.Prelude.{◌≡◌, ◌++◌, ◌≤◌, ◌<◌, ◌^◌, length, take, replicate, is_some, IfSome, OnOk, OnErr, IfErr, false};
-ghost use Rattle.smb_wire.specs.Fields.{AllFit, appended};
+ghost use Rattle.smb_wire.specs.Fields.{AllFit, joined};
 ghost use Rattle.smb_wire.specs.Pairs.{AreUnits};
 ghost use Rattle.smb_body.specs.Refusals.{body_refusal};
 ghost use Rattle.smb_body.specs.Create.{create_asked, create_fields, create_laid, create_spelling, FitsCreate, contexts_place, contexts_gap, name_end, create_response_fields};
@@ -9,10 +9,11 @@ ghost use Rattle.smb_body.specs.Readings.{is_create_too_long, is_create, create_
 
 use super::buffer::{body, buffer, text};
 use super::fault::BodyFault;
+use super::numbers::{Number, put_numbers};
 use smb_wire::{
     Access, CreateAction, CreateDispositionCode, CreateOptions, FileAttributes, FileId,
-    ShareAccess, Units, WireFault, put_bytes, put_u8, put_u16, put_u32, put_u64, u8_in, u16_in,
-    u32_in, u64_in,
+    ShareAccess, Units, WireFault, in_eight, in_four, put_bytes, put_u8, put_u16, put_u32, u8_in,
+    u16_in, u32_in, u64_in,
 };
 
 /// Security flags of a CREATE request, which are reserved.
@@ -101,25 +102,29 @@ fn put_fixed(request: &CreateRequest<'_>, place: u32, out: &mut Vec<u8>) -> Resu
     requires contexts { length (create_asked request.now).create_contexts ≤ 4294967295 }
     requires place { place ≡ contexts_place (name_end (create_asked request.now)) (create_asked request.now).create_contexts }
     ensures ok { OnOk result (out.new.items ≡
-        appended out.old.items (create_fields (create_laid (create_asked request.now)))) }
+        out.old.items ++ joined (create_fields (create_laid (create_asked request.now)))) }
     ensures kept { take (length out.old.items) out.new.items ≡ out.old.items }
 {
-    put_u16(out, 57)?;
-    put_u8(out, request.security_flags.0)?;
-    put_u8(out, request.requested_oplock_level.0)?;
-    put_u32(out, request.impersonation_level.0)?;
-    put_u64(out, request.smb_create_flags.0)?;
-    put_u64(out, request.reserved)?;
-    put_u32(out, request.desired_access.0)?;
-    put_u32(out, request.file_attributes.0)?;
-    put_u32(out, request.share_access.0)?;
-    put_u32(out, request.create_disposition.0)?;
-    put_u32(out, request.create_options.0)?;
-    put_u16(out, 120)?;
-    put_u16(out, 2 * request.name.len() as u16)?;
-    put_u32(out, place)?;
-    put_u32(out, request.create_contexts.len() as u32)?;
-    Ok(())
+    put_numbers(
+        &[
+            Number::U16(57),
+            Number::U8(request.security_flags.0),
+            Number::U8(request.requested_oplock_level.0),
+            Number::U32(request.impersonation_level.0),
+            Number::U64(request.smb_create_flags.0),
+            Number::U64(request.reserved),
+            Number::U32(request.desired_access.0),
+            Number::U32(request.file_attributes.0),
+            Number::U32(request.share_access.0),
+            Number::U32(request.create_disposition.0),
+            Number::U32(request.create_options.0),
+            Number::U16(120),
+            Number::U16(2 * request.name.len() as u16),
+            Number::U32(place),
+            Number::U32(request.create_contexts.len() as u32),
+        ],
+        out,
+    )
 }
 
 /// Where contexts stand that follow a name with this end: at a multiple of 8, or at 0 if there are none.
@@ -208,29 +213,44 @@ pub struct CreateResponse {
     pub file_id: FileId,
 }
 
-/// Adds the fields of a response. After an error some of them stand there.
-fn put_response_fields(response: &CreateResponse, out: &mut Vec<u8>) -> Result<(), WireFault>
+/// Adds what stands before the times. After an error some of it stands there.
+fn put_response_front(response: &CreateResponse, out: &mut Vec<u8>) -> Result<(), WireFault>
     ensures ok { OnOk result (out.new.items ≡
-        appended out.old.items (create_response_fields response.now)) }
+        out.old.items ++ joined (take 4 (create_response_fields response.now))) }
     ensures kept { take (length out.old.items) out.new.items ≡ out.old.items }
 {
     put_u16(out, 89)?;
     put_u8(out, response.oplock_level.0)?;
     put_u8(out, 0)?;
-    put_u32(out, response.create_action.code())?;
-    put_u64(out, response.creation_time)?;
-    put_u64(out, response.last_access_time)?;
-    put_u64(out, response.last_write_time)?;
-    put_u64(out, response.change_time)?;
-    put_u64(out, response.allocation_size)?;
-    put_u64(out, response.end_of_file)?;
-    put_u32(out, response.file_attributes.0)?;
-    put_u32(out, 0)?;
-    put_u64(out, response.file_id.persistent)?;
-    put_u64(out, response.file_id.volatile)?;
-    put_u32(out, 0)?;
-    put_u32(out, 0)?;
-    Ok(())
+    put_u32(out, response.create_action.code())
+}
+
+/// Adds the fields of a response. After an error some of them stand there.
+fn put_response_fields(response: &CreateResponse, out: &mut Vec<u8>) -> Result<(), WireFault>
+    ensures ok { OnOk result (out.new.items ≡
+        out.old.items ++ joined (create_response_fields response.now)) }
+    ensures kept { take (length out.old.items) out.new.items ≡ out.old.items }
+{
+    put_response_front(response, out)?;
+    let times_and_sizes = [
+        in_eight(response.creation_time),
+        in_eight(response.last_access_time),
+        in_eight(response.last_write_time),
+        in_eight(response.change_time),
+        in_eight(response.allocation_size),
+        in_eight(response.end_of_file),
+    ];
+    put_bytes(out, times_and_sizes.as_flattened())?;
+    put_bytes(
+        out,
+        [in_four(response.file_attributes.0), in_four(0)].as_flattened(),
+    )?;
+    let file_id = &response.file_id;
+    put_bytes(
+        out,
+        [in_eight(file_id.persistent), in_eight(file_id.volatile)].as_flattened(),
+    )?;
+    put_bytes(out, [in_four(0), in_four(0)].as_flattened())
 }
 
 /// Adds the body of a response. After an error some of it stands there.
@@ -239,7 +259,7 @@ pub(crate) fn put_create_response(
     out: &mut Vec<u8>,
 ) -> Result<(), WireFault>
     ensures ok { OnOk result (out.new.items ≡
-        appended out.old.items (create_response_fields response)) }
+        out.old.items ++ joined (create_response_fields response)) }
     ensures fits { OnOk result (AllFit (create_response_fields response)) }
     ensures kept { take (length out.old.items) out.new.items ≡ out.old.items }
 {

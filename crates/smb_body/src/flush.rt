@@ -1,12 +1,13 @@
 //! FLUSH ([MS-SMB2] 2.2.17).
 
-ghost use Rattle.std.specs.Prelude.{◌≡◌, length, take, is_some, IfSome, OnOk};
-ghost use Rattle.smb_wire.specs.Fields.{appended};
+ghost use Rattle.std.specs.Prelude.{◌≡◌, ◌++◌, length, take, is_some, IfSome, OnOk};
+ghost use Rattle.smb_wire.specs.Fields.{joined};
 ghost use Rattle.smb_body.specs.Flush.{flush_fields, FitsFlush};
 ghost use Rattle.smb_body.specs.Readings.{is_flush, flush_of};
 
 use super::buffer::{body, file_id_in};
-use smb_wire::{FileId, WireFault, put_u16, put_u32, put_u64, u16_in, u32_in};
+use super::numbers::{Number, put_numbers};
+use smb_wire::{FileId, WireFault, u16_in, u32_in};
 
 /// A FLUSH request ([MS-SMB2] 2.2.17).
 #[derive(Clone, Copy)]
@@ -34,14 +35,18 @@ pub(crate) fn read_flush(request: &[u8]) -> Option<FlushRequest>
 
 /// Adds the body. After an error some of it stands there.
 pub(crate) fn put_flush(request: FlushRequest, out: &mut Vec<u8>) -> Result<(), WireFault>
-    ensures ok { OnOk result (out.new.items ≡ appended out.old.items (flush_fields request)) }
+    ensures ok { OnOk result (out.new.items ≡ out.old.items ++ joined (flush_fields request)) }
     ensures fits { OnOk result (FitsFlush request) }
     ensures kept { take (length out.old.items) out.new.items ≡ out.old.items }
 {
-    put_u16(out, 24)?;
-    put_u16(out, request.reserved1)?;
-    put_u32(out, request.reserved2)?;
-    put_u64(out, request.file_id.persistent)?;
-    put_u64(out, request.file_id.volatile)?;
-    Ok(())
+    put_numbers(
+        &[
+            Number::U16(24),
+            Number::U16(request.reserved1),
+            Number::U32(request.reserved2),
+            Number::U64(request.file_id.persistent),
+            Number::U64(request.file_id.volatile),
+        ],
+        out,
+    )
 }

@@ -23,6 +23,7 @@ mod lock;
 mod lock_element;
 mod lock_list;
 mod negotiate;
+mod numbers;
 mod query;
 mod query_directory;
 mod query_info;

@@ -1,7 +1,7 @@
 //! LOCK ([MS-SMB2] 2.2.26).
 
 ghost use Rattle.std.specs.Prelude.{◌≡◌, ◌++◌, ◌≤◌, length, take, is_some, IfSome, OnOk, IfErr, false};
-ghost use Rattle.smb_wire.specs.Fields.{appended};
+ghost use Rattle.smb_wire.specs.Fields.{joined};
 ghost use Rattle.smb_body.specs.Refusals.{body_refusal};
 ghost use Rattle.smb_body.specs.Lock.{lock_asked, lock_request_fields, lock_spelling, FitsLock};
 ghost use Rattle.smb_body.specs.Readings.{is_lock_too_long, is_lock, lock_of};
@@ -9,7 +9,8 @@ ghost use Rattle.smb_body.specs.Readings.{is_lock_too_long, is_lock, lock_of};
 use super::buffer::{body, file_id_in};
 use super::fault::BodyFault;
 use super::lock_list::LockList;
-use smb_wire::{FileId, WireFault, put_bytes, put_u16, put_u32, put_u64, u16_in, u32_in};
+use super::numbers::{Number, put_numbers};
+use smb_wire::{FileId, WireFault, put_bytes, u16_in, u32_in};
 
 /// The sequence of a LOCK, for replays. The profile ignores it.
 #[derive(Clone, Copy)]
@@ -48,15 +49,19 @@ pub(crate) fn read_lock(request: &[u8]) -> Option<LockRequest<'_>>
 fn put_fixed(request: &LockRequest<'_>, out: &mut Vec<u8>) -> Result<(), WireFault>
     requires { length (lock_asked request.now).locks ≤ 65535 }
     ensures ok { OnOk result (out.new.items ≡
-        appended out.old.items (lock_request_fields (lock_asked request.now))) }
+        out.old.items ++ joined (lock_request_fields (lock_asked request.now))) }
     ensures kept { take (length out.old.items) out.new.items ≡ out.old.items }
 {
-    put_u16(out, 48)?;
-    put_u16(out, request.locks.len() as u16)?;
-    put_u32(out, request.lock_sequence.0)?;
-    put_u64(out, request.file_id.persistent)?;
-    put_u64(out, request.file_id.volatile)?;
-    Ok(())
+    put_numbers(
+        &[
+            Number::U16(48),
+            Number::U16(request.locks.len() as u16),
+            Number::U32(request.lock_sequence.0),
+            Number::U64(request.file_id.persistent),
+            Number::U64(request.file_id.volatile),
+        ],
+        out,
+    )
 }
 
 /// Adds the body. After an error some of it stands there.

@@ -1,7 +1,7 @@
 //! NEGOTIATE ([MS-SMB2] 2.2.3, 2.2.4).
 
 ghost use Rattle.std.specs.Prelude.{◌≡◌, ◌++◌, ◌≤◌, length, take, is_some, IfSome, IfErr, OnOk, false};
-ghost use Rattle.smb_wire.specs.Fields.{AllFit, appended, joined};
+ghost use Rattle.smb_wire.specs.Fields.{AllFit, joined};
 ghost use Rattle.smb_body.specs.Refusals.{body_refusal};
 ghost use Rattle.smb_body.specs.Negotiate.{negotiate_asked, negotiate_fields, negotiate_spelling, FitsNegotiate, negotiate_answered, negotiate_response_fields};
 ghost use Rattle.smb_body.specs.Readings.{is_negotiate_too_long, is_negotiate_response_too_long, is_negotiate, negotiate_of};
@@ -9,8 +9,9 @@ ghost use Rattle.smb_body.specs.Readings.{is_negotiate_too_long, is_negotiate_re
 use super::buffer::{body, guid_in};
 use super::dialects::Dialects;
 use super::fault::BodyFault;
+use super::numbers::{Number, put_numbers};
 use super::types::{Capabilities, DialectRevision, Guid};
-use smb_wire::{WireFault, put_bytes, put_u16, put_u32, put_u64, u16_in, u32_in, u64_in};
+use smb_wire::{WireFault, put_bytes, u16_in, u32_in, u64_in};
 
 /// Whether signing is enabled (1) and required (2).
 #[derive(Clone, Copy)]
@@ -55,17 +56,21 @@ pub(crate) fn read_negotiate(request: &[u8]) -> Option<NegotiateRequest<'_>>
 fn put_fixed(request: &NegotiateRequest<'_>, out: &mut Vec<u8>) -> Result<(), WireFault>
     requires { length (negotiate_asked request.now).dialects ≤ 65535 }
     ensures ok { OnOk result (out.new.items ≡
-        appended out.old.items (negotiate_fields (negotiate_asked request.now))) }
+        out.old.items ++ joined (negotiate_fields (negotiate_asked request.now))) }
     ensures kept { take (length out.old.items) out.new.items ≡ out.old.items }
 {
-    put_u16(out, 36)?;
-    put_u16(out, request.dialects.len() as u16)?;
-    put_u16(out, request.security_mode.0)?;
-    put_u16(out, request.reserved)?;
-    put_u32(out, request.capabilities.0)?;
+    put_numbers(
+        &[
+            Number::U16(36),
+            Number::U16(request.dialects.len() as u16),
+            Number::U16(request.security_mode.0),
+            Number::U16(request.reserved),
+            Number::U32(request.capabilities.0),
+        ],
+        out,
+    )?;
     put_bytes(out, &request.client_guid.0)?;
-    put_u64(out, request.client_start_time)?;
-    Ok(())
+    put_numbers(&[Number::U64(request.client_start_time)], out)
 }
 
 /// Adds the body. After an error some of it stands there.
@@ -109,24 +114,33 @@ pub struct NegotiateResponse<'a> {
 fn put_response_fixed(response: &NegotiateResponse<'_>, out: &mut Vec<u8>) -> Result<(), WireFault>
     requires { length response.now.security_buffer.now ≤ 65535 }
     ensures ok { OnOk result (out.new.items ≡
-        appended out.old.items (negotiate_response_fields (negotiate_answered response.now))) }
+        out.old.items ++ joined (negotiate_response_fields (negotiate_answered response.now))) }
     ensures kept { take (length out.old.items) out.new.items ≡ out.old.items }
 {
-    put_u16(out, 65)?;
-    put_u16(out, response.security_mode.0)?;
-    put_u16(out, response.dialect_revision.0)?;
-    put_u16(out, 0)?;
+    put_numbers(
+        &[
+            Number::U16(65),
+            Number::U16(response.security_mode.0),
+            Number::U16(response.dialect_revision.0),
+            Number::U16(0),
+        ],
+        out,
+    )?;
     put_bytes(out, &response.server_guid.0)?;
-    put_u32(out, response.capabilities.0)?;
-    put_u32(out, response.max_transact_size)?;
-    put_u32(out, response.max_read_size)?;
-    put_u32(out, response.max_write_size)?;
-    put_u64(out, response.system_time)?;
-    put_u64(out, response.server_start_time)?;
-    put_u16(out, 128)?;
-    put_u16(out, response.security_buffer.len() as u16)?;
-    put_u32(out, 0)?;
-    Ok(())
+    put_numbers(
+        &[
+            Number::U32(response.capabilities.0),
+            Number::U32(response.max_transact_size),
+            Number::U32(response.max_read_size),
+            Number::U32(response.max_write_size),
+            Number::U64(response.system_time),
+            Number::U64(response.server_start_time),
+            Number::U16(128),
+            Number::U16(response.security_buffer.len() as u16),
+            Number::U32(0),
+        ],
+        out,
+    )
 }
 
 /// Adds the body of a response. After an error some of it stands there.

@@ -1,13 +1,14 @@
 //! The response of QUERY_DIRECTORY and QUERY_INFO ([MS-SMB2] 2.2.34, 2.2.38).
 
 ghost use Rattle.std.specs.Prelude.{◌≡◌, ◌++◌, ◌≤◌, ◌<◌, ◌+◌, ◌^◌, List, ℕ, length, take, drop, replicate, OnOk, OnErr, IfOk, IfErr, false};
-ghost use Rattle.smb_wire.specs.Fields.{AllFit, appended, joined};
+ghost use Rattle.smb_wire.specs.Fields.{AllFit, joined};
 ghost use Rattle.smb_body.specs.Refusals.{body_refusal};
 ghost use Rattle.smb_body.specs.Replies.{reply_spelling, answers_query_directory, answers_query_info, reply_fields};
 ghost use Rattle.smb_body.specs.Readings.{is_query_response_too_long};
 
 use super::fault::BodyFault;
-use smb_wire::{WireFault, put_bytes, put_u16, put_u32};
+use super::numbers::{Number, put_numbers};
+use smb_wire::{WireFault, put_bytes};
 use std::alloc::AllocError;
 
 /// A QUERY_DIRECTORY or QUERY_INFO response ([MS-SMB2] 2.2.34, 2.2.38).
@@ -20,13 +21,17 @@ pub struct QueryResponse<'a> {
 fn put_response_fixed(response: &QueryResponse<'_>, out: &mut Vec<u8>) -> Result<(), WireFault>
     requires { length response.now.output_buffer.now ≤ 4294967295 }
     ensures ok { OnOk result (out.new.items ≡
-        appended out.old.items (reply_fields (answers_query_info response.now.output_buffer.now))) }
+        out.old.items ++ joined (reply_fields (answers_query_info response.now.output_buffer.now))) }
     ensures kept { take (length out.old.items) out.new.items ≡ out.old.items }
 {
-    put_u16(out, 9)?;
-    put_u16(out, 72)?;
-    put_u32(out, response.output_buffer.len() as u32)?;
-    Ok(())
+    put_numbers(
+        &[
+            Number::U16(9),
+            Number::U16(72),
+            Number::U32(response.output_buffer.len() as u32),
+        ],
+        out,
+    )
 }
 
 /// Adds the body of a response. After an error some of it stands there.

@@ -1,18 +1,16 @@
 //! QUERY_DIRECTORY ([MS-SMB2] 2.2.33).
 
 ghost use Rattle.std.specs.Prelude.{◌≡◌, ◌++◌, ◌≤◌, length, take, is_some, IfSome, OnOk, IfErr, false};
-ghost use Rattle.smb_wire.specs.Fields.{appended};
+ghost use Rattle.smb_wire.specs.Fields.{joined};
 ghost use Rattle.smb_body.specs.Refusals.{body_refusal};
 ghost use Rattle.smb_body.specs.QueryDirectory.{query_directory_asked, query_directory_fields, query_directory_laid, query_directory_spelling, FitsQueryDirectory};
 ghost use Rattle.smb_body.specs.Readings.{is_query_directory_too_long, is_query_directory, query_directory_of};
 
 use super::buffer::{body, file_id_in, text};
 use super::fault::BodyFault;
+use super::numbers::{Number, put_numbers};
 use super::types::InformationClass;
-use smb_wire::{
-    FileId, QueryDirectoryFlags, Units, WireFault, put_bytes, put_u8, put_u16, put_u32, put_u64,
-    u8_in, u16_in, u32_in,
-};
+use smb_wire::{FileId, QueryDirectoryFlags, Units, WireFault, put_bytes, u8_in, u16_in, u32_in};
 
 /// A QUERY_DIRECTORY request ([MS-SMB2] 2.2.33).
 #[derive(Clone, Copy)]
@@ -57,19 +55,23 @@ pub(crate) fn read_query_directory(request: &[u8]) -> Option<QueryDirectoryReque
 fn put_fixed(request: &QueryDirectoryRequest<'_>, out: &mut Vec<u8>) -> Result<(), WireFault>
     requires { length (query_directory_asked request.now).file_name ≤ 32767 }
     ensures ok { OnOk result (out.new.items ≡
-        appended out.old.items (query_directory_fields (query_directory_laid (query_directory_asked request.now)))) }
+        out.old.items ++ joined (query_directory_fields (query_directory_laid (query_directory_asked request.now)))) }
     ensures kept { take (length out.old.items) out.new.items ≡ out.old.items }
 {
-    put_u16(out, 33)?;
-    put_u8(out, request.file_information_class.0)?;
-    put_u8(out, request.flags.0)?;
-    put_u32(out, request.file_index)?;
-    put_u64(out, request.file_id.persistent)?;
-    put_u64(out, request.file_id.volatile)?;
-    put_u16(out, 96)?;
-    put_u16(out, 2 * request.file_name.len() as u16)?;
-    put_u32(out, request.output_buffer_length)?;
-    Ok(())
+    put_numbers(
+        &[
+            Number::U16(33),
+            Number::U8(request.file_information_class.0),
+            Number::U8(request.flags.0),
+            Number::U32(request.file_index),
+            Number::U64(request.file_id.persistent),
+            Number::U64(request.file_id.volatile),
+            Number::U16(96),
+            Number::U16(2 * request.file_name.len() as u16),
+            Number::U32(request.output_buffer_length),
+        ],
+        out,
+    )
 }
 
 /// Adds the body. After an error some of it stands there.

@@ -1,13 +1,14 @@
 //! QUERY_INFO ([MS-SMB2] 2.2.37).
 
-ghost use Rattle.std.specs.Prelude.{◌≡◌, length, take, is_some, IfSome, OnOk};
-ghost use Rattle.smb_wire.specs.Fields.{appended};
+ghost use Rattle.std.specs.Prelude.{◌≡◌, ◌++◌, length, take, is_some, IfSome, OnOk};
+ghost use Rattle.smb_wire.specs.Fields.{joined};
 ghost use Rattle.smb_body.specs.QueryInfo.{query_info_fields, FitsQueryInfo};
 ghost use Rattle.smb_body.specs.Readings.{is_query_info, query_info_of};
 
 use super::buffer::{body, file_id_in};
+use super::numbers::{Number, put_numbers};
 use super::types::{AdditionalInformation, InfoType, InformationClass};
-use smb_wire::{FileId, WireFault, put_u8, put_u16, put_u32, put_u64, u8_in, u16_in, u32_in};
+use smb_wire::{FileId, WireFault, u8_in, u16_in, u32_in};
 
 /// Flags of a QUERY_INFO request ([MS-SMB2] 2.2.37). The profile ignores them.
 #[derive(Clone, Copy)]
@@ -51,20 +52,24 @@ pub(crate) fn read_query_info(request: &[u8]) -> Option<QueryInfoRequest>
 
 /// Adds the body. After an error some of it stands there.
 pub(crate) fn put_query_info(request: QueryInfoRequest, out: &mut Vec<u8>) -> Result<(), WireFault>
-    ensures ok { OnOk result (out.new.items ≡ appended out.old.items (query_info_fields request)) }
+    ensures ok { OnOk result (out.new.items ≡ out.old.items ++ joined (query_info_fields request)) }
     ensures fits { OnOk result (FitsQueryInfo request) }
     ensures kept { take (length out.old.items) out.new.items ≡ out.old.items }
 {
-    put_u16(out, 41)?;
-    put_u8(out, request.info_type.0)?;
-    put_u8(out, request.file_info_class.0)?;
-    put_u32(out, request.output_buffer_length)?;
-    put_u16(out, request.input_buffer_offset)?;
-    put_u16(out, request.reserved)?;
-    put_u32(out, request.input_buffer_length)?;
-    put_u32(out, request.additional_information.0)?;
-    put_u32(out, request.flags.0)?;
-    put_u64(out, request.file_id.persistent)?;
-    put_u64(out, request.file_id.volatile)?;
-    Ok(())
+    put_numbers(
+        &[
+            Number::U16(41),
+            Number::U8(request.info_type.0),
+            Number::U8(request.file_info_class.0),
+            Number::U32(request.output_buffer_length),
+            Number::U16(request.input_buffer_offset),
+            Number::U16(request.reserved),
+            Number::U32(request.input_buffer_length),
+            Number::U32(request.additional_information.0),
+            Number::U32(request.flags.0),
+            Number::U64(request.file_id.persistent),
+            Number::U64(request.file_id.volatile),
+        ],
+        out,
+    )
 }

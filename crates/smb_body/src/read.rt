@@ -1,7 +1,7 @@
 //! READ ([MS-SMB2] 2.2.19, 2.2.20).
 
 ghost use Rattle.std.specs.Prelude.{ℕ, List, ◌+◌, OnErr, ◌≡◌, length, take, is_some, IfSome, OnOk, ◌++◌, ◌≤◌, IfErr, false};
-ghost use Rattle.smb_wire.specs.Fields.{AllFit, appended, joined};
+ghost use Rattle.smb_wire.specs.Fields.{AllFit, joined};
 ghost use Rattle.smb_body.specs.Refusals.{body_refusal};
 ghost use Rattle.smb_body.specs.Read.{read_fields, FitsRead};
 ghost use Rattle.smb_body.specs.Readings.{is_read_response_too_long, is_read, read_of};
@@ -9,10 +9,9 @@ ghost use Rattle.smb_body.specs.Replies.{reply_spelling, answers_read, reply_fie
 
 use super::buffer::{body, file_id_in};
 use super::fault::BodyFault;
+use super::numbers::{Number, put_numbers};
 use super::types::Channel;
-use smb_wire::{
-    FileId, WireFault, put_bytes, put_u8, put_u16, put_u32, put_u64, u8_in, u16_in, u32_in, u64_in,
-};
+use smb_wire::{FileId, WireFault, put_bytes, u8_in, u16_in, u32_in, u64_in};
 use std::alloc::AllocError;
 
 /// Flags of a READ request ([MS-SMB2] 2.2.19). The profile ignores them.
@@ -59,23 +58,27 @@ pub(crate) fn read_read(request: &[u8]) -> Option<ReadRequest>
 
 /// Adds the body. After an error some of it stands there.
 pub(crate) fn put_read(request: ReadRequest, out: &mut Vec<u8>) -> Result<(), WireFault>
-    ensures ok { OnOk result (out.new.items ≡ appended out.old.items (read_fields request)) }
+    ensures ok { OnOk result (out.new.items ≡ out.old.items ++ joined (read_fields request)) }
     ensures fits { OnOk result (FitsRead request) }
     ensures kept { take (length out.old.items) out.new.items ≡ out.old.items }
 {
-    put_u16(out, 49)?;
-    put_u8(out, request.padding)?;
-    put_u8(out, request.flags.0)?;
-    put_u32(out, request.length)?;
-    put_u64(out, request.offset)?;
-    put_u64(out, request.file_id.persistent)?;
-    put_u64(out, request.file_id.volatile)?;
-    put_u32(out, request.minimum_count)?;
-    put_u32(out, request.channel.0)?;
-    put_u32(out, request.remaining_bytes)?;
-    put_u16(out, request.read_channel_info_offset)?;
-    put_u16(out, request.read_channel_info_length)?;
-    Ok(())
+    put_numbers(
+        &[
+            Number::U16(49),
+            Number::U8(request.padding),
+            Number::U8(request.flags.0),
+            Number::U32(request.length),
+            Number::U64(request.offset),
+            Number::U64(request.file_id.persistent),
+            Number::U64(request.file_id.volatile),
+            Number::U32(request.minimum_count),
+            Number::U32(request.channel.0),
+            Number::U32(request.remaining_bytes),
+            Number::U16(request.read_channel_info_offset),
+            Number::U16(request.read_channel_info_length),
+        ],
+        out,
+    )
 }
 
 /// A READ response ([MS-SMB2] 2.2.20).
@@ -88,16 +91,20 @@ pub struct ReadResponse<'a> {
 fn put_response_fixed(response: &ReadResponse<'_>, out: &mut Vec<u8>) -> Result<(), WireFault>
     requires { length response.now.buffer.now ≤ 4294967295 }
     ensures ok { OnOk result (out.new.items ≡
-        appended out.old.items (reply_fields (answers_read response.now.buffer.now))) }
+        out.old.items ++ joined (reply_fields (answers_read response.now.buffer.now))) }
     ensures kept { take (length out.old.items) out.new.items ≡ out.old.items }
 {
-    put_u16(out, 17)?;
-    put_u8(out, 80)?;
-    put_u8(out, 0)?;
-    put_u32(out, response.buffer.len() as u32)?;
-    put_u32(out, 0)?;
-    put_u32(out, 0)?;
-    Ok(())
+    put_numbers(
+        &[
+            Number::U16(17),
+            Number::U8(80),
+            Number::U8(0),
+            Number::U32(response.buffer.len() as u32),
+            Number::U32(0),
+            Number::U32(0),
+        ],
+        out,
+    )
 }
 
 /// Adds the body of a response. After an error some of it stands there.

@@ -1,14 +1,15 @@
 //! Requests that have nothing but a reserved field: LOGOFF, TREE_DISCONNECT, CANCEL and ECHO
 //! ([MS-SMB2] 2.2.7, 2.2.11, 2.2.30, 2.2.28).
 
-ghost use Rattle.std.specs.Prelude.{◌≡◌, length, take, is_some, IfSome, OnOk};
-ghost use Rattle.smb_wire.specs.Fields.{appended};
+ghost use Rattle.std.specs.Prelude.{◌≡◌, ◌++◌, length, take, is_some, IfSome, OnOk};
+ghost use Rattle.smb_wire.specs.Fields.{joined};
 ghost use Rattle.smb_body.specs.Reserved.{reserved_fields, FitsReserved};
 ghost use Rattle.smb_body.specs.Readings.{is_reserved, reserved_of};
 ghost use Rattle.smb_body.specs.Replies.{answers_logoff, reply_fields};
 
 use super::buffer::body;
-use smb_wire::{WireFault, put_u16, u16_in};
+use super::numbers::{Number, put_numbers};
+use smb_wire::{WireFault, put_bytes, u16_in};
 
 /// A LOGOFF, TREE_DISCONNECT, CANCEL or ECHO request ([MS-SMB2] 2.2.7, 2.2.11, 2.2.30, 2.2.28).
 #[derive(Clone, Copy)]
@@ -32,22 +33,19 @@ pub(crate) fn read_reserved(request: &[u8]) -> Option<ReservedRequest>
 
 /// Adds the body. After an error some of it stands there.
 pub(crate) fn put_reserved(request: ReservedRequest, out: &mut Vec<u8>) -> Result<(), WireFault>
-    ensures ok { OnOk result (out.new.items ≡ appended out.old.items (reserved_fields request)) }
+    ensures ok { OnOk result (out.new.items ≡ out.old.items ++ joined (reserved_fields request)) }
     ensures fits { OnOk result (FitsReserved request) }
     ensures kept { take (length out.old.items) out.new.items ≡ out.old.items }
 {
-    put_u16(out, 4)?;
-    put_u16(out, request.reserved)?;
-    Ok(())
+    put_numbers(&[Number::U16(4), Number::U16(request.reserved)], out)
 }
 
 /// Adds the body of the response of LOGOFF, TREE_DISCONNECT, FLUSH, LOCK or ECHO. After an error some of
 /// it stands there.
+#[tactic(auto, unfolding(smb_wire::specs::Number::spelling))]
 pub(crate) fn put_reserved_response(out: &mut Vec<u8>) -> Result<(), WireFault>
-    ensures ok { OnOk result (out.new.items ≡ appended out.old.items (reply_fields answers_logoff)) }
+    ensures ok { OnOk result (out.new.items ≡ out.old.items ++ joined (reply_fields answers_logoff)) }
     ensures kept { take (length out.old.items) out.new.items ≡ out.old.items }
 {
-    put_u16(out, 4)?;
-    put_u16(out, 0)?;
-    Ok(())
+    put_bytes(out, &[4, 0, 0, 0])
 }

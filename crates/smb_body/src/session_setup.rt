@@ -1,7 +1,7 @@
 //! SESSION_SETUP ([MS-SMB2] 2.2.5, 2.2.6).
 
 ghost use Rattle.std.specs.Prelude.{◌≡◌, ◌++◌, ◌≤◌, length, take, is_some, IfSome, OnOk, IfErr, false};
-ghost use Rattle.smb_wire.specs.Fields.{AllFit, appended, joined};
+ghost use Rattle.smb_wire.specs.Fields.{AllFit, joined};
 ghost use Rattle.smb_body.specs.Refusals.{body_refusal};
 ghost use Rattle.smb_body.specs.SessionSetup.{session_setup_asked, session_setup_fields, session_setup_laid, session_setup_spelling, FitsSessionSetup, session_setup_answered};
 ghost use Rattle.smb_body.specs.Readings.{is_session_setup_too_long, is_session_setup_response_too_long, is_session_setup, session_setup_of};
@@ -9,10 +9,9 @@ ghost use Rattle.smb_body.specs.Replies.{answers_session_setup, reply_fields};
 
 use super::buffer::{body, buffer};
 use super::fault::BodyFault;
+use super::numbers::{Number, put_numbers};
 use super::types::{Capabilities, Channel};
-use smb_wire::{
-    WireFault, put_bytes, put_u8, put_u16, put_u32, put_u64, u8_in, u16_in, u32_in, u64_in,
-};
+use smb_wire::{WireFault, put_bytes, u8_in, u16_in, u32_in, u64_in};
 
 /// Flags of a SESSION_SETUP request ([MS-SMB2] 2.2.5).
 #[derive(Clone, Copy)]
@@ -70,18 +69,22 @@ pub(crate) fn read_session_setup(request: &[u8]) -> Option<SessionSetupRequest<'
 fn put_fixed(request: &SessionSetupRequest<'_>, out: &mut Vec<u8>) -> Result<(), WireFault>
     requires { length (session_setup_asked request.now).security_buffer ≤ 65535 }
     ensures ok { OnOk result (out.new.items ≡
-        appended out.old.items (session_setup_fields (session_setup_laid (session_setup_asked request.now)))) }
+        out.old.items ++ joined (session_setup_fields (session_setup_laid (session_setup_asked request.now)))) }
     ensures kept { take (length out.old.items) out.new.items ≡ out.old.items }
 {
-    put_u16(out, 25)?;
-    put_u8(out, request.flags.0)?;
-    put_u8(out, request.security_mode.0)?;
-    put_u32(out, request.capabilities.0)?;
-    put_u32(out, request.channel.0)?;
-    put_u16(out, 88)?;
-    put_u16(out, request.security_buffer.len() as u16)?;
-    put_u64(out, request.previous_session_id)?;
-    Ok(())
+    put_numbers(
+        &[
+            Number::U16(25),
+            Number::U8(request.flags.0),
+            Number::U8(request.security_mode.0),
+            Number::U32(request.capabilities.0),
+            Number::U32(request.channel.0),
+            Number::U16(88),
+            Number::U16(request.security_buffer.len() as u16),
+            Number::U64(request.previous_session_id),
+        ],
+        out,
+    )
 }
 
 /// Adds the body. After an error some of it stands there.
@@ -130,14 +133,18 @@ fn put_response_fixed(
 ) -> Result<(), WireFault>
     requires { length response.now.security_buffer.now ≤ 65535 }
     ensures ok { OnOk result (out.new.items ≡
-        appended out.old.items (reply_fields (answers_session_setup (session_setup_answered response.now)))) }
+        out.old.items ++ joined (reply_fields (answers_session_setup (session_setup_answered response.now)))) }
     ensures kept { take (length out.old.items) out.new.items ≡ out.old.items }
 {
-    put_u16(out, 9)?;
-    put_u16(out, response.session_flags.0)?;
-    put_u16(out, 72)?;
-    put_u16(out, response.security_buffer.len() as u16)?;
-    Ok(())
+    put_numbers(
+        &[
+            Number::U16(9),
+            Number::U16(response.session_flags.0),
+            Number::U16(72),
+            Number::U16(response.security_buffer.len() as u16),
+        ],
+        out,
+    )
 }
 
 /// Adds the body of a response. After an error some of it stands there.

@@ -1,7 +1,7 @@
 //! SET_INFO ([MS-SMB2] 2.2.39, 2.2.40).
 
 ghost use Rattle.std.specs.Prelude.{◌≡◌, ◌++◌, ◌≤◌, length, take, is_some, IfSome, OnOk, IfErr, false};
-ghost use Rattle.smb_wire.specs.Fields.{appended};
+ghost use Rattle.smb_wire.specs.Fields.{joined};
 ghost use Rattle.smb_body.specs.Refusals.{body_refusal};
 ghost use Rattle.smb_body.specs.SetInfo.{set_info_asked, set_info_fields, set_info_laid, set_info_spelling, FitsSetInfo};
 ghost use Rattle.smb_body.specs.Readings.{is_set_info_too_long, is_set_info, set_info_of};
@@ -9,10 +9,9 @@ ghost use Rattle.smb_body.specs.Replies.{answers_set_info, reply_fields};
 
 use super::buffer::{body, buffer, file_id_in};
 use super::fault::BodyFault;
+use super::numbers::{Number, put_numbers};
 use super::types::{AdditionalInformation, InfoType, InformationClass};
-use smb_wire::{
-    FileId, WireFault, put_bytes, put_u8, put_u16, put_u32, put_u64, u8_in, u16_in, u32_in,
-};
+use smb_wire::{FileId, WireFault, put_bytes, u8_in, u16_in, u32_in};
 
 /// A SET_INFO request ([MS-SMB2] 2.2.39).
 #[derive(Clone, Copy)]
@@ -57,19 +56,23 @@ pub(crate) fn read_set_info(request: &[u8]) -> Option<SetInfoRequest<'_>>
 fn put_fixed(request: &SetInfoRequest<'_>, out: &mut Vec<u8>) -> Result<(), WireFault>
     requires { length (set_info_asked request.now).buffer ≤ 4294967295 }
     ensures ok { OnOk result (out.new.items ≡
-        appended out.old.items (set_info_fields (set_info_laid (set_info_asked request.now)))) }
+        out.old.items ++ joined (set_info_fields (set_info_laid (set_info_asked request.now)))) }
     ensures kept { take (length out.old.items) out.new.items ≡ out.old.items }
 {
-    put_u16(out, 33)?;
-    put_u8(out, request.info_type.0)?;
-    put_u8(out, request.file_info_class.0)?;
-    put_u32(out, request.buffer.len() as u32)?;
-    put_u16(out, 96)?;
-    put_u16(out, request.reserved)?;
-    put_u32(out, request.additional_information.0)?;
-    put_u64(out, request.file_id.persistent)?;
-    put_u64(out, request.file_id.volatile)?;
-    Ok(())
+    put_numbers(
+        &[
+            Number::U16(33),
+            Number::U8(request.info_type.0),
+            Number::U8(request.file_info_class.0),
+            Number::U32(request.buffer.len() as u32),
+            Number::U16(96),
+            Number::U16(request.reserved),
+            Number::U32(request.additional_information.0),
+            Number::U64(request.file_id.persistent),
+            Number::U64(request.file_id.volatile),
+        ],
+        out,
+    )
 }
 
 /// Adds the body. After an error some of it stands there.
@@ -92,9 +95,8 @@ pub(crate) fn put_set_info(request: SetInfoRequest<'_>, out: &mut Vec<u8>) -> Re
 
 /// Adds the body of a response ([MS-SMB2] 2.2.40).
 pub(crate) fn put_set_info_response(out: &mut Vec<u8>) -> Result<(), WireFault>
-    ensures ok { OnOk result (out.new.items ≡ appended out.old.items (reply_fields answers_set_info)) }
+    ensures ok { OnOk result (out.new.items ≡ out.old.items ++ joined (reply_fields answers_set_info)) }
     ensures kept { take (length out.old.items) out.new.items ≡ out.old.items }
 {
-    put_u16(out, 2)?;
-    Ok(())
+    put_numbers(&[Number::U16(2)], out)
 }

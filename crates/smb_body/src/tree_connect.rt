@@ -1,7 +1,7 @@
 //! TREE_CONNECT ([MS-SMB2] 2.2.9, 2.2.10).
 
 ghost use Rattle.std.specs.Prelude.{◌≡◌, ◌++◌, ◌≤◌, length, take, is_some, IfSome, OnOk, IfErr, false};
-ghost use Rattle.smb_wire.specs.Fields.{AllFit, appended};
+ghost use Rattle.smb_wire.specs.Fields.{AllFit, joined};
 ghost use Rattle.smb_body.specs.Refusals.{body_refusal};
 ghost use Rattle.smb_body.specs.TreeConnect.{tree_connect_asked, tree_connect_fields, tree_connect_laid, tree_connect_spelling, FitsTreeConnect};
 ghost use Rattle.smb_body.specs.Readings.{is_tree_connect_too_long, is_tree_connect, tree_connect_of};
@@ -9,8 +9,9 @@ ghost use Rattle.smb_body.specs.Replies.{answers_tree_connect, reply_fields};
 
 use super::buffer::{body, text};
 use super::fault::BodyFault;
+use super::numbers::{Number, put_numbers};
 use super::types::Capabilities;
-use smb_wire::{Access, Units, WireFault, put_bytes, put_u8, put_u16, put_u32, u16_in};
+use smb_wire::{Access, Units, WireFault, put_bytes, u16_in};
 
 /// A TREE_CONNECT request ([MS-SMB2] 2.2.9).
 #[derive(Clone, Copy)]
@@ -42,14 +43,18 @@ pub(crate) fn read_tree_connect(request: &[u8]) -> Option<TreeConnectRequest<'_>
 fn put_fixed(request: &TreeConnectRequest<'_>, out: &mut Vec<u8>) -> Result<(), WireFault>
     requires { length (tree_connect_asked request.now).path ≤ 32767 }
     ensures ok { OnOk result (out.new.items ≡
-        appended out.old.items (tree_connect_fields (tree_connect_laid (tree_connect_asked request.now)))) }
+        out.old.items ++ joined (tree_connect_fields (tree_connect_laid (tree_connect_asked request.now)))) }
     ensures kept { take (length out.old.items) out.new.items ≡ out.old.items }
 {
-    put_u16(out, 9)?;
-    put_u16(out, request.reserved)?;
-    put_u16(out, 72)?;
-    put_u16(out, 2 * request.path.len() as u16)?;
-    Ok(())
+    put_numbers(
+        &[
+            Number::U16(9),
+            Number::U16(request.reserved),
+            Number::U16(72),
+            Number::U16(2 * request.path.len() as u16),
+        ],
+        out,
+    )
 }
 
 /// Adds the body. After an error some of it stands there.
@@ -101,15 +106,19 @@ pub(crate) fn put_tree_connect_response(
     out: &mut Vec<u8>,
 ) -> Result<(), WireFault>
     ensures ok { OnOk result (out.new.items ≡
-        appended out.old.items (reply_fields (answers_tree_connect response))) }
+        out.old.items ++ joined (reply_fields (answers_tree_connect response))) }
     ensures fits { OnOk result (AllFit (reply_fields (answers_tree_connect response))) }
     ensures kept { take (length out.old.items) out.new.items ≡ out.old.items }
 {
-    put_u16(out, 16)?;
-    put_u8(out, response.share_type.0)?;
-    put_u8(out, 0)?;
-    put_u32(out, response.share_flags.0)?;
-    put_u32(out, response.capabilities.0)?;
-    put_u32(out, response.maximal_access.0)?;
-    Ok(())
+    put_numbers(
+        &[
+            Number::U16(16),
+            Number::U8(response.share_type.0),
+            Number::U8(0),
+            Number::U32(response.share_flags.0),
+            Number::U32(response.capabilities.0),
+            Number::U32(response.maximal_access.0),
+        ],
+        out,
+    )
 }

@@ -1,7 +1,7 @@
 //! WRITE ([MS-SMB2] 2.2.21, 2.2.22).
 
 ghost use Rattle.std.specs.Prelude.{◌≡◌, ◌++◌, ◌≤◌, length, take, is_some, IfSome, OnOk, IfErr, false};
-ghost use Rattle.smb_wire.specs.Fields.{AllFit, appended};
+ghost use Rattle.smb_wire.specs.Fields.{AllFit, joined};
 ghost use Rattle.smb_body.specs.Refusals.{body_refusal};
 ghost use Rattle.smb_body.specs.Write.{write_asked, write_fields, write_laid, write_spelling, FitsWrite};
 ghost use Rattle.smb_body.specs.Readings.{is_write_too_long, is_write, write_of};
@@ -9,8 +9,9 @@ ghost use Rattle.smb_body.specs.Replies.{answers_write, reply_fields};
 
 use super::buffer::{body, buffer, file_id_in};
 use super::fault::BodyFault;
+use super::numbers::{Number, put_numbers};
 use super::types::Channel;
-use smb_wire::{FileId, WireFault, put_bytes, put_u16, put_u32, put_u64, u16_in, u32_in, u64_in};
+use smb_wire::{FileId, WireFault, put_bytes, put_u32, u16_in, u32_in, u64_in};
 
 /// Flags of a WRITE request ([MS-SMB2] 2.2.21). The profile ignores them.
 #[derive(Clone, Copy)]
@@ -58,21 +59,25 @@ pub(crate) fn read_write(request: &[u8]) -> Option<WriteRequest<'_>>
 fn put_fixed(request: &WriteRequest<'_>, out: &mut Vec<u8>) -> Result<(), WireFault>
     requires { length (write_asked request.now).buffer ≤ 4294967295 }
     ensures ok { OnOk result (out.new.items ≡
-        appended out.old.items (write_fields (write_laid (write_asked request.now)))) }
+        out.old.items ++ joined (write_fields (write_laid (write_asked request.now)))) }
     ensures kept { take (length out.old.items) out.new.items ≡ out.old.items }
 {
-    put_u16(out, 49)?;
-    put_u16(out, 112)?;
-    put_u32(out, request.buffer.len() as u32)?;
-    put_u64(out, request.offset)?;
-    put_u64(out, request.file_id.persistent)?;
-    put_u64(out, request.file_id.volatile)?;
-    put_u32(out, request.channel.0)?;
-    put_u32(out, request.remaining_bytes)?;
-    put_u16(out, request.write_channel_info_offset)?;
-    put_u16(out, request.write_channel_info_length)?;
-    put_u32(out, request.flags.0)?;
-    Ok(())
+    put_numbers(
+        &[
+            Number::U16(49),
+            Number::U16(112),
+            Number::U32(request.buffer.len() as u32),
+            Number::U64(request.offset),
+            Number::U64(request.file_id.persistent),
+            Number::U64(request.file_id.volatile),
+            Number::U32(request.channel.0),
+            Number::U32(request.remaining_bytes),
+            Number::U16(request.write_channel_info_offset),
+            Number::U16(request.write_channel_info_length),
+            Number::U32(request.flags.0),
+        ],
+        out,
+    )
 }
 
 /// Adds the body. After an error some of it stands there.
@@ -100,20 +105,17 @@ pub struct WriteResponse {
 }
 
 /// Adds the body of a response. After an error some of it stands there.
+#[tactic(auto, unfolding(smb_wire::specs::Number::spelling))]
 pub(crate) fn put_write_response(
     response: WriteResponse,
     out: &mut Vec<u8>,
 ) -> Result<(), WireFault>
     ensures ok { OnOk result (out.new.items ≡
-        appended out.old.items (reply_fields (answers_write response))) }
+        out.old.items ++ joined (reply_fields (answers_write response))) }
     ensures fits { OnOk result (AllFit (reply_fields (answers_write response))) }
     ensures kept { take (length out.old.items) out.new.items ≡ out.old.items }
 {
-    put_u16(out, 17)?;
-    put_u16(out, 0)?;
+    put_bytes(out, &[17, 0, 0, 0])?;
     put_u32(out, response.count)?;
-    put_u32(out, 0)?;
-    put_u16(out, 0)?;
-    put_u16(out, 0)?;
-    Ok(())
+    put_bytes(out, &[0; 8])
 }

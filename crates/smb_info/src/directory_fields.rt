@@ -12,7 +12,7 @@ ghost use Rattle.smb_info.specs.Parts.{names_fields, id_both_directory_fields, i
 use super::candidate::CandidateView;
 use super::directory_class::DirectoryInformationClass;
 use smb_tree::{EntryView, allocation_size};
-use smb_wire::{WireFault, put_bytes, put_u8, put_u16, put_u32, put_u64};
+use smb_wire::{WireFault, in_eight, in_four, put_bytes, put_u8, put_u16, put_u32, put_u64};
 
 /// Adds what a class tells of an entry, behind which the next one begins `next` bytes on. After an error some of it
 /// stands there.
@@ -69,22 +69,6 @@ fn name_length(entry: &CandidateView<'_>) -> u32
     ensures { result ≡ 2 * length (units_of entry.now.name) }
 {
     entry.name.len() as u32 * 2
-}
-
-// A number in 4 bytes, the lowest first.
-#[tactic(auto, unfolding(smb_wire::specs::Number::spelling))]
-fn in_four(number: u32) -> [u8; 4]
-    ensures { result ≡ spelling 4 number }
-{
-    number.to_le_bytes()
-}
-
-// A number in 8 bytes, the lowest first.
-#[tactic(auto, unfolding(smb_wire::specs::Number::spelling))]
-fn in_eight(number: u64) -> [u8; 8]
-    ensures { result ≡ spelling 8 number }
-{
-    number.to_le_bytes()
 }
 
 fn put_directory(next: u32, entry: &CandidateView<'_>, out: &mut Vec<u8>) -> Result<(), WireFault>

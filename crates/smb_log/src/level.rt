@@ -7,7 +7,8 @@ use smb_wire::{Command, CommandCode, NtStatus};
 pub enum Level {
     /// Also the requests that begin and end sessions and tree connects.
     Sessions,
-    /// Also each request whose status is neither STATUS_SUCCESS nor STATUS_MORE_PROCESSING_REQUIRED.
+    /// Also each request that was refused: whose status is none of STATUS_SUCCESS, STATUS_MORE_PROCESSING_REQUIRED,
+    /// STATUS_NO_MORE_FILES and STATUS_END_OF_FILE.
     Refusals,
     /// Also each request.
     Requests,
@@ -23,9 +24,12 @@ fn is_of_sessions(command: CommandCode) -> bool {
     )
 }
 
-/// Whether a status is that of a request that was refused.
+/// Whether a status is that of a request that was refused. The end of a listing or of a file is no refusal.
 fn is_refusal(status: u32) -> bool {
-    status != NtStatus::Success.code() && status != NtStatus::MoreProcessingRequired.code()
+    status != NtStatus::Success.code()
+        && status != NtStatus::MoreProcessingRequired.code()
+        && status != NtStatus::NoMoreFiles.code()
+        && status != NtStatus::EndOfFile.code()
 }
 
 impl Level {

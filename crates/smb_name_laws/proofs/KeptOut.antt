@@ -2,7 +2,7 @@
 use Rattle.std.proofs.Common.{◌≡◌, ◌≢◌, ◌==◌, ◌⊎◌, inl, inr, ℕ, List, [], ◌∷◌, ◌++◌, length, take, Bool, true, false, not, ◌&&◌, ◌||◌, bit_and, bit_or, nat_le, if◌then◌else◌, Option, None, Some, is_some, refl, sym, ap, arith, ◌∙◌}
 use Rattle.std.proofs.lemmas.Bool.{eqb-true}
 use Rattle.std.proofs.lemmas.Bool.Decides.{nat_tests}
-use Rattle.std.proofs.lemmas.Nat.{and_or_self}
+use Rattle.std.proofs.lemmas.Nat.{and_assoc, and_or_self}
 use Rattle.std.specs.List.{AllByRecursion, list_any}
 use Rattle.std.specs.Option.{is_none, option_map_or}
 use Rattle.smb_wire.specs.Access.{has_any, FILE_WRITE_DATA, FILE_SHARE_READ, FILE_SHARE_WRITE, FILE_SHARE_DELETE}
@@ -35,7 +35,7 @@ use Rattle.smb_opens.specs.State.{StoreState}
 use Rattle.smb_opens.proofs.Closing.{closed_is, opens_closed}
 use Rattle.smb_opens.proofs.Passing.{pass_all}
 use Rattle.smb_name_laws.specs.Deletes.{is_to_be_deleted}
-use Rattle.smb_name_laws.specs.Sharing.{is_to_use, WhatIsNotSharedIsNotGranted, WhoSharesIsNotRefused, ACreateSucceedsAfterTheClose}
+use Rattle.smb_name_laws.specs.Sharing.{is_to_use, EachRightHasItsShareBit, WhatIsNotSharedIsNotGranted, WhoSharesIsNotRefused, ACreateSucceedsAfterTheClose}
 use Rattle.smb_name_laws.proofs.Gone.{any_found, left_open, tree_kept}
 
 -- of a CREATE that succeeds no row holds
@@ -145,6 +145,58 @@ refuses state ask entry number row asked opened own uses =
     } in (
       λ h. not_granted state ask number row held h,
       λ either h. elim either [ inl none ↦ alone state ask number row held none h | inr none ↦ kept_out state ask number row held none h ],
+    )
+
+-- rights to read, to write and to delete
+abbrev reads : ℕ → Bool
+reads rights = has_any rights 0x1 || has_any rights 0x20
+
+abbrev writes : ℕ → Bool
+writes rights = has_any rights 0x2 || has_any rights 0x4
+
+abbrev deletes : ℕ → Bool
+deletes rights = has_any rights 0x10000
+
+-- each of the three by its bit
+reads_out : (r w d nr nw nd : Bool) → r ≡ true → nr ≡ false → (r && not nr || w && not nw || d && not nd) ≡ true
+reads_out r w d nr nw nd e f = rw (e, f) refl
+
+writes_out : (r w d nr nw nd : Bool) → w ≡ true → nw ≡ false → (r && not nr || w && not nw || d && not nd) ≡ true
+writes_out r w d nr nw nd e f = grind (arith, e, f)
+
+deletes_out : (r w d nr nw nd : Bool) → d ≡ true → nd ≡ false → (r && not nr || w && not nw || d && not nd) ≡ true
+deletes_out r w d nr nw nd e f = grind (arith, e, f)
+
+-- a bit of the three that is not asked for is not kept either
+asked_bit : (share bit : ℕ) → bit_and 7 bit ≡ bit → has_any share bit ≡ false → has_any (bit_and share 7) bit ≡ false
+asked_bit share bit own h = ap (λ (n : ℕ). not (n == 0)) (and_assoc bit share 7 ∙ ap (bit_and share) own) ∙ h
+
+idle_kept : (state : StoreState) (ask : FileAsked) (number : ℕ) (row : OpenRow) → IsInUse state ask number row → is_shared_access (access_granted state ask) ≡ true →
+    is_kept_out row.access (share_asked ask) ≡ true → create_status state ask ≢ Success
+idle_kept state ask number row held used h =
+    let access : Access = access_granted state ask in
+    refused state ask number row held (asked_more ask access (use_of row)
+    (second_kept (is_shared_access access) (is_shared_access row.access) (is_kept_out access row.share) (is_kept_out row.access (share_asked ask)) used held.uses h))
+
+pub by_bits : EachRightHasItsShareBit
+by_bits state ask entry number row asked opened own used uses =
+    let held : IsInUse state ask number row = record {
+      entry = entry;
+      asked = asked;
+      opened = opened;
+      own = own;
+      uses = uses;
+    } in
+    let wanted = (access_granted state ask).0 in
+    let has = row.access.0 in
+    let share = row.share.0 in
+    let kept = (share_asked ask).0 in (
+      λ e f. not_granted state ask number row held (reads_out (reads wanted) (writes wanted) (deletes wanted) (has_any share 1) (has_any share 2) (has_any share 4) e f),
+      λ e f. not_granted state ask number row held (writes_out (reads wanted) (writes wanted) (deletes wanted) (has_any share 1) (has_any share 2) (has_any share 4) e f),
+      λ e f. not_granted state ask number row held (deletes_out (reads wanted) (writes wanted) (deletes wanted) (has_any share 1) (has_any share 2) (has_any share 4) e f),
+      λ e f. idle_kept state ask number row held used (reads_out (reads has) (writes has) (deletes has) (has_any kept 1) (has_any kept 2) (has_any kept 4) e (asked_bit ask.share 1 refl f)),
+      λ e f. idle_kept state ask number row held used (writes_out (reads has) (writes has) (deletes has) (has_any kept 1) (has_any kept 2) (has_any kept 4) e (asked_bit ask.share 2 refl f)),
+      λ e f. idle_kept state ask number row held used (deletes_out (reads has) (writes has) (deletes has) (has_any kept 1) (has_any kept 2) (has_any kept 4) e (asked_bit ask.share 4 refl f)),
     )
 
 -- of rows whose statuses are others, none holds before the one that decides

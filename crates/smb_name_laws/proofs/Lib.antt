@@ -8,10 +8,12 @@ mod StillThere
 mod LastParts
 mod Spelled
 mod OthersLeft
+mod NotMade
 mod PlainNames
 mod NoneHold
 mod NamedPlainly
 mod MadeNew
+mod EitherCase
 mod RenamedPlainly
 mod OpenedAs
 mod LeftOut
@@ -23,6 +25,7 @@ mod ExampleNames
 mod WrongDeletes
 mod WrongSharing
 mod WrongCreates
+mod WrongRefusals
 mod WrongNames
 mod WrongNumbers
 mod WrongOpens

@@ -35,7 +35,7 @@ use Rattle.smb_opens.specs.Views.{open_view}
 use Rattle.smb_opens.proofs.Decided.{rows_by, MayReplace, passes, code_of, status_moved}
 use Rattle.smb_opens.proofs.Passing.{pass_at}
 use Rattle.smb_name_laws.proofs.LastParts.{last_of}
-use Rattle.smb_name_laws.specs.Names.{IsRenamed, ARenameMovesItsEntry, NamesOfOneCaseFindTheSame, ARenameDeletesWhatItReplaces}
+use Rattle.smb_name_laws.specs.Names.{IsRenamed, ARenameMovesItsEntry, ARenameDeletesWhatItReplaces}
 
 -- the first rows of those of which none decides
 front_success : (xs ys : List StatusRow) → first_status (xs ++ ys) ≡ Success → first_status xs ≡ Success
@@ -133,9 +133,6 @@ old_name state number name moment row from entry renamed apart =
     ap (λ (s : StoreState). entry_at s.tree.rows from) (through state number name moment row renamed.opened)
     ∙ at-changed (dated moment) (moved state.tree row.entry (path_spelled name)).rows (path_named name) from (record entry { spelling = last_part (path_spelled name) }) row.entry m.good.apart (numbered_then state name row from entry m)
     ∙ rw other (nothing_left state.tree row.entry (path_spelled name) from entry from m.can apart (within_itself from))
-
-pub one_case : NamesOfOneCaseFindTheSame
-one_case rows one other same = ap (entry_at rows) (same_path-eq one other same)
 
 opens_go_on : (state : StoreState) (number : ℕ) (name : List ℕ) (moment : ℕ) (row : OpenRow) (from : Path) (entry : Entry) (other : ℕ) (held : OpenRow) (after : Entry) → IsRenamed state number name row from entry →
     open_of state.opens other ≡ Some held → held.entry ≡ row.entry → entry_at (renamed_through state number name moment).tree.rows (path_named name) ≡ Some after →

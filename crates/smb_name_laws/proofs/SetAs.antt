@@ -1,5 +1,5 @@
 -- What a SET_INFO and a WRITE set of an entry.
-use Rattle.std.proofs.Common.{◌≡◌, ◌≢◌, inl, inr, ℕ, ◌<◌, ◌^◌, ◌-◌, ◌==◌, ◌||◌, List, length, Bool, true, false, if◌then◌else◌, Option, None, Some, is_some, subst, sym, refl, ap, arith, ◌∙◌}
+use Rattle.std.proofs.Common.{◌≡◌, ◌≢◌, inl, inr, ℕ, ◌<◌, nat_le, ◌^◌, ◌-◌, ◌==◌, ◌||◌, List, length, Bool, true, false, if◌then◌else◌, Option, None, Some, is_some, subst, sym, refl, ap, arith, ◌∙◌}
 use Rattle.std.proofs.lemmas.Bool.Decides.{nat_tests}
 use Rattle.std.specs.Option.{option_map, option_map_or}
 use Rattle.smb_tree.specs.Content.{Path, Row, numbered, changed}
@@ -13,7 +13,7 @@ use Rattle.smb_opens.specs.Bytes.{written_to}
 use Rattle.smb_opens.specs.SetInfo.{size_set_through}
 use Rattle.smb_opens.specs.State.{StoreState}
 use Rattle.smb_opens.proofs.StoreSettings.{size_keeps}
-use Rattle.smb_name_laws.specs.Settings.{IsOpenOf, IsTimeSet, HasKeptItsName, RequestsChangeTheirEntryAlone, AMarkIsSetAsAskedFor, TimesAreSetAsAskedFor, AWriteIsTheLastOne}
+use Rattle.smb_name_laws.specs.Settings.{IsOpenOf, IsTimeSet, HasKeptItsName, RequestsChangeTheirEntryAlone, AMarkIsSetAsAskedFor, TimesAreSetAsAskedFor, AWriteIsTheLastOne, AnAllocationSizeOnlyCuts}
 
 same_by : (n : ℕ) → n == n ≡ true
 same_by n = grind (arith, nat_tests)
@@ -173,3 +173,18 @@ sizes state number size moment row path entry o = (
 pub last_writes : AWriteIsTheLastOne
 last_writes state number offset size buffer moment row path entry o h =
     (writes state number offset buffer moment row path entry o h, (sizes state number size moment row path entry o, tt))
+
+-- an allocation size
+not_cut : (size moment : ℕ) (entry : Entry) → nat_le (length entry.bytes) size ≡ true → size_set size true moment entry ≡ entry
+not_cut size moment entry e = rw e refl
+
+is_cut : (size moment : ℕ) (entry : Entry) → nat_le (length entry.bytes) size ≡ false → size_set size true moment entry ≡ size_set size false moment entry
+is_cut size moment entry e = rw e refl
+
+pub only_cuts : AnAllocationSizeOnlyCuts
+only_cuts state number size moment row path entry o =
+    let set : (is_allocation : Bool) → numbered (size_set_through state number size is_allocation moment).tree.rows row.entry ≡ Some (path, size_set size is_allocation moment entry) =
+    λ is_allocation. set_at (size_set size is_allocation moment) state number row path entry (size_keeps size is_allocation moment).number o in (
+      λ h. set true ∙ ap (λ (e : Entry). Some (path, e)) (not_cut size moment entry (grind (arith, nat_tests, h))),
+      λ h. set true ∙ ap (λ (e : Entry). Some (path, e)) (is_cut size moment entry (grind (arith, nat_tests, h))) ∙ sym (set false),
+    )

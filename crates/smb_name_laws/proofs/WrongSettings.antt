@@ -1,8 +1,8 @@
 -- Wrong definitions of what a SET_INFO and a WRITE set, each with a law of specs/Settings that refuses it.
 -- A law whose name ends in By says of any definition what that of specs/ says of the right one, as the line below it
 -- shows; then come the wrong definitions, and the proofs that the law is false of them.
-use Rattle.std.proofs.Common.{◌≡◌, ◌≢◌, ℕ, ◌<◌, bit_and, Bool, true, false, List, [], ◌∷◌, length, Some}
-use Rattle.std.proofs.Common.{lit<, refl, ap, arith, ◌∙◌}
+use Rattle.std.proofs.Common.{◌≡◌, ◌≢◌, ℕ, ◌<◌, ◌≤◌, bit_and, Bool, true, false, List, [], ◌∷◌, length, Some, if◌then◌else◌}
+use Rattle.std.proofs.Common.{lit<, lit≤, refl, ap, arith, ◌∙◌}
 use Rattle.std.specs.List.{AllByRecursion}
 use Rattle.std.specs.Option.{option_map_or}
 use Rattle.smb_tree.specs.Content.{Path, Row, numbered, changed, written, resized}
@@ -14,7 +14,8 @@ use Rattle.smb_opens.specs.Bytes.{written_to}
 use Rattle.smb_opens.specs.SetInfo.{delete_set_through, size_set_through, basic_set_through}
 use Rattle.smb_opens.specs.State.{StoreState}
 use Rattle.smb_name_laws.specs.Settings.{IsOpenOf, IsTimeSet, HasKeptItsName}
-use Rattle.smb_name_laws.specs.Settings.{AMarkIsSetAsAskedFor, TimesAreSetAsAskedFor, AWriteIsTheLastOne}
+use Rattle.smb_name_laws.specs.Settings.{AMarkIsSetAsAskedFor, TimesAreSetAsAskedFor}
+use Rattle.smb_name_laws.specs.Settings.{AWriteIsTheLastOne, AnAllocationSizeOnlyCuts}
 use Rattle.smb_name_laws.proofs.ExampleStore.{path, file, sharing, with_opens}
 
 -- the store with open 2, of the file
@@ -167,3 +168,36 @@ a_size_that_shows_breaks_it law =
     let after = (law hidden 2 0 5 (8 ∷ []) 9 sharing path hidden_file (record { opened = refl; found = refl }) (lit< tt)).1.0 in
     let shown : 0 ≡ 2 = found_has (λ row. row.1.basic.attributes.0) _ (path, after.0) after.1 ∙ after.7 in
     omega (arith, shown)
+
+-- an allocation size leaves its entry where this is no less than its size, and a smaller one does what this size does
+abbrev AnAllocationSizeOnlyCutsBy : (StoreState → ℕ → ℕ → Bool → ℕ → StoreState) → Type 0
+AnAllocationSizeOnlyCutsBy set =
+    (state : StoreState) (number size moment : ℕ) (row : OpenRow) (path : Path) (entry : Entry) →
+    IsOpenOf state number row path entry →
+    let after = numbered (set state number size true moment).tree.rows row.entry in
+    (length entry.bytes ≤ size → after ≡ Some (path, entry))
+    × (size < length entry.bytes → after ≡ numbered (set state number size false moment).tree.rows row.entry)
+
+an_allocation_size_only_cuts : AnAllocationSizeOnlyCuts ≡ AnAllocationSizeOnlyCutsBy size_set_through
+an_allocation_size_only_cuts = refl
+
+-- wrong: an allocation size is the size, also where it is greater
+abbrev size_set_always : StoreState → ℕ → ℕ → Bool → ℕ → StoreState
+size_set_always state number size is_allocation moment = size_set_through state number size false moment
+
+a_size_set_always_breaks_it : AnAllocationSizeOnlyCutsBy size_set_always → ⊥
+a_size_set_always_breaks_it law =
+    let same = (law with_file 2 5 9 sharing path file file_is_open).0 (lit≤ tt) in
+    let longer : 5 ≡ 1 = found_has (λ row. length row.1.bytes) _ (path, file) same in
+    omega (arith, longer)
+
+-- wrong: an allocation size sets nothing
+abbrev size_set_as_such : StoreState → ℕ → ℕ → Bool → ℕ → StoreState
+size_set_as_such state number size is_allocation moment =
+    if is_allocation then state else size_set_through state number size false moment
+
+a_size_set_as_such_breaks_it : AnAllocationSizeOnlyCutsBy size_set_as_such → ⊥
+a_size_set_as_such_breaks_it law =
+    let same = (law with_file 2 0 9 sharing path file file_is_open).1 (lit< tt) in
+    let uncut : 1 ≡ 0 = found_has (λ row. length row.1.bytes) _ _ same in
+    omega (arith, uncut)

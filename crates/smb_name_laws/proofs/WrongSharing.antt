@@ -1,16 +1,18 @@
 -- Wrong rules of sharing, each with a law of specs/Sharing that refuses it.
 -- A law whose name ends in By says of any definition of a CREATE's status what that of specs/ says of the right one, as
 -- the line below it shows; then come the wrong rule, and the proof that the law is false of the status by it.
-use Rattle.std.proofs.Common.{◌≡◌, ◌≢◌, ◌⊎◌, inl, inr, bit_and, ℕ, [], ◌∷◌, ◌++◌, take, drop, Bool, true, false, ◌&&◌, Option, Some, refl}
+use Rattle.std.proofs.Common.{◌≡◌, ◌≢◌, ◌⊎◌, inl, inr, bit_and, ℕ, [], ◌∷◌, ◌++◌, take, drop, Bool, true, false, not, ◌&&◌, ◌||◌, Option, Some, refl}
 use Rattle.std.specs.List.{list_any}
 use Rattle.std.specs.Option.{option_map_or}
-use Rattle.smb_wire.specs.Access.{FILE_SHARE_ALL}
+use Rattle.smb_wire.specs.Access.{has_any, FILE_READ_DATA, FILE_EXECUTE, FILE_SHARE_READ, FILE_SHARE_WRITE, FILE_SHARE_DELETE, FILE_SHARE_ALL}
 use Rattle.smb_wire.specs.declared.disposition.CreateDisposition.TheVariants.{Open}
 use Rattle.smb_wire.specs.declared.nt_status.NtStatus.{NtStatus}
 use Rattle.smb_wire.specs.declared.nt_status.NtStatus.TheVariants.{Success, SharingViolation}
 use Rattle.smb_tree.specs.Entries.{Entry}
+use Rattle.smb_wire.specs.declared.access.Access.{Access}
+use Rattle.smb_wire.specs.declared.access.ShareAccess.{ShareAccess}
 use Rattle.smb_access.specs.declared.open_row.OpenRow.{OpenRow}
-use Rattle.smb_access.specs.Access.{granted}
+use Rattle.smb_access.specs.Access.{granted, is_reading, is_writing, is_deleting}
 use Rattle.smb_access.specs.Asked.{FileAsked}
 use Rattle.smb_access.specs.Found.{is_read_only_file}
 use Rattle.smb_access.specs.Opens.{open_of}
@@ -21,8 +23,8 @@ use Rattle.smb_opens.specs.Create.{access_granted, create_rows, create_status}
 use Rattle.smb_opens.specs.Found.{entry_asked}
 use Rattle.smb_opens.specs.Good.{GoodStore}
 use Rattle.smb_opens.specs.State.{StoreState}
-use Rattle.smb_name_laws.specs.Sharing.{WhatIsNotSharedIsNotGranted, WhoSharesIsNotRefused, is_to_use}
-use Rattle.smb_name_laws.proofs.ExampleStore.{file, sharing, unsharing, with_opens, file_name, asks, open_among}
+use Rattle.smb_name_laws.specs.Sharing.{WhatIsNotSharedIsNotGranted, EachRightHasItsShareBit, WhoSharesIsNotRefused, is_to_use}
+use Rattle.smb_name_laws.proofs.ExampleStore.{file, opened, sharing, unsharing, with_opens, file_name, asks, open_among}
 use Rattle.smb_name_laws.proofs.ExampleStore.{is_good_with_sharing}
 
 -- a request conflicts with an open of its entry by a rule, of what the request is to do and to share, and of what the
@@ -108,3 +110,53 @@ a_conflict_by_use_breaks_it law =
         let wanted = use_asked (opens_file FILE_SHARE_ALL)
         (access_granted (with_opens (sharing ∷ [])) (opens_file FILE_SHARE_ALL)) in
         (is_kept_out wanted.0 row.share ≡ false) × (is_kept_out row.access wanted.1 ≡ false)
+
+-- no CREATE is granted a right whose share bit an open in use lacks, or lacks that of a right which such an open has
+abbrev EachRightHasItsShareBitBy : (StoreState → FileAsked → NtStatus) → Type 0
+EachRightHasItsShareBitBy status =
+    (state : StoreState) (ask : FileAsked) (entry : Entry) (number : ℕ) (row : OpenRow) →
+    entry_asked state ask ≡ Some entry → open_of state.opens number ≡ Some row → row.entry ≡ entry.number →
+    let reads = λ (rights : ℕ). has_any rights 0x1 || has_any rights 0x20 in
+    let writes = λ (rights : ℕ). has_any rights 0x2 || has_any rights 0x4 in
+    let deletes = λ (rights : ℕ). has_any rights 0x10000 in
+    let wanted = (access_granted state ask).0 in
+    let held = row.access.0 in
+    (reads wanted || writes wanted || deletes wanted) ≡ true → (reads held || writes held || deletes held) ≡ true →
+    (reads wanted ≡ true → has_any row.share.0 1 ≡ false → status state ask ≢ Success)
+    × (writes wanted ≡ true → has_any row.share.0 2 ≡ false → status state ask ≢ Success)
+    × (deletes wanted ≡ true → has_any row.share.0 4 ≡ false → status state ask ≢ Success)
+    × (reads held ≡ true → has_any ask.share 1 ≡ false → status state ask ≢ Success)
+    × (writes held ≡ true → has_any ask.share 2 ≡ false → status state ask ≢ Success)
+    × (deletes held ≡ true → has_any ask.share 4 ≡ false → status state ask ≢ Success)
+
+each_right_has_its_share_bit : EachRightHasItsShareBit ≡ EachRightHasItsShareBitBy create_status
+each_right_has_its_share_bit = refl
+
+-- a conflict, by when an access is kept out by what is shared
+abbrev conflict_as : (Access → ShareAccess → Bool) → Use → Use → Bool
+conflict_as out new old =
+    is_shared_access new.0 && is_shared_access old.0 && (out new.0 old.1 || out old.0 new.1)
+
+-- wrong: who reads goes by the bit of writing, and who writes by that of reading
+abbrev kept_out_by_other_bits : Access → ShareAccess → Bool
+kept_out_by_other_bits access share =
+    is_reading access && not (has_any share.0 FILE_SHARE_WRITE)
+    || is_writing access && not (has_any share.0 FILE_SHARE_READ)
+    || is_deleting access && not (has_any share.0 FILE_SHARE_DELETE)
+
+a_conflict_by_other_bits_breaks_it : EachRightHasItsShareBitBy (status_by (conflict_as kept_out_by_other_bits)) → ⊥
+a_conflict_by_other_bits_breaks_it law =
+    let row : OpenRow = opened 2 FILE_SHARE_WRITE false in
+    (law (with_opens (row ∷ [])) (opens_file FILE_SHARE_ALL) file 2 row refl refl refl refl refl).0 refl refl refl
+
+-- wrong: a right to execute is none to read
+abbrev kept_out_but_to_execute : Access → ShareAccess → Bool
+kept_out_but_to_execute access share =
+    has_any access.0 FILE_READ_DATA && not (has_any share.0 FILE_SHARE_READ)
+    || is_writing access && not (has_any share.0 FILE_SHARE_WRITE)
+    || is_deleting access && not (has_any share.0 FILE_SHARE_DELETE)
+
+a_conflict_but_to_execute_breaks_it : EachRightHasItsShareBitBy (status_by (conflict_as kept_out_but_to_execute)) → ⊥
+a_conflict_but_to_execute_breaks_it law =
+    let ask : FileAsked = record (opens_file FILE_SHARE_ALL) { access = FILE_EXECUTE } in
+    (law (with_opens (unsharing ∷ [])) ask file 2 unsharing refl refl refl refl refl).0 refl refl refl

@@ -1,5 +1,6 @@
 -- What a CREATE makes its name find, in a user's words ([MS-SMB2] 3.3.5.9).
 use Rattle.std.specs.Prelude.{◌≡◌, ◌≢◌, ◌⊎◌, ℕ, ◌<◌, true, false, List, [], ◌∷◌, ◌++◌, length, All, bit_and, bit_or, None, Some}
+use Rattle.smb_wire.specs.Access.{has_any}
 use Rattle.smb_wire.specs.Dispositions.{overwrites_by}
 use Rattle.smb_wire.specs.Paths.{is_separator}
 use Rattle.smb_wire.specs.declared.nt_status.NtStatus.TheVariants.{Success}
@@ -11,7 +12,7 @@ use Rattle.smb_access.specs.Asked.{FileAsked, kind_asked}
 use Rattle.smb_access.specs.Found.{path_asked}
 use Rattle.smb_access.specs.Opens.{open_of}
 use Rattle.smb_access.specs.Views.{view_of}
-use Rattle.smb_opens.specs.Create.{create_status}
+use Rattle.smb_opens.specs.Create.{access_granted, create_status}
 use Rattle.smb_opens.specs.Effect.{created, create_result}
 use Rattle.smb_opens.specs.Found.{entry_asked}
 use Rattle.smb_opens.specs.Good.{GoodStore}
@@ -78,3 +79,20 @@ ACreateChangesItsEntryAlone =
     after ≡ state.tree)
     × (overwrites_by ask.disposition ≡ false → (path : Path) (entry : Entry) →
     entry_at state.tree.rows path ≡ Some entry → entry_at after.rows path ≡ Some entry)
+
+-- no CREATE succeeds by FILE_CREATE, 2, where its name finds an entry; nor by FILE_OPEN, 1, or FILE_OVERWRITE, 4, where
+-- it finds none; nor of a folder with FILE_NON_DIRECTORY_FILE, 0x40, or of a file with FILE_DIRECTORY_FILE, 1; nor of a
+-- file that is READONLY, 1, where it would overwrite it, or be granted FILE_WRITE_DATA, 2, or FILE_APPEND_DATA, 4
+-- ([MS-SMB2] 2.2.13, [MS-FSA] 2.1.5.1)
+abbrev pub ACreateIsRefused : Type 0
+ACreateIsRefused =
+    (state : StoreState) (ask : FileAsked) →
+    let rights = (access_granted state ask).0 in
+    ((entry : Entry) → entry_asked state ask ≡ Some entry →
+    (ask.disposition ≡ 2 → create_status state ask ≢ Success)
+    × (is_folder_kind entry.kind ≡ true → has_any ask.options 0x40 ≡ true → create_status state ask ≢ Success)
+    × (is_folder_kind entry.kind ≡ false → has_any ask.options 1 ≡ true → create_status state ask ≢ Success)
+    × (is_folder_kind entry.kind ≡ false → has_any entry.basic.attributes.0 1 ≡ true →
+    (overwrites_by ask.disposition ≡ true) ⊎ ((has_any rights 2 ≡ true) ⊎ (has_any rights 4 ≡ true)) →
+    create_status state ask ≢ Success))
+    × (entry_asked state ask ≡ None → (ask.disposition ≡ 1) ⊎ (ask.disposition ≡ 4) → create_status state ask ≢ Success)

@@ -2,7 +2,7 @@
 use Rattle.std.specs.Prelude.{◌≡◌, ◌≢◌, ◌⊎◌, ℕ, ◌<◌, Bool, true, false, List, ◌∷◌, ◌++◌, length, All, bit_and, None, Some}
 use Rattle.smb_wire.specs.Paths.{is_separator}
 use Rattle.smb_wire.specs.declared.nt_status.NtStatus.TheVariants.{Success}
-use Rattle.smb_tree.specs.Content.{Path, Row, is_same_path, entry_at, numbered}
+use Rattle.smb_tree.specs.Content.{Path, is_same_path, entry_at, numbered}
 use Rattle.smb_tree.specs.Entries.{Entry, is_folder_kind}
 use Rattle.smb_tree.specs.Moves.{is_within}
 use Rattle.smb_access.specs.declared.open_row.OpenRow.{OpenRow}
@@ -51,11 +51,6 @@ ARenameMovesItsEntry =
     × (moved.basic.attributes.0 ≡ bit_and entry.basic.attributes.0 0x27)
     × ((front last : List ℕ) → (name ≡ last) ⊎ (name ≡ front ++ 92 ∷ last) → 0 < length last →
     All (λ unit. is_separator unit ≡ false) last → moved.spelling ≡ last)
-
--- paths that differ in case alone find the same, whatever entries there are
-abbrev pub NamesOfOneCaseFindTheSame : Type 0
-NamesOfOneCaseFindTheSame =
-    (rows : List Row) (one other : Path) → is_same_path one other ≡ true → entry_at rows one ≡ entry_at rows other
 
 -- a rename deletes nothing but a file that it replaces: this was at the new name, had no open and was not read-only; and
 -- ReplaceIfExists was set

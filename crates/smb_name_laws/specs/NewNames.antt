@@ -1,7 +1,7 @@
 -- That a new file or folder can be made under every plain name, and that a file that is there can be opened, in a user's
 -- words ([MS-SMB2] 3.3.5.9).
 use Rattle.std.specs.Prelude.{◌≡◌, ◌⊎◌, ℕ, ◌+◌, ◌-◌, ◌^◌, ◌<◌, ◌≤◌, ◌&&◌, ◌||◌, Bool, true, false, List, [], ◌∷◌, ◌++◌}
-use Rattle.std.specs.Prelude.{length, All, bit_and, nat_le, None, Some}
+use Rattle.std.specs.Prelude.{length, map, All, bit_and, nat_le, None, Some, if◌then◌else◌}
 use Rattle.smb_wire.specs.Access.{has_any, FILE_ALL_ACCESS, MAXIMUM_ALLOWED}
 use Rattle.smb_wire.specs.Access.{GENERIC_ALL, GENERIC_EXECUTE, GENERIC_WRITE, GENERIC_READ}
 use Rattle.smb_wire.specs.Attributes.{FILE_ATTRIBUTE_READONLY}
@@ -17,6 +17,7 @@ use Rattle.smb_tree.specs.Entries.{Entry, is_folder_kind}
 use Rattle.smb_access.specs.Asked.{FileAsked}
 use Rattle.smb_access.specs.Opens.{has_open}
 use Rattle.smb_opens.specs.Create.{create_status}
+use Rattle.smb_access.specs.Found.{path_asked}
 use Rattle.smb_opens.specs.Found.{entry_asked}
 use Rattle.smb_opens.specs.Good.{GoodStore}
 use Rattle.smb_opens.specs.State.{StoreState}
@@ -102,3 +103,15 @@ AFreeFileIsOpened =
     (state : StoreState) (ask : FileAsked) (file : Entry) → GoodStore state → AsksToOpen ask →
     NamesPlainly state ask.name → entry_asked state ask ≡ Some file → IsFree state file →
     length state.opens < most_opens → state.next < 2 ^ 64 - 1 → create_status state ask ≡ Success
+
+-- names of plain parts find the same, in every store, where they have the same parts with a to z as A to Z, and every
+-- other unit as it is; and only such names are of one path ([MS-FSCC] 2.1.5)
+abbrev pub LettersOfEitherCaseAreTheSame : Type 0
+LettersOfEitherCaseAreTheSame =
+    (state : StoreState) (one other : FileAsked) (above beside : List (List ℕ)) (last least : List ℕ) →
+    All IsPlain (above ++ last ∷ []) → All IsPlain (beside ++ least ∷ []) →
+    one.name ≡ joined_by_separators (above ++ last ∷ []) → other.name ≡ joined_by_separators (beside ++ least ∷ []) →
+    let capital = λ (unit : ℕ). if nat_le 97 unit && nat_le unit 122 then unit - 32 else unit in
+    let capitals = λ (parts : List (List ℕ)). map (λ part. map capital part) parts in
+    (capitals (above ++ last ∷ []) ≡ capitals (beside ++ least ∷ []) → entry_asked state one ≡ entry_asked state other)
+    × (path_asked one ≡ path_asked other → capitals (above ++ last ∷ []) ≡ capitals (beside ++ least ∷ []))

@@ -1,5 +1,5 @@
 -- What a SET_INFO and a WRITE set of an entry, and what they leave, in a user's words ([MS-FSA] 2.1.5.15, 2.1.5.3).
-use Rattle.std.specs.Prelude.{◌≡◌, ◌≢◌, ◌⊎◌, ℕ, ◌-◌, ◌<◌, ◌^◌, Bool, false, List, [], ◌∷◌, length, bit_and, Some, is_some}
+use Rattle.std.specs.Prelude.{◌≡◌, ◌≢◌, ◌⊎◌, ℕ, ◌-◌, ◌<◌, ◌≤◌, ◌^◌, Bool, true, false, List, [], ◌∷◌, length, bit_and, Some, is_some}
 use Rattle.std.specs.List.{AllByRecursion}
 use Rattle.smb_tree.specs.Content.{Path, numbered}
 use Rattle.smb_tree.specs.Entries.{Entry}
@@ -86,3 +86,14 @@ AWriteIsTheLastOne =
     × (after.basic.last_access_time ≡ entry.basic.last_access_time)
     × HasKeptItsName after entry × (after.basic.attributes.0 ≡ bit_and entry.basic.attributes.0 0x27))
     (written_to state number offset buffer moment ∷ size_set_through state number size false moment ∷ [])
+
+-- a SET_INFO of an allocation size leaves its entry as it is where this is no less than its size; and a smaller one
+-- leaves of it what a SET_INFO of this size does ([MS-FSA] 2.1.5.15.1)
+abbrev pub AnAllocationSizeOnlyCuts : Type 0
+AnAllocationSizeOnlyCuts =
+    (state : StoreState) (number size moment : ℕ) (row : OpenRow) (path : Path) (entry : Entry) →
+    IsOpenOf state number row path entry →
+    let after = numbered (size_set_through state number size true moment).tree.rows row.entry in
+    (length entry.bytes ≤ size → after ≡ Some (path, entry))
+    × (size < length entry.bytes →
+    after ≡ numbered (size_set_through state number size false moment).tree.rows row.entry)

@@ -1,6 +1,6 @@
 -- What an open keeps others from, in a user's words ([MS-FSA] 2.1.5.1.2).
 use Rattle.std.specs.Prelude.{◌≡◌, ◌≢◌, ◌⊎◌, ℕ, ◌||◌, Bool, true, false, Some, bit_and}
-use Rattle.smb_wire.specs.Access.{FILE_SHARE_ALL}
+use Rattle.smb_wire.specs.Access.{FILE_SHARE_ALL, has_any}
 use Rattle.smb_wire.specs.Counters.{is_spent}
 use Rattle.smb_wire.specs.Dispositions.{overwrites_by}
 use Rattle.smb_wire.specs.declared.nt_status.NtStatus.TheVariants.{Success, SharingViolation}
@@ -29,6 +29,28 @@ WhatIsNotSharedIsNotGranted =
     (is_kept_out (access_granted state ask) row.share ≡ true → create_status state ask ≢ Success)
     × ((row.share.0 ≡ 0) ⊎ (bit_and ask.share FILE_SHARE_ALL ≡ 0) → is_to_use state ask ≡ true →
     create_status state ask ≢ Success)
+
+-- while an open reads, writes or deletes its entry, no CREATE of the entry succeeds that would be granted a right to
+-- read where the open lacks FILE_SHARE_READ 1, to write where it lacks FILE_SHARE_WRITE 2, or to delete where it lacks
+-- FILE_SHARE_DELETE 4; nor, the other way, one that is to read, write or delete, and lacks what the open does. Rights to
+-- read are FILE_READ_DATA 1 and FILE_EXECUTE 0x20; to write FILE_WRITE_DATA 2 and FILE_APPEND_DATA 4; and to delete
+-- DELETE 0x10000 ([MS-SMB2] 2.2.13.1)
+abbrev pub EachRightHasItsShareBit : Type 0
+EachRightHasItsShareBit =
+    (state : StoreState) (ask : FileAsked) (entry : Entry) (number : ℕ) (row : OpenRow) →
+    entry_asked state ask ≡ Some entry → open_of state.opens number ≡ Some row → row.entry ≡ entry.number →
+    let reads = λ (rights : ℕ). has_any rights 0x1 || has_any rights 0x20 in
+    let writes = λ (rights : ℕ). has_any rights 0x2 || has_any rights 0x4 in
+    let deletes = λ (rights : ℕ). has_any rights 0x10000 in
+    let wanted = (access_granted state ask).0 in
+    let held = row.access.0 in
+    (reads wanted || writes wanted || deletes wanted) ≡ true → (reads held || writes held || deletes held) ≡ true →
+    (reads wanted ≡ true → has_any row.share.0 1 ≡ false → create_status state ask ≢ Success)
+    × (writes wanted ≡ true → has_any row.share.0 2 ≡ false → create_status state ask ≢ Success)
+    × (deletes wanted ≡ true → has_any row.share.0 4 ≡ false → create_status state ask ≢ Success)
+    × (reads held ≡ true → has_any ask.share 1 ≡ false → create_status state ask ≢ Success)
+    × (writes held ≡ true → has_any ask.share 2 ≡ false → create_status state ask ≢ Success)
+    × (deletes held ≡ true → has_any ask.share 4 ≡ false → create_status state ask ≢ Success)
 
 -- no CREATE is refused for sharing, where it and each open of its entry share what the other is to do of reading, writing
 -- and deleting; nor where it is neither to read, nor to write, delete or overwrite

@@ -1,6 +1,6 @@
 //! The laws of names that are new, of files that are free, and of renames that succeed.
 
-ghost use Rattle.smb_name_laws.specs.NewNames.{APlainNameIsMade, AFreeFileIsOpened};
+ghost use Rattle.smb_name_laws.specs.NewNames.{APlainNameIsMade, AFreeFileIsOpened, LettersOfEitherCaseAreTheSame};
 ghost use Rattle.smb_name_laws.specs.RenamesSucceed.{ARenameSucceeds, ARenameOfCaseSucceeds};
 
 /// Under each name of plain parts, which are of digits, letters of ASCII and units from 128 on, a new file or folder
@@ -12,10 +12,14 @@ ghost use Rattle.smb_name_laws.specs.RenamesSucceed.{ARenameSucceeds, ARenameOfC
 /// not marked: if the name is absent, in the same folder or in another; if ReplaceIfExists is set and the name is that
 /// of a file which is not marked, not READONLY and open by nobody; or if it is the entry's own in letters of another
 /// case. A folder that moves must not get a path within itself; and of what is beneath it nothing may be open, or get a
-/// path of more than 32 components. The contract is the statement, and the body does nothing.
+/// path of more than 32 components.
+///
+/// Two such names find the same in every store where they differ in the case of the letters of ASCII alone, and only
+/// such names are of one path. The contract is the statement, and the body does nothing.
 pub fn laws_of_new_names()
     ensures made { APlainNameIsMade }
     ensures opened { AFreeFileIsOpened }
     ensures renamed { ARenameSucceeds }
     ensures respelled { ARenameOfCaseSucceeds }
+    ensures letters { LettersOfEitherCaseAreTheSame }
 {}

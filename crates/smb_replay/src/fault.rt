@@ -2,7 +2,7 @@
 
 use crate::script::Expected;
 use smb_config::{ConfigFault, ConfigRule, write_place};
-use smb_reason::Reason;
+use smb_reason::{Reason, Shown};
 use std::alloc::{AllocError, Global};
 use std::io;
 use std::io::{ErrorKind, Write};
@@ -131,7 +131,10 @@ impl CommandFault {
 
     /// Writes what was wrong, in one line, where there is more to say than the fault's own line.
     fn explain<E: Write>(self, alloc: Global, given: Given<'_>, errors: &mut E) -> io::Result<()> {
-        let (file, accounts_file) = (given.file, given.accounts_file);
+        let (file, accounts_file) = (
+            Shown(given.file.as_bytes()),
+            Shown(given.accounts_file.as_bytes()),
+        );
         match self {
             CommandFault::ConfigUnread(reason) => writeln!(errors, "{file}: {reason}"),
             CommandFault::ConfigRefused(Some(rule)) => {

@@ -4,6 +4,7 @@ pub mod Answered
 pub mod Done
 mod Changed
 mod Described
+mod HandedOn
 mod Joined
 mod Names
 mod Kept

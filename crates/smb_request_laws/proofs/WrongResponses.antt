@@ -8,6 +8,7 @@ use Rattle.smb_wire.specs.Commands.{known_command}
 use Rattle.smb_wire.specs.NtStatus.{is_success}
 use Rattle.smb_wire.specs.Number.{spelling}
 use Rattle.smb_wire.specs.Fields.{joined, number_in}
+use Rattle.smb_wire.specs.declared.command.Command.TheVariants.{Create}
 use Rattle.smb_wire.specs.declared.create_action.CreateAction.TheVariants.{Opened}
 use Rattle.smb_wire.specs.declared.file_id.FileId.{FileId}
 use Rattle.smb_wire.specs.declared.nt_status.NtStatus.TheVariants.{Success}
@@ -38,8 +39,10 @@ use Rattle.smb_opens.specs.State.{StoreState}
 use Rattle.smb_request.specs.Files.{file_created, file_closed}
 use Rattle.smb_request.specs.InfoTypes.{FILE}
 use Rattle.smb_request.specs.Response.{Performed}
+use Rattle.smb_request.specs.declared.context.ContextOpen.TheVariants.{Named}
+use Rattle.smb_request_laws.specs.Acting.{command_in}
 use Rattle.smb_request_laws.specs.Doing.{Sent, Succeeds, answered, open_asked, response_body}
-use Rattle.smb_request_laws.specs.Responses.{entry_through, Describes, end_of_file_in, list_ask, ACreateDescribesItsEntry, ACloseDescribesItsEntry, AQueryInfoTellsTheSize, AListingShowsEntriesAsTheyAre}
+use Rattle.smb_request_laws.specs.Responses.{entry_through, Describes, end_of_file_in, list_ask, ACreateDescribesItsEntry, ACreateGivesItsOpen, ACloseDescribesItsEntry, AQueryInfoTellsTheSize, AListingShowsEntriesAsTheyAre}
 use Rattle.smb_request_laws.proofs.Altered.{Rules, right}
 use Rattle.smb_request_laws.proofs.Example.{store, file, opened, header, create_asked, close_asked, byte_is}
 use Rattle.smb_request_laws.proofs.WrongDoing.{answered_by, sent, fair}
@@ -113,6 +116,10 @@ listing_is_good = search rules
 file_is : (entry : Entry) → Some file ≡ Some entry → length entry.bytes ≡ 1
 file_is entry e = let same : file ≡ entry = cc in ap (λ (it : Entry). length it.bytes) (sym same)
 
+-- an open that is named is one
+named_is : (one other : FileId) → Named one ≡ Named other → one ≡ other
+named_is one other e = cc
+
 module _ {S : Type 0} (m : Meaning S) (accounts : S) where
   -- the response of a CREATE describes the entry of its open
   abbrev ACreateDescribesItsEntryBy : (Sent S → Performed S) → Type 0
@@ -175,6 +182,59 @@ module _ {S : Type 0} (m : Meaning S) (accounts : S) where
       let one : length told.1.bytes ≡ 1 = entry_is (2 == told.0.file_id.persistent) told.0.file_id.persistent told.1 refl told.3 in
       let size = told.4.end_of_file_is in
       omega (arith, byte, one, size)
+
+  -- a CREATE gives the open that it made, twice, and hands it on
+  abbrev ACreateGivesItsOpenBy : (Sent S → Performed S) → Type 0
+  ACreateGivesItsOpenBy perform =
+      (it : Sent S) (asked : CreateAsked) → GoodStore it.server.store → command_in it.request ≡ Some Create →
+      let ran = perform it in
+      Succeeds it ran (asks_create asked) →
+      (r : CreateResponse) × (response_body ran ≡ reply_spelling (answers_create r))
+      × (r.file_id.volatile ≡ r.file_id.persistent) × (open_of it.server.store.opens r.file_id.persistent ≡ None)
+      × (is_some (open_of ran.server.store.opens r.file_id.persistent) ≡ true)
+      × (ran.context.last_open ≡ Named r.file_id)
+
+  a_create_gives : ACreateGivesItsOpen m ≡ ACreateGivesItsOpenBy (answered m)
+  a_create_gives = refl
+
+  -- wrong: its response is the right one, but has 0 as the volatile half of FileId
+  abbrev zero_volatile : Rules S
+  zero_volatile = record right {
+    done = λ server ids asked step. elim asked [
+      | asks_create it ↦ record step {
+        response = record step.response {
+          body = take 72 step.response.body ++ replicate 8 0 ++ drop 80 step.response.body;
+        };
+      }
+      | _ ↦ step
+    ];
+  }
+
+  zero_volatile_is_refused : ACreateGivesItsOpenBy (answered_by m accounts zero_volatile) → ⊥
+  unfolding header_of known_command request_of spelling file_created is_success
+  zero_volatile_is_refused law =
+      let told = law opening_sent opening_asked unopened_is_good refl (record { says = refl; context = fair; status = refl }) in
+      let first : 2 ∷ [] ≡ (told.0.file_id.persistent % 256) ∷ [] = ap (λ (body : List ℕ). take 1 (drop 64 body)) told.1 in
+      let second : 0 ∷ [] ≡ (told.0.file_id.volatile % 256) ∷ [] = ap (λ (body : List ℕ). take 1 (drop 72 body)) told.1 in
+      let two : 2 ≡ told.0.file_id.persistent % 256 = byte_is 2 (told.0.file_id.persistent % 256) first in
+      let zero : 0 ≡ told.0.file_id.volatile % 256 = byte_is 0 (told.0.file_id.volatile % 256) second in
+      let same = told.2 in
+      omega (arith, two, zero, same)
+
+  -- wrong: the next request of the chain inherits open 1, whichever the CREATE made
+  abbrev another_handed_on : Sent S → Performed S
+  another_handed_on it =
+      let ran = answered_by m accounts right it in
+      record ran { context = record ran.context { last_open = Named open_one } }
+
+  another_handed_on_is_refused : ACreateGivesItsOpenBy another_handed_on → ⊥
+  unfolding header_of known_command request_of spelling file_created is_success
+  another_handed_on_is_refused law =
+      let told = law opening_sent opening_asked unopened_is_good refl (record { says = refl; context = fair; status = refl }) in
+      let first : 2 ∷ [] ≡ (told.0.file_id.persistent % 256) ∷ [] = ap (λ (body : List ℕ). take 1 (drop 64 body)) told.1 in
+      let two : 2 ≡ told.0.file_id.persistent % 256 = byte_is 2 (told.0.file_id.persistent % 256) first in
+      let one : 1 ≡ told.0.file_id.persistent = ap (λ (id : FileId). id.persistent) (named_is open_one told.0.file_id told.5) in
+      omega (arith, two, one)
 
   -- that of a CLOSE with POSTQUERY_ATTRIB describes the entry of its open
   abbrev ACloseDescribesItsEntryBy : (Sent S → Performed S) → Type 0

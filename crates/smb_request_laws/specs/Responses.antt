@@ -1,7 +1,8 @@
 -- What a response says of a file or a folder is what is there.
-use Rattle.std.specs.Prelude.{◌≡◌, ℕ, List, Option, None, Some, All, length, bit_and}
+use Rattle.std.specs.Prelude.{◌≡◌, ℕ, true, List, Option, None, Some, is_some, All, length, bit_and}
 use Rattle.std.specs.Option.{option_map, option_and_then}
 use Rattle.smb_wire.specs.Fields.{number_in}
+use Rattle.smb_wire.specs.declared.command.Command.TheVariants.{Create}
 use Rattle.smb_tree.specs.Content.{numbered}
 use Rattle.smb_tree.specs.Entries.{Entry, allocation_size, shown_attributes}
 use Rattle.smb_tree.specs.Views.{entry_shown}
@@ -24,6 +25,8 @@ use Rattle.smb_opens.specs.Good.{GoodStore}
 use Rattle.smb_opens.specs.Scans.{scan_set}
 use Rattle.smb_opens.specs.State.{StoreState}
 use Rattle.smb_request.specs.InfoTypes.{FILE}
+use Rattle.smb_request.specs.declared.context.ContextOpen.TheVariants.{Named}
+use Rattle.smb_request_laws.specs.Acting.{command_in}
 use Rattle.smb_request_laws.specs.Doing.{Sent, answered, open_asked, response_body, Succeeds}
 
 -- the entry of the open of a number
@@ -71,6 +74,18 @@ module _ {S : Type 0} (authenticator : Meaning S) where
       × Describes r.end_of_file r.allocation_size r.creation_time r.last_access_time r.last_write_time r.change_time
       r.file_attributes.0 entry
 
+  -- that FileId is, twice, the number of the open that the CREATE made, which named none before; and this open is
+  -- handed on to the next request of the chain (3.3.5.2.7.2)
+  abbrev pub ACreateGivesItsOpen : Type 0
+  ACreateGivesItsOpen =
+      (it : Sent S) (asked : CreateAsked) → GoodStore it.server.store → command_in it.request ≡ Some Create →
+      let ran = answered authenticator it in
+      Succeeds it ran (asks_create asked) →
+      (r : CreateResponse) × (response_body ran ≡ reply_spelling (answers_create r))
+      × (r.file_id.volatile ≡ r.file_id.persistent) × (open_of it.server.store.opens r.file_id.persistent ≡ None)
+      × (is_some (open_of ran.server.store.opens r.file_id.persistent) ≡ true)
+      × (ran.context.last_open ≡ Named r.file_id)
+
   -- that of a CLOSE with POSTQUERY_ATTRIB, 1, describes the entry of its open (3.3.5.10)
   abbrev pub ACloseDescribesItsEntry : Type 0
   ACloseDescribesItsEntry =
@@ -92,8 +107,9 @@ module _ {S : Type 0} (authenticator : Meaning S) where
       (bytes : List ℕ) × (entry : Entry) × (response_body ran ≡ reply_spelling (answers_query_info bytes))
       × (entry_through it.server.store (open_asked it) ≡ Some entry) × (number_in 8 offset bytes ≡ length entry.bytes)
 
-  -- a QUERY_DIRECTORY that succeeds lists entries as they are, of the folder of its open, and the scan of the open goes
-  -- on behind them (3.3.5.18)
+  -- the response of a QUERY_DIRECTORY that succeeds is the listing of the folder of its open; each of the entries that
+  -- are listed is as it is there, and the scan of the open goes on behind them (3.3.5.18). How the bytes that are sent
+  -- tell these entries is not said here
   abbrev pub AListingShowsEntriesAsTheyAre : Type 0
   AListingShowsEntriesAsTheyAre =
       (it : Sent S) (asked : QueryDirectoryAsked) → GoodStore it.server.store →

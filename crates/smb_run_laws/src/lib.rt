@@ -6,8 +6,8 @@
 //! the bridge from the laws of stores to runs: over it [`laws_of_runs`] says what one client's requests are to
 //! another's, `specs/Written.antt`, `specs/OpenFiles.antt` and `specs/Locks.antt`, and how a chain is answered,
 //! `specs/Answers.antt`. All of it holds where memory runs out too (`specs/MemoryRuns.antt`). Definitions that a user
-//! would call wrong, each with a proof that a law is false of it, are in `proofs/WrongRuns.antt`. Only laws stand on
-//! this crate.
+//! would call wrong, each with a proof that a law is false of it, are in `proofs/WrongRuns.antt` and
+//! `proofs/WrongChains.antt`. Only laws stand on this crate.
 #![tactic(auto)]
 
 mod runs;

@@ -1,4 +1,4 @@
-//! The peers of a TCP listener, in one thread, and the system's clock: what smb_engine's `serve` is given by the program.
+//! The peers of a TCP listener, in one thread, and the system's clock: what `serve` of smb_serving is given by the program.
 //!
 //! [`TcpPeers`] are the streams of a listener, [`PeerFacts`] what is known of them beside their bytes, [`SystemClock`] tells the time. Neither keeps a record of its calls.
 //! Proved of the peers is what the trait asks: each connection is opened once, under the next number, and a send is

@@ -182,11 +182,11 @@ fn client(alloc: Global) -> Result<MemoryPeers, AllocError> {
     MemoryPeers::new(alloc, script, sends, 16, 4_096)
 }
 
+/// Peers whose events and answers are logged.
+type Logged<'a> = LoggedPeers<'a, MemoryPeers, NoFacts, ListClock, Vec<u8>>;
+
 /// A client whose events and answers are logged.
-fn logged_client<'a>(
-    alloc: Global,
-    visitors: &'a Visitors,
-) -> Option<LoggedPeers<'a, MemoryPeers, NoFacts, ListClock, Vec<u8>>> {
+fn logged_client<'a>(alloc: Global, visitors: &'a Visitors) -> Option<Logged<'a>> {
     let client = client(alloc).ok()?;
     let clock = ListClock::new(alloc, &[NOW]).ok()?;
     let log = Log::new(alloc, Vec::new(alloc), Level::Requests);
@@ -202,14 +202,24 @@ fn logged_client<'a>(
     ))
 }
 
+/// Serves these peers a new share, and gives them back.
+fn served_to<'a>(
+    alloc: Global,
+    visitors: &'a Visitors,
+    mut peers: Logged<'a>,
+    mut clock: ListClock,
+) -> Option<Logged<'a>> {
+    let mut share = new_share(alloc, visitors)?;
+    serve(&mut share, &mut peers, &mut clock, 5);
+    Some(peers)
+}
+
 /// The log of the share that this client is served.
 fn served(alloc: Global) -> Option<String> {
     let visitors = Visitors::new(alloc);
-    let mut peers = logged_client(alloc, &visitors)?;
-    let mut clock = ListClock::new(alloc, &[NOW]).ok()?;
-    let mut share = new_share(alloc, &visitors)?;
-    serve(&mut share, &mut peers, &mut clock, 5);
-    text_of(peers.into_log()?)
+    let clock = ListClock::new(alloc, &[NOW]).ok()?;
+    let peers = logged_client(alloc, &visitors)?;
+    text_of(served_to(alloc, &visitors, peers, clock)?.into_log()?)
 }
 
 /// What a share does is what its log says.

@@ -59,7 +59,9 @@ pub use folded::FoldedName;
 pub use lock_flags::LockFlags;
 pub use names::{compare_folded, fold_unit, same_name};
 pub use nt_status::{NtStatus, laws_of_statuses};
-pub use number::{laws_of_numbers, put_u16, put_u32, put_u64, u16_at, u32_at, u64_at};
+pub use number::{
+    in_eight, in_four, in_two, laws_of_numbers, put_u16, put_u32, put_u64, u16_at, u32_at, u64_at,
+};
 pub use paths::PathView;
 pub use query_directory_flags::QueryDirectoryFlags;
 pub use split::{laws_of_components, split_path};

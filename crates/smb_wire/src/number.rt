@@ -41,6 +41,30 @@ pub fn u64_at(bytes: &[u8], at: usize) -> Option<u64>
     Some(LittleEndian::read_u64(field))
 }
 
+/// A 16-bit number as 2 bytes, the lowest first.
+#[tactic(auto, unfolding(crate::specs::Number::spelling))]
+pub fn in_two(number: u16) -> [u8; 2]
+    ensures { result ≡ spelling 2 number }
+{
+    number.to_le_bytes()
+}
+
+/// A 32-bit number as 4 bytes, the lowest first.
+#[tactic(auto, unfolding(crate::specs::Number::spelling))]
+pub fn in_four(number: u32) -> [u8; 4]
+    ensures { result ≡ spelling 4 number }
+{
+    number.to_le_bytes()
+}
+
+/// A 64-bit number as 8 bytes, the lowest first.
+#[tactic(auto, unfolding(crate::specs::Number::spelling))]
+pub fn in_eight(number: u64) -> [u8; 8]
+    ensures { result ≡ spelling 8 number }
+{
+    number.to_le_bytes()
+}
+
 /// Adds a 16-bit number as 2 bytes. [`WireFault::NoMemory`] leaves `out` as it was.
 #[tactic(auto, unfolding(crate::specs::Number::spelling))]
 pub fn put_u16(out: &mut Vec<u8>, number: u16) -> Result<(), WireFault>

@@ -1,8 +1,9 @@
 use Rattle.std.proofs.Common.{refl}
-use Rattle.smb_body.proofs.Behind.{joined_behind}
+use Rattle.smb_wire.specs.Fields.{joined}
+use Rattle.smb_body.proofs.Behind.{table_behind}
 use Rattle.smb_body.proofs.query.put_query_response.Goals as goal
 use Rattle.smb_body.specs.Replies.{answers_query_info, reply_fields}
 
 pub returns-clause-ok : goal.returns-clause-ok
 returns-clause-ok c =
-    joined_behind c.args.out.now.items _ _ (reply_fields (answers_query_info c.args.response.output_buffer.now)) _ _ c.in_ok-put_response_fixed.ensures.ok c.in_ok-put_bytes.ensures.ok refl
+    table_behind c.args.out.now.items _ _ (joined (reply_fields (answers_query_info c.args.response.output_buffer.now))) _ _ c.in_ok-put_response_fixed.ensures.ok c.in_ok-put_bytes.ensures.ok refl

@@ -1,4 +1,5 @@
-use Rattle.smb_run_laws.proofs.InOrder.{chain_answered, run_answered}
+use Rattle.smb_run_laws.proofs.InOrder.{chain_answered, chain_granted, run_answered}
+use Rattle.smb_run_laws.proofs.Whole.{performed_whole}
 use Rattle.smb_run_laws.proofs.Rules.{served_on}
 use Rattle.smb_run_laws.proofs.Served.{served_leads}
 use Rattle.smb_run_laws.proofs.Locks.{lock_bars}
@@ -36,3 +37,9 @@ returns-clause-rules g c = λ s connection happenings. served_on g.A.Authenticat
 
 pub returns-clause-chains : goal.returns-clause-chains
 returns-clause-chains g c = chain_answered g.A.Authenticator.meaning
+
+pub returns-clause-whole : goal.returns-clause-whole
+returns-clause-whole g c = performed_whole g.A.Authenticator.meaning
+
+pub returns-clause-credits : goal.returns-clause-credits
+returns-clause-credits g c = chain_granted g.A.Authenticator.meaning
