@@ -15,11 +15,7 @@ for folder in crates/*/; do
     name=$(basename "$folder")
     grep -qE "^$name( |:)" crates.txt || fail "crates.txt does not list $name."
 done
-options=$(awk -F '"' '/^    name: / { name = $2 } /^    takes: / && !/First/ { print name }' crates/smb_command_line/src/commands.rt)
-[ -n "$options" ] || fail 'crates/smb_command_line/src/commands.rt has no options.'
-for word in $options; do
-    grep -qF -- "\\-\\-${word//-/\\-}" docs/smbshare.1 || fail "docs/smbshare.1 does not name --$word."
-done
+python3 tools/lib/manual.py --check || fail 'docs/smbshare.1 is not what tools/lib/manual.py writes.'
 python3 tools/edits.py --check || fail 'docs/EDITS.md is not what tools/edits.py writes.'
 python3 tools/believed.py --check || fail 'docs/DEFINITIONS.md does not name what a reader must believe.'
 python3 tools/bodies.py --check || fail 'docs/BODIES.md is not what tools/bodies.py writes.'

@@ -23,7 +23,6 @@ NAMED_IPC = ('the share is named IPC$: clients ask a share of that name for othe
 # tools/serve.sh, where the program is built.
 SERVE = '''
 import sys
-sys.path.insert(0, 'tools/lib')
 import serve
 serve.program_for = lambda is_proved: sys.argv[1]
 sys.exit(serve.start(sys.argv[2:]))
@@ -209,7 +208,7 @@ def serve_sh_hands_on_every_word(program):
     wrong = []
     for words in (('extract', '--help'), ('compact', '--help'), ('nt-hash',), ('sevre',), ('replay', '--other')):
         run = subprocess.run((sys.executable, '-c', SERVE, program.path, *words), cwd=TOP, input=b'Password',
-                             capture_output=True, timeout=PATIENCE)
+                             capture_output=True, timeout=PATIENCE, env={**os.environ, 'PYTHONPATH': 'tools/lib'})
         note, _, errors = run.stderr.partition(b'\n')
         wrong += [differs((run.returncode, run.stdout, errors), ran(program, words, b'Password'), words),
                   differs(note[:6], b'note: ', words)]

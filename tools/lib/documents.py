@@ -1,8 +1,9 @@
 """Checks what the documents say of the repository, and prints how many words each has.
 
 Of README.md, CONTRIBUTING.md, tools/README.md, bench/FIGURES.md and docs/*.md: each file, crate, law and option that is named
-exists; no sentence of twelve words or more stands in two of them; README has at most 1,500 words. The status is 1 where one
-of these does not hold, which is printed.
+exists; no sentence of twelve words or more stands in two of them; README has at most 1,500 words, and all by hand in README,
+CONTRIBUTING and docs/ at most 40,000; each rule of a configuration stands in docs/REPLAY.md in the program's own words. The
+status is 1 where one of these does not hold, which is printed.
 """
 import itertools
 import pathlib
@@ -14,7 +15,8 @@ WRITTEN = ("docs/EDITS.md", "docs/BODIES.md")
 ROOTS = "crates|docs|tools|tests|bench|examples"
 SOURCES = ("crates/*/src/**/*.rt", "tools/**/*.*", "tests/**/*.*", "bench/**/*.*", "examples/*")
 TO_FILL_IN = ("NAME", "CRATE", "FILE", "FILE_WHAT", "SUBJECT", "my_share")
-README_WORDS, TWICE = 1_500, 12
+README_WORDS, WORDS, TWICE = 1_500, 40_000, 12
+RULES = "crates/smb_config/src/rule.rt"
 
 
 def documents():
@@ -63,6 +65,13 @@ def said_twice(texts):
     return [(it, names) for it, names in where.items() if len(names) > 1]
 
 
+def rules():
+    """What the program says of a key that breaks a rule: the key, and what it is to be."""
+    source = (TOP / RULES).read_text(encoding="utf-8")
+    found = re.findall(r'=>\s*(?:\{\s*)?"([a-z_.]+: (?:[^"\\]|\\.)+)"', source)
+    return [re.sub(r"\\(.)", r"\1", it) for it in found]
+
+
 def main():
     texts = documents()
     crates = {line.split(":")[0].split()[0] for line in (TOP / "crates.txt").read_text(encoding="utf-8").splitlines() if ":" in line}
@@ -77,7 +86,10 @@ def main():
     counts = {name: len(text.split()) for name, text in texts.items()}
     if counts["README.md"] > README_WORDS:
         faults.append(f"README.md has {counts['README.md']} words, more than {README_WORDS}")
+    faults += [f"docs/REPLAY.md has not the rule: {it}" for it in rules() if it not in texts["docs/REPLAY.md"]]
     by_hand = sum(count for name, count in counts.items() if name not in WRITTEN and not name.startswith(("tools", "bench")))
+    if by_hand > WORDS:
+        faults.append(f"by hand there are {by_hand} words, more than {WORDS}")
     print("words: " + ", ".join(f"{name.removeprefix('docs/')} {count:,}" for name, count in counts.items()) + f"; by hand {by_hand:,}")
     for it in faults:
         print(it)
