@@ -11,7 +11,7 @@ import re
 import sys
 
 TOP = pathlib.Path(__file__).resolve().parent.parent.parent
-WRITTEN = ("docs/EDITS.md", "docs/BODIES.md")
+WRITTEN = ("docs/EDITS.md", "docs/BODIES.md", "docs/GATE.md")
 ROOTS = "crates|docs|tools|tests|bench|examples"
 SOURCES = ("crates/*/src/**/*.rt", "tools/**/*.*", "tests/**/*.*", "bench/**/*.*", "examples/*")
 TO_FILL_IN = ("NAME", "CRATE", "FILE", "FILE_WHAT", "SUBJECT", "my_share")
