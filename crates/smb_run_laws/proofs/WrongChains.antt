@@ -178,7 +178,8 @@ module _ {S : Type 0} (m : Meaning S) (accounts : S) where
     where
       not_granted : (replies : List Reply) → with_zeros 18 2 echoed.outputs ≡ reply_frame 1 (joined_replies replies) →
           ((reply : Reply) × (others : List Reply) × (replies ≡ reply ∷ others) × (reply.header.credits ≡ 1)
-          × (echoed.connection.window ≡ record { usable = 1 ∷ upward 2 reply.header.credits; next = 2 + reply.header.credits })) → ⊥
+          × ((others ≡ [])
+          × (echoed.connection.window ≡ record { usable = 1 ∷ upward 2 reply.header.credits; next = 2 + reply.header.credits }))) → ⊥
       not_granted replies sent granted =
           not_one 14 granted.0.header.credits (with_zeros 18 2 echoed.outputs) (reply_frame 1 (joined_replies (granted.0 ∷ granted.1))) refl
           (sent ∙ ap (λ (rs : List Reply). reply_frame 1 (joined_replies rs)) granted.2) (credits_at 1 granted.0 granted.1) granted.3

@@ -50,9 +50,9 @@ AreReplies (served ∷ requests) replies = MatchOption served.request
     × AreReplies requests others)))
 
 -- replies tell the credits that requests are granted, one after the other, from a window on: each as many as it has
--- then for what is asked for; and this window they leave, with as many MessageIds more (3.3.1.2)
+-- then for what is asked for; and this window they leave, with as many MessageIds more, and no reply over (3.3.1.2)
 abbrev pub AreGranted : {S : Type 0} → WindowState → List (PerformedRequest S) → List Reply → WindowState → Type 0
-AreGranted window [] replies left = left ≡ window
+AreGranted window [] replies left = (replies ≡ []) × (left ≡ window)
 AreGranted window (served ∷ requests) replies left = MatchOption served.request ⊥ (λ request.
     MatchOption served.response (AreGranted window requests replies left) (λ response.
     (reply : Reply) × (others : List Reply) × (replies ≡ reply ∷ others)
