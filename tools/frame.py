@@ -15,6 +15,7 @@ in one line on standard error, and the status is 1. This tool is for people who 
 on it.
 """
 import ast
+import functools
 import pathlib
 import re
 import sys
@@ -147,6 +148,7 @@ class Unread(Exception):
     """The bytes are no message that this tool knows, or the words name none."""
 
 
+@functools.lru_cache(maxsize=None)
 def table(text):
     """The fields and the buffers of a table: (name, width, default, offset of, length of), (name, kind, step)."""
     fixed, _, behind = text.partition("|")

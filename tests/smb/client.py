@@ -14,8 +14,8 @@ CHAIN = 16
 class Client:
     """A client's stream."""
 
-    def __init__(self, port, patience=PATIENCE):
-        self.stream = socket.create_connection(('127.0.0.1', port), patience)
+    def __init__(self, port, patience=PATIENCE, host='127.0.0.1'):
+        self.stream = socket.create_connection((host, port), patience)
 
     def send(self, data):
         self.stream.sendall(data)

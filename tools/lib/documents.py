@@ -12,8 +12,8 @@ import sys
 
 TOP = pathlib.Path(__file__).resolve().parent.parent.parent
 WRITTEN = ("docs/EDITS.md", "docs/BODIES.md", "docs/GATE.md")
-ROOTS = "crates|docs|tools|tests|bench|examples"
-SOURCES = ("crates/*/src/**/*.rt", "tools/**/*.*", "tests/**/*.*", "bench/**/*.*", "examples/*")
+ROOTS = "crates|docs|tools|tests|bench|examples|conform"
+SOURCES = ("crates/*/src/**/*.rt", "tools/**/*.*", "tests/**/*.*", "bench/**/*.*", "conform/**/*.*", "examples/*")
 TO_FILL_IN = ("NAME", "CRATE", "FILE", "FILE_WHAT", "SUBJECT", "my_share")
 README_WORDS, WORDS, TWICE = 1_500, 40_000, 12
 RULES = "crates/smb_config/src/rule.rt"
