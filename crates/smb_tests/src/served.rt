@@ -12,6 +12,20 @@ use std::net::{TcpListener, TcpStream};
 /// Where the moment stands in the frame that answers a NEGOTIATE.
 const MOMENT_AT: usize = 108;
 
+/// A client of a listener, which has sent a frame.
+fn client_of(rt: &HostRuntime, listener: &TcpListener, frame: &[u8]) -> io::Result<TcpStream> {
+    let mut client = TcpStream::connect(rt, listener.local_addr()?)?;
+    client.write_all(frame)?;
+    Ok(client)
+}
+
+/// Serves a share to the peers of a listener, and gives how often memory ran out.
+fn serve_at(rt: &HostRuntime, share: &mut Served, listener: TcpListener) -> io::Result<u64> {
+    let mut peers = TcpPeers::new(rt, rt.alloc(), listener)?;
+    let mut clock = SystemClock::new(rt);
+    Ok(serve(share, &mut peers, &mut clock, 100_000))
+}
+
 /// Serves a share to one client, which has sent a frame before, and gives the first bytes of what it is answered.
 fn served(
     rt: &HostRuntime,
@@ -20,11 +34,8 @@ fn served(
     answer: &mut [u8],
 ) -> io::Result<u64> {
     let listener = TcpListener::bind(rt, "127.0.0.1:0")?;
-    let mut client = TcpStream::connect(rt, listener.local_addr()?)?;
-    client.write_all(frame)?;
-    let mut peers = TcpPeers::new(rt, rt.alloc(), listener)?;
-    let mut clock = SystemClock::new(rt);
-    let ran_out = serve(share, &mut peers, &mut clock, 100_000);
+    let mut client = client_of(rt, &listener, frame)?;
+    let ran_out = serve_at(rt, share, listener)?;
     client.read_exact(answer)?;
     Ok(ran_out)
 }
