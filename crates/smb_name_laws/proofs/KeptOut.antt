@@ -35,7 +35,7 @@ use Rattle.smb_opens.specs.State.{StoreState}
 use Rattle.smb_opens.proofs.Closing.{closed_is, opens_closed}
 use Rattle.smb_opens.proofs.Passing.{pass_all}
 use Rattle.smb_name_laws.specs.Deletes.{is_to_be_deleted}
-use Rattle.smb_name_laws.specs.Sharing.{is_to_use, EachRightHasItsShareBit, WhatIsNotSharedIsNotGranted, WhoSharesIsNotRefused, ACreateSucceedsAfterTheClose}
+use Rattle.smb_name_laws.specs.Sharing.{is_to_use, EachRightHasItsShareBit, NothingIsGrantedWhereNothingIsShared, WhoSharesIsNotRefused, ACreateSucceedsAfterTheClose}
 use Rattle.smb_name_laws.proofs.Gone.{any_found, left_open, tree_kept}
 
 -- of a CREATE that succeeds no row holds
@@ -134,7 +134,7 @@ kept_out state ask number row held none h =
     refused state ask number row held
     (second_kept (is_shared_access wanted.0) (is_shared_access row.access) (is_kept_out wanted.0 row.share) (is_kept_out row.access wanted.1) used held.uses (nothing_shared row.access (share_asked ask) none ∙ held.uses))
 
-pub refuses : WhatIsNotSharedIsNotGranted
+pub refuses : NothingIsGrantedWhereNothingIsShared
 refuses state ask entry number row asked opened own uses =
     let held : IsInUse state ask number row = record {
       entry = entry;
@@ -142,10 +142,8 @@ refuses state ask entry number row asked opened own uses =
       opened = opened;
       own = own;
       uses = uses;
-    } in (
-      λ h. not_granted state ask number row held h,
-      λ either h. elim either [ inl none ↦ alone state ask number row held none h | inr none ↦ kept_out state ask number row held none h ],
-    )
+    } in
+    λ either h. elim either [ inl none ↦ alone state ask number row held none h | inr none ↦ kept_out state ask number row held none h ]
 
 -- rights to read, to write and to delete
 abbrev reads : ℕ → Bool

@@ -23,7 +23,7 @@ use Rattle.smb_opens.specs.Create.{access_granted, create_rows, create_status}
 use Rattle.smb_opens.specs.Found.{entry_asked}
 use Rattle.smb_opens.specs.Good.{GoodStore}
 use Rattle.smb_opens.specs.State.{StoreState}
-use Rattle.smb_name_laws.specs.Sharing.{WhatIsNotSharedIsNotGranted, EachRightHasItsShareBit, WhoSharesIsNotRefused, is_to_use}
+use Rattle.smb_name_laws.specs.Sharing.{NothingIsGrantedWhereNothingIsShared, EachRightHasItsShareBit, WhoSharesIsNotRefused, is_to_use}
 use Rattle.smb_name_laws.proofs.ExampleStore.{file, opened, sharing, unsharing, with_opens, file_name, asks, open_among}
 use Rattle.smb_name_laws.proofs.ExampleStore.{is_good_with_sharing}
 
@@ -52,34 +52,32 @@ abbrev opens_file : ℕ → FileAsked
 opens_file share = asks file_name share Open
 
 -- no CREATE is granted what an open in use does not share, or is to use an entry where it or such an open shares nothing
-abbrev WhatIsNotSharedIsNotGrantedBy : (StoreState → FileAsked → NtStatus) → Type 0
-WhatIsNotSharedIsNotGrantedBy status =
+abbrev NothingIsGrantedWhereNothingIsSharedBy : (StoreState → FileAsked → NtStatus) → Type 0
+NothingIsGrantedWhereNothingIsSharedBy status =
     (state : StoreState) (ask : FileAsked) (entry : Entry) (number : ℕ) (row : OpenRow) →
     entry_asked state ask ≡ Some entry → open_of state.opens number ≡ Some row → row.entry ≡ entry.number →
     is_shared_access row.access ≡ true →
-    (is_kept_out (access_granted state ask) row.share ≡ true → status state ask ≢ Success)
-    × ((row.share.0 ≡ 0) ⊎ (bit_and ask.share FILE_SHARE_ALL ≡ 0) → is_to_use state ask ≡ true →
-    status state ask ≢ Success)
+    (row.share.0 ≡ 0) ⊎ (bit_and ask.share FILE_SHARE_ALL ≡ 0) → is_to_use state ask ≡ true →
+    status state ask ≢ Success
 
-what_is_not_shared_is_not_granted : WhatIsNotSharedIsNotGranted ≡ WhatIsNotSharedIsNotGrantedBy create_status
-what_is_not_shared_is_not_granted = refl
+nothing_is_granted_where_nothing_is_shared : NothingIsGrantedWhereNothingIsShared ≡ NothingIsGrantedWhereNothingIsSharedBy create_status
+nothing_is_granted_where_nothing_is_shared = refl
 
 -- wrong: only what the new open shares counts, so an open that shares nothing keeps no one out
 abbrev conflict_by_new_share : Use → Use → Bool
 conflict_by_new_share new old = is_shared_access new.0 && is_shared_access old.0 && is_kept_out old.0 new.1
 
-a_conflict_by_new_share_breaks_it : WhatIsNotSharedIsNotGrantedBy (status_by conflict_by_new_share) → ⊥
+a_conflict_by_new_share_breaks_it : NothingIsGrantedWhereNothingIsSharedBy (status_by conflict_by_new_share) → ⊥
 a_conflict_by_new_share_breaks_it law =
-    (law (with_opens (unsharing ∷ [])) (opens_file FILE_SHARE_ALL) file 2 unsharing refl refl refl refl).1
-    (inl refl) refl refl
+    law (with_opens (unsharing ∷ [])) (opens_file FILE_SHARE_ALL) file 2 unsharing refl refl refl refl (inl refl) refl refl
 
 -- wrong: only what the old open shares counts, so one that would share nothing is let in beside it
 abbrev conflict_by_old_share : Use → Use → Bool
 conflict_by_old_share new old = is_shared_access new.0 && is_shared_access old.0 && is_kept_out new.0 old.1
 
-a_conflict_by_old_share_breaks_it : WhatIsNotSharedIsNotGrantedBy (status_by conflict_by_old_share) → ⊥
+a_conflict_by_old_share_breaks_it : NothingIsGrantedWhereNothingIsSharedBy (status_by conflict_by_old_share) → ⊥
 a_conflict_by_old_share_breaks_it law =
-    (law (with_opens (sharing ∷ [])) (opens_file 0) file 2 sharing refl refl refl refl).1 (inr refl) refl refl
+    law (with_opens (sharing ∷ [])) (opens_file 0) file 2 sharing refl refl refl refl (inr refl) refl refl
 
 -- no CREATE is refused for sharing, where it and each open of its entry share what the other is to do, or where it is to
 -- do none of what is shared

@@ -19,16 +19,15 @@ use Rattle.smb_opens.specs.State.{StoreState}
 abbrev pub is_to_use : StoreState → FileAsked → Bool
 is_to_use state ask = is_shared_access (access_granted state ask) || overwrites_by ask.disposition
 
--- while an open of an entry reads, writes or deletes it, no CREATE of the entry succeeds that would be granted what the
--- open does not share; and none that is to read, write or delete it succeeds, where the open or the CREATE shares nothing
-abbrev pub WhatIsNotSharedIsNotGranted : Type 0
-WhatIsNotSharedIsNotGranted =
+-- while an open of an entry reads, writes or deletes it, no CREATE that is to read, write or delete the entry succeeds
+-- where the open or the CREATE shares nothing
+abbrev pub NothingIsGrantedWhereNothingIsShared : Type 0
+NothingIsGrantedWhereNothingIsShared =
     (state : StoreState) (ask : FileAsked) (entry : Entry) (number : ℕ) (row : OpenRow) →
     entry_asked state ask ≡ Some entry → open_of state.opens number ≡ Some row → row.entry ≡ entry.number →
     is_shared_access row.access ≡ true →
-    (is_kept_out (access_granted state ask) row.share ≡ true → create_status state ask ≢ Success)
-    × ((row.share.0 ≡ 0) ⊎ (bit_and ask.share FILE_SHARE_ALL ≡ 0) → is_to_use state ask ≡ true →
-    create_status state ask ≢ Success)
+    (row.share.0 ≡ 0) ⊎ (bit_and ask.share FILE_SHARE_ALL ≡ 0) → is_to_use state ask ≡ true →
+    create_status state ask ≢ Success
 
 -- while an open reads, writes or deletes its entry, no CREATE of the entry succeeds that would be granted a right to
 -- read where the open lacks FILE_SHARE_READ 1, to write where it lacks FILE_SHARE_WRITE 2, or to delete where it lacks

@@ -1,6 +1,6 @@
 //! The laws of sharing.
 
-ghost use Rattle.smb_name_laws.specs.Sharing.{WhatIsNotSharedIsNotGranted, EachRightHasItsShareBit};
+ghost use Rattle.smb_name_laws.specs.Sharing.{NothingIsGrantedWhereNothingIsShared, EachRightHasItsShareBit};
 ghost use Rattle.smb_name_laws.specs.Sharing.{WhoSharesIsNotRefused, ACreateSucceedsAfterTheClose};
 
 /// While an open reads, writes or deletes its entry, no CREATE of it succeeds that would be granted what that open
@@ -11,7 +11,7 @@ ghost use Rattle.smb_name_laws.specs.Sharing.{WhoSharesIsNotRefused, ACreateSucc
 /// the sharing of one open alone succeeds once that open is closed, unless this was to delete the entry. The
 /// contract is the statement, and the body does nothing.
 pub fn laws_of_sharing()
-    ensures not_granted { WhatIsNotSharedIsNotGranted }
+    ensures not_granted { NothingIsGrantedWhereNothingIsShared }
     ensures bits { EachRightHasItsShareBit }
     ensures shares { WhoSharesIsNotRefused }
     ensures after_close { ACreateSucceedsAfterTheClose }
