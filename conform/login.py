@@ -35,13 +35,29 @@ def comes_in(server, dialects=DIALECTS):
     try:
         dialect, wants_signatures = negotiates(server, link, dialects)
         logs_in(server, link, wants_signatures)
-        frame = tree_connect(link.next_id(), link.session, f'\\\\{server.host}\\{server.share}')
+        frame = tree_connect(link.next_id(), link.session, share_path(server))
         answer = must_be(server, f'its share {server.share} cannot be connected', link.answer_to(frame))
         link.tree = answer.fields['TreeId']
     except BaseException:
         link.end()
         raise
     return link, dialect
+
+
+def share_path(server):
+    return f'\\\\{server.host}\\{server.share}'
+
+
+def speaks(server, dialect):
+    """Whether a server speaks a dialect, where no other is offered."""
+    link = Link(server.host, server.port, server.patience)
+    try:
+        negotiates(server, link, (dialect,))
+    except Refused:
+        return False
+    finally:
+        link.end()
+    return True
 
 
 def negotiates(server, link, dialects):

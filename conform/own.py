@@ -23,9 +23,15 @@ def hash_of(program, password):
     return bytes.fromhex(output.decode('ascii')) if status == 0 else None
 
 
+def log_in(folder):
+    """The log of a program that serves with this folder."""
+    return os.path.join(folder, 'log')
+
+
 def serves(program, folder, user, nt_hash):
-    """The program, serving guests, and the user of an account where it is not a guest who logs in."""
-    words = ('--config', GUESTS, '--login', 'ntlm')
+    """The program, serving guests, and the user of an account where it is not a guest who logs in; it logs what it
+    refuses."""
+    words = ('--config', GUESTS, '--login', 'ntlm', '--log', log_in(folder), '--log-level', 'refusals')
     if user != GUEST:
         words += ('--accounts', ntlm.accounts_file(folder, ntlm.account(user, nt_hash.hex())))
     return program.serve(*words)

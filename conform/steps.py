@@ -12,17 +12,31 @@ import collections
 import struct
 from dataclasses import dataclass
 
-# A script: the table that it is of, its name, which is one word, and its steps.
-Script = collections.namedtuple('Script', 'table name steps')
+from conform.wire import command_in, command_name
+from tools.frame import Unread, read_message, told
+
+# A script: the table that it is of, its name, which is one word, its steps, and the dialect that it has to be spoken
+# in, where it is not as good in either.
+Script = collections.namedtuple('Script', 'table name steps dialect', defaults=(None,))
 
 ALL, NOTHING = 'SHARE_READ|SHARE_WRITE|SHARE_DELETE', '0'
 BASIC, RENAME, DISPOSITION, ALLOCATION, END_OF_FILE, STANDARD = 4, 10, 13, 19, 20, 5
 OF_A_FILE, OF_THE_SHARE = 1, 2
+# The table whose scripts are made by chance.
+RANDOM = 'random'
 # What the open is called by which a script makes what is there before it asks for anything.
 MADE = 'made'
 RESTART_SCANS, RETURN_SINGLE_ENTRY, REOPEN = 1, 2, 16
 QUERY_FLAGS = {'RESTART_SCANS': RESTART_SCANS, 'RETURN_SINGLE_ENTRY': RETURN_SINGLE_ENTRY, 'REOPEN': REOPEN}
 WHOLE = 65_536
+# All rights, which a line shows as a word.
+ALL_ACCESS = struct.pack('<I', 0x1F01FF)
+# What only numbers a request; and how many characters of one a line shows.
+NUMBERS, LONGEST = ('MessageId', 'SessionId', 'TreeId', 'Credits'), 400
+
+
+def short(text, longest=LONGEST):
+    return text if len(text) <= longest else f'{text[:longest]}.. ({len(text)} characters)'
 
 
 def listed(text):
@@ -31,7 +45,7 @@ def listed(text):
 
 class Step:
     """What all steps have: the label of their open, and whether it has to be there."""
-    command, needs_open = '', True
+    command, needs_open, of = '', True, ''
 
     @property
     def label(self):
@@ -222,6 +236,49 @@ class List(Step):
         times = {0: ', until it is refused', 1: ''}.get(self.most, f', at most {self.most} times')
         return (f'QUERY_DIRECTORY {self.pattern}, class {self.number}, room for {self.room} bytes'
                 f'{", " + ", ".join(flags) if flags else ""}{times}')
+
+
+@dataclass(frozen=True)
+class Comes(Step):
+    """A client of a row comes in, to what the row calls session and tree connect by these numbers."""
+    session: int
+    tree: int
+    dialect: int
+    by: str
+    needs_open = False
+
+    def told(self):
+        return f'comes in, in dialect {self.dialect:#06x}'
+
+
+@dataclass(frozen=True)
+class Frame(Step):
+    """A frame of a row: its requests, and the row's answers, of which a CANCEL has none."""
+    messages: tuple
+    stored: tuple
+    by: str
+    needs_open = False
+
+    @property
+    def command(self):
+        return self.commands()[0]
+
+    def commands(self):
+        """The command of each request; of one that is none its number."""
+        return [command_name(command_in(it)) for it in self.messages]
+
+    def told(self):
+        return ' ; '.join(short(told_message(it)) for it in self.messages)
+
+
+def told_message(message):
+    """A request in the words of tools/frame.py, without what only numbers it."""
+    try:
+        words = read_message(message).split(' ')
+    except Unread:
+        return message.hex()
+    text = ' '.join(it for it in words if it.partition('=')[0] not in NUMBERS)
+    return text.replace(told('DesiredAccess', 4, ALL_ACCESS), 'all')
 
 
 # SET_INFO by what it says.
