@@ -20,8 +20,10 @@ Line = collections.namedtuple('Line', 'label command sentence status section')
 Refusal = collections.namedtuple('Refusal', 'command status why')
 
 HEADING = re.compile(r'#+ (?P<word>\w+).*?(?P<section>(?:\[MS-\w+\] )?\d+(?:\.\d+)+)?\)?$')
-IN_A_TABLE = re.compile(r'\| (?P<label>[A-Z]+\d+b?|[\d, ]+) \| (?P<sentence>.+) \| (?P<status>[A-Z_]+) \|')
+IN_A_TABLE = re.compile(r'\| (?P<label>[A-Z]+\d+b?) \| (?P<sentence>.+) \| (?P<status>[A-Z_]+) \|')
 SECTION = re.compile(r'\b(?P<command>[A-Z]+(?:_[A-Z]+)*) \((?P<section>3\.3\.5\.\d+)\)')
+# The letters of the rows of a SET_INFO of each class.
+OF_CLASS = {4: 'SB', 13: 'SD', 19: 'SZ', 20: 'SZ', RENAME: 'N'}
 STANDARD, OF_ALL, NONE = '[MS-SMB2] ', '3.3.5.2', '(none refuses)'
 
 
@@ -41,8 +43,7 @@ def lines_of(text):
             section = section if section.startswith('[') else STANDARD + section
             command = {'Renames': 'SET_INFO'}.get(word, word if word in COMMANDS else '')
         if found and section:
-            label = found['label'] if found['label'][0].isalpha() else f'class {found["label"].strip()}'
-            yield Line(label, command, found['sentence'], f'STATUS_{found["status"]}', section)
+            yield Line(found['label'], command, found['sentence'], f'STATUS_{found["status"]}', section)
 
 
 def refusals_in(log):
@@ -50,7 +51,7 @@ def refusals_in(log):
     found = collections.defaultdict(list)
     for line in log.splitlines():
         fields = line.split('\t')
-        if len(fields) < 7 or not fields[1].isdecimal() or fields[5] == '-':
+        if len(fields) < 7 or not fields[1].isdecimal() or fields[5] in ('-', 'STATUS_SUCCESS'):
             continue
         why = re.search(r'(?:^| )why="(.*)"$', fields[-1])
         found[int(fields[1])].append(Refusal(fields[4].split(' ')[0], fields[5], why[1] if why else ''))
@@ -70,7 +71,7 @@ def is_of(line, sets):
     """Whether a line of a table can be that of a SET_INFO of this class; it can where it is none."""
     if sets is None or line.command != 'SET_INFO':
         return True
-    return line.label[0] == 'N' if sets == RENAME else str(sets) in re.findall(r'\d+', line.label)
+    return line.label.rstrip('0123456789') in ('SI', OF_CLASS.get(sets))
 
 
 class Rows:

@@ -16,6 +16,7 @@ for folder in crates/*/; do
     grep -qE "^$name( |:)" crates.txt || fail "crates.txt does not list $name."
 done
 python3 tools/lib/manual.py --check || fail 'docs/smbshare.1 is not what tools/lib/manual.py writes.'
+python3 tools/lib/refusals.py --check || fail 'The tables of docs/PROFILE.md are not what crates/smb_refusal_table prints.'
 python3 tools/edits.py --check || fail 'docs/EDITS.md is not what tools/edits.py writes.'
 python3 tools/believed.py --check || fail 'docs/DEFINITIONS.md does not name what a reader must believe.'
 python3 tools/bodies.py --check || fail 'docs/BODIES.md is not what tools/bodies.py writes.'

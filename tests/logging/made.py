@@ -3,6 +3,7 @@ import datetime
 import struct
 
 from tests.smb import frames
+from tools.lib.refusals import rows, tables
 
 FIELDS = ['moment', 'connection', 'peer', 'user', 'event', 'status', 'microseconds']
 # When the built-in share was made, which is when a replay begins; and when the first piece comes, which is 2025-12-08
@@ -15,6 +16,8 @@ SIZES = {'NEGOTIATE': 128, 'SESSION_SETUP': 72, 'LOGOFF': 68, 'TREE_CONNECT': 80
          'QUERY_INFO': 72, 'SET_INFO': 66}
 # The bytes of a refusal, before a payload, and of a header.
 REFUSAL, FRAME_HEAD, HEADER = 73, 4, 64
+# The sentence of each row, of the last of a label. The reasons for which a chain is not performed, and an SMB_COM_NEGOTIATE.
+SENTENCES, IN_CHAINS, BY_SMB1 = dict(rows(tables())), ('E1', 'E2', 'E3', 'E4'), 'E7'
 # A command, and a class of information.
 FLUSH, NAMES = 7, 12
 
@@ -25,11 +28,29 @@ def date_of(moment):
     return f'{date:%Y-%m-%d %H:%M:%S}.{date.microsecond // 1000:03}'
 
 
-class Answer:
-    """How a request is logged and answered; `more` is how many bytes its response has in its buffer."""
+def without_comma(why):
+    """A reason as the log has it: without the comma behind its label."""
+    return why.replace(',', '', 1)
 
-    def __init__(self, event, status=SUCCESS, more=0, user=None):
-        self.event, self.status, self.more, self.user = event, status, more, user
+
+def requests_in(piece):
+    """How many requests the chain of a frame has."""
+    count, place = 1, FRAME_HEAD
+    while following := struct.unpack_from('<I', piece, place + 20)[0]:
+        count, place = count + 1, place + following
+    return count
+
+
+class Answer:
+    """How a request is logged and answered; `more` is how many bytes its response has in its buffer, and `why` the row of
+    docs/PROFILE.md by which it is refused: of one that is to be logged with it the label."""
+
+    def __init__(self, event, status=SUCCESS, more=0, user=None, why=None):
+        self.event, self.status, self.more, self.user, self.why = event, status, more, user, why
+
+    def microseconds(self):
+        """The last field as the log has it: a replay takes no time."""
+        return f'0 why="{self.why} {SENTENCES[self.why]}"' if self.why else '0'
 
     def size(self):
         """How many bytes the response has."""
@@ -60,7 +81,7 @@ class Row:
         self.bytes_out += FRAME_HEAD + sum(size + -size % 8 for size in sizes[:-1]) + sizes[-1]
         self.requests += len(answers)
         for answer in answers:
-            self.logs(connection, answer.event, answer.user or user, answer.status, '0')
+            self.logs(connection, answer.event, answer.user or user, answer.status, answer.microseconds())
 
     def texts(self, connections=0, sessions=0, opens=0):
         """The text of the events and that of the log, whose last line says what there is."""
@@ -89,12 +110,13 @@ class Client:
         if answers:
             self.row.answers(self.number, self.user, answers)
 
-    def asks(self, event, make, *words, status=SUCCESS, more=0):
+    def asks(self, event, make, *words, status=SUCCESS, more=0, why=None):
         """A request by the function that makes its frame, with its words."""
-        self.sends(self.makes(make, *words), Answer(event, status, more))
+        self.sends(self.makes(make, *words), Answer(event, status, more, why=why))
 
-    def refused(self, status, event, make, *words):
-        self.asks(event, make, *words, status=f'STATUS_{status}')
+    def refused(self, status, why, event, make, *words):
+        """A request that is refused by the row of this label, which is logged but where it is None."""
+        self.asks(event, make, *words, status=f'STATUS_{status}', why=why)
 
     def negotiates(self, event='NEGOTIATE 2.1', dialects=(0x0210,)):
         self.asks(event, negotiate, dialects)
@@ -120,10 +142,13 @@ class Client:
         self.row.events.append(f'- {self.number}')
         self.row.logs(self.number, 'ended: by the client', self.user)
 
-    def is_ended(self, piece, rule):
-        """A piece by which the share ends the connection."""
+    def is_ended(self, piece, why):
+        """A piece by which the share ends the connection. The requests that it does not perform count, where they can be read."""
         self.row.brings(self.number, piece)
-        self.row.logs(self.number, f'ended: by the share, {rule}', self.user)
+        if why.startswith(IN_CHAINS):
+            self.row.requests += requests_in(piece)
+        self.row.requests += why.startswith(BY_SMB1)
+        self.row.logs(self.number, f'ended: by the share, {without_comma(why)}', self.user)
 
 
 def request(message_id, command, body, session, tree):

@@ -13,6 +13,8 @@ ALL = ('--log-level', 'requests')
 # What is written in place of lines for which no memory was left.
 LOST = b'lines were lost for want of memory'
 MOST_SAID = 5
+# How many allocations the reasons of an event take in a replay that is logged, where the share tells one: one of its vector.
+OF_REASONS = 1
 
 
 def names_of_rows():
@@ -92,7 +94,7 @@ def a_recording_is_logged_as_it_was_served(program, works):
             share.process.wait(timeout=60)
             killed(share)
         status, output, errors = program.ran('replay', '--recording', record, '--log', again, *ALL)
-        wanted, found = (without_times(bytes_of(file), b'minute') for file in (log, again))
+        wanted, found = (without_times(bytes_of(file), (b'minute', b'started', b'stopped')) for file in (log, again))
     if (status, errors) != (0, '') or not output or found != wanted:
         print(f'  {status} {errors!r}: {found} in place of {wanted}', flush=True)
         return False
@@ -128,9 +130,9 @@ class Refused:
         return f'the log has {others[0]}' if others else ''
 
     def is_in_part(self, line):
-        """Whether a line is one of the row's but for its user or its file's name, which were not kept."""
+        """Whether a line is one of the row's but for its user, its file's name or its reason, which were not kept."""
         fields = line.split(b'\t')
-        return any(fields[:3] == other[:3] and fields[5:] == other[5:]
+        return any(fields[:3] == other[:3] and fields[5:] in (other[5:], [*other[5:-1], other[-1].split(b' why=')[0]])
                    and fields[4].split()[:1] == other[4].split()[:1]
                    for other in (wanted.split(b'\t') for wanted in self.lines) if len(other) == len(fields))
 
@@ -145,7 +147,8 @@ class Refused:
 
 
 def each_allocation_beside_a_log(program):
-    """Each allocation of a replay that is logged is refused in turn: it is answered as without a log."""
+    """Each allocation of a replay that is logged is refused in turn: it is answered as without a log, but that it also ends
+    where there is no memory for the reasons of an event."""
     with built('refuse_allocation') as library, tempfile.TemporaryDirectory() as folder:
         trial = Refused(program, library, folder, 'chains')
         with_log, without = trial.all(True), trial.all(False)
@@ -156,4 +159,4 @@ def each_allocation_beside_a_log(program):
     ended = [sum(status == 3 and output != b'' for status, output, _ in found) for found in (with_log, without)]
     print(f'  {len(with_log)} refused, {len(faults)} of them wrong; behind an answer it ended at {ended[0]}, without a '
           f'log at {ended[1]}', flush=True)
-    return not faults and len(with_log) > len(without) and ended[0] == ended[1] > 0
+    return not faults and len(with_log) > len(without) and ended[0] == ended[1] + OF_REASONS and ended[1] > 0

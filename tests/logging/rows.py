@@ -4,7 +4,7 @@
 
 Of each row it writes log_rows/NAME.replay, a text for `smbshare replay` with the built-in configuration, and NAME.log,
 the whole log of it at level `requests`. The lines are set here by hand beside what comes, by the names of the standard
-and the statuses of docs/PROFILE.md: none is the program's. With --check it writes nothing, and its status is 1 where a
+and the statuses and rows of docs/PROFILE.md: none is the program's. With --check it writes nothing, and its status is 1 where a
 file is another.
 """
 import os
@@ -49,7 +49,7 @@ def session():
     client.asks(r'QUERY_INFO reports\june.txt FileStandardInformation', query, OF_FILE, 2, STANDARD, more=24)
     client.asks(r'QUERY_INFO reports\june.txt FileFsVolumeInformation', query, OF_SHARE, 2, 1, more=26)
     client.asks('QUERY_DIRECTORY reports june.*', search, 1, 'june.*', more=28)
-    client.refused('NO_MORE_FILES', 'QUERY_DIRECTORY reports', search, 1, '')
+    client.refused('NO_MORE_FILES', None, 'QUERY_DIRECTORY reports', search, 1, '')
     client.asks(r'SET_INFO reports\june.txt FileBasicInformation', set_info, 2, BASIC, bytes(40))
     client.asks(r'SET_INFO reports\june.txt allocation=8192', set_size, 2, ALLOCATION, 8_192)
     client.asks(r'SET_INFO reports\june.txt size=512', set_size, 2, END_OF_FILE, 512)
@@ -65,7 +65,7 @@ def session():
                 lock, 2, [(place, 1, EXCLUSIVE | AT_ONCE) for place in range(6)])
     client.asks('ECHO', short, ECHO)
     client.asks(r'CLOSE reports\june.txt', close, 2)
-    client.refused('FILE_CLOSED', 'READ ? offset=0 length=65536', read, 2, 0, 65_536)
+    client.refused('FILE_CLOSED', 'P8', 'READ ? offset=0 length=65536', read, 2, 0, 65_536)
     client.asks('CREATE . OPEN access=attributes share=none', create, '', CHANGES, OPEN, 0, 0)
     client.asks('CLOSE .', close, 3)
     client.asks('CLOSE reports', close, 1)
@@ -86,7 +86,7 @@ def sessions():
     again.logs_in(2, 1)
     again.connects()
     again.sends(again.makes(lambda number, *_: close(number, 1, 1, 1)),
-                Answer('CLOSE ?', 'STATUS_USER_SESSION_DELETED', user='-'))
+                Answer('CLOSE ?', 'STATUS_USER_SESSION_DELETED', user='-', why='P4'))
     again.asks('CREATE june.txt OPEN access=all,read,write,append,execute,delete share=read,write,delete',
                create, 'june.txt', 0x101F01FF, OPEN, 7, 0)
     again.asks('CREATE july.txt OVERWRITE_IF access=maximum share=none options=delete_on_close',
@@ -97,7 +97,7 @@ def sessions():
     first.leaves()
     again.asks('TREE_DISCONNECT', short, TREE_DISCONNECT)
     again.tree = 0
-    again.refused('NETWORK_NAME_DELETED', 'CREATE june.txt OVERWRITE access=execute share=write',
+    again.refused('NETWORK_NAME_DELETED', 'P5', 'CREATE june.txt OVERWRITE access=execute share=write',
                   create, 'june.txt', 0x20, OVERWRITE, 2, 0)
     again.asks(r'TREE_CONNECT \\s\DATA', connect, r'\\s\DATA')
     again.tree = 2
@@ -120,26 +120,26 @@ def chains():
     chained(made, closed)
     chained(made, (Answer('WRITE june.txt offset=0 length=3'), (write, INHERITED, 0, b'abc')),
             (Answer('READ june.txt offset=0 length=9', more=3), (read, INHERITED, 0, 9)), closed,
-            (Answer('CLOSE ?', 'STATUS_FILE_CLOSED'), (close, INHERITED)))
+            (Answer('CLOSE ?', 'STATUS_FILE_CLOSED', why='P8'), (close, INHERITED)))
     absent, missing = 'STATUS_OBJECT_NAME_NOT_FOUND', 'CREATE none.txt OPEN access=read share=none'
-    chained((Answer(missing, absent), (create, 'none.txt', READS, OPEN, 0, 0)),
-            (Answer('READ none.txt offset=0 length=9', absent), (read, INHERITED, 0, 9)),
-            (Answer('CLOSE none.txt', absent), (close, INHERITED)))
+    chained((Answer(missing, absent, why='C9'), (create, 'none.txt', READS, OPEN, 0, 0)),
+            (Answer('READ none.txt offset=0 length=9', absent, why='P7'), (read, INHERITED, 0, 9)),
+            (Answer('CLOSE none.txt', absent, why='P7'), (close, INHERITED)))
     client.asks('CREATE july.txt CREATE access=read share=none', create, 'july.txt', READS, CREATE, 0, 0)
     chained(made, (Answer('FLUSH july.txt'), (flush, 3)), (Answer('CLOSE july.txt'), (close, INHERITED)),
             (Answer('CLOSE june.txt'), (close, 4)))
-    chained((Answer('ECHO'), (short, ECHO)), (Answer('CLOSE ?', 'STATUS_INVALID_PARAMETER'), (close, INHERITED)))
-    client.refused('FILE_CLOSED', 'READ ? offset=0 length=9', read, INHERITED, 0, 9)
+    chained((Answer('ECHO'), (short, ECHO)), (Answer('CLOSE ?', 'STATUS_INVALID_PARAMETER', why='P6'), (close, INHERITED)))
+    client.refused('FILE_CLOSED', 'P8', 'READ ? offset=0 length=9', read, INHERITED, 0, 9)
     client.row.requests += 1
     client.sends(chain([client.makes(short, ECHO), frame(header(CANCEL, 0, session_id=1) + b'\4\0\0\0')]))
     client.row.logs(1, 'CANCEL', 'ann')
     client.row.answers(1, 'ann', [Answer('ECHO')])
-    client.refused('INVALID_PARAMETER', 'FLUSH unreadable', short, FLUSH)
-    client.refused('INVALID_PARAMETER', 'CREATE unreadable', short, 5)
-    client.refused('NOT_SUPPORTED', 'IOCTL', short, IOCTL)
-    client.refused('NOT_SUPPORTED', 'CHANGE_NOTIFY', short, CHANGE_NOTIFY)
-    client.refused('NOT_SUPPORTED', 'OPLOCK_BREAK', short, OPLOCK_BREAK)
-    client.refused('INVALID_PARAMETER', 'COMMAND 65535', short, 65_535)
+    client.refused('INVALID_PARAMETER', 'P3', 'FLUSH unreadable', short, FLUSH)
+    client.refused('INVALID_PARAMETER', 'P3', 'CREATE unreadable', short, 5)
+    client.refused('NOT_SUPPORTED', 'P2', 'IOCTL', short, IOCTL)
+    client.refused('NOT_SUPPORTED', 'P2', 'CHANGE_NOTIFY', short, CHANGE_NOTIFY)
+    client.refused('NOT_SUPPORTED', 'P2', 'OPLOCK_BREAK', short, OPLOCK_BREAK)
+    client.refused('INVALID_PARAMETER', 'P1', 'COMMAND 65535', short, 65_535)
     client.leaves()
     return row.texts()
 
@@ -149,46 +149,46 @@ def refusals():
     row = Row('Refusals: of logins, shares, names, accesses, locks and numbers.')
     client = Client(row)
     client.negotiates('NEGOTIATE 2.1 0x0000', (0x0210, 0))
-    client.refused('LOGON_FAILURE', 'SESSION_SETUP', login_by, b'b')
-    client.refused('USER_SESSION_DELETED', r'TREE_CONNECT \\server\data', connect, r'\\server\data')
+    client.refused('LOGON_FAILURE', 'SS5', 'SESSION_SETUP', login_by, b'b')
+    client.refused('USER_SESSION_DELETED', 'P4', r'TREE_CONNECT \\server\data', connect, r'\\server\data')
     client.logs_in(2)
-    client.refused('BAD_NETWORK_NAME', r'TREE_CONNECT \\server\other', connect, r'\\server\other')
-    client.refused('BAD_NETWORK_NAME', 'TREE_CONNECT data', connect, 'data')
+    client.refused('BAD_NETWORK_NAME', 'TC2', r'TREE_CONNECT \\server\other', connect, r'\\server\other')
+    client.refused('BAD_NETWORK_NAME', 'TC2', 'TREE_CONNECT data', connect, 'data')
     client.connects()
-    for status, event, words in (
-            ('OBJECT_NAME_NOT_FOUND', 'none OPEN access=read share=none', ('none', READS, OPEN, 0, 0)),
-            ('OBJECT_PATH_NOT_FOUND', r'no\where CREATE access=read share=none', (r'no\where', READS, CREATE, 0, 0)),
-            ('ACCESS_DENIED', 'a OPEN_IF access=none share=none', ('a', 0, OPEN_IF, 0, 0)),
-            ('ACCESS_DENIED', 'a CREATE access=read share=none options=delete_on_close',
+    for status, why, event, words in (
+            ('OBJECT_NAME_NOT_FOUND', 'C9', 'none OPEN access=read share=none', ('none', READS, OPEN, 0, 0)),
+            ('OBJECT_PATH_NOT_FOUND', 'C7', r'no\where CREATE access=read share=none', (r'no\where', READS, CREATE, 0, 0)),
+            ('ACCESS_DENIED', 'C6', 'a OPEN_IF access=none share=none', ('a', 0, OPEN_IF, 0, 0)),
+            ('ACCESS_DENIED', 'C6', 'a CREATE access=read share=none options=delete_on_close',
              ('a', READS, CREATE, 0, DELETE_ON_CLOSE)),
-            ('INVALID_PARAMETER', 'a disposition=6 access=read share=none', ('a', READS, 6, 0, 0)),
-            ('INVALID_PARAMETER', 'a OPEN access=read share=none options=directory,file',
+            ('INVALID_PARAMETER', 'C1', 'a disposition=6 access=read share=none', ('a', READS, 6, 0, 0)),
+            ('INVALID_PARAMETER', 'C2', 'a OPEN access=read share=none options=directory,file',
              ('a', READS, OPEN, 0, DIRECTORY | NO_DIRECTORY)),
-            ('NOT_SUPPORTED', 'a OPEN access=read share=none options=by_file_id', ('a', READS, OPEN, 0, BY_FILE_ID)),
-            ('FILE_IS_A_DIRECTORY', '. OPEN access=read share=none options=file', ('', READS, OPEN, 0, NO_DIRECTORY))):
-        client.refused(status, f'CREATE {event}', create, *words)
+            ('NOT_SUPPORTED', 'C4', 'a OPEN access=read share=none options=by_file_id', ('a', READS, OPEN, 0, BY_FILE_ID)),
+            ('FILE_IS_A_DIRECTORY', 'C11', '. OPEN access=read share=none options=file', ('', READS, OPEN, 0, NO_DIRECTORY))):
+        client.refused(status, why, f'CREATE {event}', create, *words)
     client.asks('CREATE a CREATE access=read share=read', create, 'a', READS, CREATE, 1, 0)
-    client.refused('OBJECT_NAME_COLLISION', 'CREATE a CREATE access=read share=read', create, 'a', READS, CREATE, 1, 0)
-    client.refused('NOT_A_DIRECTORY', 'CREATE a OPEN access=read share=read options=directory',
+    client.refused('OBJECT_NAME_COLLISION', 'C10', 'CREATE a CREATE access=read share=read', create, 'a', READS, CREATE, 1, 0)
+    client.refused('NOT_A_DIRECTORY', 'C12', 'CREATE a OPEN access=read share=read options=directory',
                    create, 'a', READS, OPEN, 1, DIRECTORY)
-    client.refused('ACCESS_DENIED', 'WRITE a offset=0 length=6', write, 1, 0, b'secret')
-    client.refused('END_OF_FILE', 'READ a offset=0 length=1', read, 1, 0, 1)
-    client.refused('INVALID_PARAMETER', 'LOCK a offset=0 length=1 none', lock, 1, [(0, 1, 0)])
-    client.refused('RANGE_NOT_LOCKED', 'LOCK a offset=0 length=1 unlock', lock, 1, [(0, 1, UNLOCK)])
+    client.refused('ACCESS_DENIED', 'WR3', 'WRITE a offset=0 length=6', write, 1, 0, b'secret')
+    client.refused('END_OF_FILE', None, 'READ a offset=0 length=1', read, 1, 0, 1)
+    client.refused('INVALID_PARAMETER', 'LK2', 'LOCK a offset=0 length=1 none', lock, 1, [(0, 1, 0)])
+    client.refused('RANGE_NOT_LOCKED', 'LK6', 'LOCK a offset=0 length=1 unlock', lock, 1, [(0, 1, UNLOCK)])
     client.asks('LOCK a offset=0 length=1 exclusive', lock, 1, [(0, 1, EXCLUSIVE)])
     client.asks('LOCK a offset=0 length=2 shared', lock, 1, [(0, 2, SHARED)])
-    client.refused('LOCK_NOT_GRANTED', 'LOCK a offset=0 length=2 exclusive', lock, 1, [(0, 2, EXCLUSIVE)])
-    client.refused('INVALID_INFO_CLASS', 'QUERY_INFO a type=1 class=99', query, OF_FILE, 1, 99)
-    client.refused('NOT_SUPPORTED', 'QUERY_INFO a SecurityInformation', query, OF_SECURITY, 1, 0)
-    client.refused('INVALID_PARAMETER', 'QUERY_INFO a type=9 class=1', query, 9, 1, 1)
-    client.refused('ACCESS_DENIED', 'SET_INFO a rename to b', rename, 1, 'b')
-    client.refused('INVALID_PARAMETER', 'QUERY_DIRECTORY a *', search, 1, '*')
+    client.refused('LOCK_NOT_GRANTED', 'LK5', 'LOCK a offset=0 length=2 exclusive', lock, 1, [(0, 2, EXCLUSIVE)])
+    client.refused('INVALID_INFO_CLASS', 'QI4', 'QUERY_INFO a type=1 class=99', query, OF_FILE, 1, 99)
+    client.refused('NOT_SUPPORTED', 'QI1', 'QUERY_INFO a SecurityInformation', query, OF_SECURITY, 1, 0)
+    client.refused('INVALID_PARAMETER', 'QI2', 'QUERY_INFO a type=9 class=1', query, 9, 1, 1)
+    client.refused('ACCESS_DENIED', 'N3', 'SET_INFO a rename to b', rename, 1, 'b')
+    client.refused('INVALID_PARAMETER', 'QD1', 'QUERY_DIRECTORY a *', search, 1, '*')
     other = Client(row).comes_in(3)
-    other.refused('SHARING_VIOLATION', 'CREATE a OPEN access=write share=read', create, 'a', WRITES, OPEN, 1, 0)
-    other.refused('FILE_CLOSED', 'CLOSE ?', close, 1)
+    other.refused('SHARING_VIOLATION', 'C15', 'CREATE a OPEN access=write share=read', create, 'a', WRITES, OPEN, 1, 0)
+    other.refused('FILE_CLOSED', 'P8', 'CLOSE ?', close, 1)
     other.sends(other.makes(lambda number, *_: close(number, 1, 2, 1)),
-                Answer('CLOSE ?', 'STATUS_USER_SESSION_DELETED', user='-'))
-    other.refused('REQUEST_NOT_ACCEPTED', 'SESSION_SETUP', login_again, 3)
+                Answer('CLOSE ?', 'STATUS_USER_SESSION_DELETED', user='-', why='P4'))
+    other.refused('REQUEST_NOT_ACCEPTED', 'SS4', 'SESSION_SETUP', login_again, 3)
     other.leaves()
     client.leaves()
     return row.texts()
@@ -240,18 +240,19 @@ def streams():
     begins_by_smb1(new, [b'NT LM 0.12', b'SMB 2.???', b'SMB 2.002'], 'NEGOTIATE by SMB1 2.0.2 2.???')
     new.negotiates()
     new.logs_in(5)
-    new.is_ended(b'GET / HTTP/1.0\r\n\r\n', "F1: a frame's first byte is not 0")
-    for last, before, rule in ENDINGS:
+    new.is_ended(b'GET / HTTP/1.0\r\n\r\n', "F1, a frame's first byte is not 0")
+    for last, before, why in ENDINGS:
         client = Client(row)
         for payload in before:
             passes(client, payload)
-        client.is_ended(last, rule)
+        client.is_ended(last, why)
         row.events.append(f'- {client.number}')
     old.leaves()
     return row.texts()
 
 
 ABSENT, INVALID = 'OBJECT_NAME_NOT_FOUND', 'OBJECT_NAME_INVALID'
+WHY = {ABSENT: 'C9', INVALID: 'C5', 'OBJECT_PATH_NOT_FOUND': 'C7', 'INVALID_PARAMETER': 'C3'}
 # Names, how the log has them, and what an OPEN of each is answered.
 HOSTILE = (
     ('a\n2026-01-01 00:00:00.000\t1\t-\tann\topened\t-\t-',
@@ -290,23 +291,23 @@ def hostile():
     """Names that would make lines, fields or more of a log."""
     row = Row('Names that would be lines, fields, escapes or commands to a terminal.')
     client = Client(row).comes_in(1)
-    client.refused('BAD_NETWORK_NAME', r'TREE_CONNECT \\a\u{A}b\u{5C}u{9}\u{202E}', connect, '\\\\a\nb\\u{9}\u202e')
+    client.refused('BAD_NETWORK_NAME', 'TC2', r'TREE_CONNECT \\a\u{A}b\u{5C}u{9}\u{202E}', connect, '\\\\a\nb\\u{9}\u202e')
     client.asks(r'TREE_CONNECT \\' + 'a' * 1_022 + r'\u{..}', connect, '\\\\' + 'a' * 1_022 + r'\data')
     for name, text, status in HOSTILE:
-        client.refused(status, f'CREATE {text} OPEN access=read share=none', create, name, READS, OPEN, 0, 0)
+        client.refused(status, WHY[status], f'CREATE {text} OPEN access=read share=none', create, name, READS, OPEN, 0, 0)
     longest = '\u2028' * 255
     client.asks('CREATE ' + r'\u{2028}' * 128 + r'\u{..} CREATE access=read share=none',
                 create, longest, READS, CREATE, 0, 0)
     client.asks('READ ' + r'\u{2028}' * 128 + r'\u{..} offset=0 length=0', read, 1, 0, 0)
     client.asks(r'CREATE \u{202E}fdp.exe CREATE access=read,delete share=none',
                 create, '\u202efdp.exe', READS | DELETES, CREATE, 0, 0)
-    client.refused(INVALID, r'SET_INFO \u{202E}fdp.exe rename to x\u{A}y', rename, 2, 'x\ny')
+    client.refused(INVALID, 'N2', r'SET_INFO \u{202E}fdp.exe rename to x\u{A}y', rename, 2, 'x\ny')
     client.asks(r'SET_INFO \u{202E}fdp.exe rename to \u{FEFF}', rename, 2, '\ufeff')
     client.asks(r'CLOSE \u{202E}fdp.exe', close, 2)
     client.asks('CREATE a OPEN access=all CREATE access=read share=none',
                 create, 'a OPEN access=all', READS, CREATE, 0, 0)
     client.asks('CREATE . OPEN access=read share=none', create, '', READS, OPEN, 0, 0)
-    client.refused('NO_SUCH_FILE', r'QUERY_DIRECTORY . *\u{9}\u{1B}\u{2066}', search, 4, '*\t\x1b\u2066')
+    client.refused('NO_SUCH_FILE', 'QD6', r'QUERY_DIRECTORY . *\u{9}\u{1B}\u{2066}', search, 4, '*\t\x1b\u2066')
     client.leaves()
     return row.texts()
 

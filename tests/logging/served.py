@@ -1,9 +1,11 @@
 """What `--log` writes of a share that is served: who came, what was refused, and why a client ended."""
 import os
+import re
 import tempfile
 import time
 
 from tests.logging.replayed import a_recording_is_logged_as_it_was_served, uses_up_turns
+from tests.smb import ntlm
 from tests.smb.client import ALL_ACCESS
 from tests.smb.frames import close, create, read, rename, write
 from tests.smb.kept import Looking, bytes_in, bytes_of, extracted, keeping, killed, tree_of
@@ -27,8 +29,9 @@ def fields_of(file):
 
 
 def events_of(file):
-    """User, event and status of each line."""
-    return [tuple(line[3:6]) for line in fields_of(file)]
+    """User, event and status of each line, and why a request was refused, where that is said."""
+    whys = [re.search(r'^\d+ why="(.*)"$', line[6]) for line in fields_of(file)]
+    return [(*line[3:6], why[1]) if why else tuple(line[3:6]) for line, why in zip(fields_of(file), whys)]
 
 
 def waits_for(file, count, what=b'\n'):
@@ -67,30 +70,34 @@ def logged(program, *words):
         return events_of(file), bytes_of(file)
 
 
-REFUSED = [('guest', r'CREATE none OPEN access=read,write', 'STATUS_OBJECT_NAME_NOT_FOUND'),
-           ('guest', f'CREATE {ESCAPED} OPEN access=read,write', 'STATUS_OBJECT_NAME_INVALID')]
+STARTED = ('-', 'started', '-')
+REFUSED = [('guest', r'CREATE none OPEN access=read,write', 'STATUS_OBJECT_NAME_NOT_FOUND',
+            'C9 the entry is absent, and has to exist'),
+           ('guest', f'CREATE {ESCAPED} OPEN access=read,write', 'STATUS_OBJECT_NAME_INVALID',
+            'C5 the name has a component that is not allowed, or more than 32')]
 
 
 def is_like(found, wanted):
-    """Whether the events are these, where an event may go on behind what is wanted of it."""
+    """Whether the events are these, with their reasons, where an event may go on behind what is wanted of it."""
     if len(found) == len(wanted) and all(one[0] == other[0] and one[1].startswith(other[1]) and one[2] == other[2]
-                                         for one, other in zip(found, wanted)):
+                                         and one[3:] == other[3:] for one, other in zip(found, wanted)):
         return True
     print(f'  {found}', flush=True)
     return False
 
 
 def refusals_are_logged(program):
-    """Where nothing else is asked for: who came and went, and what was refused, in one line each; the end of a file is no
-    refusal."""
+    """Where nothing else is asked for: who came, came in and went, and what was refused and why, in one line each; the end of a
+    file is no refusal."""
     found, data = logged(program)
     return b'secret' not in data and is_like(
-        found, [('-', 'opened', '-'), *REFUSED, ('guest', 'ended: by the client', '-')])
+        found, [STARTED, ('-', 'opened', '-'), ('guest', 'SESSION_SETUP', 'STATUS_SUCCESS'), *REFUSED,
+                ('guest', 'ended: by the client', '-')])
 
 
 def sessions_are_logged(program):
     found, _ = logged(program, '--log-level', 'sessions')
-    return is_like(found, [('-', 'opened', '-'), ('guest', 'SESSION_SETUP', 'STATUS_SUCCESS'),
+    return is_like(found, [STARTED, ('-', 'opened', '-'), ('guest', 'SESSION_SETUP', 'STATUS_SUCCESS'),
                            ('guest', 'TREE_CONNECT \\\\s\\data', 'STATUS_SUCCESS'),
                            ('guest', 'ended: by the client', '-')])
 
@@ -99,11 +106,32 @@ def requests_are_logged(program):
     found, data = logged(program, '--log-level', 'requests')
     done = 'STATUS_SUCCESS'
     return b'secret' not in data and is_like(found, [
-        ('-', 'opened', '-'), ('-', 'NEGOTIATE ', done), ('guest', 'SESSION_SETUP', done),
+        STARTED, ('-', 'opened', '-'), ('-', 'NEGOTIATE ', done), ('guest', 'SESSION_SETUP', done),
         ('guest', 'TREE_CONNECT ', done), ('guest', 'CREATE june.txt CREATE access=read,write', done),
         ('guest', 'WRITE june.txt offset=0 length=12', done),
         ('guest', 'SET_INFO june.txt rename to july.txt', done), ('guest', 'READ june.txt offset=0 length=100', done),
         ('guest', 'READ june.txt offset=100 length=1', 'STATUS_END_OF_FILE'), ('guest', 'CLOSE june.txt', done), *REFUSED, ('guest', 'ended: by the client', '-')])
+
+
+# Who logs in by a wrong password, the name as it is logged, and why he is denied.
+DENIED = (('ann', 'ann', "T8 the account's proof is wrong, or that of NTLM version 1"),
+          ('bob', 'bob', 'T10 no such account, and guests may not come in'),
+          ('b\n\t"\\u{9}', r'b\u{A}\u{9}"\u{5C}u{9}', 'T10 no such account, and guests may not come in'))
+
+
+def denied_logins_are_logged(program):
+    """By NTLM, with why and the name that was typed; no proof and no hash is in it."""
+    with tempfile.TemporaryDirectory() as folder:
+        file, accounts = os.path.join(folder, 'log'), ntlm.accounts_file(folder, ntlm.account('ann'))
+        with program.serve('--login', 'ntlm', '--accounts', accounts, '--log', file) as share:
+            for user, _, _ in DENIED:
+                ntlm.logs_in(share.client(), user, bytes(16))
+            waits_for(file, len(DENIED) - 1, b'LOGON_FAILURE')
+        found = [(it[1], *it[3:]) for it in events_of(file) if it[2] == 'STATUS_LOGON_FAILURE']
+    if found != [(f'SESSION_SETUP name={name}', why) for _, name, why in DENIED]:
+        print(f'  {found}', flush=True)
+        return False
+    return True
 
 
 def why_a_client_ended_is_logged(program):
@@ -117,12 +145,12 @@ def why_a_client_ended_is_logged(program):
             if not all(client.negotiates() for client in clients):
                 return False
             share.client().is_ended()
-            waits_for(file, 69)
+            waits_for(file, 70)
             killed(share)
-        found = [event for _, event, _ in events_of(file)]
-    no_frame = "ended: by the share, F1: a frame's first byte is not 0"
-    return (found[:4] == ['opened', no_frame, 'opened', 'ended: silence']
-            and found[4:68] == ['opened'] * 64 and found[68] == 'refused: 64 connections are open')
+        found = [it[1] for it in events_of(file)]
+    no_frame = "ended: by the share, F1 a frame's first byte is not 0"
+    return (found[:5] == ['started', 'opened', no_frame, 'opened', 'ended: silence']
+            and found[5:69] == ['opened'] * 64 and found[69] == 'refused: 64 connections are open')
 
 
 def a_full_disk_stops_no_share(program):
@@ -176,11 +204,11 @@ def a_share_is_logged_and_kept(program):
             share.process.wait(timeout=60)
         to = os.path.join(folder, 'to')
         files = extracted(program, journal, to) == (0, '') and bytes_in(tree_of(to))
-        last = events_of(file)[-1][1]
+        last, stopped = (event for _, event, _ in events_of(file)[-2:])
         if files != {'july.txt': b'secret bytes'} or ' files=1 used_bytes=4096' not in last:
             print(f'  {files}, {last!r}', flush=True)
             return False
-        return last.startswith('minute connections=')
+        return last.startswith('minute connections=') and stopped == 'stopped'
 
 
 def a_pipe_that_is_closed_stops_no_share(program):
@@ -199,6 +227,6 @@ def a_replay_of_a_record_is_logged_too(program):
     return a_recording_is_logged_as_it_was_served(program, works)
 
 
-TESTS = (refusals_are_logged, sessions_are_logged, requests_are_logged, why_a_client_ended_is_logged,
+TESTS = (refusals_are_logged, sessions_are_logged, requests_are_logged, denied_logins_are_logged, why_a_client_ended_is_logged,
          a_full_disk_stops_no_share, one_that_cannot_be_made_is_refused, standard_error_has_the_lines,
          a_share_is_logged_and_kept, a_pipe_that_is_closed_stops_no_share, a_replay_of_a_record_is_logged_too)

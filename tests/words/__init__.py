@@ -5,8 +5,10 @@ import io
 import os
 import sys
 
+from tests import met
 from tests.smb.program import TOP
 from tests.words import faults, program, without_memory
+from tools.lib import refusals
 from tools.lib.demo import demo
 
 ANSWERS = 'examples/demo.answers'
@@ -21,7 +23,18 @@ def the_demo_prints_what_is_stored(it):
     return wanted == found
 
 
+def the_profile_has_the_tables_that_are_printed(_):
+    found = refusals.faults()
+    print(''.join(f'  {it}\n' for it in found), end='', flush=True)
+    return not found
+
+
+def every_refusal_is_met_by_a_row(_):
+    return met.main(['--check']) == 0
+
+
 def tests(words):
-    """The run-time checks of an unproved program have memory of their own: there memory doesn't run out."""
-    of_memory = () if words.program.is_unproved else without_memory.TESTS
-    return [(test, words.program) for test in (*of_memory, *program.TESTS, *faults.TESTS, the_demo_prints_what_is_stored)]
+    """The run-time checks of an unproved program have memory of their own: there memory doesn't run out. Nor is smb_rows built."""
+    of_built = () if words.program.is_unproved else (*without_memory.TESTS, every_refusal_is_met_by_a_row)
+    return [(test, words.program) for test in (*of_built, *program.TESTS, *faults.TESTS, the_demo_prints_what_is_stored,
+                                             the_profile_has_the_tables_that_are_printed)]

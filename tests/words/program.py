@@ -9,10 +9,10 @@ import struct
 import tempfile
 
 from tests.smb import ntlm
-from tests.smb.frames import frame, session_setup
+from tests.smb.frames import close, create, frame, session_setup, tree_connect
 from tests.smb.program import GUEST, TOP
-from tests.words.refusals import (ACCOUNTS, BAD_EVENTS, BROKEN, BROKEN_ACCOUNTS, ENDINGS, HASH, NEGOTIATE, NOTICES,
-                                  SHARE_RULE, UNREADABLE, request)
+from tests.words.refusals import (ACCOUNTS, BAD_EVENTS, BROKEN, BROKEN_ACCOUNTS, ENDINGS, HASH, MORE_CREDITS,
+                                  NEGOTIATE, NOTICES, REFUSED_REQUESTS, SHARE_RULE, UNREADABLE, request)
 from tools import frame as frame_tool
 
 CONFIG_LIMIT = 1_048_576
@@ -368,6 +368,48 @@ def endings_are_explained(program):
     return True
 
 
+# What a client sends who comes in: MORE_CREDITS, a SESSION_SETUP and a TREE_CONNECT.
+COMES_IN = frame(MORE_CREDITS) + session_setup(1) + tree_connect(2, 1)
+
+
+def lines_of_pieces(*pieces):
+    """A text of a client whose pieces come one by one, from its second line on."""
+    return b'+ 1\n' + b''.join(b'> 1 0 ' + piece.hex().encode() + b'\n' for piece in pieces)
+
+
+def refused_requests_are_explained(program):
+    """On standard error with --explain, and with --reasons behind the answer; but for these lines nothing is another."""
+    for payload, status, why in REFUSED_REQUESTS:
+        text, said = lines_of_pieces(COMES_IN, frame(payload)), f'< 1, line 3: {why}\n'.encode()
+        quiet, explained, reasons = (ran(program, ('replay', *more), text) for more in ((), ('--explain',), ('--reasons',)))
+        shown = ran(program, ('show', '--fields'), reasons[1])[1].splitlines(True)
+        if (quiet[::2] != (0, b'') or explained != (0, quiet[1], said) or reasons != (0, quiet[1] + b'# ' + said, b'')
+                or f' STATUS_{status} '.encode() not in shown[-2] or shown[-1] != b'# ' + said):
+            print(f'  {why}: {explained[2]!r}, {reasons[1]!r}, {shown[-2:]!r}')
+            return False
+    return True
+
+
+def a_reason_is_behind_its_answer(program):
+    """Of several frames in one piece, and of a chain; the last ends the connection."""
+    absent, names = create(3, 'a', 1, 1, 0, 1, 1), create(5, '\\a', 1, 1, 0, 1, 1)
+    related = request(7, flags=4, command=6, body=close(7, (1 << 64) - 1, 1, 1)[68:])
+    missing = create(6, 'a', 1, 1, 0, 1, 1)[4:]
+    missing += bytes(-len(missing) % 8)
+    chained = frame(missing[:20] + struct.pack('<I', len(missing)) + missing[24:] + related)
+    piece = absent + frame(request(4)) + names + chained + b'\x85'
+    text = lines_of_pieces(COMES_IN, piece)
+    quiet, found = (ran(program, ('replay', *more), text)[1].splitlines() for more in ((), ('--reasons',)))
+    marks = [line.split(b',', 2)[1] if line[:1] == b'#' else line[:1] for line in found[3:]]
+    said = [line.split(b': ')[1].split(b',')[0] for line in found if line[:1] == b'#']
+    if ([line for line in found if line[:1] != b'#'] != quiet or said != [b'C9', b'C3', b'C9', b'P7', b'F1']
+            or marks != [b'<', b' line 3: C9', b'<', b'<', b' line 3: C3', b'<', b' line 3: C9', b' line 3: P7', b'x',
+                         b' line 3: F1']):
+        print(f'  {found[3:]!r}')
+        return False
+    return ran(program, ('replay', '--recording', os.devnull, '--reasons'))[0] == 2
+
+
 def fields_of_requests_are_shown(program):
     """The stored run of examples/, of its first client; and what is wrong with a stream, in words."""
     with open(os.path.join(TOP, 'examples', 'two_clients'), encoding='utf-8') as events:
@@ -441,7 +483,7 @@ TESTS = (
     addresses_are_explained, files_that_are_not_read_are_explained, a_terminal_is_told_more,
     serve_says_that_nobody_can_log_in, serve_says_what_is_not_as_it_may_be_wanted,
     unreadable_lines_are_explained, bad_events_are_explained,
-    endings_are_explained, fields_of_requests_are_shown, statuses_of_replies_are_shown,
+    endings_are_explained, refused_requests_are_explained, a_reason_is_behind_its_answer, fields_of_requests_are_shown, statuses_of_replies_are_shown,
     statuses_have_one_list_of_names, other_faults_have_one_line, parts_are_one_text,
     each_event_of_a_part_and_the_next_is_performed,
 )

@@ -1,7 +1,7 @@
 """What the program says of what it refuses: of configurations, accounts, lines, and streams that the share ends."""
 import struct
 
-from tests.smb.frames import frame, header, negotiate
+from tests.smb.frames import create, frame, header, negotiate
 from tests.smb.ntlm import PASSWORD_HASH as HASH
 
 SHARE_RULE = 'share: a text of 1 to 80 characters from ! to ~, none of them one of " * / : < > ? \\ |'
@@ -164,36 +164,52 @@ def smb1(texts):
 
 NEGOTIATE, MORE_CREDITS, OLD_DIALECT = (
     negotiate(0, (dialect,), credits)[4:] for dialect, credits in ((0x0210, 1), (0x0210, 31), (0x0202, 1)))
-# The last frame of a stream that the share ends, those before it, and the rule by which it does.
+# The last frame of a stream that the share ends, those before it, and why it does.
 ENDINGS = (
-    (b'\x85', (), "F1: a frame's first byte is not 0"),
-    (bytes([0, 16, 0, 1]), (), 'F2: a frame is longer than 1048576 bytes'),
-    (frame(bytes(63)), (), 'H1: fewer than 64 bytes are left for a header'),
-    (frame(bytes(64)), (), 'H2: ProtocolId is not 0xFE and the letters SMB'),
-    (frame(request(0).replace(b'\x40', b'\x41', 1)), (), "H3: the header's StructureSize is not 64"),
-    (frame(request(1, next_command=4)), (NEGOTIATE,), 'H4: NextCommand is neither 0 nor the place of a next header'),
-    (frame(chain(*range(1, 18))), (NEGOTIATE,), 'H5: another request follows the 16th'),
-    (frame(request(1, flags=1)), (NEGOTIATE,), 'H6: SERVER_TO_REDIR is set, as in a reply'),
-    (frame(request(1, flags=4)), (NEGOTIATE,), 'H7: the first request is related to the one before it'),
-    (frame(request(0)), (), 'NEGOTIATE: before a dialect is agreed on, a chain has to be one NEGOTIATE alone'),
-    (frame(NEGOTIATE), (NEGOTIATE,), 'NEGOTIATE: a dialect is agreed on already'),
-    (frame(request(1)), (NEGOTIATE, request(1)), 'window: MessageId 1 is not in the window'),
-    (frame(request(1, charge=2)), (NEGOTIATE,), 'window: MessageId 2 is not in the window'),
-    (frame(request(1, charge=0xFFFF)), (NEGOTIATE,), 'window: MessageId 2 is not in the window'),
+    (b'\x85', (), "F1, a frame's first byte is not 0"),
+    (bytes([0, 16, 0, 1]), (), 'F2, a frame is longer than 1,048,576 bytes'),
+    (frame(bytes(63)), (), 'H1, fewer than 64 bytes are left for a header'),
+    (frame(bytes(64)), (), 'H2, ProtocolId is not 0xFE and the letters SMB'),
+    (frame(request(0).replace(b'\x40', b'\x41', 1)), (), "H3, the header's StructureSize is not 64"),
+    (frame(request(1, next_command=4)), (NEGOTIATE,), 'H4, NextCommand is neither 0 nor the place of a next header'),
+    (frame(chain(*range(1, 18))), (NEGOTIATE,), 'H5, another request follows the 16th'),
+    (frame(request(1, flags=1)), (NEGOTIATE,), 'H6, SERVER_TO_REDIR is set, as in a response'),
+    (frame(request(1, flags=4)), (NEGOTIATE,), 'H7, the first request is related to the one before it'),
+    (frame(request(0)), (), 'E1, before there is a dialect, a chain is one NEGOTIATE alone'),
+    (frame(NEGOTIATE), (NEGOTIATE,), 'E2, a NEGOTIATE, and there is a dialect already'),
+    (frame(request(1)), (NEGOTIATE, request(1)), 'E3, MessageId 1 is not in the window'),
+    (frame(request(1, charge=2)), (NEGOTIATE,), 'E3, MessageId 2 is not in the window'),
+    (frame(request(1, charge=0xFFFF)), (NEGOTIATE,), 'E3, MessageId 2 is not in the window'),
     (frame(request((1 << 64) - 1, charge=3)), (NEGOTIATE,),
-     'window: MessageId 18446744073709551615 is not in the window'),
+     'E3, MessageId 18446744073709551615 is not in the window'),
     (frame(request(2)), (MORE_CREDITS, request(1, charge=3), request(4), request(1, command=12, charge=9)),
-     'window: MessageId 2 is not in the window'),
+     'E3, MessageId 2 is not in the window'),
     (frame(request(2)), (OLD_DIALECT, request(1, charge=3), request(2, charge=0xFFFF)),
-     'window: MessageId 2 is not in the window'),
+     'E3, MessageId 2 is not in the window'),
     (frame(request(1, next_command=72, charge=3) + bytes(4) + request(3)), (MORE_CREDITS,),
-     'window: two requests of a chain have one MessageId'),
-    (frame(chain(1, 1)), (NEGOTIATE,), 'window: two requests of a chain have one MessageId'),
-    (frame(smb1([b'SMB 2.002'])), (NEGOTIATE,), 'SMB_COM_NEGOTIATE: it is not the first payload'),
-    (frame(smb1([b'NT LM 0.12'])), (), 'SMB_COM_NEGOTIATE: it lists neither SMB 2.002 nor SMB 2.???'),
-    (frame(smb1([b'SMB 2.002'])[:-1]), (), 'SMB_COM_NEGOTIATE: its bytes are no list of dialects'),
+     'E4, two requests of a chain use one MessageId'),
+    (frame(chain(1, 1)), (NEGOTIATE,), 'E4, two requests of a chain use one MessageId'),
+    (frame(smb1([b'SMB 2.002'])), (NEGOTIATE,), 'E6, an SMB_COM_NEGOTIATE is not the first payload'),
+    (frame(smb1([b'NT LM 0.12'])), (), 'E7, an SMB_COM_NEGOTIATE lists neither SMB 2.002 nor SMB 2.???'),
+    (frame(smb1([b'SMB 2.002'])[:-1]), (), 'E5, an SMB_COM_NEGOTIATE is no list of dialects'),
     (frame(request(1)), (smb1([b'SMB 2.???']),),
-     'NEGOTIATE: before a dialect is agreed on, a chain has to be one NEGOTIATE alone'),
+     'E1, before there is a dialect, a chain is one NEGOTIATE alone'),
     (frame(request(3)), (smb1([b'SMB 2.002']), request(1), request(1, command=12)),
-     'window: MessageId 3 is not in the window'),
+     'E3, MessageId 3 is not in the window'),
+)
+
+
+def create_of(name):
+    """A CREATE of a name under the first session and tree connect of a connection, which asks for a file."""
+    return create(3, name, 1, 1, 0, 1, 1)[4:]
+
+
+# The last request of a client who came in, the status that it gets, and why it is refused.
+REFUSED_REQUESTS = (
+    (create_of('\\a'), 'INVALID_PARAMETER', 'C3, the name begins with a separator'),
+    (create_of('a'), 'OBJECT_NAME_NOT_FOUND', 'C9, the entry is absent, and has to exist'),
+    (create_of('a:b\n'), 'OBJECT_NAME_INVALID', 'C5, the name has a component that is not allowed, or more than 32'),
+    (request(3, command=0x13), 'INVALID_PARAMETER', 'P1, the command is past 0x12'),
+    (request(3, command=11), 'NOT_SUPPORTED', 'P2, the command is IOCTL, CHANGE_NOTIFY or OPLOCK_BREAK, whatever its body'),
+    (request(3, command=2), 'USER_SESSION_DELETED', 'P4, SessionId is that of no finished session of this connection'),
 )

@@ -12,3 +12,4 @@ pub mod Closing
 pub mod Overwrites
 pub mod Above
 pub mod Granted
+pub mod Refusals

@@ -3,7 +3,6 @@ pub mod Opens
 pub mod Plain
 pub mod Access
 pub mod Asked
-pub mod StatusRows
 pub mod Found
 pub mod Sharing
 pub mod Uses

@@ -1,6 +1,6 @@
 //! The rows of CREATE's table ([MS-SMB2] 3.3.5.9).
 
-ghost use Rattle.std.specs.Prelude.{◌||◌, ◌&&◌, not, ◌≡◌, ◌≢◌, ◌++◌, List, None, slice_index, IfOk, IfErr, OnOk};
+ghost use Rattle.std.specs.Prelude.{◌||◌, ◌&&◌, not, ◌≡◌, ◌++◌, List, None, Some, slice_index, IfOk, IfErr, OnOk};
 ghost use Rattle.smb_wire.specs.Paths.{is_separator, path_fault, path_spelled};
 ghost use Rattle.smb_wire.specs.PathViews.{parts_of};
 ghost use Rattle.smb_wire.specs.Units.{units_of};
@@ -8,15 +8,17 @@ ghost use Rattle.smb_access.specs.Asked.{asked};
 ghost use Rattle.smb_access.specs.Parts.{asks_folder, asks_file, asks_by_number, asks_delete, asks_read_only, asks_past_reading, is_bad_access};
 ghost use Rattle.smb_wire.specs.Dispositions.{disposition_code};
 ghost use Rattle.smb_access.specs.Access.{is_deleting, granted};
-ghost use Rattle.smb_access.specs.StatusRows.{StatusRow, first_status};
+ghost use Rattle.smb_refusals.specs.Rows.{RefusalRow, first_refusal};
+ghost use Rattle.smb_refusals.specs.declared.create.CreateRefusal.{CreateRefusal};
 ghost use Rattle.smb_access.specs.Looked.{asked_rows, place_rows, kind_rows, room_rows, is_file_target, is_folder_target, is_read_only_target, is_marked_target, is_root_target, target_becomes_read_only};
 
 use super::access::{granted, is_bad_access, is_deleting, is_past_reading, is_writing};
 use super::ask::CreateAsk;
 use super::found::{CreateLookup, ROOT, Target};
 use bitflags::Flags;
+use smb_refusals::CreateRefusal;
 use smb_wire::{
-    Access, CreateDisposition, CreateOptions, FileAttributes, NtStatus, PathView, Units, split_path,
+    Access, CreateDisposition, CreateOptions, FileAttributes, PathView, Units, split_path,
 };
 
 const SEPARATOR: u16 = 0x5C;
@@ -139,30 +141,31 @@ fn target_becomes_read_only(
     }
 }
 
-/// The disposition and the path that a request names, or the status that answers it whatever stands.
-pub fn asked_path<'a>(ask: &CreateAsk<'a>) -> Result<(CreateDisposition, PathView<'a>), NtStatus>
+/// The disposition and the path that a request names, or why it is refused whatever stands.
+pub fn asked_path<'a>(
+    ask: &CreateAsk<'a>,
+) -> Result<(CreateDisposition, PathView<'a>), CreateRefusal>
     ensures disposition { IfOk result (λ pair. disposition_code pair.0 ≡ ask.now.disposition.0) }
     ensures path { IfOk result (λ pair. parts_of pair.1 ≡ path_spelled (units_of ask.now.name)) }
     ensures fault { OnOk result (path_fault (units_of ask.now.name) ≡ None) }
-    ensures lawful { OnOk result ((rows : List StatusRow) → first_status (asked_rows (asked ask.now) ++ rows) ≡ first_status rows) }
-    ensures err { IfErr result (λ status. (rows : List StatusRow) → first_status (asked_rows (asked ask.now) ++ rows) ≡ status) }
-    ensures refused { IfErr result (λ status. status ≢ NtStatus.Success) }
+    ensures lawful { OnOk result ((rows : List (RefusalRow CreateRefusal)) → first_refusal (asked_rows (asked ask.now) ++ rows) ≡ first_refusal rows) }
+    ensures err { IfErr result (λ refusal. (rows : List (RefusalRow CreateRefusal)) → first_refusal (asked_rows (asked ask.now) ++ rows) ≡ Some refusal) }
 {
     let Some(disposition) = ask.disposition.known() else {
-        return Err(NtStatus::InvalidParameter);
+        return Err(CreateRefusal::UnknownDisposition);
     };
     if asks_folder(ask) && (asks_file(ask) || disposition.overwrites()) {
-        return Err(NtStatus::InvalidParameter);
+        return Err(CreateRefusal::DirectoryToBeOverwritten);
     }
     if begins_with_separator(ask.name) {
-        return Err(NtStatus::InvalidParameter);
+        return Err(CreateRefusal::NameBeginsWithSeparator);
     }
     if asks_by_number(ask) {
-        return Err(NtStatus::NotSupported);
+        return Err(CreateRefusal::OpenByFileId);
     }
     match split_path(ask.name) {
         Ok(path) => Ok((disposition, path)),
-        Err(_) => Err(NtStatus::ObjectNameInvalid),
+        Err(_) => Err(CreateRefusal::NameIsNoPath),
     }
 }
 
@@ -186,16 +189,15 @@ fn asks_past_reading(ask: &CreateAsk<'_>, disposition: CreateDisposition, access
         && (is_past_reading(access) || disposition.must_be_new() || disposition.overwrites())
 }
 
-/// Whether an entry may be where a request names it, or the status that answers it.
+/// Whether an entry may be where a request names it, or why not.
 pub fn check_place(
     ask: &CreateAsk<'_>,
     disposition: CreateDisposition,
     found: &CreateLookup,
-) -> Result<(), NtStatus>
+) -> Result<(), CreateRefusal>
     requires { disposition_code disposition ≡ ask.now.disposition.0 }
-    ensures lawful { OnOk result ((rows : List StatusRow) → first_status (place_rows (asked ask.now) found.now ++ rows) ≡ first_status rows) }
-    ensures err { IfErr result (λ status. (rows : List StatusRow) → first_status (place_rows (asked ask.now) found.now ++ rows) ≡ status) }
-    ensures refused { IfErr result (λ status. status ≢ NtStatus.Success) }
+    ensures lawful { OnOk result ((rows : List (RefusalRow CreateRefusal)) → first_refusal (place_rows (asked ask.now) found.now ++ rows) ≡ first_refusal rows) }
+    ensures err { IfErr result (λ refusal. (rows : List (RefusalRow CreateRefusal)) → first_refusal (place_rows (asked ask.now) found.now ++ rows) ≡ Some refusal) }
 {
     let exists = found.target.is_some();
     let access = granted(
@@ -204,72 +206,70 @@ pub fn check_place(
         is_read_only_target(&found.target),
     );
     if is_denied(ask, access) {
-        return Err(NtStatus::AccessDenied);
+        return Err(CreateRefusal::NoAccessAsked);
     }
     if asks_past_reading(ask, disposition, access) {
-        return Err(NtStatus::AccessDenied);
+        return Err(CreateRefusal::SessionMayOnlyRead);
     }
     if !found.reached {
-        return Err(NtStatus::ObjectPathNotFound);
+        return Err(CreateRefusal::PathNotFound);
     }
     if found.pending {
-        return Err(NtStatus::DeletePending);
+        return Err(CreateRefusal::EntryToBeDeleted);
     }
     if !exists && disposition.must_exist() {
-        return Err(NtStatus::ObjectNameNotFound);
+        return Err(CreateRefusal::EntryAbsent);
     }
     if ask.read_only && !exists {
-        return Err(NtStatus::AccessDenied);
+        return Err(CreateRefusal::SessionMayNotAdd);
     }
     if exists && disposition.must_be_new() {
-        return Err(NtStatus::ObjectNameCollision);
+        return Err(CreateRefusal::EntryExists);
     }
     Ok(())
 }
 
-/// Whether what a request asks for suits the entry that it found, or the status that answers it.
+/// Whether what a request asks for suits the entry that it found, or why not.
 pub fn check_kind(
     ask: &CreateAsk<'_>,
     disposition: CreateDisposition,
     target: &Option<Target>,
-) -> Result<(), NtStatus>
+) -> Result<(), CreateRefusal>
     requires { disposition_code disposition ≡ ask.now.disposition.0 }
-    ensures lawful { OnOk result ((rows : List StatusRow) → first_status (kind_rows (asked ask.now) target.now ++ rows) ≡ first_status rows) }
-    ensures err { IfErr result (λ status. (rows : List StatusRow) → first_status (kind_rows (asked ask.now) target.now ++ rows) ≡ status) }
-    ensures refused { IfErr result (λ status. status ≢ NtStatus.Success) }
+    ensures lawful { OnOk result ((rows : List (RefusalRow CreateRefusal)) → first_refusal (kind_rows (asked ask.now) target.now ++ rows) ≡ first_refusal rows) }
+    ensures err { IfErr result (λ refusal. (rows : List (RefusalRow CreateRefusal)) → first_refusal (kind_rows (asked ask.now) target.now ++ rows) ≡ Some refusal) }
 {
     let overwrites = disposition.overwrites();
     let read_only = is_read_only_target(target);
     if is_folder_target(target) && (asks_file(ask) || overwrites) {
-        return Err(NtStatus::FileIsADirectory);
+        return Err(CreateRefusal::EntryIsDirectory);
     }
     if is_file_target(target) && asks_folder(ask) {
-        return Err(NtStatus::NotADirectory);
+        return Err(CreateRefusal::EntryIsFile);
     }
     if read_only && (overwrites || is_writing(granted(ask.access, ask.read_only, read_only))) {
-        return Err(NtStatus::AccessDenied);
+        return Err(CreateRefusal::FileIsReadOnly);
     }
     if asks_delete(ask)
         && (is_root_target(target)
             || read_only
             || target_becomes_read_only(ask, disposition, target))
     {
-        return Err(NtStatus::CannotDelete);
+        return Err(CreateRefusal::EntryNotDeletable);
     }
     Ok(())
 }
 
-/// Whether there is room for what a request asks for, or the status that answers it.
-pub fn check_room(found: &CreateLookup) -> Result<(), NtStatus>
-    ensures lawful { OnOk result (first_status (room_rows found.now) ≡ NtStatus.Success) }
-    ensures err { IfErr result (λ status. first_status (room_rows found.now) ≡ status) }
-    ensures refused { IfErr result (λ status. status ≢ NtStatus.Success) }
+/// Whether there is room for what a request asks for, or why not.
+pub fn check_room(found: &CreateLookup) -> Result<(), CreateRefusal>
+    ensures lawful { OnOk result (first_refusal (room_rows found.now) ≡ None) }
+    ensures err { IfErr result (λ refusal. first_refusal (room_rows found.now) ≡ Some refusal) }
 {
     if found.opens_full {
-        return Err(NtStatus::TooManyOpenedFiles);
+        return Err(CreateRefusal::NoOpenLeft);
     }
     if found.target.is_none() && found.entries_full {
-        return Err(NtStatus::DiskFull);
+        return Err(CreateRefusal::NoEntryLeft);
     }
     Ok(())
 }

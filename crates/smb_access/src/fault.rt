@@ -1,10 +1,12 @@
 //! Why a store refuses.
 
 ghost use Rattle.std.specs.Prelude.{◌≡◌};
+ghost use Rattle.smb_access.specs.Faults.{store_fault};
 ghost use Rattle.smb_access.specs.Looked.{refusal_of};
 ghost use Rattle.smb_access.specs.declared.fault.StoreFault.TheVariants.{NoMemory, Status};
 ghost use Rattle.smb_wire.specs.NtStatus.{status_code};
 
+use smb_refusals::{Refusal, RefusedBy};
 use smb_tree::TreeFault;
 use smb_wire::NtStatus;
 use std::alloc::AllocError;
@@ -34,6 +36,17 @@ impl From<NtStatus> for StoreFault {
 
     fn from(status: NtStatus) -> StoreFault {
         StoreFault::Status(status.code())
+    }
+}
+
+impl From<RefusedBy<Refusal>> for StoreFault {
+    ghost from_gives = { λ refused fault. fault ≡ store_fault refused };
+
+    fn from(refused: RefusedBy<Refusal>) -> StoreFault {
+        match refused {
+            RefusedBy::Row(refusal) => StoreFault::from(refusal.status()),
+            RefusedBy::NoMemory => StoreFault::NoMemory,
+        }
     }
 }
 

@@ -23,7 +23,7 @@ Examples:
 
 With --explain, and always on a terminal, `replay` and `serve` say in a second line what is wrong: of a
 configuration the key, the line and the value, of accounts never a hash, of an address the system's reason, of a
-line what was expected. A replay then says by which rule the share ended a connection.";
+line what was expected. A replay then says why the share refused a request or ended a connection.";
 
 /// The end of the help of `replay`.
 const REPLAY_HELP: &str = "Example:
@@ -85,7 +85,16 @@ const EXPLAIN: OptionRow = OptionRow {
     takes: Takes::Nothing,
     needed: Needed::Never,
     bars: &[],
-    help: "Says in a second line what is wrong, and in a replay by which rule a connection was ended; always so on a terminal",
+    help: "Says in a second line what is wrong, and in a replay why a request was refused or a connection ended; always so on a terminal",
+};
+
+/// Reasons among the answers.
+const REASONS: OptionRow = OptionRow {
+    name: "reasons",
+    takes: Takes::Nothing,
+    needed: Needed::Never,
+    bars: &["recording"],
+    help: "Writes behind each answer, as a comment, why a request was refused or the connection ended",
 };
 
 /// An address.
@@ -272,6 +281,7 @@ const COMMANDS: &[CommandRow] = &[
         options: &[
             CONFIG,
             EXPLAIN,
+            REASONS,
             LOG,
             LOG_LEVEL,
             LOGIN,

@@ -4,6 +4,8 @@ use crate::fault::Fault;
 use crate::logging::{LogOutput, LogWords, log_of};
 use smb_engine::{Answer, Event};
 use smb_log::{ReplayLog, Visitors};
+use smb_peers::{Ending, Observer};
+use smb_refusals::{LoginRefusal, Refusal};
 use smb_replay::Hears;
 
 /// What hears a replay: its log, where there is one.
@@ -21,7 +23,7 @@ impl<'v> Hearing<'v> {
         created: u64,
     ) -> Result<Self, Fault> {
         let log = match log_of(rt, words)? {
-            Some(log) => Some(ReplayLog::new(log, visitors, created)),
+            Some(log) => Some(ReplayLog::new(rt.alloc(), log, visitors, created)),
             None => {
                 visitors.close();
                 None
@@ -45,7 +47,31 @@ impl<'v> Hearing<'v> {
     }
 }
 
+impl Observer for Hearing<'_> {
+    fn refused(&mut self, connection: u64, message_id: u64, command: u16, refusal: Refusal) {
+        if let Some(log) = &mut self.log {
+            log.refused(connection, message_id, command, refusal);
+        }
+    }
+
+    fn denied(&mut self, connection: u64, reason: LoginRefusal, name: &[u8]) {
+        if let Some(log) = &mut self.log {
+            log.denied(connection, reason, name);
+        }
+    }
+
+    fn ended(&mut self, connection: u64, ending: Ending) {
+        if let Some(log) = &mut self.log {
+            log.ended(connection, ending);
+        }
+    }
+}
+
 impl Hears for Hearing<'_> {
+    fn hears_reasons(&self) -> bool {
+        self.log.is_some()
+    }
+
     fn hear(&mut self, event: &Event, answers: &[Answer]) {
         if let Some(log) = &mut self.log {
             log.hear(event, answers);

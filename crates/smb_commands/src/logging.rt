@@ -2,7 +2,7 @@
 
 use crate::clock::ServeClock;
 use crate::fault::Fault;
-use smb_log::{ConnectionFacts, Level, Log, LoggedPeers, Visitors};
+use smb_log::{ConnectionFacts, Level, Log, LoggedPeers, Reasons, Visitors};
 use smb_reason::Reason;
 use smb_tcp::{PeerFacts, TcpPeers};
 use std::alloc::{AllocError, Global};
@@ -103,11 +103,12 @@ impl ConnectionFacts for TcpFacts {
     }
 }
 
-/// What a log hears of beside bytes: what is known of connections, and who was let in.
+/// What a log hears of beside bytes: what is known of connections, who was let in, and why a share refuses.
 #[derive(Drop)]
 pub struct Heard {
     pub facts: TcpFacts,
     pub visitors: Visitors,
+    pub reasons: Reasons,
 }
 
 impl Heard {
@@ -118,6 +119,7 @@ impl Heard {
                 peers: PeerFacts::new(alloc)?,
             },
             visitors: Visitors::new(alloc),
+            reasons: Reasons::new(alloc),
         })
     }
 }

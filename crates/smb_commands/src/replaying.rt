@@ -12,8 +12,10 @@ use smb_engine::{Answer, Authenticator, Config, Event, HandleTable, NodeTree, Sh
 use smb_journal::{Form, JournalFault, Mailbox, RecordedLogin};
 use smb_kept::{Hears, KeptFault, nobody, perform_file, read_recording, recorded_login, share_of};
 use smb_log::{LoggedLogin, Visitors};
+use smb_peers::{Ending, Observer};
 use smb_reason::Reason;
-use smb_replay::{CommandFault, Detail, replay_heard, write_answers};
+use smb_refusals::{LoginRefusal, Refusal};
+use smb_replay::{CommandFault, ReplayWords, replay_heard, write_answers};
 use std::fs;
 use std::io::{BufWriter, ErrorKind, Write};
 
@@ -26,7 +28,7 @@ fn replay_by<A: Authenticator + Drop>(
     config: Config,
     authenticator: A,
     mut hearing: Hearing<'_>,
-    detail: Detail<'_>,
+    words: ReplayWords<'_>,
 ) -> Result<u8, Fault> {
     let alloc = rt.alloc();
     let Ok(mut output) = BufWriter::new(alloc, rt.stdout()) else {
@@ -37,7 +39,7 @@ fn replay_by<A: Authenticator + Drop>(
     let status = replay_heard(
         alloc,
         share,
-        detail,
+        words,
         rt.stdin(),
         &mut output,
         &mut errors,
@@ -54,7 +56,7 @@ fn replay_by_ntlm(
     configuration: Configuration,
     seed: Option<[u8; 16]>,
     log: Option<LogWords<'_>>,
-    detail: Detail<'_>,
+    words: ReplayWords<'_>,
 ) -> Result<u8, Fault> {
     let accounts = read_accounts(rt.alloc(), texts.accounts())?;
     let ntlm = ntlm_of(rt.alloc(), &configuration, accounts, seed)?;
@@ -66,7 +68,7 @@ fn replay_by_ntlm(
         config,
         LoggedLogin::new(ntlm, &visitors),
         hearing,
-        detail,
+        words,
     )
 }
 
@@ -75,7 +77,7 @@ fn replay_by_token(
     rt: &HostRuntime,
     configuration: Configuration,
     log: Option<LogWords<'_>>,
-    detail: Detail<'_>,
+    words: ReplayWords<'_>,
 ) -> Result<u8, Fault> {
     let Configuration {
         config,
@@ -85,7 +87,7 @@ fn replay_by_token(
     let visitors = Visitors::new(rt.alloc());
     let hearing = Hearing::open(rt, log, &visitors, config.created)?;
     let login = LoggedLogin::new(authenticator, &visitors);
-    replay_by(rt, config, login, hearing, detail)
+    replay_by(rt, config, login, hearing, words)
 }
 
 /// Replays standard input on a share of these texts, and gives the exit status.
@@ -94,12 +96,12 @@ pub fn replay_input(
     texts: &Texts,
     login: Login,
     log: Option<LogWords<'_>>,
-    detail: Detail<'_>,
+    words: ReplayWords<'_>,
 ) -> Result<u8, Fault> {
     let configuration = Configuration::read(rt.alloc(), texts.config.as_str())?;
     match login {
-        Login::Token => replay_by_token(rt, configuration, log, detail),
-        Login::Ntlm(seed) => replay_by_ntlm(rt, texts, configuration, seed, log, detail),
+        Login::Token => replay_by_token(rt, configuration, log, words),
+        Login::Ntlm(seed) => replay_by_ntlm(rt, texts, configuration, seed, log, words),
     }
 }
 
@@ -110,6 +112,21 @@ struct Printer<'m, W: Write + Drop> {
     mailbox: &'m Mailbox,
     hearing: Hearing<'m>,
     has_failed: bool,
+}
+
+impl<W: Write + Drop> Observer for Printer<'_, W> {
+    fn refused(&mut self, connection: u64, message_id: u64, command: u16, refusal: Refusal) {
+        self.hearing
+            .refused(connection, message_id, command, refusal);
+    }
+
+    fn denied(&mut self, connection: u64, reason: LoginRefusal, name: &[u8]) {
+        self.hearing.denied(connection, reason, name);
+    }
+
+    fn ended(&mut self, connection: u64, ending: Ending) {
+        self.hearing.ended(connection, ending);
+    }
 }
 
 impl<W: Write + Drop> Hears for Printer<'_, W> {

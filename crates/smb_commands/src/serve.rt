@@ -12,9 +12,9 @@ use smb_command_line::{Login, Texts};
 use smb_config::Configuration;
 use smb_engine::{Authenticator, Config, HandleTable, NodeTree, Share};
 use smb_kept::{KeepWords, share_of};
-use smb_log::{LoggedLogin, LoggedPeers};
+use smb_log::{LogObserver, LoggedLogin, LoggedPeers};
 use smb_replay::{CommandFault, ListenFault};
-use smb_serving::serve_until;
+use smb_serving::serve_until_observed;
 use smb_tcp::TcpPeers;
 use std::io::ErrorKind;
 use std::net::SocketAddr;
@@ -124,16 +124,19 @@ pub fn listening_peers<'a>(
     let peers = peers_of(rt, words, listener)?;
     let clock = ServeClock::new(rt, words.clock);
     let heard = words.heard;
-    Ok(LoggedPeers::new(
+    let mut logged = LoggedPeers::new(
         rt.alloc(),
         peers,
         &heard.facts,
         clock,
         &heard.visitors,
+        &heard.reasons,
         log,
         stops,
         next,
-    ))
+    );
+    logged.note("started");
+    Ok(logged)
 }
 
 /// What is served, once all is said of it that is logged.
@@ -167,7 +170,9 @@ pub fn serve_peers<A: Authenticator + Drop>(
     } = serving;
     match listening_peers(rt, words, entrance, next) {
         Ok(mut peers) => {
-            let _ = serve_until(share, &mut peers, clock, words.turns);
+            let mut observer = LogObserver::new(&words.heard.reasons);
+            let turns = words.turns;
+            let _ = serve_until_observed(share, &mut peers, clock, turns, &mut observer);
             end_of(peers)
         }
         Err(fault) => Err(fault),

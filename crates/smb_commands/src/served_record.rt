@@ -11,7 +11,10 @@ use smb_kept::{
     Begun, KeepWords, Keeping, KeptFault, OwnLine, RecordedShare, is_long, own_answer, own_answers,
     path_of, put_folder_in, recorded_share,
 };
-use smb_serving::serve_until;
+use smb_log::LogObserver;
+use smb_reason::Reason;
+use smb_serving::serve_until_observed;
+use std::alloc::Global;
 use std::cell::Cell;
 use std::collections::VecDeque;
 use std::fs::File;
@@ -68,11 +71,22 @@ fn recorded_peers<'a>(
     Ok(recorded)
 }
 
+/// Logs that the record can't be written, where there is memory for the line.
+fn log_failure(alloc: Global, peers: &mut ServedPeers<'_>, reason: Reason) {
+    if let Ok(event) = format!(in alloc; "failed: the record can't be written: {reason}") {
+        peers.note(event.as_str());
+    }
+}
+
 /// What is served, once all of it is recorded and logged.
-fn end_of_recorded(recorded: Recorded<'_>) -> Result<Served, Fault> {
-    let (recorder, peers) = recorded.finish();
+fn end_of_recorded(alloc: Global, recorded: Recorded<'_>) -> Result<Served, Fault> {
+    let (recorder, mut peers) = recorded.finish();
+    let failure = recorder.failure();
+    if let Some(reason) = failure {
+        log_failure(alloc, &mut peers, reason);
+    }
     let ended = end_of(peers);
-    match recorder.failure() {
+    match failure {
         None => ended,
         Some(reason) => Err(Fault::Kept(KeptFault::RecordFailed(reason))),
     }
@@ -94,8 +108,10 @@ fn serve_begun<A: Authenticator + Drop>(
     match recorded_peers(serving, begun, shared, clock) {
         Ok(mut recorded) => {
             let mut told = RecordedClock::new(&moment);
-            let _ = serve_until(share, &mut recorded, &mut told, serving.words.turns);
-            end_of_recorded(recorded)
+            let mut observer = LogObserver::new(&serving.words.heard.reasons);
+            let turns = serving.words.turns;
+            let _ = serve_until_observed(share, &mut recorded, &mut told, turns, &mut observer);
+            end_of_recorded(serving.rt.alloc(), recorded)
         }
         Err(fault) => Err(fault),
     }

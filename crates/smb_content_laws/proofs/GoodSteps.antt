@@ -8,7 +8,7 @@ use Rattle.std.specs.Option.{option_map_or}
 use Rattle.smb_wire.specs.declared.access.Access.{Access}
 use Rattle.smb_wire.specs.declared.fault.PathFault.{PathFault}
 use Rattle.smb_wire.specs.declared.fault.PathFault.TheVariants.{LeadingSeparator, TooDeep as TooManyParts, BadName}
-use Rattle.smb_wire.specs.declared.nt_status.NtStatus.TheVariants.{Success, InvalidParameter, ObjectNameInvalid, FileClosed}
+use Rattle.smb_wire.specs.declared.nt_status.NtStatus.TheVariants.{Success, FileClosed}
 use Rattle.smb_wire.specs.Paths.{is_separator, is_lawful_component, path_fault, path_spelled}
 use Rattle.smb_tree.specs.declared.fault.TreeFault.{TreeFault}
 use Rattle.smb_tree.specs.declared.fault.TreeFault.TheVariants.{ParentAbsent, Exists, Full}
@@ -29,7 +29,12 @@ use Rattle.smb_access.specs.Parts.{opened_by, standing_tree, is_marked, has_conf
 use Rattle.smb_access.specs.Found.{path_asked, is_read_only_file, is_reached}
 use Rattle.smb_access.specs.Looked.{target_of}
 use Rattle.smb_access.specs.Opens.{open_of, with_scan}
-use Rattle.smb_access.specs.StatusRows.{StatusRow, first_status}
+use Rattle.smb_refusals.specs.declared.refusal.Refusal.{Refusal}
+use Rattle.smb_refusals.specs.declared.set_info.RenameRefusal.{RenameRefusal}
+use Rattle.smb_refusals.specs.declared.set_info.RenameRefusal.TheVariants.{NameBeginsWithSeparator, NameIsNoPath, PathTooDeep}
+use Rattle.smb_refusals.specs.Rows.{StatusRow, first_status, with_statuses, DecidingRow, first_decided, with_decided_statuses}
+use Rattle.smb_refusals.proofs.Fails.{set_disposition_fails, rename_fails}
+use Rattle.smb_refusals.proofs.RowLemmas.{unrefused, decided_unrefused, decided_before}
 use Rattle.smb_access.proofs.Trees.{reached_folder}
 use Rattle.smb_entry.specs.declared.ask.BasicAsk.{BasicAsk}
 use Rattle.smb_entry.specs.Parts.{has_no_room, keeps_from_writing, write_rows, written_tree, delete_set, entry_set, resized_file, leaves_size, has_entries, has_no_space, delete_rows, size_rows, basic_rows, is_not_replaced, rename_rows, renamed_tree, path_numbered}
@@ -50,7 +55,7 @@ use Rattle.smb_opens.specs.State.{StoreState}
 use Rattle.smb_opens.specs.Steps.{StoreStep, creates, writes, locks, unlocks, sets_delete, sets_size, sets_basic, renames, sets_scan, closes, closes_all, stepped, stepped_all}
 use Rattle.smb_opens.specs.Views.{open_view, status_through}
 use Rattle.smb_opens.proofs.Closing.{good_closed}
-use Rattle.smb_opens.proofs.Decided.{rows_by, way_told, code_of, status_moved}
+use Rattle.smb_opens.proofs.Decided.{rows_by, way_told, no_fault as no_move_fault, refusal_moved}
 use Rattle.smb_opens.proofs.Held.{kept_locked, kept_unlocked}
 use Rattle.smb_opens.proofs.Leaving.{all_left}
 use Rattle.smb_opens.proofs.Made.{masked_open, kept_added, kept_standing, alone_opened, made_standing}
@@ -162,7 +167,7 @@ written_good : (most : ℕ) (state : StoreState) (number offset : ℕ) (buffer :
 written_good most state number offset buffer moment good h = at_length (length buffer == 0) refl
   where
     table : View → List StatusRow
-    table view = write_rows most view (keeps_from_writing state.locks number view offset (length buffer)) offset (length buffer) (has_no_room state.tree view.entry offset buffer)
+    table view = with_statuses (λ refusal. Refusal.Write refusal) (write_rows most view (keeps_from_writing state.locks number view offset (length buffer)) offset (length buffer) (has_no_room state.tree view.entry offset buffer))
 
     at_length : (b : Bool) → (length buffer == 0) ≡ b → GoodStore (written_to state number offset buffer moment)
     at_length true e =
@@ -203,16 +208,17 @@ unlocked_good state number asks (Some view) good =
 -- SET_INFO
 deleted_good : (state : StoreState) (number : ℕ) (is_deleted : Bool) → GoodStore state → delete_status state number is_deleted ≡ Success → GoodStore (delete_set_through state number is_deleted)
 deleted_good state number is_deleted good h =
-    let table : View → List StatusRow = λ view. delete_rows view (has_entries state.tree.rows view.entry) is_deleted in
+    let table : View → List StatusRow = λ view. with_statuses (λ refusal. Refusal.SetDisposition refusal) (delete_rows view (has_entries state.tree.rows view.entry) is_deleted) in
     let s = shows state number table h in
     let lawful : first_status (table s.view) ≡ Success = sym (ap (λ (o : Option View). option_map_or (λ view. first_status (table view)) o FileClosed) s.shown) ∙ h in
     let after : Content = changed_in (delete_set is_deleted) state.tree s.view.entry in
-    let kept = kept_deleted state number s.view is_deleted after (length state.opens) (length state.tree.rows) s.by refl lawful (counted state good) in
+    let refusal = unrefused (λ refusal. Refusal.SetDisposition refusal) set_disposition_fails (delete_rows s.view (has_entries state.tree.rows s.view.entry) is_deleted) lawful in
+    let kept = kept_deleted state number s.view is_deleted after (length state.opens) (length state.tree.rows) s.by refl refusal (counted state good) in
     subst GoodStore (set_through (delete_set is_deleted) state number s.view after s.by refl) kept.good
 
 based_good : (state : StoreState) (number : ℕ) (ask : BasicAsk) (moment : ℕ) → GoodStore state → basic_status state number ask ≡ Success → GoodStore (basic_set_through state number ask moment)
 based_good state number ask moment good h =
-    let s = shows state number (λ view. basic_rows view ask) h in
+    let s = shows state number (λ view. with_statuses (λ refusal. Refusal.SetBasic refusal) (basic_rows view ask)) h in
     let after : Content = changed_in (entry_set ask moment) state.tree s.view.entry in
     let kept = kept_based state number s.view ask moment after (length state.opens) (length state.tree.rows) s.by refl (counted state good) in
     subst GoodStore (set_through (entry_set ask moment) state number s.view after s.by refl) kept.good
@@ -222,7 +228,7 @@ space_of_size tree n size small fits = grind (arith, nat_tests, small, fits)
 
 sized_good : (state : StoreState) (number size : ℕ) (is_allocation : Bool) (moment : ℕ) → GoodStore state → size_status state number size ≡ Success → GoodStore (size_set_through state number size is_allocation moment)
 sized_good state number size is_allocation moment good h =
-    let s = shows state number (λ view. size_rows view (has_no_space state.tree view.entry size)) h in
+    let s = shows state number (λ view. with_statuses (λ refusal. Refusal.SetSize refusal) (size_rows view (has_no_space state.tree view.entry size))) h in
     let may = (size_succeeds state number size s.view s.shown).0 h in
     let free = space_of_size state.tree s.view.entry size may.small may.fits in
     let after : Content = changed_in (resized_file size moment) state.tree s.view.entry in
@@ -234,51 +240,40 @@ sized_good state number size is_allocation moment good h =
     ] refl
 
 -- a rename
-front_success : (xs ys : List StatusRow) → first_status (xs ++ ys) ≡ Success → first_status xs ≡ Success
-front_success [] ys h = refl
-front_success (x ∷ xs) ys h =
-    elim (x.0) as (λ b. (if b then x.1 else first_status (xs ++ ys)) ≡ Success → (if b then x.1 else first_status xs) ≡ Success) [
-      | true ↦ λ e. e
-      | false ↦ λ e. front_success xs ys e
-    ] h
-
-name_passes : (empty bad : Bool) (rest : List StatusRow) → first_status ((empty, InvalidParameter) ∷ (bad, ObjectNameInvalid) ∷ rest) ≡ Success → (empty ≡ false) × (bad ≡ false) × (first_status rest ≡ Success)
-name_passes true bad rest h = absurd (let e : InvalidParameter ≡ Success = h in cc)
-name_passes false true rest h = absurd (let e : ObjectNameInvalid ≡ Success = h in cc)
+name_passes : (empty bad : Bool) (rest : List (DecidingRow RenameRefusal)) → first_decided ((empty, Some NameBeginsWithSeparator) ∷ (bad, Some NameIsNoPath) ∷ rest) ≡ None → (empty ≡ false) × (bad ≡ false) × (first_decided rest ≡ None)
+name_passes true bad rest h = absurd (cc)
+name_passes false true rest h = absurd (cc)
 name_passes false false rest h = (refl, refl, h)
 
-name_lawful : (empty bad : Bool) → empty ≡ false → bad ≡ false → (rest : List StatusRow) → first_status ((empty, InvalidParameter) ∷ (bad, ObjectNameInvalid) ∷ rest) ≡ first_status rest
+name_lawful : (empty bad : Bool) → empty ≡ false → bad ≡ false → (rest : List (DecidingRow RenameRefusal)) → first_decided ((empty, Some NameBeginsWithSeparator) ∷ (bad, Some NameIsNoPath) ∷ rest) ≡ first_decided rest
 name_lawful empty bad e f rest = rw (e, f) refl
-
-no_code : (o : Option TreeFault) → code_of o ≡ Success → o ≡ None
-no_code None h = refl
-no_code (Some fault) h = absurd (let e : ObjectNameInvalid ≡ Success = h in cc)
 
 renamed_good : (state : StoreState) (number : ℕ) (name : List ℕ) (moment : ℕ) (replace : Bool) → GoodStore state → rename_status state number name replace ≡ Success → GoodStore (renamed_through state number name moment)
 renamed_good state number name moment replace good h =
     let rows : List Row = state.tree.rows in
     let to : Path = path_named name in
-    let table : View → List StatusRow = λ view. rename_rows rows state.opens view name replace (path_numbered rows view.entry) to in
+    let table : View → List StatusRow = λ view. with_decided_statuses (λ refusal. Refusal.Rename refusal) (rename_rows rows state.opens view name replace (path_numbered rows view.entry) to) in
     let s = shows state number table h in
     let view : View = s.view in
     let row : Row = s.by.row in
     let at : numbered rows view.entry ≡ Some row = at_shown state number view s.by in
     let from : path_numbered rows view.entry ≡ row.0 = path_found rows view.entry row at in
-    let whole : first_status (rename_rows rows state.opens view name replace row.0 to) ≡ Success =
-    ap (λ (p : Path). first_status (rename_rows rows state.opens view name replace p to)) (sym from)
+    let whole : first_status (with_decided_statuses (λ refusal. Refusal.Rename refusal) (rename_rows rows state.opens view name replace row.0 to)) ≡ Success =
+    ap (λ (p : Path). first_status (with_decided_statuses (λ refusal. Refusal.Rename refusal) (rename_rows rows state.opens view name replace p to))) (sym from)
     ∙ sym (ap (λ (o : Option View). option_map_or (λ view. first_status (table view)) o FileClosed) s.shown) ∙ h in
-    let middle : List StatusRow = rows_by rows state.opens view row.0 to replace (is_same_path row.0 to) (is_some (entry_at rows to)) (is_not_replaced state.opens (entry_at rows to)) in
-    let named = name_passes (length name == 0 || is_separator (slice_index name 0)) (is_some (path_fault name)) (middle ++ (would_be_too_deep rows row.0 to, ObjectNameInvalid) ∷ []) whole in
-    let lawful : (rest : List StatusRow) → first_status (name_rows name ++ rest) ≡ first_status rest = name_lawful (length name == 0 || is_separator (slice_index name 0)) (is_some (path_fault name)) named.0 named.1 in
-    let passed : first_status middle ≡ Success = front_success middle ((would_be_too_deep rows row.0 to, ObjectNameInvalid) ∷ []) named.2 in
-    let free : move_fault state.tree view.entry to ≡ None = no_code (move_fault state.tree view.entry to) (sym (status_moved state.tree state.opens view row to name replace good.tree at lawful passed) ∙ whole) in
+    let refusal : first_decided (rename_rows rows state.opens view name replace row.0 to) ≡ None = decided_unrefused (λ refusal. Refusal.Rename refusal) rename_fails (rename_rows rows state.opens view name replace row.0 to) whole in
+    let middle : List (DecidingRow RenameRefusal) = rows_by rows state.opens view row.0 to replace (is_same_path row.0 to) (is_some (entry_at rows to)) (is_not_replaced state.opens (entry_at rows to)) in
+    let named = name_passes (length name == 0 || is_separator (slice_index name 0)) (is_some (path_fault name)) (middle ++ (would_be_too_deep rows row.0 to, Some PathTooDeep) ∷ []) refusal in
+    let lawful : (rest : List (DecidingRow RenameRefusal)) → first_decided (name_rows name ++ rest) ≡ first_decided rest = name_lawful (length name == 0 || is_separator (slice_index name 0)) (is_some (path_fault name)) named.0 named.1 in
+    let passed : first_decided middle ≡ None = decided_before middle ((would_be_too_deep rows row.0 to, Some PathTooDeep) ∷ []) named.2 in
+    let free : move_fault state.tree view.entry to ≡ None = no_move_fault (move_fault state.tree view.entry to) (sym (refusal_moved state.tree state.opens view row to name replace good.tree at lawful passed) ∙ refusal) in
     let way = way_between rows (path_numbered rows view.entry) to in
-    let told : first_status (way_rows rows state.opens view way replace) ≡ Success =
-    ap (λ (p : Path). first_status (way_rows rows state.opens view (way_between rows p to) replace)) from
-    ∙ ap first_status (way_told rows state.opens view row to replace good.tree.apart at from) ∙ passed in
+    let told : first_decided (way_rows rows state.opens view way replace) ≡ None =
+    ap (λ (p : Path). first_decided (way_rows rows state.opens view (way_between rows p to) replace)) from
+    ∙ ap first_decided (way_told rows state.opens view row to replace good.tree.apart at from) ∙ passed in
     let path = is_path name named.1 in
     let after : Content = renamed_tree state.tree view.entry (path_spelled name) moment in
-    let kept = kept_renamed state number view way name (path_spelled name) replace Success (length state.opens) (length rows) moment (count_replaced view.entry way.target) after s.by (record { found = refl; spelled = refl; lawful = lawful })
+    let kept = kept_renamed state number view way name (path_spelled name) replace None (length state.opens) (length rows) moment (count_replaced view.entry way.target) after s.by (record { found = refl; spelled = refl; lawful = lawful })
     (counted state good) (sym told) refl free path.lawful refl refl in
     subst GoodStore (renamed_done state number view name (path_spelled name) moment after s.by refl refl) kept.good
 

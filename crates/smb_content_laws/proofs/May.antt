@@ -18,7 +18,8 @@ use Rattle.smb_access.specs.declared.view.View.{View}
 use Rattle.smb_access.specs.Access.{is_reading, is_deleting}
 use Rattle.smb_access.specs.Parts.{is_writing_attributes}
 use Rattle.smb_access.specs.Asked.{FileAsked}
-use Rattle.smb_access.specs.StatusRows.{StatusRow, first_status}
+use Rattle.smb_refusals.specs.declared.refusal.Refusal.{Refusal}
+use Rattle.smb_refusals.specs.Rows.{StatusRow, first_status, with_statuses}
 use Rattle.smb_entry.specs.declared.ask.BasicAsk.{BasicAsk}
 use Rattle.smb_entry.specs.Parts.{keeps_from_reading, keeps_from_writing, has_no_room, may_not_write, bytes_there, read_rows, write_rows, has_entries, has_no_space, delete_rows, size_rows, basic_rows, shows_read_only_file, has_bad_time, locks_shown}
 use Rattle.smb_entry.specs.Locks.{lock_status_by}
@@ -94,7 +95,7 @@ read_succeeds state most number offset count minimum view shown = (
 )
   where
     table : View → List StatusRow
-    table shows = read_rows most shows (keeps_from_reading state.locks number shows offset count) offset count minimum
+    table shows = with_statuses (λ refusal. Refusal.Read refusal) (read_rows most shows (keeps_from_reading state.locks number shows offset count) offset count minimum)
 
 -- WRITE
 writes_from : (write append before : Bool) → (not (write || append) || not write && before) ≡ false → (write ≡ true) ⊎ ((append ≡ true) × (before ≡ false))
@@ -170,7 +171,7 @@ write_succeeds state most number offset buffer view shown = (
 )
   where
     table : View → List StatusRow
-    table shows = write_rows most shows (keeps_from_writing state.locks number shows offset (length buffer)) offset (length buffer) (has_no_room state.tree shows.entry offset buffer)
+    table shows = with_statuses (λ refusal. Refusal.Write refusal) (write_rows most shows (keeps_from_writing state.locks number shows offset (length buffer)) offset (length buffer) (has_no_room state.tree shows.entry offset buffer))
 
 -- LOCK and UNLOCK
 status_free : (view : View) (fault : Option LockFault) → is_folder_kind view.kind ≡ false → fault ≡ None → lock_status_by (Some view) fault ≡ Success
@@ -209,7 +210,7 @@ mark_succeeds state number true view shown = (
 )
   where
     table : View → List StatusRow
-    table shows = delete_rows shows (has_entries state.tree.rows shows.entry) true
+    table shows = with_statuses (λ refusal. Refusal.SetDisposition refusal) (delete_rows shows (has_entries state.tree.rows shows.entry) true)
 mark_succeeds state number false view shown = (
   λ h. (
       let rows = pass_all (table view) ((λ q. cc), tt) (status_shown state number view table shown h) in
@@ -224,7 +225,7 @@ mark_succeeds state number false view shown = (
 )
   where
     table : View → List StatusRow
-    table shows = delete_rows shows (has_entries state.tree.rows shows.entry) false
+    table shows = with_statuses (λ refusal. Refusal.SetDisposition refusal) (delete_rows shows (has_entries state.tree.rows shows.entry) false)
 
 -- of a size
 pub size_succeeds : (state : StoreState) (number size : ℕ) (view : View) → open_view state number ≡ Some view → (size_status state number size ≡ Success) ↔ MaySetSize state size view
@@ -252,7 +253,7 @@ size_succeeds state number size view shown = (
 )
   where
     table : View → List StatusRow
-    table shows = size_rows shows (has_no_space state.tree shows.entry size)
+    table shows = with_statuses (λ refusal. Refusal.SetSize refusal) (size_rows shows (has_no_space state.tree shows.entry size))
 
 -- of times and attributes
 kind_from : (folder directory : Bool) → (not folder && directory) ≡ false → (folder ≡ true) ⊎ (directory ≡ false)
@@ -282,4 +283,4 @@ times_succeed state number ask view shown = (
 )
   where
     table : View → List StatusRow
-    table shows = basic_rows shows ask
+    table shows = with_statuses (λ refusal. Refusal.SetBasic refusal) (basic_rows shows ask)

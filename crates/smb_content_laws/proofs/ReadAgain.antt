@@ -12,7 +12,8 @@ use Rattle.smb_tree.proofs.Apart.{numbered-changed}
 use Rattle.smb_access.specs.declared.open_row.OpenRow.{OpenRow}
 use Rattle.smb_access.specs.declared.view.View.{View}
 use Rattle.smb_access.specs.Opens.{open_of}
-use Rattle.smb_access.specs.StatusRows.{first_status}
+use Rattle.smb_refusals.specs.declared.refusal.Refusal.{Refusal}
+use Rattle.smb_refusals.specs.Rows.{first_status, with_statuses}
 use Rattle.smb_access.specs.Views.{view_of}
 use Rattle.smb_access.specs.Parts.{view_through}
 use Rattle.smb_access.proofs.Changes.{Keeps, below_changed}
@@ -49,14 +50,14 @@ record IsRead (state : StoreState) (held : OpenRow) (offset count minimum : ℕ)
 
 is_read : (state : StoreState) (most number offset count minimum : ℕ) (held : OpenRow) → open_of state.opens number ≡ Some held → read_status state most number offset count minimum ≡ Success → IsRead state held offset count minimum
 is_read state most number offset count minimum held opened h =
-    at_row (numbered state.tree.rows held.entry) refl (sym (ap (λ (o : Option OpenRow). option_map_or (λ view. first_status (read_rows most view (keeps_from_reading state.locks number view offset count) offset count minimum)) (view_through state.tree.rows o) FileClosed) opened) ∙ h)
+    at_row (numbered state.tree.rows held.entry) refl (sym (ap (λ (o : Option OpenRow). option_map_or (λ view. first_status (with_statuses (λ refusal. Refusal.Read refusal) (read_rows most view (keeps_from_reading state.locks number view offset count) offset count minimum))) (view_through state.tree.rows o) FileClosed) opened) ∙ h)
   where
     at_row : (o : Option Row) → numbered state.tree.rows held.entry ≡ o →
-        option_map_or (λ (view : View). first_status (read_rows most view (keeps_from_reading state.locks number view offset count) offset count minimum)) (option_map (λ (row : Row). view_of held.access row.1) o) FileClosed ≡ Success → IsRead state held offset count minimum
+        option_map_or (λ (view : View). first_status (with_statuses (λ refusal. Refusal.Read refusal) (read_rows most view (keeps_from_reading state.locks number view offset count) offset count minimum))) (option_map (λ (row : Row). view_of held.access row.1) o) FileClosed ≡ Success → IsRead state held offset count minimum
     at_row None e s = absurd (let f : FileClosed ≡ Success = s in cc)
     at_row (Some row) e s =
         let view : View = view_of held.access row.1 in
-        let rows = pass_all (read_rows most view (keeps_from_reading state.locks number view offset count) offset count minimum) ((λ q. cc), ((λ q. cc), ((λ q. cc), ((λ q. cc), ((λ q. cc), tt))))) s in
+        let rows = pass_all (with_statuses (λ refusal. Refusal.Read refusal) (read_rows most view (keeps_from_reading state.locks number view offset count) offset count minimum)) ((λ q. cc), ((λ q. cc), ((λ q. cc), ((λ q. cc), ((λ q. cc), tt))))) s in
         let last = or_parts (nat_lt 0 count && nat_le view.size offset) (nat_lt (bytes_there view.size offset count) minimum) rows.1.1.1.1.0 in
         record { row = row; at_entry = e; some = last.0; enough = last.1 }
 

@@ -4,7 +4,7 @@ use Rattle.std.specs.Option.{option_map_or}
 use Rattle.smb_wire.specs.declared.nt_status.NtStatus.{NtStatus}
 use Rattle.smb_wire.specs.declared.nt_status.NtStatus.TheVariants.{Success, FileClosed}
 use Rattle.smb_access.specs.declared.view.View.{View}
-use Rattle.smb_access.specs.StatusRows.{StatusRow, first_status}
+use Rattle.smb_refusals.specs.Rows.{StatusRow, first_status}
 use Rattle.smb_opens.specs.State.{StoreState}
 use Rattle.smb_opens.specs.Views.{open_view, status_through}
 use Rattle.smb_content_laws.specs.Successes.{NoneHolds}

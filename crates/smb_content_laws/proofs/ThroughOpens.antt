@@ -24,9 +24,10 @@ use Rattle.smb_locks.proofs.Tables.{on_with, on_dropped}
 use Rattle.smb_access.specs.declared.open_row.OpenRow.{OpenRow}
 use Rattle.smb_access.specs.declared.view.View.{View}
 use Rattle.smb_access.specs.Opens.{open_of}
-use Rattle.smb_access.specs.StatusRows.{first_status}
+use Rattle.smb_refusals.specs.declared.refusal.Refusal.{Refusal}
+use Rattle.smb_refusals.specs.Rows.{first_status, with_statuses}
 use Rattle.smb_entry.specs.Parts.{keeps_from_reading, keeps_from_writing, read_rows, write_rows, has_no_room, locks_shown}
-use Rattle.smb_entry.specs.Locks.{lock_fault_status, lock_status_by}
+use Rattle.smb_entry.specs.Locks.{lock_refusal_of, lock_fault_status, lock_status_by}
 use Rattle.smb_opens.specs.Bytes.{read_status, write_status}
 use Rattle.smb_opens.specs.Close.{closed}
 use Rattle.smb_opens.specs.Parts.{closed_open, with_locks_of}
@@ -34,7 +35,7 @@ use Rattle.smb_opens.specs.Locks.{lock_status, unlock_status, locked_through, un
 use Rattle.smb_opens.specs.State.{StoreState}
 use Rattle.smb_opens.specs.Views.{open_view}
 use Rattle.smb_opens.proofs.Closing.{number_found}
-use Rattle.smb_opens.proofs.Locking.{has_status}
+use Rattle.smb_opens.proofs.Locking.{has_row}
 use Rattle.smb_content_laws.specs.Locking.{LosesEach}
 use Rattle.smb_content_laws.proofs.OthersLocks.{others_locked, others_unlocked, others_twice}
 use Rattle.smb_content_laws.proofs.Taken.{takes_asked, takes_before}
@@ -76,9 +77,9 @@ unlock_memory locks holder asks h =
     elim (unlock_all_error locks holder asks) as (λ o. unlock_all_error locks holder asks ≡ o → option_map (λ (error : UnlockError). error.fault) o ≡ Some NoMemory → ⊥) [
       | None ↦ λ _ e. cc
       | Some error ↦ λ e f. (
-          let told = has_status locks holder asks error e in
+          let told = has_row locks holder asks error e in
           let same : error.fault ≡ NoMemory = cc in
-          let none : is_some (lock_fault_status error.fault) ≡ false = ap (λ (fault : LockFault). is_some (lock_fault_status fault)) same in
+          let none : is_some (lock_refusal_of error.fault) ≡ false = ap (λ (fault : LockFault). is_some (lock_refusal_of fault)) same in
           absurd (cc)
           )
     ] refl h
@@ -207,10 +208,10 @@ read_locked state number most minimum asks lock good h c e =
     let table : Table = locked state.locks l.view.entry number asks in
     let after : StoreState = record state { locks = table } in
     let free : keeps_from_reading table number l.view lock.range.offset lock.range.length ≡ false = reads_locked state.locks l.view.entry number asks lock good l.free c in
-    let status : read_status (locked_through state number asks) most number lock.range.offset lock.range.length minimum ≡ first_status (read_rows most l.view false lock.range.offset lock.range.length minimum) =
+    let status : read_status (locked_through state number asks) most number lock.range.offset lock.range.length minimum ≡ first_status (with_statuses (λ refusal. Refusal.Read refusal) (read_rows most l.view false lock.range.offset lock.range.length minimum)) =
     ap (λ (s : StoreState). read_status s most number lock.range.offset lock.range.length minimum) l.after
-    ∙ ap (λ (v : Option View). option_map_or (λ view. first_status (read_rows most view (keeps_from_reading table number view lock.range.offset lock.range.length) lock.range.offset lock.range.length minimum)) v FileClosed) l.shown
-    ∙ ap (λ (b : Bool). first_status (read_rows most l.view b lock.range.offset lock.range.length minimum)) free in
+    ∙ ap (λ (v : Option View). option_map_or (λ view. first_status (with_statuses (λ refusal. Refusal.Read refusal) (read_rows most view (keeps_from_reading table number view lock.range.offset lock.range.length) lock.range.offset lock.range.length minimum))) v FileClosed) l.shown
+    ∙ ap (λ (b : Bool). first_status (with_statuses (λ refusal. Refusal.Read refusal) (read_rows most l.view b lock.range.offset lock.range.length minimum))) free in
     no_read_row _ _ _ _ (sym status ∙ e)
 
 pub write_locked : (state : StoreState) (number most : ℕ) (buffer : List ℕ) (asks : List LockAsk) (lock : Lock) → GoodLockTable state.locks → lock_status state number asks ≡ Success → Contains (locks_asked number asks) lock → lock.exclusive ≡ true →
@@ -224,8 +225,8 @@ write_locked state number most buffer asks lock good h c exclusive alone long e 
     let barred : is_write_barred (locks_on table l.view.entry) number lock.range ≡ false = writes_locked state.locks l.view.entry number asks lock good l.free c exclusive alone in
     let free : keeps_from_writing table number l.view offset (length buffer) ≡ false =
     ap (λ (n : ℕ). is_write_barred (locks_on table l.view.entry) number (record { offset = offset; length = n })) (sym long) ∙ barred in
-    let status : write_status (locked_through state number asks) most number offset buffer ≡ first_status (write_rows most l.view false offset (length buffer) full) =
+    let status : write_status (locked_through state number asks) most number offset buffer ≡ first_status (with_statuses (λ refusal. Refusal.Write refusal) (write_rows most l.view false offset (length buffer) full)) =
     ap (λ (s : StoreState). write_status s most number offset buffer) l.after
-    ∙ ap (λ (v : Option View). option_map_or (λ view. first_status (write_rows most view (keeps_from_writing table number view offset (length buffer)) offset (length buffer) (has_no_room state.tree view.entry offset buffer))) v FileClosed) l.shown
-    ∙ ap (λ (b : Bool). first_status (write_rows most l.view b offset (length buffer) full)) free in
+    ∙ ap (λ (v : Option View). option_map_or (λ view. first_status (with_statuses (λ refusal. Refusal.Write refusal) (write_rows most view (keeps_from_writing table number view offset (length buffer)) offset (length buffer) (has_no_room state.tree view.entry offset buffer)))) v FileClosed) l.shown
+    ∙ ap (λ (b : Bool). first_status (with_statuses (λ refusal. Refusal.Write refusal) (write_rows most l.view b offset (length buffer) full))) free in
     no_write_row _ _ _ _ (sym status ∙ e)

@@ -21,7 +21,8 @@ use Rattle.smb_access.specs.Close.{is_deletable}
 use Rattle.smb_access.specs.Parts.{is_due, tree_marked, tree_cleared, overwritten_tree, view_through}
 use Rattle.smb_access.specs.Effect.{overwritten, tree_after}
 use Rattle.smb_access.specs.Opens.{open_of, without_open, open_numbers, is_held_by}
-use Rattle.smb_access.specs.StatusRows.{first_status}
+use Rattle.smb_refusals.specs.declared.refusal.Refusal.{Refusal}
+use Rattle.smb_refusals.specs.Rows.{first_status, with_statuses}
 use Rattle.smb_access.specs.Views.{view_of}
 use Rattle.smb_entry.specs.Parts.{keeps_from_writing, has_no_room, write_rows, written_file, written_tree, delete_set, entry_set, leaves_size, size_set, resized_file, has_no_space, size_rows, dated, renamed_tree}
 use Rattle.smb_opens.specs.Bytes.{write_status}
@@ -101,15 +102,15 @@ write_room : (state : StoreState) (most number offset : ℕ) (buffer : List ℕ)
     (row : Row) × (numbered state.tree.rows held.entry ≡ Some row) × (used_space (with_bytes state.tree held.entry offset buffer).rows ≤ state.tree.capacity)
 write_room state most number offset buffer held opened h some =
     at_row (numbered state.tree.rows held.entry) refl
-    (sym (ap (λ (o : Option OpenRow). option_map_or (λ view. first_status (write_rows most view (keeps_from_writing state.locks number view offset (length buffer)) offset (length buffer) (has_no_room state.tree view.entry offset buffer))) (view_through state.tree.rows o) FileClosed) opened) ∙ h)
+    (sym (ap (λ (o : Option OpenRow). option_map_or (λ view. first_status (with_statuses (λ refusal. Refusal.Write refusal) (write_rows most view (keeps_from_writing state.locks number view offset (length buffer)) offset (length buffer) (has_no_room state.tree view.entry offset buffer)))) (view_through state.tree.rows o) FileClosed) opened) ∙ h)
   where
     at_row : (o : Option Row) → numbered state.tree.rows held.entry ≡ o →
-        option_map_or (λ (view : View). first_status (write_rows most view (keeps_from_writing state.locks number view offset (length buffer)) offset (length buffer) (has_no_room state.tree view.entry offset buffer))) (option_map (λ (row : Row). view_of held.access row.1) o) FileClosed ≡ Success →
+        option_map_or (λ (view : View). first_status (with_statuses (λ refusal. Refusal.Write refusal) (write_rows most view (keeps_from_writing state.locks number view offset (length buffer)) offset (length buffer) (has_no_room state.tree view.entry offset buffer)))) (option_map (λ (row : Row). view_of held.access row.1) o) FileClosed ≡ Success →
         (row : Row) × (numbered state.tree.rows held.entry ≡ Some row) × (used_space (with_bytes state.tree held.entry offset buffer).rows ≤ state.tree.capacity)
     at_row None e s = absurd (let f : FileClosed ≡ Success = s in cc)
     at_row (Some row) e s =
         let view : View = view_of held.access row.1 in
-        let rows = pass_all (write_rows most view (keeps_from_writing state.locks number view offset (length buffer)) offset (length buffer) (has_no_room state.tree view.entry offset buffer)) ((λ q. cc), ((λ q. cc), ((λ q. cc), ((λ q. cc), ((λ q. cc), tt))))) s in
+        let rows = pass_all (with_statuses (λ refusal. Refusal.Write refusal) (write_rows most view (keeps_from_writing state.locks number view offset (length buffer)) offset (length buffer) (has_no_room state.tree view.entry offset buffer))) ((λ q. cc), ((λ q. cc), ((λ q. cc), ((λ q. cc), ((λ q. cc), tt))))) s in
         let long : nat_lt 0 (length buffer) ≡ true = grind (arith, nat_tests, some) in
         let room : has_no_room state.tree view.entry offset buffer ≡ false = ap (λ (b : Bool). b && has_no_room state.tree view.entry offset buffer) (sym long) ∙ rows.1.1.1.1.0 in
         let parts = or_parts (nat_lt 16777216 (offset + length buffer)) (nat_lt state.tree.capacity (used_space (with_bytes state.tree view.entry offset buffer).rows)) room in
@@ -121,15 +122,15 @@ size_room : (state : StoreState) (number size : ℕ) (held : OpenRow) → open_o
     (row : Row) × (numbered state.tree.rows held.entry ≡ Some row) × (used_space (with_size state.tree held.entry size).rows ≤ state.tree.capacity)
 size_room state number size held opened h =
     at_row (numbered state.tree.rows held.entry) refl
-    (sym (ap (λ (o : Option OpenRow). option_map_or (λ view. first_status (size_rows view (has_no_space state.tree view.entry size))) (view_through state.tree.rows o) FileClosed) opened) ∙ h)
+    (sym (ap (λ (o : Option OpenRow). option_map_or (λ view. first_status (with_statuses (λ refusal. Refusal.SetSize refusal) (size_rows view (has_no_space state.tree view.entry size)))) (view_through state.tree.rows o) FileClosed) opened) ∙ h)
   where
     at_row : (o : Option Row) → numbered state.tree.rows held.entry ≡ o →
-        option_map_or (λ (view : View). first_status (size_rows view (has_no_space state.tree view.entry size))) (option_map (λ (row : Row). view_of held.access row.1) o) FileClosed ≡ Success →
+        option_map_or (λ (view : View). first_status (with_statuses (λ refusal. Refusal.SetSize refusal) (size_rows view (has_no_space state.tree view.entry size)))) (option_map (λ (row : Row). view_of held.access row.1) o) FileClosed ≡ Success →
         (row : Row) × (numbered state.tree.rows held.entry ≡ Some row) × (used_space (with_size state.tree held.entry size).rows ≤ state.tree.capacity)
     at_row None e s = absurd (let f : FileClosed ≡ Success = s in cc)
     at_row (Some row) e s =
         let view : View = view_of held.access row.1 in
-        let rows = pass_all (size_rows view (has_no_space state.tree view.entry size)) ((λ q. cc), ((λ q. cc), ((λ q. cc), tt))) s in
+        let rows = pass_all (with_statuses (λ refusal. Refusal.SetSize refusal) (size_rows view (has_no_space state.tree view.entry size))) ((λ q. cc), ((λ q. cc), ((λ q. cc), tt))) s in
         let parts = or_parts (nat_lt 16777216 size) (nat_lt state.tree.capacity (used_space (with_size state.tree view.entry size).rows)) rows.1.1.0 in
         let own : view.entry ≡ held.entry = number-from_numbered state.tree.rows row held.entry e in
         let fits = ltb-false state.tree.capacity (used_space (with_size state.tree view.entry size).rows) parts.1 in

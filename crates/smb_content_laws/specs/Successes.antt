@@ -16,7 +16,7 @@ use Rattle.smb_locks.specs.Unlocking.{unlock_all_error}
 use Rattle.smb_access.specs.declared.view.View.{View}
 use Rattle.smb_access.specs.Asked.{FileAsked}
 use Rattle.smb_access.specs.Access.{is_reading, is_deleting}
-use Rattle.smb_access.specs.StatusRows.{StatusRow, first_status}
+use Rattle.smb_refusals.specs.Rows.{StatusRow, first_status}
 use Rattle.smb_entry.specs.declared.ask.BasicAsk.{BasicAsk}
 use Rattle.smb_opens.specs.Bytes.{read_status, write_status}
 use Rattle.smb_opens.specs.Create.{create_rows, create_status}

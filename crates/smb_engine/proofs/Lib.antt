@@ -14,3 +14,5 @@ pub mod Runs
 pub mod Cuts
 pub mod Rest
 pub mod SoFar
+pub mod Endings
+pub mod WrongEndings

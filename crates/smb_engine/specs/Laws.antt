@@ -1,5 +1,5 @@
 -- What follows from the definitions, of every authenticator.
-use Rattle.std.specs.Prelude.{◌≡◌, ◌⊎◌, ℕ, suc, ◌+◌, ◌<◌, false, ◌==◌, nat_lt, List, [], ◌∷◌, ◌++◌, length, map, None, Some, MatchOption, if◌then◌else◌}
+use Rattle.std.specs.Prelude.{◌≡◌, ◌⊎◌, ℕ, suc, ◌+◌, ◌<◌, false, ◌==◌, not, nat_lt, List, [], ◌∷◌, ◌++◌, length, map, None, Some, is_some, MatchOption, if◌then◌else◌}
 use Rattle.std.specs.Option.{option_map, option_map_or}
 use Rattle.std.specs.List.{AllByRecursion, Any, concat}
 use Rattle.smb_session.specs.Numbers.{IsRising}
@@ -9,10 +9,11 @@ use Rattle.smb_session.specs.Table.{session_at}
 use Rattle.smb_opens.specs.Readers.{LeavesFiles}
 use Rattle.smb_request.specs.Laws.{IsInOrder, IsAsItWas, IsOver, ReplacesSession, AllMayOnlyRead}
 use Rattle.smb_peers.specs.Event.{EventText, brings, connection_of}
+use Rattle.smb_engine.specs.declared.connection.Connection.{Connection}
 use Rattle.smb_engine.specs.State.{ShareState, stream_of}
 use Rattle.smb_engine.specs.Good.{GoodState}
 use Rattle.smb_engine.specs.Stream.{unread}
-use Rattle.smb_engine.specs.Run.{PerformedRequest, Stop, Ran, run, event_refusal, event_step}
+use Rattle.smb_engine.specs.Run.{PerformedRequest, Stop, Ran, run, event_refusal, event_step, admitted, ending_of}
 use Rattle.smb_engine.specs.Refusals.{run_behind}
 use Rattle.smb_engine.specs.Output.{Output, frame_to, end_of}
 
@@ -39,6 +40,12 @@ pub record AreAlike {S : Type 0} (one other : Ran S) : Type 0 where
   pub state : one.state ≡ other.state
   pub outputs : one.outputs ≡ other.outputs
   pub reason : option_map (λ fault. fault.fault) one.stop ≡ option_map (λ fault. fault.fault) other.stop
+
+-- a payload that is no first SMB_COM_NEGOTIATE is performed, or there is a rule by which it ends its connection, and just one
+-- of both
+abbrev pub EachPayloadIsAdmittedOrEnds : Type 0
+EachPayloadIsAdmittedOrEnds =
+    (connection : Connection) (payload : List ℕ) → is_some (admitted connection payload) ≡ not (is_some (ending_of connection payload))
 
 module _ {S : Type 0} (authenticator : Meaning S) where
   -- the requests that a run performs, in order, up to an event that is refused

@@ -8,7 +8,7 @@ use Rattle.smb_wire.specs.declared.command.Command.TheVariants.{Negotiate, Cance
 use Rattle.smb_wire.specs.declared.dialect.Dialect.{Dialect}
 use Rattle.smb_frame.specs.Reading.{rest, fault_of, payloads}
 use Rattle.smb_head.specs.Headers.{header_of}
-use Rattle.smb_session.specs.Window.{without_ids, credits_granted, with_more}
+use Rattle.smb_session.specs.Window.{WindowState, contains, without_ids, credits_granted, with_more}
 use Rattle.smb_request.specs.Charge.{charge_of}
 use Rattle.smb_request.specs.Context.{first_context}
 use Rattle.smb_request.specs.State.{ServerState}
@@ -23,7 +23,7 @@ use Rattle.smb_head.specs.Chains.{is_related}
 use Rattle.smb_wire.specs.NtStatus.{status_code}
 use Rattle.smb_body.specs.Smb1.{smb1_of}
 use Rattle.smb_body.specs.declared.smb1.Smb1Dialects.{Smb1Dialects}
-use Rattle.std.specs.List.{fold, concat, AllByRecursion}
+use Rattle.std.specs.List.{find, fold, concat, AllByRecursion}
 use Rattle.smb_request.specs.Laws.{AllMayOnlyRead}
 use Rattle.smb_engine.specs.declared.arrival.Arrival.{Arrival}
 use Rattle.smb_engine.specs.Run.{PerformedRequest, one_performed, requests_of_chain, ChainState, EventStep, Step, message_ids, event_refusal, Stop, Ran}
@@ -107,6 +107,10 @@ is_negotiate_request request = (header_of request).command.0 == code_of Negotiat
 abbrev pub runs_of : Option Dialect → List (List ℕ) → List (ℕ × ℕ)
 runs_of dialect requests =
     map (λ request. ((header_of request).message_id, charge_of dialect (header_of request).credit_charge)) (filter (λ request. not (is_cancel request)) requests)
+
+-- the first of some MessageIds that a window lacks
+abbrev pub missing : WindowState → List ℕ → Option ℕ
+missing window ids = find (λ id. not (contains window.usable id)) ids
 
 -- where a chain begins: its MessageIds are no more in the window (3.3.1.1)
 abbrev pub chain_begun : {S : Type 0} → ServerState S → Connection → List (List ℕ) → ChainState S

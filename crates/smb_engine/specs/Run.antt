@@ -1,8 +1,8 @@
 -- What a share does, to be read once from top to bottom: a request of a chain, the chain, a payload, a piece of a
 -- connection's stream, an event and a run of events, each over the definition before it ([MS-SMB2] 3.3.5).
-use Rattle.std.specs.Prelude.{ℕ, suc, Bool, true, false, ◌&&◌, ◌||◌, ◌==◌, not, nat_lt, nat_le, List, [], ◌∷◌, ◌++◌, length, drop, filter, map, replicate, Option, Some, None, is_none, if◌then◌else◌}
+use Rattle.std.specs.Prelude.{ℕ, suc, Bool, true, false, ◌&&◌, ◌||◌, ◌==◌, not, nat_lt, nat_le, List, [], ◌∷◌, ◌++◌, length, drop, filter, map, replicate, Option, Some, None, is_none, nat_eq, if◌then◌else◌}
 use Rattle.std.specs.Option.{option_map, option_map_or}
-use Rattle.std.specs.List.{list_any, list_all, fold}
+use Rattle.std.specs.List.{list_any, list_all, find, fold, starts_with}
 use Rattle.std.specs.Map.{set_value}
 use Rattle.std.specs.BTreeMap.{is_at}
 use Rattle.std.specs.Ordering.{nat_cmp}
@@ -17,11 +17,12 @@ use Rattle.smb_body.specs.Replies.{reply_spelling}
 use Rattle.smb_session.specs.Numbers.{contains}
 use Rattle.smb_frame.specs.Reading.{payloads, rest, fault_of}
 use Rattle.smb_head.specs.Headers.{header_of}
-use Rattle.smb_head.specs.Chains.{chain_of, is_related}
+use Rattle.smb_head.specs.declared.fault.HeadFault.{HeadFault}
+use Rattle.smb_head.specs.Chains.{chain_of, chain_fault, is_related}
 use Rattle.smb_head.specs.Replies.{Reply, joined_replies}
 use Rattle.smb_body.specs.Smb1.{smb1_of}
 use Rattle.smb_body.specs.declared.smb1.Smb1Dialects.{Smb1Dialects}
-use Rattle.smb_session.specs.Window.{are_distinct, numbers_of, credits_granted, with_more}
+use Rattle.smb_session.specs.Window.{WindowState, are_distinct, numbers_of, credits_granted, with_more}
 use Rattle.smb_session.specs.Authenticator.{Meaning}
 use Rattle.smb_request.specs.declared.context.Context.{Context}
 use Rattle.smb_wire.specs.NtStatus.{status_code}
@@ -38,6 +39,8 @@ use Rattle.smb_engine.specs.declared.connection.Connection.{Connection}
 use Rattle.smb_engine.specs.declared.fault.ServeFault.{ServeFault}
 use Rattle.smb_engine.specs.declared.fault.ServeFault.TheVariants.{TooManyConnections, BadEvent}
 use Rattle.smb_engine.specs.State.{StreamState, ShareState, stream_of, opened, ended}
+use Rattle.smb_peers.specs.declared.ending.Ending.{Ending}
+use Rattle.smb_peers.specs.declared.ending.Ending.TheVariants.{Chain, NegotiateAlone, NegotiateAgain, MessageIdNotInWindow, MessageIdTwice, Smb1Misformed, Smb1Late}
 use Rattle.smb_peers.specs.Event.{EventText, opens, brings, ends}
 use Rattle.smb_engine.specs.Output.{Output, end_of, reply_frame}
 
@@ -147,6 +150,40 @@ admitted connection payload =
     then Some requests else None)
     (chain_of payload)
     None
+
+-- why a payload ends its connection that has this first fault of a chain: where it begins as an SMB_COM_NEGOTIATE does, by
+-- 0xFF, the letters SMB and the command 0x72, that is behind another payload or misformed (3.3.5.3.1); else by that fault
+abbrev pub ending_by_fault : Connection → List ℕ → HeadFault → Ending
+ending_by_fault connection payload fault =
+    if not (starts_with nat_eq payload (0xFF ∷ 0x53 ∷ 0x4D ∷ 0x42 ∷ 0x72 ∷ [])) then Chain fault else
+    if connection.payload_came then Smb1Late else
+    Smb1Misformed
+
+-- why a chain ends its connection that breaks the rule about NEGOTIATE: by whether there is a dialect (3.3.5.2, 3.3.5.4)
+abbrev pub ending_by_negotiate : Option Dialect → Ending
+ending_by_negotiate dialect = if is_none dialect then NegotiateAlone else NegotiateAgain
+
+-- why the MessageIds that a chain uses end its connection: by the first, in the order of the requests and upward in each,
+-- that the window lacks, or else by one that is used twice (3.3.5.2.3)
+abbrev pub ending_by_ids : WindowState → List ℕ → Option Ending
+ending_by_ids window ids = option_map_or
+    (λ id. Some (MessageIdNotInWindow id))
+    (find (λ id. not (contains window.usable id)) ids)
+    (if are_distinct ids then None else Some MessageIdTwice)
+
+-- why a payload that is no first SMB_COM_NEGOTIATE ends its connection: by a fault, by the rule about NEGOTIATE, or by its
+-- MessageIds, the first of these that it does (3.3.5.2)
+unfoldable pub ending_of : Connection → List ℕ → Option Ending
+ending_of connection payload = option_map_or
+    (λ fault. Some (ending_by_fault connection payload fault))
+    (chain_fault payload)
+    (option_map_or
+    (λ requests.
+    if keeps_negotiate_rule connection.dialect requests
+    then ending_by_ids connection.window (message_ids connection.dialect requests)
+    else Some (ending_by_negotiate connection.dialect))
+    (chain_of payload)
+    None)
 
 -- A PAYLOAD
 

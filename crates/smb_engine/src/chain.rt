@@ -1,11 +1,10 @@
 //! A payload: its requests in order, and the replies in one payload ([MS-SMB2] 3.3.5.2).
 
-ghost use Rattle.std.specs.Prelude.{ℕ, List, ◌≡◌, ◌≤◌, ◌<◌, ◌+◌, ◌-◌, ◌^◌, [], ◌∷◌, ◌++◌, true, slice_get, is_some, Some, None, OnOk, OnErr, IfOk, IfErr, IfSome, IfNone, length, take, replicate, if◌then◌else◌};
-ghost use Rattle.std.specs.List.{list_any, flat_map};
+ghost use Rattle.std.specs.Prelude.{ℕ, List, ◌≡◌, ◌≤◌, ◌<◌, ◌+◌, ◌-◌, ◌^◌, [], ◌∷◌, ◌++◌, is_some, OnOk, OnErr, IfOk, IfErr, IfSome, length, take, replicate, if◌then◌else◌};
+ghost use Rattle.std.specs.List.{flat_map};
 ghost use Rattle.smb_head.specs.Headers.{header_of};
 ghost use Rattle.smb_head.specs.Replies.{Reply, rounded_up};
 ghost use Rattle.smb_head.specs.Placed.{placed, replies_written};
-ghost use Rattle.smb_session.specs.Window.{without_ids};
 ghost use Rattle.smb_request.specs.Request.{performed};
 ghost use Rattle.std.specs.Bool.{OnTrue, OnFalse};
 ghost use Rattle.smb_wire.specs.Limits.{longest_response};
@@ -13,28 +12,29 @@ ghost use Rattle.smb_head.specs.Replies.{joined_replies};
 ghost use Rattle.smb_request.specs.Negotiate.{negotiate_answer};
 ghost use Rattle.smb_request.specs.Parts.{hello_of};
 ghost use Rattle.smb_request.specs.Smb1.{reply_to_smb1};
-ghost use Rattle.smb_engine.specs.Run.{message_ids, keeps_negotiate_rule, admitted, one_performed, smb1_step, chain_step, payload_step};
-ghost use Rattle.smb_engine.specs.Parts.{is_negotiate_request, runs_of, longest_reply, reply_to, first_negotiate};
+ghost use Rattle.smb_engine.specs.Run.{one_performed, smb1_step, chain_step, payload_step};
+ghost use Rattle.smb_engine.specs.Parts.{longest_reply, reply_to, first_negotiate};
 ghost use Rattle.smb_engine.specs.Held.{StoppedAfter};
 ghost use Rattle.smb_request.specs.Held.{is_performed};
 ghost use Rattle.smb_engine.specs.Output.{output_bytes, reply_frame};
 ghost use Rattle.smb_engine.specs.InPlace.{chain_state_behind, step_behind};
 
+use super::admission::{admit, request_at};
 use super::arrival::Arrival;
 use super::connection::Connection;
 use super::fault::CutShort;
-use arrayvec::ArrayVec;
 use bitflags::Flags;
 use smb_body::{Smb1Dialects, read_smb1_negotiate};
 use smb_frame::{close_frame, open_frame};
-use smb_head::{Chain, Header, HeaderFlags, ReplyWriter, read_chain};
+use smb_head::{Header, HeaderFlags, ReplyWriter};
 use smb_opens::Opens;
+use smb_peers::{Ending, Observer};
+use smb_refusals::{Refusal, SetupRefusal};
 use smb_request::smb1::Smb1Answer;
-use smb_request::{Answered, Context, NoReply, Server, charge_of, smb1};
+use smb_request::{Answered, Context, NoReply, Server, smb1};
 use smb_session::{Authenticator, Window};
 use smb_tree::Tree;
 use smb_wire::limits::MOST_REQUESTS;
-use smb_wire::{Command, Dialect};
 
 /// The flags of a response to a request that is not related to the one before it, and of one to a related request.
 const RESPONSE: HeaderFlags = HeaderFlags::SERVER_TO_REDIR;
@@ -43,81 +43,11 @@ const RELATED_RESPONSE: HeaderFlags = HeaderFlags(
     HeaderFlags::SERVER_TO_REDIR.0 | HeaderFlags::RELATED.0,
 );
 
-/// A request of a chain, with its header.
-fn request_at<'a>(chain: &'a Chain<'_>, i: usize) -> (Header, &'a [u8])
-    requires { i < length chain.now }
-    ensures header { result.0 ≡ header_of result.1.now }
-    ensures request { slice_get chain.now i ≡ Some result.1.now }
-{
-    chain.get(i).unwrap()
-}
-
-/// Whether a chain holds a NEGOTIATE.
-fn holds_negotiate(chain: &Chain<'_>) -> bool
-    ensures { result ≡ list_any is_negotiate_request chain.now }
-{
-    for i in 0..chain.len() {
-        let (header, _) = request_at(chain, i);
-        if header.command.0 == Command::Negotiate.code().0 {
-            return true;
-        }
-    }
-    false
-}
-
-/// Whether a chain keeps the rule about NEGOTIATE.
-fn keeps_negotiate_rule(dialect: Option<Dialect>, chain: &Chain<'_>) -> bool
-    ensures { result ≡ keeps_negotiate_rule dialect chain.now }
-{
-    match dialect {
-        None => chain.len() == 1 && holds_negotiate(chain),
-        Some(_) => !holds_negotiate(chain),
-    }
-}
-
-/// The MessageIds that a chain uses in a dialect, by request: the first, and how many from there upward. CANCEL uses none.
-fn runs_of(dialect: Option<Dialect>, chain: &Chain<'_>) -> ArrayVec<(u64, u16), MOST_REQUESTS>
-    requires { length chain.now ≤ 16 }
-    ensures { result.items ≡ runs_of dialect chain.now }
-{
-    let mut runs = ArrayVec::new();
-    for i in 0..chain.len() {
-        let (header, _) = request_at(chain, i);
-        if header.command.0 != Command::Cancel.code().0 {
-            let charge = charge_of(dialect, header.credit_charge);
-            runs.push((header.message_id, charge));
-        }
-    }
-    runs
-}
-
-/// The requests of a payload that are performed, their MessageIds taken from the window; None where the
-/// payload ends the connection.
-#[tactic(auto, unfolding(crate::specs::Run::admitted))]
-fn admit<'a>(connection: &mut Connection, payload: &'a [u8]) -> Option<Chain<'a>>
-    ensures chain { result ≡ admitted connection.old payload.now }
-    ensures few { IfSome result (λ chain. length chain ≤ 16) }
-    ensures taken { IfSome result (λ chain. connection.new
-        ≡ record connection.old { payload_came = true; window = without_ids connection.old.window (message_ids connection.old.dialect chain) }) }
-    ensures kept { IfNone result (connection.new ≡ connection.old) }
-{
-    let chain = read_chain(payload).ok()?;
-    if !keeps_negotiate_rule(connection.dialect, &chain) {
-        return None;
-    }
-    let runs = runs_of(connection.dialect, &chain);
-    if !connection.window.take_runs(&runs) {
-        return None;
-    }
-    connection.payload_came = true;
-    Some(chain)
-}
-
 /// The header of the reply to a request of this header.
 fn reply_header(header: &Header, answered: Answered, credits: u16) -> Header
     requires { credits < 2 ^ 16 }
     ensures { (request body : List ℕ) → header.now ≡ header_of request →
-        result ≡ (reply_to request (record { status = answered.status; ids = answered.ids; body = body }) credits).header }
+        result ≡ (reply_to request (record { status = answered.status; refusal = answered.refusal; ids = answered.ids; body = body }) credits).header }
 {
     let related = header.flags.contains(HeaderFlags::RELATED);
     Header {
@@ -152,10 +82,43 @@ struct ChainProgress {
     writer: ReplyWriter,
 }
 
+/// Reports for which reason the server's authenticator denied a login, and the name that the client gave, where the
+/// authenticator keeps these.
+fn report_denial<A: Authenticator + Drop, T: Tree + Drop, O: Opens + Drop, W: Observer>(
+    server: &Server<A, T, O>,
+    arrival: Arrival,
+    observer: &mut W,
+) {
+    if let Some(denial) = server.denial() {
+        observer.denied(arrival.connection_id, denial.reason, denial.name);
+    }
+}
+
+/// Reports that a request was refused, where it was.
+fn report_refusal<A: Authenticator + Drop, T: Tree + Drop, O: Opens + Drop, W: Observer>(
+    server: &Server<A, T, O>,
+    arrival: Arrival,
+    header: &Header,
+    answered: Answered,
+    observer: &mut W,
+) {
+    if let Some(refusal) = answered.refusal {
+        observer.refused(
+            arrival.connection_id,
+            header.message_id,
+            header.command.0,
+            refusal,
+        );
+        if let Refusal::SessionSetup(SetupRefusal::Denied) = refusal {
+            report_denial(server, arrival, observer);
+        }
+    }
+}
+
 /// Performs one request of a chain, its reply written once, behind the others. An error tells whether the
 /// request was performed.
 #[tactic(auto, unfolding(crate::specs::Run::one_performed))]
-fn perform_one<A: Authenticator + Drop, T: Tree + Drop, O: Opens + Drop>(
+fn perform_one<A: Authenticator + Drop, T: Tree + Drop, O: Opens + Drop, W: Observer>(
     server: &mut Server<A, T, O>,
     arrival: Arrival,
     connection: &mut Connection,
@@ -163,6 +126,7 @@ fn perform_one<A: Authenticator + Drop, T: Tree + Drop, O: Opens + Drop>(
     header: &Header,
     request: &[u8],
     out: &mut Vec<u8>,
+    observer: &mut W,
 ) -> Result<(), NoReply>
     requires header { header.now ≡ header_of request.now }
     requires order { progress.old.writer.base ≤ progress.old.writer.last }
@@ -211,6 +175,7 @@ fn perform_one<A: Authenticator + Drop, T: Tree + Drop, O: Opens + Drop>(
         progress.writer.drop_reply(reply, out);
         return Ok(());
     };
+    report_refusal(server, arrival, header, answered, observer);
     let credits = connection.window.grant(header.credits);
     let header = reply_header(header, answered, credits);
     progress.writer.close_reply(reply, &header, out);
@@ -248,13 +213,14 @@ fn end_frame(start: usize, out: &mut Vec<u8>)
 /// number of its requests; None where it ends the connection. At most so many requests are performed; an error tells how
 /// many. Where the payload is not performed whole `out` is as it was.
 #[tactic(auto, unfolding(crate::specs::Run::chain_step))]
-fn chain_payload<A: Authenticator + Drop, T: Tree + Drop, O: Opens + Drop>(
+fn chain_payload<A: Authenticator + Drop, T: Tree + Drop, O: Opens + Drop, W: Observer>(
     server: &mut Server<A, T, O>,
     arrival: Arrival,
     connection: &mut Connection,
     payload: &[u8],
     most: usize,
     out: &mut Vec<u8>,
+    observer: &mut W,
 ) -> Result<Option<usize>, CutShort>
     ensures ok { IfOk result (λ count.
         record { server = server.new; connection = connection.new; stays_open = is_some count; out = out.new.items }
@@ -267,8 +233,12 @@ fn chain_payload<A: Authenticator + Drop, T: Tree + Drop, O: Opens + Drop>(
         (chain_step A.meaning arrival server.old connection.old payload.now) ran_out.done server.new) }
     ensures known { server.new.sessions.table.connections ≡ server.old.sessions.table.connections }
 {
-    let Some(chain) = admit(connection, payload) else {
-        return Ok(None);
+    let chain = match admit(connection, payload) {
+        Ok(chain) => chain,
+        Err(ending) => {
+            observer.ended(arrival.connection_id, ending);
+            return Ok(None);
+        }
     };
     let Ok(start) = open_frame(out) else {
         return Err(CutShort { done: 0 });
@@ -291,6 +261,7 @@ fn chain_payload<A: Authenticator + Drop, T: Tree + Drop, O: Opens + Drop>(
             &header,
             request,
             out,
+            observer,
         ) {
             Ok(()) => {}
             Err(no_reply) => {
@@ -339,12 +310,13 @@ fn frame_smb1<A: Authenticator + Drop, T: Tree + Drop, O: Opens + Drop>(
 /// Answers an SMB_COM_NEGOTIATE that lists these dialects, and tells how many requests it is; None where it ends the
 /// connection. Where it is not answered `out` is as it was.
 #[tactic(auto, unfolding(crate::specs::Run::smb1_step))]
-fn first_payload<A: Authenticator + Drop, T: Tree + Drop, O: Opens + Drop>(
+fn first_payload<A: Authenticator + Drop, T: Tree + Drop, O: Opens + Drop, W: Observer>(
     server: &Server<A, T, O>,
     arrival: Arrival,
     connection: &mut Connection,
     dialects: Smb1Dialects,
     out: &mut Vec<u8>,
+    observer: &mut W,
 ) -> Result<Option<usize>, CutShort>
     ensures ok { IfOk result (λ count.
         record { server = server.now; connection = connection.new; stays_open = is_some count; out = out.new.items }
@@ -356,6 +328,7 @@ fn first_payload<A: Authenticator + Drop, T: Tree + Drop, O: Opens + Drop>(
     ensures kept { OnErr result (out.new.items ≡ out.old.items) }
 {
     let Some(answer) = smb1::answer(dialects) else {
+        observer.ended(arrival.connection_id, Ending::Smb1NoDialect);
         return Ok(None);
     };
     if !frame_smb1(server, arrival, answer, out) {
@@ -371,13 +344,19 @@ fn first_payload<A: Authenticator + Drop, T: Tree + Drop, O: Opens + Drop>(
 /// requests; None where it ends the connection. Of a chain at most so many requests are performed; an error tells how
 /// many. Where the payload is not performed whole `out` is as it was.
 #[tactic(auto, unfolding(crate::specs::Run::payload_step))]
-pub(crate) fn perform_payload<A: Authenticator + Drop, T: Tree + Drop, O: Opens + Drop>(
+pub(crate) fn perform_payload<
+    A: Authenticator + Drop,
+    T: Tree + Drop,
+    O: Opens + Drop,
+    W: Observer,
+>(
     server: &mut Server<A, T, O>,
     arrival: Arrival,
     connection: &mut Connection,
     payload: &[u8],
     most: usize,
     out: &mut Vec<u8>,
+    observer: &mut W,
 ) -> Result<Option<usize>, CutShort>
     ensures ok { IfOk result (λ count.
         record { server = server.new; connection = connection.new; stays_open = is_some count; out = out.new.items }
@@ -392,7 +371,7 @@ pub(crate) fn perform_payload<A: Authenticator + Drop, T: Tree + Drop, O: Opens 
     ensures known { server.new.sessions.table.connections ≡ server.old.sessions.table.connections }
 {
     match first_negotiate(connection, payload) {
-        None => chain_payload(server, arrival, connection, payload, most, out),
-        Some(dialects) => first_payload(server, arrival, connection, dialects, out),
+        None => chain_payload(server, arrival, connection, payload, most, out, observer),
+        Some(dialects) => first_payload(server, arrival, connection, dialects, out, observer),
     }
 }

@@ -1,13 +1,14 @@
 //! The laws of shares.
 
-ghost use Rattle.smb_engine.specs.Laws.{StatesAreInOrder, ACutDoesNotMatter, CutsDoNotMatter, RunsAreOne, UnreadIsEnough, OthersAreLeft, SessionsAreInOrder, SessionsOfOthersAreLeft, WhatIsOverStaysOver, AnEndIsTheLast, AReaderChangesNoFile};
+ghost use Rattle.smb_engine.specs.Laws.{StatesAreInOrder, ACutDoesNotMatter, CutsDoNotMatter, RunsAreOne, UnreadIsEnough, OthersAreLeft, SessionsAreInOrder, SessionsOfOthersAreLeft, WhatIsOverStaysOver, AnEndIsTheLast, EachPayloadIsAdmittedOrEnds, AReaderChangesNoFile};
 
 use smb_session::Authenticator;
 
 /// What a run leaves and puts out does not depend on how bytes that come at one moment were cut into pieces, nor on how
 /// the events were cut into runs; events on other connections leave a connection as it was, and put nothing out to it;
 /// they leave each of its sessions too, with its trees and opens, or one of their requests replaced it, and what is over
-/// stays over; and the share ends a connection at most once, with nothing behind it.
+/// stays over; and the share ends a connection at most once, with nothing behind it. A payload is performed, or there is a rule
+/// by which it ends its connection.
 ///
 /// Whoever may only read changes no file: events on connections none of whose sessions may write, as each of their requests
 /// comes, leave every entry as it was, with its name, bytes, attributes and times, and add none. What goes with its last open
@@ -26,5 +27,6 @@ pub fn laws_of_shares<A: Authenticator>()
     ensures sessions { SessionsOfOthersAreLeft A.meaning }
     ensures over { WhatIsOverStaysOver A.meaning }
     ensures last { AnEndIsTheLast A.meaning }
+    ensures endings { EachPayloadIsAdmittedOrEnds }
     ensures readers { AReaderChangesNoFile A.meaning }
 {}

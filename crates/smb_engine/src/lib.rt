@@ -41,11 +41,17 @@
 //! them is answered, and its connection has ended. At an end memory never runs out, nor at a piece on a connection that
 //! is not open. A piece takes time in proportion to its bytes and to those of its replies; a connection is found in
 //! logarithmic time.
+//!
+//! An [`Observer`] hears by which row a request is refused, and by which rule ([`Ending`]) the share ends a connection:
+//! [`feed_observed`](Share::feed_observed), [`run_observed`](Share::run_observed). Which rule that is, is the definition
+//! `ending_of` of `specs/Run.antt`.
 #![tactic(auto)]
 
+mod admission;
 mod arrival;
 mod chain;
 mod connection;
+mod ending;
 mod fault;
 mod laws;
 mod output;
@@ -58,7 +64,9 @@ pub use share::Share;
 pub use smb_handles::HandleTable;
 pub use smb_nodes::NodeTree;
 pub use smb_opens::{Opens, PlainOpens};
-pub use smb_peers::{Answer, Event, FILETIME_OF_1970, Fate, filetime_of, since_1970};
+pub use smb_peers::{
+    Answer, Ending, Event, FILETIME_OF_1970, Fate, Observer, filetime_of, since_1970,
+};
 pub use smb_request::Config;
 pub use smb_session::{Authenticator, Tokens, User};
 pub use smb_tree::{PlainTree, Tree, TreeFault, Usage};

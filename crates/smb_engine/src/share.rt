@@ -31,7 +31,7 @@ use smb_frame::FrameBuffer;
 use smb_handles::HandleTable;
 use smb_nodes::NodeTree;
 use smb_opens::Opens;
-use smb_peers::{Answer, Event, Fate};
+use smb_peers::{Answer, Event, Fate, Observer};
 use smb_request::{Config, Server};
 use smb_session::{Authenticator, Window};
 use smb_tree::{Tree, Usage};
@@ -247,13 +247,14 @@ impl<A: Authenticator + Drop, T: Tree + Drop, O: Opens + Drop> Share<A, T, O> {
     /// passed over, and there is no error. An error tells how many requests were performed, those of a piece that has
     /// `most` or more at most so many; the connection has ended after them.
     #[tactic(auto, unfolding(crate::specs::Run::bytes_step))]
-    fn take<K: Sink>(
+    fn take<K: Sink, W: Observer>(
         &mut self,
         connection: u64,
         moment: u64,
         piece: &[u8],
         most: usize,
         out: &mut K,
+        observer: &mut W,
     ) -> Result<Fate, CutShort>
         ensures state { OnOk result (self.new ≡ unread (bytes_step A.meaning self.old connection moment piece.now).state) }
         ensures outputs { OnOk result (K.content out.new ≡ K.content out.old ++ flat_map K.hears
@@ -272,7 +273,15 @@ impl<A: Authenticator + Drop, T: Tree + Drop, O: Opens + Drop> Share<A, T, O> {
             connection_id: connection,
             moment,
         };
-        match take_piece(&mut self.server, arrival, stream, piece, most, out) {
+        match take_piece(
+            &mut self.server,
+            arrival,
+            stream,
+            piece,
+            most,
+            out,
+            observer,
+        ) {
             Ok(true) => Ok(Fate::Open),
             Ok(false) => {
                 self.server.good();
@@ -327,8 +336,31 @@ impl<A: Authenticator + Drop, T: Tree + Drop, O: Opens + Drop> Share<A, T, O> {
         ensures passed { OnOk result (stream_of connection self.old.streams ≡ None → self.new ≡ self.old) }
         ensures good { GoodState self.new }
     {
+        self.feed_observed(connection, moment, piece, out, &mut ())
+    }
+
+    /// The same as [`feed`](Share::feed), and an observer hears what is refused, and which rule ends the connection.
+    pub fn feed_observed<W: Observer>(
+        &mut self,
+        connection: u64,
+        moment: u64,
+        piece: &[u8],
+        out: &mut Vec<u8>,
+        observer: &mut W,
+    ) -> Result<Fate, ServeFault>
+        ensures state { OnOk result (self.new ≡ unread (bytes_step A.meaning self.old connection moment piece.now).state) }
+        ensures outputs { OnOk result (out.new.items ≡ out.old.items ++ flat_map output_bytes
+            (bytes_step A.meaning self.old connection moment piece.now).outputs) }
+        ensures fate { IfOk result (λ fate. fate ≡ (if is_open self.new connection then Fate.Open else Fate.Ended)) }
+        ensures short { OnOk result (AreShort (bytes_step A.meaning self.old connection moment piece.now).outputs) }
+        ensures err { IfErr result (λ fault. (done : ℕ) × (fault ≡ ServeFault.NoMemory done)
+            × EventOutOfMemory A.meaning self.old (brings connection moment piece.now) done self.new) }
+        ensures kept { OnErr result (out.new.items ≡ out.old.items) }
+        ensures passed { OnOk result (stream_of connection self.old.streams ≡ None → self.new ≡ self.old) }
+        ensures good { GoodState self.new }
+    {
         let _ = &self.streams;
-        let taken = self.take(connection, moment, piece, ALL_REQUESTS, out);
+        let taken = self.take(connection, moment, piece, ALL_REQUESTS, out, observer);
         self.good();
         match taken {
             Ok(fate) => Ok(fate),
@@ -379,7 +411,7 @@ impl<A: Authenticator + Drop, T: Tree + Drop, O: Opens + Drop> Share<A, T, O> {
         ensures good { GoodState self.new }
     {
         let mut replies: Vec<u8> = Vec::new(self.allocator());
-        match self.take(connection, moment, piece, done, &mut replies) {
+        match self.take(connection, moment, piece, done, &mut replies, &mut ()) {
             Ok(_) => {
                 self.ended(connection);
                 false
@@ -399,7 +431,12 @@ impl<A: Authenticator + Drop, T: Tree + Drop, O: Opens + Drop> Share<A, T, O> {
     }
 
     /// Takes one event.
-    fn event(&mut self, event: &Event, answers: &mut Vec<Answer>) -> Result<(), ServeFault>
+    fn event<W: Observer>(
+        &mut self,
+        event: &Event,
+        answers: &mut Vec<Answer>,
+        observer: &mut W,
+    ) -> Result<(), ServeFault>
         ensures unrefused { OnOk result (event_refusal self.old (text_of event.now) ≡ None) }
         ensures state { OnOk result (self.new ≡ unread (event_step A.meaning self.old (text_of event.now)).state) }
         ensures outputs { OnOk result (outputs_of answers.new.items ≡ outputs_of answers.old.items ++
@@ -427,7 +464,7 @@ impl<A: Authenticator + Drop, T: Tree + Drop, O: Opens + Drop> Share<A, T, O> {
                 if !self.was_opened(*connection) {
                     return Err(ServeFault::BadEvent);
                 }
-                match self.take(*connection, *moment, piece, ALL_REQUESTS, answers) {
+                match self.take(*connection, *moment, piece, ALL_REQUESTS, answers, observer) {
                     Ok(_) => Ok(()),
                     Err(CutShort { done }) => Err(ServeFault::NoMemory { done }),
                 }
@@ -443,7 +480,12 @@ impl<A: Authenticator + Drop, T: Tree + Drop, O: Opens + Drop> Share<A, T, O> {
     }
 
     /// Takes events in order, up to one that is refused.
-    fn run_events(&mut self, events: &[Event], answers: &mut Vec<Answer>) -> Result<(), RunFault>
+    fn run_events<W: Observer>(
+        &mut self,
+        events: &[Event],
+        answers: &mut Vec<Answer>,
+        observer: &mut W,
+    ) -> Result<(), RunFault>
         ensures ok { OnOk result (record { state = self.new; outputs = outputs_of answers.new.items; stop = None }
             ≡ run_behind (outputs_of answers.old.items) (run A.meaning self.old (events_of events.now))) }
         ensures err { IfErr result (λ e. RunStopped A.meaning self.old (events_of events.now) e.place e.fault self.new
@@ -454,7 +496,7 @@ impl<A: Authenticator + Drop, T: Tree + Drop, O: Opens + Drop> Share<A, T, O> {
         let _ = &self.server;
         let mut place = 0;
         for event in events {
-            match self.event(event, answers) {
+            match self.event(event, answers, observer) {
                 Ok(()) => {}
                 Err(fault) => {
                     let connection = event.connection();
@@ -487,7 +529,25 @@ impl<A: Authenticator + Drop, T: Tree + Drop, O: Opens + Drop> Share<A, T, O> {
         ensures short { AreShort (outputs_of answers.old.items) → AreShort (outputs_of answers.new.items) }
         ensures good { GoodState self.new }
     {
-        let result = self.run_events(events, answers);
+        self.run_observed(events, answers, &mut ())
+    }
+
+    /// The same as [`run`](Share::run), and an observer hears what is refused, and which rules end connections.
+    pub fn run_observed<W: Observer>(
+        &mut self,
+        events: &[Event],
+        answers: &mut Vec<Answer>,
+        observer: &mut W,
+    ) -> Result<(), RunFault>
+        ensures ok { OnOk result (record { state = self.new; outputs = outputs_of answers.new.items; stop = None }
+            ≡ run_behind (outputs_of answers.old.items) (run A.meaning self.old (map text_of events.now))) }
+        ensures err { IfErr result (λ e. RunStopped A.meaning self.old (map text_of events.now) e.place e.fault self.new
+            (outputs_of answers.old.items) (outputs_of answers.new.items)) }
+        ensures connection { IfErr result (λ e. option_map connection_of (slice_get (map text_of events.now) e.place) ≡ Some e.connection) }
+        ensures short { AreShort (outputs_of answers.old.items) → AreShort (outputs_of answers.new.items) }
+        ensures good { GoodState self.new }
+    {
+        let result = self.run_events(events, answers, observer);
         self.good();
         result
     }

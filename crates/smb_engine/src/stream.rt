@@ -17,6 +17,7 @@ use super::fault::CutShort;
 use super::output::Sink;
 use smb_frame::{FrameBuffer, first_payload};
 use smb_opens::Opens;
+use smb_peers::{Ending, Observer};
 use smb_request::Server;
 use smb_session::Authenticator;
 use smb_tree::Tree;
@@ -25,13 +26,14 @@ use smb_wire::limits::LONGEST_PAYLOAD;
 /// Performs a payload, puts out the frame of its replies, where there are any, and tells the number of its requests;
 /// None where it ends the connection. Of a chain at most so many requests are performed; an error tells how many, and
 /// puts nothing out.
-fn put_payload<A: Authenticator + Drop, T: Tree + Drop, O: Opens + Drop, K: Sink>(
+fn put_payload<A: Authenticator + Drop, T: Tree + Drop, O: Opens + Drop, K: Sink, W: Observer>(
     server: &mut Server<A, T, O>,
     arrival: Arrival,
     connection: &mut Connection,
     payload: &[u8],
     most: usize,
     out: &mut K,
+    observer: &mut W,
 ) -> Result<Option<usize>, CutShort>
     ensures ok { IfOk result (λ count.
         record { server = server.new; connection = connection.new; stays_open = is_some count; out = K.content out.new }
@@ -46,7 +48,9 @@ fn put_payload<A: Authenticator + Drop, T: Tree + Drop, O: Opens + Drop, K: Sink
     ensures known { server.new.sessions.table.connections ≡ server.old.sessions.table.connections }
 {
     let mut bytes = out.take_bytes(server.allocator());
-    match perform_payload(server, arrival, connection, payload, most, &mut bytes) {
+    match perform_payload(
+        server, arrival, connection, payload, most, &mut bytes, observer,
+    ) {
         Ok(Some(count)) => match out.give_frame(arrival.connection_id, bytes) {
             Ok(()) => Ok(Some(count)),
             Err(_) => Err(CutShort { done: count }),
@@ -65,13 +69,14 @@ fn put_payload<A: Authenticator + Drop, T: Tree + Drop, O: Opens + Drop, K: Sink
 /// Performs the payloads of the whole frames that are held, in order, and puts out their replies, where these are fewer
 /// requests than `most`; else the first `most` of them. Ok tells whether the connection stays open and how many requests
 /// were performed; an error, the latter.
-fn take_payloads<A: Authenticator + Drop, T: Tree + Drop, O: Opens + Drop, K: Sink>(
+fn take_payloads<A: Authenticator + Drop, T: Tree + Drop, O: Opens + Drop, K: Sink, W: Observer>(
     server: &mut Server<A, T, O>,
     arrival: Arrival,
     buffer: &mut FrameBuffer,
     connection: &mut Connection,
     most: usize,
     out: &mut K,
+    observer: &mut W,
 ) -> Result<(bool, usize), CutShort>
     requires { buffer.old.limit ≡ longest_payload }
     ensures taken { IfOk result (λ r. AreTaken A.meaning K.hears arrival
@@ -91,7 +96,15 @@ fn take_payloads<A: Authenticator + Drop, T: Tree + Drop, O: Opens + Drop, K: Si
         if done >= most {
             return Err(CutShort { done });
         }
-        match put_payload(server, arrival, connection, payload, most - done, out) {
+        match put_payload(
+            server,
+            arrival,
+            connection,
+            payload,
+            most - done,
+            out,
+            observer,
+        ) {
             Err(ran_out) => {
                 let done = done + ran_out.done;
                 return Err(CutShort { done });
@@ -111,13 +124,14 @@ fn take_payloads<A: Authenticator + Drop, T: Tree + Drop, O: Opens + Drop, K: Si
 
 /// Performs the payloads of the whole frames in some bytes of a stream, in order, each from where it is, and puts out their
 /// replies, as [`take_payloads`] does. Ok tells how many bytes the frames have, besides.
-fn take_frames<A: Authenticator + Drop, T: Tree + Drop, O: Opens + Drop, K: Sink>(
+fn take_frames<A: Authenticator + Drop, T: Tree + Drop, O: Opens + Drop, K: Sink, W: Observer>(
     server: &mut Server<A, T, O>,
     arrival: Arrival,
     bytes: &[u8],
     connection: &mut Connection,
     most: usize,
     out: &mut K,
+    observer: &mut W,
 ) -> Result<(bool, usize, usize), CutShort>
     ensures taken { IfOk result (λ r. AreTaken A.meaning K.hears arrival
         server.old connection.old (K.content out.old) bytes.now
@@ -136,7 +150,15 @@ fn take_frames<A: Authenticator + Drop, T: Tree + Drop, O: Opens + Drop, K: Sink
         if done >= most {
             return Err(CutShort { done });
         }
-        match put_payload(server, arrival, connection, payload, most - done, out) {
+        match put_payload(
+            server,
+            arrival,
+            connection,
+            payload,
+            most - done,
+            out,
+            observer,
+        ) {
             Err(ran_out) => {
                 let done = done + ran_out.done;
                 return Err(CutShort { done });
@@ -155,7 +177,7 @@ fn take_frames<A: Authenticator + Drop, T: Tree + Drop, O: Opens + Drop, K: Sink
 }
 
 /// Holds more bytes of a stream, behind those that are held, and takes the whole frames, as [`take_payloads`] does.
-fn take_held<A: Authenticator + Drop, T: Tree + Drop, O: Opens + Drop, K: Sink>(
+fn take_held<A: Authenticator + Drop, T: Tree + Drop, O: Opens + Drop, K: Sink, W: Observer>(
     server: &mut Server<A, T, O>,
     arrival: Arrival,
     buffer: &mut FrameBuffer,
@@ -163,6 +185,7 @@ fn take_held<A: Authenticator + Drop, T: Tree + Drop, O: Opens + Drop, K: Sink>(
     bytes: &[u8],
     most: usize,
     out: &mut K,
+    observer: &mut W,
 ) -> Result<(bool, usize), CutShort>
     requires limit { buffer.old.limit ≡ longest_payload }
     requires sound { fault_of longest_payload buffer.old.bytes ≡ None }
@@ -178,14 +201,14 @@ fn take_held<A: Authenticator + Drop, T: Tree + Drop, O: Opens + Drop, K: Sink>(
     ensures known { server.new.sessions.table.connections ≡ server.old.sessions.table.connections }
 {
     match buffer.push(bytes) {
-        Ok(()) => take_payloads(server, arrival, buffer, connection, most, out),
+        Ok(()) => take_payloads(server, arrival, buffer, connection, most, out, observer),
         Err(_) => Err(CutShort { done: 0 }),
     }
 }
 
 /// Takes the bytes of a piece behind the end of the frame that was held. Where no byte is held, whole frames are performed
 /// from where they are, and what is behind them is held.
-fn take_back<A: Authenticator + Drop, T: Tree + Drop, O: Opens + Drop, K: Sink>(
+fn take_back<A: Authenticator + Drop, T: Tree + Drop, O: Opens + Drop, K: Sink, W: Observer>(
     server: &mut Server<A, T, O>,
     arrival: Arrival,
     buffer: &mut FrameBuffer,
@@ -193,6 +216,7 @@ fn take_back<A: Authenticator + Drop, T: Tree + Drop, O: Opens + Drop, K: Sink>(
     back: &[u8],
     most: usize,
     out: &mut K,
+    observer: &mut W,
 ) -> Result<(bool, usize), CutShort>
     requires limit { buffer.old.limit ≡ longest_payload }
     requires sound { fault_of longest_payload buffer.old.bytes ≡ None }
@@ -208,9 +232,13 @@ fn take_back<A: Authenticator + Drop, T: Tree + Drop, O: Opens + Drop, K: Sink>(
     ensures known { server.new.sessions.table.connections ≡ server.old.sessions.table.connections }
 {
     if !buffer.is_empty() {
-        return take_held(server, arrival, buffer, connection, back, most, out);
+        return take_held(
+            server, arrival, buffer, connection, back, most, out, observer,
+        );
     }
-    let (open_still, done, used) = match take_frames(server, arrival, back, connection, most, out) {
+    let (open_still, done, used) = match take_frames(
+        server, arrival, back, connection, most, out, observer,
+    ) {
         Ok(taken) => taken,
         Err(ran_out) => return Err(ran_out),
     };
@@ -226,6 +254,7 @@ fn take_back<A: Authenticator + Drop, T: Tree + Drop, O: Opens + Drop, K: Sink>(
         &back[used..],
         most,
         out,
+        observer,
     ) {
         Ok((open_still, more)) => Ok((open_still, done + more)),
         Err(ran_out) => {
@@ -237,7 +266,7 @@ fn take_back<A: Authenticator + Drop, T: Tree + Drop, O: Opens + Drop, K: Sink>(
 
 /// Takes a piece in two parts: what the frame that is held lacks, and what is behind it. So the bytes of a frame whose
 /// length has come are never moved.
-fn take_parts<A: Authenticator + Drop, T: Tree + Drop, O: Opens + Drop, K: Sink>(
+fn take_parts<A: Authenticator + Drop, T: Tree + Drop, O: Opens + Drop, K: Sink, W: Observer>(
     server: &mut Server<A, T, O>,
     arrival: Arrival,
     buffer: &mut FrameBuffer,
@@ -245,6 +274,7 @@ fn take_parts<A: Authenticator + Drop, T: Tree + Drop, O: Opens + Drop, K: Sink>
     piece: &[u8],
     most: usize,
     out: &mut K,
+    observer: &mut W,
 ) -> Result<(bool, usize), CutShort>
     requires limit { buffer.old.limit ≡ longest_payload }
     requires partial { first longest_payload buffer.old.bytes ≡ None }
@@ -264,7 +294,7 @@ fn take_parts<A: Authenticator + Drop, T: Tree + Drop, O: Opens + Drop, K: Sink>
     let front = &piece[..count];
     let back = &piece[count..];
     let (open_still, done) = match take_held(
-        server, arrival, buffer, connection, front, most, out,
+        server, arrival, buffer, connection, front, most, out, observer,
     ) {
         Ok(taken) => taken,
         Err(ran_out) => return Err(ran_out),
@@ -273,7 +303,9 @@ fn take_parts<A: Authenticator + Drop, T: Tree + Drop, O: Opens + Drop, K: Sink>
         return Ok((false, done));
     }
     let most = most.saturating_sub(done);
-    match take_back(server, arrival, buffer, connection, back, most, out) {
+    match take_back(
+        server, arrival, buffer, connection, back, most, out, observer,
+    ) {
         Ok((open_still, more)) => Ok((open_still, done + more)),
         Err(ran_out) => {
             let done = done + ran_out.done;
@@ -282,25 +314,46 @@ fn take_parts<A: Authenticator + Drop, T: Tree + Drop, O: Opens + Drop, K: Sink>
     }
 }
 
-/// Whether a connection stays open: no payload ended it, and nothing is wrong with what is unread.
-fn stays_open(open_still: bool, buffer: &FrameBuffer) -> bool
+/// Whether a connection stays open: no payload ended it, and nothing is wrong with what is unread. Reports what is.
+fn stays_open<W: Observer>(
+    open_still: bool,
+    buffer: &FrameBuffer,
+    connection_id: u64,
+    observer: &mut W,
+) -> bool
     requires { buffer.now.limit ≡ longest_payload }
     ensures { result ≡ (open_still && is_none (fault_of longest_payload buffer.now.bytes)) }
 {
-    open_still && buffer.fault().is_none()
+    if !open_still {
+        return false;
+    }
+    match buffer.fault() {
+        Some(fault) => {
+            observer.ended(connection_id, Ending::Frame(fault));
+            false
+        }
+        None => true,
+    }
 }
 
 /// Takes a piece of a connection's stream, and puts out what answers it, where it has fewer requests than `most`; else the
 /// first `most` of them are performed. Ok tells whether the connection stays open; an error, how many requests were performed.
 ///
 /// After an error nothing was put out. The connection is to be given up then, and where it doesn't stay open.
-pub(crate) fn take_piece<A: Authenticator + Drop, T: Tree + Drop, O: Opens + Drop, K: Sink>(
+pub(crate) fn take_piece<
+    A: Authenticator + Drop,
+    T: Tree + Drop,
+    O: Opens + Drop,
+    K: Sink,
+    W: Observer,
+>(
     server: &mut Server<A, T, O>,
     arrival: Arrival,
     stream: &mut ConnectionStream,
     piece: &[u8],
     most: usize,
     out: &mut K,
+    observer: &mut W,
 ) -> Result<bool, CutShort>
     requires { Waits stream.old }
     ensures ok { IfOk result (λ stays_open. IsPieceHeld stream.old.received piece.now
@@ -322,6 +375,7 @@ pub(crate) fn take_piece<A: Authenticator + Drop, T: Tree + Drop, O: Opens + Dro
         piece,
         most,
         out,
+        observer,
     ) {
         Ok(taken) => taken,
         Err(ran_out) => {
@@ -329,7 +383,7 @@ pub(crate) fn take_piece<A: Authenticator + Drop, T: Tree + Drop, O: Opens + Dro
             return Err(ran_out);
         }
     };
-    if stays_open(open_still, &stream.buffer) {
+    if stays_open(open_still, &stream.buffer, arrival.connection_id, observer) {
         stream.connection.window.good();
         return Ok(true);
     }

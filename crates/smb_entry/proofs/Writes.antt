@@ -10,15 +10,14 @@ use Rattle.smb_tree.specs.Parts.{with_size, with_basic, with_bytes, size_fault_o
 use Rattle.smb_tree.specs.Faults.{size_fault, basic_fault, write_fault}
 use Rattle.smb_tree.specs.declared.fault.TreeFault.{TreeFault}
 use Rattle.smb_tree.specs.declared.fault.TreeFault.TheVariants.{Absent, ParentAbsent, Exists, NotEmpty, TooDeep, Full, NoMemory}
-use Rattle.smb_wire.specs.declared.nt_status.NtStatus.TheVariants.{Success, DiskFull}
-use Rattle.smb_access.specs.Faults.{IsRefusal}
-use Rattle.smb_access.specs.Looked.{refusal_of}
+use Rattle.smb_refusals.specs.declared.file.WriteRefusal.TheVariants.{NoSpaceLeft}
+use Rattle.smb_refusals.specs.Refused.{IsRefusedBy}
 use Rattle.std.specs.Option.{option_map}
 use Rattle.smb_tree.proofs.Apart.{apart_changed, numbered-changed}
 use Rattle.smb_tree.proofs.Changes.{bytes_found}
 use Rattle.smb_tree.proofs.Parts.{length-written, length-resized}
 use Rattle.smb_tree.proofs.Spaces.{space_changed}
-use Rattle.smb_entry.specs.Parts.{written_file, written_tree, written_basic}
+use Rattle.smb_entry.specs.Parts.{written_file, written_tree, written_basic, refused_by_tree}
 use Rattle.smb_tree.specs.Good.{GoodContent}
 use Rattle.smb_access.proofs.Changes.{Keeps, all_changed, folder_changed, below_changed, number-at-changed, length-changed}
 use Rattle.smb_access.proofs.Overwrites.{changed-changed, changed-same}
@@ -117,9 +116,9 @@ full_of : (content : Content) (n size : ℕ) (row : Option Row) (fault : TreeFau
 full_of content n size None fault h e = cc
 full_of content n size (Some row) fault h e = full_by (is_folder_kind row.1.kind) _ fault h e
 
-refusal_by : (told : Option TreeFault) (fault : TreeFault) → (told ≡ Some fault → fault ≡ Full) → (fault ≢ NoMemory → told ≡ Some fault) → (fault ≡ NoMemory → told ≡ None) → IsRefusal (if is_some told then DiskFull else Success) (refusal_of fault)
+refusal_by : (told : Option TreeFault) (fault : TreeFault) → (told ≡ Some fault → fault ≡ Full) → (fault ≢ NoMemory → told ≡ Some fault) → (fault ≡ NoMemory → told ≡ None) → IsRefusedBy (if is_some told then Some NoSpaceLeft else None) (refused_by_tree fault)
 refusal_by told NoMemory full why memory = rw (memory refl) refl
-refusal_by told Full full why memory = rw (why (λ e. cc)) (refl, λ e. cc)
+refusal_by told Full full why memory = rw (why (λ e. cc)) refl
 refusal_by told Absent full why memory = absurd (let e = full (why (λ e. cc)) in cc)
 refusal_by told ParentAbsent full why memory = absurd (let e = full (why (λ e. cc)) in cc)
 refusal_by told Exists full why memory = absurd (let e = full (why (λ e. cc)) in cc)
@@ -128,6 +127,6 @@ refusal_by told TooDeep full why memory = absurd (let e = full (why (λ e. cc)) 
 
 pub write_refusal : (content : Content) (n offset count : ℕ) (fault : TreeFault) → option_map (λ (row : Row). is_folder_kind row.1.kind) (numbered content.rows n) ≡ Some false →
     (fault ≢ NoMemory → write_fault content n offset count ≡ Some fault) → (fault ≡ NoMemory → write_fault content n offset count ≡ None) →
-    IsRefusal (if is_some (write_fault content n offset count) then DiskFull else Success) (refusal_of fault)
+    IsRefusedBy (if is_some (write_fault content n offset count) then Some NoSpaceLeft else None) (refused_by_tree fault)
 write_refusal content n offset count fault file why memory =
     refusal_by (write_fault content n offset count) fault (full_of content n _ (numbered content.rows n) fault file) why memory

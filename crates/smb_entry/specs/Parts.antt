@@ -1,9 +1,18 @@
 -- For the proofs; nothing here need be believed.
 -- The tables of smb_opens by what the code looks at, and what is changed, step by step.
-use Rattle.std.specs.Prelude.{ℕ, ◌+◌, ◌-◌, ◌||◌, ◌&&◌, Bool, not, min, nat_lt, nat_le, List, [], ◌∷◌, length, ◌==◌, false, if◌then◌else◌, slice_index, Option, Some, is_some}
+use Rattle.std.specs.Prelude.{ℕ, ◌+◌, ◌-◌, ◌||◌, ◌&&◌, Bool, not, min, nat_lt, nat_le, List, [], ◌∷◌, length, ◌==◌, false, if◌then◌else◌, slice_index, Option, None, Some, is_some}
 use Rattle.smb_wire.specs.Limits.{most_file_bytes}
 use Rattle.smb_wire.specs.Access.{has_any, FILE_WRITE_DATA}
-use Rattle.smb_wire.specs.declared.nt_status.NtStatus.TheVariants.{InvalidParameter, InvalidDeviceRequest, AccessDenied, EndOfFile, FileLockConflict, DiskFull, CannotDelete, DirectoryNotEmpty, Success, ObjectNameInvalid, DeletePending, ObjectPathNotFound, ObjectNameCollision}
+use Rattle.smb_tree.specs.declared.fault.TreeFault.{TreeFault}
+use Rattle.smb_tree.specs.declared.fault.TreeFault.TheVariants.{Absent, ParentAbsent, Exists, NotEmpty, TooDeep, Full}
+use Rattle.smb_refusals.specs.declared.refused_by.RefusedBy.{RefusedBy}
+use Rattle.smb_refusals.specs.declared.refused_by.RefusedBy.TheVariants.{Row as ByRow, NoMemory}
+use Rattle.smb_refusals.specs.declared.file.ReadRefusal.{ReadRefusal}
+use Rattle.smb_refusals.specs.declared.file.WriteRefusal.{WriteRefusal}
+use Rattle.smb_refusals.specs.declared.set_info.SetBasicRefusal.{SetBasicRefusal}
+use Rattle.smb_refusals.specs.declared.set_info.SetDispositionRefusal.{SetDispositionRefusal}
+use Rattle.smb_refusals.specs.declared.set_info.SetSizeRefusal.{SetSizeRefusal}
+use Rattle.smb_refusals.specs.declared.set_info.RenameRefusal.{RenameRefusal}
 use Rattle.smb_tree.specs.Entries.{Entry, is_folder_kind, kept_basic}
 use Rattle.smb_tree.specs.Content.{Content, changed, used_space, written, Row, numbered, resized, Path, is_same_path, entry_at, changed_in}
 use Rattle.smb_tree.specs.Parts.{with_bytes, with_size, would_be_too_deep, has_children}
@@ -11,7 +20,7 @@ use Rattle.smb_locks.specs.Conflicts.{is_read_barred, is_write_barred}
 use Rattle.smb_locks.specs.Table.{Table, locks_on}
 use Rattle.smb_access.specs.declared.view.View.{View}
 use Rattle.smb_access.specs.Access.{is_reading, is_writing, is_deleting}
-use Rattle.smb_access.specs.StatusRows.{StatusRow}
+use Rattle.smb_refusals.specs.Rows.{RefusalRow, DecidingRow}
 use Rattle.std.specs.Option.{option_map_or}
 use Rattle.smb_wire.specs.Attributes.{FILE_ATTRIBUTE_READONLY, FILE_ATTRIBUTE_DIRECTORY}
 use Rattle.smb_tree.specs.declared.entry.Basic.{Basic}
@@ -48,15 +57,15 @@ bytes_there size offset count = min count (size - offset)
 
 -- the rows of a READ of so many bytes at an offset, by the most that one request may ask for, what its open shows, and
 -- whether a lock bars the range
-abbrev pub read_rows : ℕ → View → Bool → ℕ → ℕ → ℕ → List StatusRow
+abbrev pub read_rows : ℕ → View → Bool → ℕ → ℕ → ℕ → List (RefusalRow ReadRefusal)
 read_rows most view is_barred offset count minimum =
-    (nat_lt most count, InvalidParameter)
-    ∷ (is_folder_kind view.kind, InvalidDeviceRequest)
-    ∷ (not (is_reading view.access), AccessDenied)
-    ∷ (is_barred, FileLockConflict)
+    (nat_lt most count, ReadRefusal.LengthTooGreat)
+    ∷ (is_folder_kind view.kind, ReadRefusal.EntryIsDirectory)
+    ∷ (not (is_reading view.access), ReadRefusal.ReadNotGranted)
+    ∷ (is_barred, ReadRefusal.RangeLocked)
     ∷ (
       nat_lt 0 count && nat_le view.size offset || nat_lt (bytes_there view.size offset count) minimum,
-      EndOfFile,
+      ReadRefusal.EndOfFile,
     )
     ∷ []
 
@@ -73,13 +82,13 @@ may_not_write view offset =
 
 -- the rows of a WRITE of so many bytes at an offset, by the most that one request may bring, what its open shows, whether
 -- a lock bars the range, and whether there is no room for the bytes
-abbrev pub write_rows : ℕ → View → Bool → ℕ → ℕ → Bool → List StatusRow
+abbrev pub write_rows : ℕ → View → Bool → ℕ → ℕ → Bool → List (RefusalRow WriteRefusal)
 write_rows most view is_barred offset count is_full =
-    (nat_lt most count, InvalidParameter)
-    ∷ (is_folder_kind view.kind, InvalidDeviceRequest)
-    ∷ (may_not_write view offset, AccessDenied)
-    ∷ (is_barred, FileLockConflict)
-    ∷ (nat_lt 0 count && is_full, DiskFull)
+    (nat_lt most count, WriteRefusal.LengthTooGreat)
+    ∷ (is_folder_kind view.kind, WriteRefusal.EntryIsDirectory)
+    ∷ (may_not_write view offset, WriteRefusal.WriteNotGranted)
+    ∷ (is_barred, WriteRefusal.RangeLocked)
+    ∷ (nat_lt 0 count && is_full, WriteRefusal.NoSpaceLeft)
     ∷ []
 
 -- there is no room for these bytes at an offset of a file: it would be longer than 16,777,216 bytes, or the space that
@@ -101,6 +110,16 @@ written_file offset buffer moment entry = record entry {
   basic = written_basic moment entry.basic;
 }
 
+-- how a WRITE is refused where a tree refuses its bytes
+abbrev pub refused_by_tree : TreeFault → RefusedBy WriteRefusal
+refused_by_tree Full = ByRow WriteRefusal.NoSpaceLeft
+refused_by_tree Absent = NoMemory
+refused_by_tree ParentAbsent = NoMemory
+refused_by_tree Exists = NoMemory
+refused_by_tree NotEmpty = NoMemory
+refused_by_tree TooDeep = NoMemory
+refused_by_tree TreeFault.NoMemory = NoMemory
+
 abbrev pub written_tree : Content → ℕ → ℕ → List ℕ → ℕ → Content
 written_tree tree entry offset buffer moment =
     record tree { rows = changed (written_file offset buffer moment) tree.rows entry }
@@ -114,16 +133,16 @@ abbrev pub has_entries : List Row → ℕ → Bool
 has_entries rows number = option_map_or (λ row. has_children rows row.0) (numbered rows number) false
 
 -- the rows of an entry that is to be deleted, by what the open shows, and whether entries are in it
-abbrev pub mark_rows : View → Bool → List StatusRow
+abbrev pub mark_rows : View → Bool → List (RefusalRow SetDispositionRefusal)
 mark_rows view is_occupied =
-    (view.entry == 1 || shows_read_only_file view, CannotDelete)
-    ∷ (is_occupied, DirectoryNotEmpty)
+    (view.entry == 1 || shows_read_only_file view, SetDispositionRefusal.EntryNotDeletable)
+    ∷ (is_occupied, SetDispositionRefusal.DirectoryNotEmpty)
     ∷ []
 
 -- the rows, whether the entry is to be deleted or no longer is: then the first alone
-abbrev pub delete_rows : View → Bool → Bool → List StatusRow
+abbrev pub delete_rows : View → Bool → Bool → List (RefusalRow SetDispositionRefusal)
 delete_rows view is_occupied is_deleted =
-    (not (is_deleting view.access), AccessDenied)
+    (not (is_deleting view.access), SetDispositionRefusal.DeleteNotGranted)
     ∷ (if is_deleted then mark_rows view is_occupied else [])
 
 -- an entry marked, or its mark taken away; what its opens are to delete when they are closed is left
@@ -137,11 +156,11 @@ has_no_space tree entry size =
     nat_lt most_file_bytes size || nat_lt tree.capacity (used_space (with_size tree entry size).rows)
 
 -- the rows, by what the open shows, and whether there is no room
-abbrev pub size_rows : View → Bool → List StatusRow
+abbrev pub size_rows : View → Bool → List (RefusalRow SetSizeRefusal)
 size_rows view is_full =
-    (is_folder_kind view.kind, InvalidParameter)
-    ∷ (not (has_any view.access.0 FILE_WRITE_DATA), AccessDenied)
-    ∷ (is_full, DiskFull)
+    (is_folder_kind view.kind, SetSizeRefusal.EntryIsDirectory)
+    ∷ (not (has_any view.access.0 FILE_WRITE_DATA), SetSizeRefusal.WriteNotGranted)
+    ∷ (is_full, SetSizeRefusal.NoSpaceLeft)
     ∷ []
 
 -- a file with this size at a moment: its bytes are cut, or have zeros behind them; the times of the last write and change
@@ -168,12 +187,12 @@ has_bad_time ask =
     || is_bad_time ask.change_time
 
 -- the rows, by what the open shows and what is asked
-abbrev pub basic_rows : View → BasicAsk → List StatusRow
+abbrev pub basic_rows : View → BasicAsk → List (RefusalRow SetBasicRefusal)
 basic_rows view ask = (
   has_bad_time ask || not (is_folder_kind view.kind) && has_any ask.attributes.0 FILE_ATTRIBUTE_DIRECTORY,
-  InvalidParameter,
+  SetBasicRefusal.TimeOrAttributesInvalid,
 )
-    ∷ (not (is_writing_attributes view.access), AccessDenied)
+    ∷ (not (is_writing_attributes view.access), SetBasicRefusal.AttributesNotGranted)
     ∷ []
 
 -- the time of the last change: for a 0 it becomes the moment ([MS-FSA] 2.1.5.15.2)
@@ -211,20 +230,21 @@ is_not_replaced opens found = option_map_or
 
 -- the rows of a rename from one path to another, which a name spells; by what the open shows, and whether an entry that
 -- exists at the new path may be replaced (ReplaceIfExists)
-abbrev pub rename_rows : List Row → List OpenRow → View → List ℕ → Bool → Path → Path → List StatusRow
+abbrev pub rename_rows :
+    List Row → List OpenRow → View → List ℕ → Bool → Path → Path → List (DecidingRow RenameRefusal)
 rename_rows rows opens view name replace from to =
-    (length name == 0 || is_separator (slice_index name 0), InvalidParameter)
-    ∷ (is_some (path_fault name), ObjectNameInvalid)
-    ∷ (not (is_deleting view.access) || view.entry == 1, AccessDenied)
-    ∷ (view.mark, DeletePending)
-    ∷ (is_beneath from to, InvalidParameter)
-    ∷ (not (is_reached rows to), ObjectPathNotFound)
-    ∷ (is_same_path from to, Success)
-    ∷ (is_folder_kind view.kind && has_open_beneath rows opens from, AccessDenied)
-    ∷ (is_pending rows to, DeletePending)
-    ∷ (is_some (entry_at rows to) && not replace, ObjectNameCollision)
-    ∷ (is_not_replaced opens (entry_at rows to), AccessDenied)
-    ∷ (would_be_too_deep rows from to, ObjectNameInvalid)
+    (length name == 0 || is_separator (slice_index name 0), Some RenameRefusal.NameBeginsWithSeparator)
+    ∷ (is_some (path_fault name), Some RenameRefusal.NameIsNoPath)
+    ∷ (not (is_deleting view.access) || view.entry == 1, Some RenameRefusal.DeleteNotGranted)
+    ∷ (view.mark, Some RenameRefusal.EntryToBeDeleted)
+    ∷ (is_beneath from to, Some RenameRefusal.NewPathIsBeneath)
+    ∷ (not (is_reached rows to), Some RenameRefusal.PathNotFound)
+    ∷ (is_same_path from to, None)
+    ∷ (is_folder_kind view.kind && has_open_beneath rows opens from, Some RenameRefusal.OpenBeneath)
+    ∷ (is_pending rows to, Some RenameRefusal.TargetToBeDeleted)
+    ∷ (is_some (entry_at rows to) && not replace, Some RenameRefusal.TargetExists)
+    ∷ (is_not_replaced opens (entry_at rows to), Some RenameRefusal.TargetNotReplaceable)
+    ∷ (would_be_too_deep rows from to, Some RenameRefusal.PathTooDeep)
     ∷ []
 
 -- an entry's time of the last change becomes the moment; of the attributes a tree keeps four ([MS-FSCC] 2.6)

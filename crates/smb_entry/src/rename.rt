@@ -1,13 +1,13 @@
 //! A rename of an open's entry: which is refused, and the move ([MS-FSA] 2.1.5.15.11).
 
-ghost use Rattle.std.specs.Prelude.{◌≡◌, ◌≢◌, ◌++◌, List, true, None, is_some, IfOk, IfErr, OnOk, OnErr};
+ghost use Rattle.std.specs.Prelude.{◌≡◌, ◌≢◌, ◌++◌, List, true, None, Some, is_some, IfOk, IfErr, OnOk, OnErr};
 ghost use Rattle.smb_wire.specs.Paths.{folded_path, path_spelled};
 ghost use Rattle.smb_wire.specs.PathViews.{parts_of};
 ghost use Rattle.smb_wire.specs.Units.{units_of};
 ghost use Rattle.smb_tree.specs.Content.{numbered};
 ghost use Rattle.smb_tree.specs.Faults.{move_fault};
 ghost use Rattle.smb_tree.specs.Good.{GoodContent};
-ghost use Rattle.smb_access.specs.StatusRows.{StatusRow, first_status};
+ghost use Rattle.smb_refusals.specs.Rows.{DecidingRow, first_decided};
 ghost use Rattle.smb_access.specs.Parts.{ArePresent};
 ghost use Rattle.smb_access.specs.Numbers.{AreRising};
 ghost use Rattle.smb_access.specs.Opens.{has_open, open_numbers};
@@ -19,9 +19,10 @@ use smb_access::access::is_deleting;
 use smb_access::checks::{is_folder_target, is_pending, is_read_only_target};
 use smb_access::found::{ROOT, Target};
 use smb_access::look::{find_above, find_target};
-use smb_access::{Opens, StoreFault, View};
+use smb_access::{Opens, View};
+use smb_refusals::{RefusedBy, RenameRefusal};
 use smb_tree::{Basic, EntryNo, Tree, TreeFault};
-use smb_wire::{NtStatus, PathFault, PathView, Units, split_path};
+use smb_wire::{PathFault, PathView, Units, split_path};
 
 /// What a rename finds where it leads.
 #[derive(Clone, Copy, Debug)]
@@ -36,20 +37,19 @@ pub struct RenameLookup {
     pub target: Option<Target>,
 }
 
-/// The path that a name spells, or the status that answers it whatever exists.
-pub fn path_named(name: Units<'_>) -> Result<PathView<'_>, NtStatus>
+/// The path that a name spells, or why it is refused whatever exists.
+pub fn path_named(name: Units<'_>) -> Result<PathView<'_>, RenameRefusal>
     ensures path { IfOk result (λ path. parts_of path ≡ path_spelled (units_of name.entry)) }
-    ensures lawful { OnOk result ((rows : List StatusRow) → first_status (name_rows (units_of name.entry) ++ rows) ≡ first_status rows) }
-    ensures err { IfErr result (λ status. (rows : List StatusRow) → first_status (name_rows (units_of name.entry) ++ rows) ≡ status) }
-    ensures refused { IfErr result (λ status. status ≢ NtStatus.Success) }
+    ensures lawful { OnOk result ((rows : List (DecidingRow RenameRefusal)) → first_decided (name_rows (units_of name.entry) ++ rows) ≡ first_decided rows) }
+    ensures err { IfErr result (λ refusal. (rows : List (DecidingRow RenameRefusal)) → first_decided (name_rows (units_of name.entry) ++ rows) ≡ Some refusal) }
 {
     if name.len() == 0 {
-        return Err(NtStatus::InvalidParameter);
+        return Err(RenameRefusal::NameBeginsWithSeparator);
     }
     match split_path(name) {
         Ok(path) => Ok(path),
-        Err(PathFault::LeadingSeparator) => Err(NtStatus::InvalidParameter),
-        Err(_) => Err(NtStatus::ObjectNameInvalid),
+        Err(PathFault::LeadingSeparator) => Err(RenameRefusal::NameBeginsWithSeparator),
+        Err(_) => Err(RenameRefusal::NameIsNoPath),
     }
 }
 
@@ -106,26 +106,25 @@ fn is_kept_target<O: Opens>(opens: &O, target: &Option<Target>) -> bool
     found.kind.is_folder() || is_read_only_target(target) || has_open(opens, found.number)
 }
 
-/// Whether what exists at the new path lets a rename pass, or the status that refuses it.
-fn check_target<O: Opens>(opens: &O, way: &RenameLookup, replace: bool) -> Result<(), NtStatus>
-    ensures lawful { OnOk result (first_status (target_rows (O.content opens.now) way.now replace) ≡ NtStatus.Success) }
-    ensures why { IfErr result (λ status. first_status (target_rows (O.content opens.now) way.now replace) ≡ status) }
-    ensures refused { IfErr result (λ status. status ≢ NtStatus.Success) }
+/// Whether what exists at the new path lets a rename pass, or why it is refused.
+fn check_target<O: Opens>(opens: &O, way: &RenameLookup, replace: bool) -> Result<(), RenameRefusal>
+    ensures lawful { OnOk result (first_decided (target_rows (O.content opens.now) way.now replace) ≡ None) }
+    ensures why { IfErr result (λ refusal. first_decided (target_rows (O.content opens.now) way.now replace) ≡ Some refusal) }
 {
     if way.pending {
-        return Err(NtStatus::DeletePending);
+        return Err(RenameRefusal::TargetToBeDeleted);
     }
     if way.target.is_some() && !replace {
-        return Err(NtStatus::ObjectNameCollision);
+        return Err(RenameRefusal::TargetExists);
     }
     if is_kept_target(opens, &way.target) {
-        return Err(NtStatus::AccessDenied);
+        return Err(RenameRefusal::TargetNotReplaceable);
     }
     Ok(())
 }
 
-/// Whether a rename through an open that shows this passes, by what was found, or the status that refuses it; but for the
-/// length of paths, which a move looks at. The opens are gone through only where the entry is a folder and no row before
+/// Whether a rename through an open that shows this passes, by what was found, or why it is refused; but for the length
+/// of paths, which a move looks at. The opens are gone through only where the entry is a folder and no row before
 /// decides.
 pub fn check_way<T: Tree, O: Opens>(
     tree: &T,
@@ -133,32 +132,31 @@ pub fn check_way<T: Tree, O: Opens>(
     view: &View,
     way: &RenameLookup,
     replace: bool,
-) -> Result<(), NtStatus>
+) -> Result<(), RenameRefusal>
     requires good { GoodContent (T.content tree.now) }
     requires there { is_some (numbered (T.content tree.now).rows view.now.entry) ≡ true }
     requires present { ArePresent (T.content tree.now).rows (O.content opens.now) }
     requires rising { AreRising (open_numbers (O.content opens.now)) }
-    ensures lawful { OnOk result (first_status (way_rows (T.content tree.now).rows (O.content opens.now) view.now way.now replace) ≡ NtStatus.Success) }
-    ensures why { IfErr result (λ status. first_status (way_rows (T.content tree.now).rows (O.content opens.now) view.now way.now replace) ≡ status) }
-    ensures refused { IfErr result (λ status. status ≢ NtStatus.Success) }
+    ensures lawful { OnOk result (first_decided (way_rows (T.content tree.now).rows (O.content opens.now) view.now way.now replace) ≡ None) }
+    ensures why { IfErr result (λ refusal. first_decided (way_rows (T.content tree.now).rows (O.content opens.now) view.now way.now replace) ≡ Some refusal) }
 {
     if !is_deleting(view.access) || view.entry == ROOT {
-        return Err(NtStatus::AccessDenied);
+        return Err(RenameRefusal::DeleteNotGranted);
     }
     if view.mark {
-        return Err(NtStatus::DeletePending);
+        return Err(RenameRefusal::EntryToBeDeleted);
     }
     if way.beneath {
-        return Err(NtStatus::InvalidParameter);
+        return Err(RenameRefusal::NewPathIsBeneath);
     }
     if !way.reached {
-        return Err(NtStatus::ObjectPathNotFound);
+        return Err(RenameRefusal::PathNotFound);
     }
     if is_own_target(view.entry, &way.target) {
         return Ok(());
     }
     if view.kind.is_folder() && has_open_beneath(tree, opens, view.entry) {
-        return Err(NtStatus::AccessDenied);
+        return Err(RenameRefusal::OpenBeneath);
     }
     check_target(opens, way, replace)
 }
@@ -170,14 +168,14 @@ pub fn move_to<T: Tree>(
     entry: EntryNo,
     path: &PathView<'_>,
     moment: u64,
-) -> Result<(), StoreFault>
+) -> Result<(), RefusedBy<RenameRefusal>>
     requires good { GoodContent (T.content tree.old) }
     requires other { entry ≢ 1 }
     requires there { is_some (numbered (T.content tree.old).rows entry) ≡ true }
     ensures ok { OnOk result (T.content tree.new ≡ renamed_tree (T.content tree.old) entry (parts_of path.now) moment) }
     ensures lawful { OnOk result (move_fault (T.content tree.old) entry (folded_path (parts_of path.now)) ≡ None) }
     ensures err { OnErr result (T.content tree.new ≡ T.content tree.old) }
-    ensures why { IfErr result (λ fault. IsMoveRefusal (move_fault (T.content tree.old) entry (folded_path (parts_of path.now))) fault) }
+    ensures why { IfErr result (λ refused. IsMoveRefusal (move_fault (T.content tree.old) entry (folded_path (parts_of path.now))) refused) }
 {
     let Some(seen) = tree.entry(entry) else {
         unreachable!();
@@ -188,8 +186,8 @@ pub fn move_to<T: Tree>(
     };
     match tree.move_entry(entry, path) {
         Ok(()) => {}
-        Err(TreeFault::NoMemory) => return Err(StoreFault::NoMemory),
-        Err(_) => return Err(StoreFault::from(NtStatus::ObjectNameInvalid)),
+        Err(TreeFault::NoMemory) => return Err(RefusedBy::NoMemory),
+        Err(_) => return Err(RefusedBy::Row(RenameRefusal::PathTooDeep)),
     }
     match tree.set_basic(entry, basic) {
         Ok(()) => Ok(()),

@@ -1,25 +1,26 @@
 //! SET_INFO of a file or a folder, by what an open shows ([MS-SMB2] 3.3.5.21.1, [MS-FSA] 2.1.5.15).
 
-ghost use Rattle.std.specs.Prelude.{◌≡◌, ◌≢◌, ◌≤◌, ◌+◌, nat_lt, true, false, Some, IfErr, OnOk, OnErr, is_some};
+ghost use Rattle.std.specs.Prelude.{◌≡◌, ◌≤◌, ◌+◌, nat_lt, true, false, None, Some, IfErr, OnOk, OnErr, is_some};
 ghost use Rattle.std.specs.Option.{option_map};
 ghost use Rattle.smb_tree.specs.Content.{numbered, changed_in};
 ghost use Rattle.smb_tree.specs.Parts.{with_mark};
 ghost use Rattle.smb_tree.specs.Entries.{is_folder_kind, allocation_size, kept_basic};
-ghost use Rattle.smb_access.specs.StatusRows.{first_status};
+ghost use Rattle.smb_refusals.specs.Rows.{first_refusal};
 ghost use Rattle.smb_tree.specs.Good.{GoodContent};
 ghost use Rattle.smb_entry.specs.SetInfo.{is_bad_time, time_set};
 ghost use Rattle.smb_entry.specs.Parts.{shows_read_only_file, has_entries, mark_rows, delete_rows, has_no_space, size_rows, resized_file, leaves_size, has_bad_time, basic_rows, change_time_set, attributes_set, basic_set, entry_set};
-ghost use Rattle.smb_access.specs.declared.fault.StoreFault.TheVariants.{NoMemory};
+ghost use Rattle.smb_refusals.specs.declared.refused_by.RefusedBy.TheVariants.{NoMemory};
 
 use super::ask::BasicAsk;
 use super::bytes::written_basic;
 use bitflags::Flags;
+use smb_access::View;
 use smb_access::access::{is_deleting, is_writing_attributes};
 use smb_access::found::ROOT;
-use smb_access::{StoreFault, View};
+use smb_refusals::{RefusedBy, SetBasicRefusal, SetDispositionRefusal, SetSizeRefusal};
 use smb_tree::{Basic, EntryNo, Tree, allocation_size};
 use smb_wire::limits::MOST_FILE_BYTES;
-use smb_wire::{Access, FileAttributes, NtStatus};
+use smb_wire::{Access, FileAttributes};
 
 /// The greatest time, in units of 100 ns since 1601.
 const LAST_TIME: u64 = 0x7FFF_FFFF_FFFF_FFFF;
@@ -38,29 +39,31 @@ pub fn has_entries<T: Tree>(tree: &T, number: EntryNo) -> bool
     tree.child_after(number, None).is_some()
 }
 
-/// Whether the entry that an open shows may be marked, or the status that refuses it. Entries are in it or not.
-fn may_mark(view: &View, is_occupied: bool) -> Result<(), NtStatus>
-    ensures lawful { OnOk result (first_status (mark_rows view.now is_occupied) ≡ NtStatus.Success) }
-    ensures why { IfErr result (λ status. first_status (mark_rows view.now is_occupied) ≡ status) }
-    ensures refused { IfErr result (λ status. status ≢ NtStatus.Success) }
+/// Whether the entry that an open shows may be marked, or why it is refused. Entries are in it or not.
+fn may_mark(view: &View, is_occupied: bool) -> Result<(), SetDispositionRefusal>
+    ensures lawful { OnOk result (first_refusal (mark_rows view.now is_occupied) ≡ None) }
+    ensures why { IfErr result (λ refusal. first_refusal (mark_rows view.now is_occupied) ≡ Some refusal) }
 {
     if view.entry == ROOT || shows_read_only_file(view) {
-        return Err(NtStatus::CannotDelete);
+        return Err(SetDispositionRefusal::EntryNotDeletable);
     }
     if is_occupied {
-        return Err(NtStatus::DirectoryNotEmpty);
+        return Err(SetDispositionRefusal::DirectoryNotEmpty);
     }
     Ok(())
 }
 
-/// Whether the entry may be marked, or its mark be taken away, through the open that shows it, or the status that refuses it.
-pub fn may_delete(view: &View, is_occupied: bool, is_deleted: bool) -> Result<(), NtStatus>
-    ensures lawful { OnOk result (first_status (delete_rows view.now is_occupied is_deleted) ≡ NtStatus.Success) }
-    ensures why { IfErr result (λ status. first_status (delete_rows view.now is_occupied is_deleted) ≡ status) }
-    ensures refused { IfErr result (λ status. status ≢ NtStatus.Success) }
+/// Whether the entry may be marked, or its mark be taken away, through the open that shows it, or why it is refused.
+pub fn may_delete(
+    view: &View,
+    is_occupied: bool,
+    is_deleted: bool,
+) -> Result<(), SetDispositionRefusal>
+    ensures lawful { OnOk result (first_refusal (delete_rows view.now is_occupied is_deleted) ≡ None) }
+    ensures why { IfErr result (λ refusal. first_refusal (delete_rows view.now is_occupied is_deleted) ≡ Some refusal) }
 {
     if !is_deleting(view.access) {
-        return Err(NtStatus::AccessDenied);
+        return Err(SetDispositionRefusal::DeleteNotGranted);
     }
     if !is_deleted {
         return Ok(());
@@ -104,22 +107,21 @@ pub fn has_no_space<T: Tree>(tree: &T, entry: EntryNo, size: u64) -> bool
     passes_capacity(tree.capacity(), others, size)
 }
 
-/// Whether the entry that an open shows may have another size, or the status that refuses it. There is room or not.
-pub fn may_size(view: &View, is_full: bool) -> Result<(), NtStatus>
-    ensures lawful { OnOk result (first_status (size_rows view.now is_full) ≡ NtStatus.Success) }
+/// Whether the entry that an open shows may have another size, or why it is refused. There is room or not.
+pub fn may_size(view: &View, is_full: bool) -> Result<(), SetSizeRefusal>
+    ensures lawful { OnOk result (first_refusal (size_rows view.now is_full) ≡ None) }
     ensures file { OnOk result (is_folder_kind view.now.kind ≡ false) }
     ensures room { OnOk result (is_full ≡ false) }
-    ensures why { IfErr result (λ status. first_status (size_rows view.now is_full) ≡ status) }
-    ensures refused { IfErr result (λ status. status ≢ NtStatus.Success) }
+    ensures why { IfErr result (λ refusal. first_refusal (size_rows view.now is_full) ≡ Some refusal) }
 {
     if view.kind.is_folder() {
-        return Err(NtStatus::InvalidParameter);
+        return Err(SetSizeRefusal::EntryIsDirectory);
     }
     if !view.access.intersects(Access::WRITE_DATA) {
-        return Err(NtStatus::AccessDenied);
+        return Err(SetSizeRefusal::WriteNotGranted);
     }
     if is_full {
-        return Err(NtStatus::DiskFull);
+        return Err(SetSizeRefusal::NoSpaceLeft);
     }
     Ok(())
 }
@@ -138,19 +140,19 @@ pub fn size_file<T: Tree>(
     entry: EntryNo,
     size: u64,
     moment: u64,
-) -> Result<(), StoreFault>
+) -> Result<(), RefusedBy<SetSizeRefusal>>
     requires file { option_map (λ row. is_folder_kind row.1.kind) (numbered (T.content tree.old).rows entry) ≡ Some false }
     requires room { has_no_space (T.content tree.old) entry size ≡ false }
     ensures ok { OnOk result (T.content tree.new ≡ changed_in (resized_file size moment) (T.content tree.old) entry) }
     ensures err { OnErr result (T.content tree.new ≡ T.content tree.old) }
-    ensures memory { IfErr result (λ fault. fault ≡ NoMemory) }
+    ensures memory { IfErr result (λ refused. refused ≡ NoMemory) }
 {
     let Some(seen) = tree.entry(entry) else {
         unreachable!();
     };
     let basic = written_basic(moment, seen.basic);
     if let Err(_) = tree.set_size(entry, size) {
-        return Err(StoreFault::NoMemory);
+        return Err(RefusedBy::NoMemory);
     }
     match tree.set_basic(entry, basic) {
         Ok(()) => Ok(()),
@@ -175,20 +177,19 @@ fn has_bad_time(ask: &BasicAsk) -> bool
         || is_bad_time(ask.change_time)
 }
 
-/// Whether the entry that an open shows may have the times and attributes that are asked for, or the status that refuses it.
-pub fn may_set_basic(view: &View, ask: &BasicAsk) -> Result<(), NtStatus>
-    ensures lawful { OnOk result (first_status (basic_rows view.now ask.now) ≡ NtStatus.Success) }
-    ensures why { IfErr result (λ status. first_status (basic_rows view.now ask.now) ≡ status) }
-    ensures refused { IfErr result (λ status. status ≢ NtStatus.Success) }
+/// Whether the entry that an open shows may have the times and attributes that are asked for, or why it is refused.
+pub fn may_set_basic(view: &View, ask: &BasicAsk) -> Result<(), SetBasicRefusal>
+    ensures lawful { OnOk result (first_refusal (basic_rows view.now ask.now) ≡ None) }
+    ensures why { IfErr result (λ refusal. first_refusal (basic_rows view.now ask.now) ≡ Some refusal) }
 {
     if has_bad_time(ask) {
-        return Err(NtStatus::InvalidParameter);
+        return Err(SetBasicRefusal::TimeOrAttributesInvalid);
     }
     if !view.kind.is_folder() && ask.attributes.intersects(FileAttributes::DIRECTORY) {
-        return Err(NtStatus::InvalidParameter);
+        return Err(SetBasicRefusal::TimeOrAttributesInvalid);
     }
     if !is_writing_attributes(view.access) {
-        return Err(NtStatus::AccessDenied);
+        return Err(SetBasicRefusal::AttributesNotGranted);
     }
     Ok(())
 }

@@ -36,6 +36,7 @@ mod volume;
 mod written;
 
 pub use directory::list;
+pub use directory_class::DirectoryInformationClass;
 pub use fault::InfoFault;
 pub use file::file_info;
 pub use file_system::fs_info;

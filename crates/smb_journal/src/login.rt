@@ -7,7 +7,7 @@ ghost use Rattle.smb_session.specs.Authenticator.{IsLawful};
 
 use crate::given::GivenAnswer;
 use crate::mailbox::Mailbox;
-use smb_session::{Answer, Authenticator};
+use smb_session::{Answer, Authenticator, Denial};
 use smb_wire::limits::LONGEST_TOKEN;
 use std::alloc::AllocError;
 use std::collections::VecDeque;
@@ -86,5 +86,9 @@ impl<A: Authenticator + Drop> Authenticator for RecordedLogin<'_, A> {
             Some(given) => Ok(given.into_answer()),
             None => self.ask(session, token),
         }
+    }
+
+    fn denial(&self) -> Option<Denial<'_>> {
+        self.behind.denial()
     }
 }

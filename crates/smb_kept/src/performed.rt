@@ -4,13 +4,13 @@ ghost use Rattle.std.specs.Prelude.{vec_len};
 
 use smb_engine::{Authenticator, Opens, RunFault, ServeFault, Share, Tree};
 use smb_journal::{JournalFault, Line, Lines};
-use smb_peers::{Answer, Event};
+use smb_peers::{Answer, Event, Observer};
 use std::alloc::Global;
 use std::io::Read;
 use std::slice;
 
-/// Hears what happens to a share on which a recording is performed.
-pub trait Hears {
+/// Hears what happens to a share on which a recording is performed: of each event first what the share refused in it.
+pub trait Hears: Observer {
     /// Takes an event that the share performed, and what it answered to it.
     fn hear(&mut self, event: &Event, answers: &[Answer]) -> Result<(), JournalFault>;
 
@@ -22,6 +22,8 @@ pub trait Hears {
 /// Hears nothing.
 #[derive(Clone, Copy, Debug, Drop)]
 pub struct Deaf;
+
+impl Observer for Deaf {}
 
 impl Hears for Deaf {
     fn hear(&mut self, _event: &Event, _answers: &[Answer]) -> Result<(), JournalFault> {
@@ -88,7 +90,8 @@ impl Performed {
     ) -> Result<(), JournalFault> {
         self.note(&event)?;
         self.answers.clear();
-        if let Err(fault) = share.run(slice::from_ref(&event), &mut self.answers) {
+        let ran = share.run_observed(slice::from_ref(&event), &mut self.answers, heard);
+        if let Err(fault) = ran {
             return Err(fault_at(line, fault));
         }
         heard.hear(&event, &self.answers)

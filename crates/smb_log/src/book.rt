@@ -1,11 +1,13 @@
 //! What becomes of requests and responses: their lines, and the sessions and opens that they begin and end.
 
-use crate::connection::{Connection, Named, Taken, Waiting};
+use crate::connection::{Connection, Denial, Named, Taken, Waiting};
 use crate::counts::Counts;
-use crate::level::Level;
+use crate::level::{Level, is_refusal};
 use crate::responses::Response;
 use crate::sessions::{Place, Sessions};
-use smb_log_text::{Asked, Lines, Outcome, Subject, put_command};
+use smb_log_text::{Asked, Lines, Outcome, Subject, put_command, put_typed};
+use smb_refusal_texts::{Why, WithoutComma};
+use smb_refusals::Refusal;
 use smb_wire::{Command, CommandCode, FileId, NtStatus};
 use std::alloc::{AllocError, Global};
 use std::io::Write;
@@ -48,6 +50,41 @@ fn event_of(
     Ok(event)
 }
 
+/// What is known of a request that is answered.
+#[derive(Drop)]
+struct Known {
+    /// When the piece came that completed it.
+    came: u64,
+    /// Why it was refused, where it was.
+    refusal: Option<Refusal>,
+    denial: Option<Denial>,
+}
+
+impl Known {
+    /// Adds the name that the client of a denied login typed.
+    fn put_name(&self, event: &mut String) -> Result<(), AllocError> {
+        match &self.denial {
+            Some(denial) => {
+                event.push_str(" name=")?;
+                put_typed(&denial.name, event)
+            }
+            None => Ok(()),
+        }
+    }
+
+    /// Why the request was refused that was answered by this status. The end of a listing or of a file is no refusal.
+    fn why(&self, status: u32) -> Option<WithoutComma> {
+        let refusal = self.refusal?;
+        if !is_refusal(status) {
+            return None;
+        }
+        Some(WithoutComma(match &self.denial {
+            Some(denial) => Why::Login(denial.reason),
+            None => Why::Request(refusal),
+        }))
+    }
+}
+
 /// The user of a session, where it is one of the connection's.
 fn user_of<'a>(sessions: &'a Sessions, connection: &Connection, session: u64) -> &'a [u8] {
     if connection.has_session(session) {
@@ -72,11 +109,13 @@ impl Answered {
             && self.response.header.status == NtStatus::Success.code()
     }
 
-    /// How the request ended that came at a moment.
-    fn outcome(&self, came: u64) -> Outcome {
+    /// How a request ended.
+    fn outcome(&self, known: &Known) -> Outcome {
+        let status = self.response.header.status;
         Outcome {
-            status: self.response.header.status,
-            microseconds: self.moment.saturating_sub(came) / 10,
+            status,
+            microseconds: self.moment.saturating_sub(known.came) / 10,
+            why: known.why(status),
         }
     }
 }
@@ -89,6 +128,19 @@ impl<W: Write + Drop> Book<W> {
         } else {
             UNKNOWN
         }
+    }
+
+    /// The text of the event of a request, with the name of a denied login.
+    fn event_with_name(
+        &self,
+        connection: &Connection,
+        answered: &Answered,
+        asked: &Asked,
+        known: &Known,
+    ) -> Result<String, AllocError> {
+        let mut event = self.event(connection, answered, asked)?;
+        known.put_name(&mut event)?;
+        Ok(event)
     }
 
     /// The text of the event of a request.
@@ -122,13 +174,13 @@ impl<W: Write + Drop> Book<W> {
         connection: &Connection,
         answered: &Answered,
         asked: &Asked,
-        came: u64,
+        known: &Known,
     ) {
         let header = answered.response.header;
         if !self.level.shows(header.command, header.status) {
             return;
         }
-        let Ok(event) = self.event(connection, answered, asked) else {
+        let Ok(event) = self.event_with_name(connection, answered, asked, known) else {
             self.lines.lose();
             return;
         };
@@ -138,7 +190,7 @@ impl<W: Write + Drop> Book<W> {
             address: connection.address.as_str(),
             user,
         };
-        let outcome = answered.outcome(came);
+        let outcome = answered.outcome(known);
         self.lines
             .put_request(answered.moment, subject, event.as_str(), outcome);
     }
@@ -217,11 +269,20 @@ impl<W: Write + Drop> Book<W> {
             self.end(answered);
             return;
         };
-        let Waiting { asked, moment } = waiting;
+        let Waiting {
+            asked,
+            moment,
+            refusal,
+        } = waiting;
+        let known = Known {
+            came: moment,
+            refusal,
+            denial: connection.take_denial(refusal),
+        };
         if let Asked::Setup { previous } = &asked {
             self.set_up(connection, answered, *previous);
         }
-        self.put_request(connection, answered, &asked, moment);
+        self.put_request(connection, answered, &asked, &known);
         self.conclude(connection, answered, asked);
     }
 

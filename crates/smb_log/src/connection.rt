@@ -4,15 +4,16 @@ use crate::level::Level;
 use crate::responses::{Response, Responses};
 use arrayvec::ArrayVec;
 use bitflags::Flags;
-use smb_body::Smb1Dialects;
+use smb_body::{Smb1Dialects, read_smb1_negotiate};
 use smb_frame::FrameBuffer;
-use smb_head::{Chain, Header, HeaderFlags};
+use smb_head::{Chain, Header, HeaderFlags, read_chain};
 use smb_log_text::Asked;
-use smb_rules::{Agreed, Payload, Rule};
+use smb_peers::Ending;
+use smb_refusals::{LoginRefusal, Refusal, SetupRefusal};
 use smb_wire::limits::{LONGEST_PAYLOAD, MOST_CREDITS, MOST_REQUESTS};
 use smb_wire::{Command, FileId};
 use std::alloc::{AllocError, Global};
-use std::collections::BTreeMap;
+use std::collections::{BTreeMap, VecDeque};
 
 /// A request that waits for its response.
 #[derive(Drop)]
@@ -20,6 +21,15 @@ pub(crate) struct Waiting {
     pub(crate) asked: Asked,
     /// When the piece came that completed it.
     pub(crate) moment: u64,
+    /// Why the share refused it, where it did.
+    pub(crate) refusal: Option<Refusal>,
+}
+
+/// Why a login was denied, and the name that the client typed.
+#[derive(Drop)]
+pub(crate) struct Denial {
+    pub(crate) reason: LoginRefusal,
+    pub(crate) name: Vec<u8>,
 }
 
 /// The open that the requests of a chain hand on.
@@ -36,7 +46,8 @@ enum Handed {
 pub(crate) struct Requests {
     alloc: Global,
     level: Level,
-    agreed: Agreed,
+    /// No payload came so far.
+    is_new: bool,
     waiting: BTreeMap<u64, Waiting>,
 }
 
@@ -57,7 +68,12 @@ impl Requests {
         if self.waiting.len() >= MOST_CREDITS {
             return Err(AllocError);
         }
-        self.waiting.insert(message_id, Waiting { asked, moment })?;
+        let waiting = Waiting {
+            asked,
+            moment,
+            refusal: None,
+        };
+        self.waiting.insert(message_id, waiting)?;
         Ok(())
     }
 
@@ -101,16 +117,21 @@ impl Requests {
         }
     }
 
-    /// Takes a payload, or gives the rule by which it ends the connection.
-    fn take(&mut self, payload: &[u8], moment: u64) -> Result<Taken, Rule> {
-        match self.agreed.take(payload)? {
-            Payload::Smb1(dialects) => Ok(Taken {
-                count: 1,
-                cancels: ArrayVec::new(),
-                is_lost: self.take_smb1(dialects, moment).is_err(),
-            }),
-            Payload::Chain(chain) => Ok(self.take_chain(&chain, moment)),
+    /// Takes a payload; None where it is nothing that a share performs, and so the last of its connection.
+    fn take(&mut self, payload: &[u8], moment: u64) -> Option<Taken> {
+        let is_first = self.is_new;
+        self.is_new = false;
+        if is_first {
+            if let Some(dialects) = read_smb1_negotiate(payload) {
+                return Some(Taken {
+                    count: 1,
+                    cancels: ArrayVec::new(),
+                    is_lost: self.take_smb1(dialects, moment).is_err(),
+                });
+            }
         }
+        let chain = read_chain(payload).ok()?;
+        Some(self.take_chain(&chain, moment))
     }
 }
 
@@ -124,8 +145,10 @@ pub(crate) struct Connection {
     handed: Handed,
     /// Its sessions, as far as they are known.
     pub(crate) sessions: Vec<u64>,
-    /// The rule by which the share ends it.
-    pub(crate) rule: Option<Rule>,
+    /// Why logins were denied whose responses have not come.
+    denials: VecDeque<Denial>,
+    /// Why the share ends it.
+    pub(crate) ending: Option<Ending>,
     /// Nothing more of its client's stream is read.
     is_over: bool,
     /// That is so because memory ran out for it.
@@ -143,13 +166,14 @@ impl Connection {
             requests: Requests {
                 alloc,
                 level,
-                agreed: Agreed::new(),
+                is_new: true,
                 waiting: BTreeMap::new(alloc),
             },
             responses: Responses::new(),
             handed: Handed::Nothing,
             sessions: Vec::new(alloc),
-            rule: None,
+            denials: VecDeque::new(alloc),
+            ending: None,
             is_over: false,
             is_unread: false,
             ran_out: false,
@@ -180,33 +204,48 @@ impl Connection {
         self.buffer.len() / 4
     }
 
-    /// Takes the next whole payload, where there is one and no rule is broken.
+    /// Takes the next whole payload, where there is one that a share performs.
     pub(crate) fn take_payload(&mut self, moment: u64) -> Option<Taken> {
         if self.is_over {
             return None;
         }
-        let Some(payload) = self.buffer.next() else {
-            if let Some(fault) = self.buffer.fault() {
-                self.break_rule(Rule::Frame(fault));
-            }
-            return None;
-        };
-        match self.requests.take(payload, moment) {
-            Ok(taken) => {
-                self.buffer.done();
-                Some(taken)
-            }
-            Err(rule) => {
-                self.break_rule(rule);
-                None
-            }
+        let payload = self.buffer.next()?;
+        let taken = self.requests.take(payload, moment);
+        match &taken {
+            Some(_) => self.buffer.done(),
+            None => self.end_reading(),
+        }
+        taken
+    }
+
+    /// Notes why the share ends it: its client's stream is not read on.
+    pub(crate) fn end_by(&mut self, ending: Ending) {
+        self.ending = Some(ending);
+        self.end_reading();
+    }
+
+    /// Notes why the share refused a request whose response has not come.
+    pub(crate) fn refuse(&mut self, message_id: u64, refusal: Refusal) {
+        if let Some(waiting) = self.requests.waiting.get_mut(&message_id) {
+            waiting.refusal = Some(refusal);
         }
     }
 
-    /// Notes a rule that the client's stream breaks, which is not read on.
-    fn break_rule(&mut self, rule: Rule) {
-        self.rule = Some(rule);
-        self.end_reading();
+    /// Notes why a login was denied whose response has not come. As many are kept as can wait for a response.
+    pub(crate) fn deny(&mut self, reason: LoginRefusal, name: Vec<u8>) -> Result<(), AllocError> {
+        if self.denials.len() >= MOST_CREDITS {
+            return Err(AllocError);
+        }
+        self.denials.push_back(Denial { reason, name })?;
+        Ok(())
+    }
+
+    /// Why the login was denied that was refused so, where it is known. Responses come in the order of their requests.
+    pub(crate) fn take_denial(&mut self, refusal: Option<Refusal>) -> Option<Denial> {
+        match refusal {
+            Some(Refusal::SessionSetup(SetupRefusal::Denied)) => self.denials.pop_front(),
+            _ => None,
+        }
     }
 
     /// The request that a response answers.
@@ -253,7 +292,7 @@ impl Connection {
 
     /// Whether nothing that came on the connection is a cause for the share to end it.
     pub(crate) fn is_without_cause(&self) -> bool {
-        self.rule.is_none() && !self.ran_out && !self.is_unread
+        self.ending.is_none() && !self.ran_out && !self.is_unread
     }
 }
 

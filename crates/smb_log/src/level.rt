@@ -7,7 +7,7 @@ use smb_wire::{Command, CommandCode, NtStatus};
 pub enum Level {
     /// Also the requests that begin and end sessions and tree connects.
     Sessions,
-    /// Also each request that was refused: whose status is none of STATUS_SUCCESS, STATUS_MORE_PROCESSING_REQUIRED,
+    /// Also who came in, and each request that was refused: whose status is none of STATUS_SUCCESS, STATUS_MORE_PROCESSING_REQUIRED,
     /// STATUS_NO_MORE_FILES and STATUS_END_OF_FILE.
     Refusals,
     /// Also each request.
@@ -25,11 +25,16 @@ fn is_of_sessions(command: CommandCode) -> bool {
 }
 
 /// Whether a status is that of a request that was refused. The end of a listing or of a file is no refusal.
-fn is_refusal(status: u32) -> bool {
+pub(crate) fn is_refusal(status: u32) -> bool {
     status != NtStatus::Success.code()
         && status != NtStatus::MoreProcessingRequired.code()
         && status != NtStatus::NoMoreFiles.code()
         && status != NtStatus::EndOfFile.code()
+}
+
+/// Whether a request with this status let a user in.
+fn has_let_in(command: CommandCode, status: u32) -> bool {
+    command == Command::SessionSetup.code() && status == NtStatus::Success.code()
 }
 
 impl Level {
@@ -37,7 +42,7 @@ impl Level {
     pub(crate) fn shows(self, command: CommandCode, status: u32) -> bool {
         match self {
             Level::Sessions => is_of_sessions(command),
-            Level::Refusals => is_refusal(status),
+            Level::Refusals => is_refusal(status) || has_let_in(command, status),
             Level::Requests => true,
         }
     }

@@ -11,7 +11,7 @@
 //!
 //! A [`Log`] has no peers: a replay and a server both use it. [`LoggedPeers`] wrap the peers of a served share and make its calls as
 //! events come, and a [`ReplayLog`] makes them as it hears the events of a replay; a [`LoggedLogin`] wraps an authenticator and notes in
-//! a [`Visitors`] who was let in.
+//! a [`Visitors`] who was let in, and a [`LogObserver`] observes the share and keeps in a [`Reasons`] why it refuses and ends.
 //!
 //! # A line
 //!
@@ -23,9 +23,9 @@
 //! | connection | its number |
 //! | peer | its address, as the caller gives it |
 //! | user | of the request's session, where it is the connection's, at an end of the session that was set up last; each guest is `guest` |
-//! | event | `opened`, `refused: ..`, `ended: ..`, `minute ..`, or what was asked: a command by its name with its fields |
+//! | event | `started`, `failed: ..`, `stopped`, `opened`, `refused: ..`, `ended: ..`, `minute ..`, or what was asked: a command by its name with its fields; of a denied login also `name=..`, as the client typed it |
 //! | status | of the response, by its name in [MS-ERREF]; a number that the share never answers in hex |
-//! | microseconds | from the piece that completed the request to the bytes that completed its response, or of a READ its header |
+//! | microseconds | from the piece that completed the request to the bytes that completed its response, or of a READ its header; of a request that was refused a blank and `why=".."` behind them, the label and the words of a row of docs/PROFILE.md |
 //!
 //! A request that names a FileId is shown with the name that its CREATE gave, also after a rename, with `?` where no CREATE on the
 //! connection gave that FileId, and the share's root is `.`. No byte of a file's data and no token is ever written. What a [`Level`]
@@ -50,6 +50,7 @@ mod level;
 mod log;
 mod login;
 mod peers;
+mod reasons;
 mod replay_log;
 mod responses;
 mod sessions;
@@ -61,5 +62,6 @@ pub use level::Level;
 pub use log::Log;
 pub use login::LoggedLogin;
 pub use peers::LoggedPeers;
+pub use reasons::{LogObserver, Reasons};
 pub use replay_log::ReplayLog;
 pub use visitors::Visitors;

@@ -5,10 +5,12 @@ use crate::connection::Connection;
 use crate::counts::Counts;
 use crate::ending::{Ending, Refusal};
 use crate::level::Level;
+use crate::reasons::{MOST_REASONS, Reason, Reasons};
 use crate::sessions::Sessions;
 use crate::visitors::{MOST_VISITORS, Visitors};
 use smb_log_text::{Lines, Subject};
 use smb_peers::Usage;
+use smb_refusal_texts::{Why, WithoutComma};
 use std::alloc::{AllocError, Global};
 use std::collections::BTreeMap;
 use std::io::Write;
@@ -20,6 +22,8 @@ use std::io::Write;
 pub struct Log<W: Write + Drop> {
     connections: BTreeMap<u64, Connection>,
     book: Book<W>,
+    /// A reason of the share was lost: why it ends a connection may not be known.
+    is_unsure: bool,
 }
 
 /// What is known of a connection that opens.
@@ -35,8 +39,9 @@ fn ended_by(
     why: Ending,
 ) -> Result<String, AllocError> {
     if why == Ending::ByShare {
-        if let Some(rule) = connection.and_then(|connection| connection.rule) {
-            return format!(in alloc; "ended: by the share, {rule}");
+        if let Some(ending) = connection.and_then(|connection| connection.ending) {
+            let why = WithoutComma(Why::Connection(ending));
+            return format!(in alloc; "ended: by the share, {why}");
         }
         if connection.is_some_and(|connection| connection.ran_out) {
             return format!(in alloc; "ended: {}", Ending::Memory);
@@ -57,6 +62,7 @@ impl<W: Write + Drop> Log<W> {
                 sessions: Sessions::new(alloc),
                 counts: Counts::none(),
             },
+            is_unsure: false,
         }
     }
 
@@ -80,13 +86,22 @@ impl<W: Write + Drop> Log<W> {
         self.connections.contains_key(&connection)
     }
 
-    /// Whether nothing that came on a connection is a cause for the share to end it: its client's stream broke no rule, and memory
-    /// did not run out.
+    /// Whether nothing that came on a connection is a cause for the share to end it: it told no reason, and memory did not run out.
     pub fn is_without_cause(&self, connection: u64) -> bool {
         match self.connections.get(&connection) {
-            Some(connection) => connection.is_without_cause(),
+            Some(connection) => !self.is_unsure && connection.is_without_cause(),
             None => false,
         }
+    }
+
+    /// Takes note of what happens to the server itself, which has no TAB and no line feed in it: `started`, `stopped`, or a failure.
+    pub fn note(&mut self, moment: u64, event: &str) {
+        let subject = Subject {
+            connection: None,
+            address: "",
+            user: &[],
+        };
+        let _ = self.book.lines.put(moment, subject, event);
     }
 
     /// Takes note that what later lines need was lost for want of memory.
@@ -191,6 +206,43 @@ impl<W: Write + Drop> Log<W> {
         }
     }
 
+    /// Takes note of a reason of the share.
+    fn take_reason(&mut self, reason: Reason) {
+        match reason {
+            Reason::Refused(number, message_id, refusal) => {
+                if let Some(connection) = self.connections.get_mut(&number) {
+                    connection.refuse(message_id, refusal);
+                }
+            }
+            Reason::Denied(number, reason, name) => {
+                if let Some(connection) = self.connections.get_mut(&number) {
+                    if connection.deny(reason, name).is_err() {
+                        self.book.lines.lose();
+                    }
+                }
+            }
+            Reason::Ended(number, ending) => {
+                if let Some(connection) = self.connections.get_mut(&number) {
+                    connection.end_by(ending);
+                }
+            }
+        }
+    }
+
+    /// Takes note of the reasons that a share told since the last call: before the responses and the ends that they are of.
+    pub fn take_reasons(&mut self, reasons: &Reasons) {
+        for _ in 0..MOST_REASONS {
+            let Some(reason) = reasons.take() else {
+                break;
+            };
+            self.take_reason(reason);
+        }
+        if reasons.take_lost() {
+            self.is_unsure = true;
+            self.book.lines.lose();
+        }
+    }
+
     /// Takes note that memory ran out in a piece of a connection's stream: the share ends the connection.
     pub fn ran_out(&mut self, connection: u64) {
         self.book.counts.add_ran_out();
@@ -259,6 +311,7 @@ impl<W: Write + Drop> Log<W> {
         let Log {
             connections: _,
             book,
+            is_unsure: _,
         } = self;
         book.into_writer()
     }

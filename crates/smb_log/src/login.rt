@@ -3,7 +3,7 @@
 ghost use Rattle.std.specs.Prelude.{◌≡◌};
 
 use crate::visitors::Visitors;
-use smb_session::{Answer, Authenticator};
+use smb_session::{Answer, Authenticator, Denial};
 use std::alloc::AllocError;
 use std::marker::Model;
 
@@ -42,5 +42,9 @@ impl<A: Authenticator + Drop> Authenticator for LoggedLogin<'_, A> {
             self.visitors.note(session, user);
         }
         Ok(answer)
+    }
+
+    fn denial(&self) -> Option<Denial<'_>> {
+        self.behind.denial()
     }
 }

@@ -5,6 +5,7 @@ ghost use Rattle.std.specs.Prelude.{◌≡◌};
 use crate::ending::{Ending, Refusal};
 use crate::facts::ConnectionFacts;
 use crate::log::Log;
+use crate::reasons::Reasons;
 use crate::visitors::Visitors;
 use smb_peers::{Clock, PeerEvent, Peers, SendFault, Stopping, Usage};
 use smb_wire::limits::MOST_CONNECTIONS;
@@ -30,6 +31,7 @@ pub struct LoggedPeers<'a, P: Peers + Drop, F: ConnectionFacts, C: Clock + Drop,
     facts: &'a F,
     clock: C,
     visitors: &'a Visitors,
+    reasons: &'a Reasons,
     log: Option<Log<W>>,
     /// Whether they ask to stop where the log can't be written, and whether they do.
     stops: bool,
@@ -54,14 +56,15 @@ impl<'a, P: Peers + Drop, F: ConnectionFacts, C: Clock + Drop, W: Write + Drop> 
     C,
     W,
 > {
-    /// Peers of a share whose next connection has the number `next`. The clock's moments are those of the log. Without a log nothing is
-    /// done. With `stops` they ask to stop where the log can't be written.
+    /// Peers of a share whose next connection has the number `next`. The clock's moments are those of the log, whom the share lets in and
+    /// why it refuses `visitors` and `reasons` hear of. Without a log nothing is done. With `stops` they ask to stop where the log can't be written.
     pub fn new(
         alloc: Global,
         peers: P,
         facts: &'a F,
         clock: C,
         visitors: &'a Visitors,
+        reasons: &'a Reasons,
         log: Option<Log<W>>,
         stops: bool,
         next: u64,
@@ -71,6 +74,7 @@ impl<'a, P: Peers + Drop, F: ConnectionFacts, C: Clock + Drop, W: Write + Drop> 
             facts,
             clock,
             visitors,
+            reasons,
             log,
             stops,
             asks_to_stop: false,
@@ -144,12 +148,13 @@ impl<'a, P: Peers + Drop, F: ConnectionFacts, C: Clock + Drop, W: Write + Drop> 
         }
     }
 
-    /// Logs whom the authenticator let in.
-    fn log_visitors(&mut self)
+    /// Has the log take note of whom the authenticator let in, and of what the share refused.
+    fn log_told(&mut self)
         ensures { self.new.peers ≡ self.old.peers }
     {
         if let Some(log) = &mut self.log {
             log.take_visitors(self.visitors);
+            log.take_reasons(self.reasons);
         }
     }
 
@@ -236,12 +241,24 @@ impl<'a, P: Peers + Drop, F: ConnectionFacts, C: Clock + Drop, W: Write + Drop> 
         }
     }
 
-    /// Writes what is left, and a last line of a minute. False where the share was served no more since the log could not be written.
+    /// Logs what happens to the server itself, in a line without TAB and line feed: that it is `started`, or a failure.
+    pub fn note(&mut self, event: &str)
+        ensures { self.new.peers ≡ self.old.peers }
+    {
+        if let Some(log) = &mut self.log {
+            let moment = self.clock.moment();
+            log.note(moment, event);
+        }
+    }
+
+    /// Writes what is left, a last line of a minute, and that the server has stopped. False where the share was served no more since the
+    /// log could not be written.
     pub fn finish(mut self) -> bool {
         self.log_opening();
         if self.log.is_some() {
             let moment = self.clock.moment();
             self.log_minute(moment);
+            self.note("stopped");
         }
         !(self.stops && self.has_failed())
     }
@@ -269,6 +286,7 @@ impl<P: Peers + Drop, F: ConnectionFacts, C: Clock + Drop, W: Write + Drop> Peer
 
     fn next(&mut self) -> PeerEvent {
         self.log_opening();
+        self.log_told();
         self.log_passing();
         self.asks_to_stop = self.stops && self.has_failed();
         let event = self.peers.next();
@@ -293,7 +311,7 @@ impl<P: Peers + Drop, F: ConnectionFacts, C: Clock + Drop, W: Write + Drop> Peer
     }
 
     fn send(&mut self, number: u64, bytes: &[u8]) -> Result<usize, SendFault> {
-        self.log_visitors();
+        self.log_told();
         match self.peers.send(number, bytes) {
             Ok(count) => {
                 self.log_sent(number, bytes.get(..count).unwrap_or(bytes));
@@ -310,6 +328,7 @@ impl<P: Peers + Drop, F: ConnectionFacts, C: Clock + Drop, W: Write + Drop> Peer
         if self.is_opening(number) {
             self.log_refusal(number);
         } else {
+            self.log_told();
             let why = self.cause(number);
             self.log_end(number, why);
         }

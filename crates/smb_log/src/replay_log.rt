@@ -2,8 +2,11 @@
 
 use crate::ending::Ending;
 use crate::log::Log;
+use crate::reasons::{LogObserver, Reasons};
 use crate::visitors::Visitors;
-use smb_peers::{Answer, Event};
+use smb_peers::{Answer, Event, Observer};
+use smb_refusals::{LoginRefusal, Refusal};
+use std::alloc::Global;
 use std::io::Write;
 
 /// The log of what happens in a replay, whose events are heard one by one. Of a client no address is known. A replay knows the moments
@@ -12,16 +15,19 @@ use std::io::Write;
 pub struct ReplayLog<'v, W: Write + Drop> {
     log: Log<W>,
     visitors: &'v Visitors,
+    /// Those that the share told of the present event.
+    reasons: Reasons,
     /// That of the last piece.
     moment: u64,
 }
 
 impl<'v, W: Write + Drop> ReplayLog<'v, W> {
     /// The log of a replay in which nothing has happened, and that begins at a moment. Whom its share lets in `visitors` hears of.
-    pub fn new(log: Log<W>, visitors: &'v Visitors, moment: u64) -> Self {
+    pub fn new(alloc: Global, log: Log<W>, visitors: &'v Visitors, moment: u64) -> Self {
         ReplayLog {
             log,
             visitors,
+            reasons: Reasons::new(alloc),
             moment,
         }
     }
@@ -63,6 +69,7 @@ impl<'v, W: Write + Drop> ReplayLog<'v, W> {
     pub fn hear(&mut self, event: &Event, answers: &[Answer]) {
         self.happen(event);
         self.log.take_visitors(self.visitors);
+        self.log.take_reasons(&self.reasons);
         for answer in answers {
             self.answer(answer);
         }
@@ -79,5 +86,19 @@ impl<'v, W: Write + Drop> ReplayLog<'v, W> {
         let moment = self.moment;
         self.log.minute(moment, None);
         !self.log.has_failed()
+    }
+}
+
+impl<W: Write + Drop> Observer for ReplayLog<'_, W> {
+    fn refused(&mut self, connection: u64, message_id: u64, command: u16, refusal: Refusal) {
+        LogObserver::new(&self.reasons).refused(connection, message_id, command, refusal);
+    }
+
+    fn denied(&mut self, connection: u64, reason: LoginRefusal, name: &[u8]) {
+        LogObserver::new(&self.reasons).denied(connection, reason, name);
+    }
+
+    fn ended(&mut self, connection: u64, ending: smb_peers::Ending) {
+        LogObserver::new(&self.reasons).ended(connection, ending);
     }
 }

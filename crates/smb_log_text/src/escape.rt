@@ -164,3 +164,14 @@ pub fn put_user(user: &[u8], text: &mut String) -> Result<(), AllocError> {
         Err(_) => put_bytes(user, text),
     }
 }
+
+/// Adds a name in UTF-16 as a client typed it, `-` for none. Bytes that are no units are shown as those of a user.
+pub fn put_typed(name: &[u8], text: &mut String) -> Result<(), AllocError> {
+    if name.is_empty() {
+        return text.push_str("-");
+    }
+    match Units::of(name) {
+        Some(units) => put_units(units, text),
+        None => put_bytes(name, text),
+    }
+}

@@ -31,7 +31,7 @@ mod moment;
 mod names;
 
 pub use asked::Asked;
-pub use escape::put_user;
+pub use escape::{put_typed, put_user};
 pub use line::{Lines, Outcome, Subject};
 pub use moment::put_moment;
 pub use names::put_command;

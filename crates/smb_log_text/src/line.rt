@@ -3,6 +3,7 @@
 use crate::escape::{put_text, put_user};
 use crate::moment::put_moment;
 use crate::names::put_status;
+use smb_refusal_texts::WithoutComma;
 use std::alloc::{AllocError, Global};
 use std::io::Write;
 
@@ -26,6 +27,8 @@ pub struct Subject<'a> {
 pub struct Outcome {
     pub status: u32,
     pub microseconds: u64,
+    /// Why it was refused, where that is said.
+    pub why: Option<WithoutComma>,
 }
 
 /// Lines, each written as it is made. After a failed write nothing more is written.
@@ -58,7 +61,11 @@ fn put_back(outcome: Option<Outcome>, text: &mut String) -> Result<(), AllocErro
     text.push_str("\t")?;
     put_status(outcome.status, text)?;
     let microseconds = outcome.microseconds;
-    write!(text, "\t{microseconds}\n")
+    write!(text, "\t{microseconds}")?;
+    if let Some(why) = outcome.why {
+        write!(text, " why=\"{why}\"")?;
+    }
+    text.push_str("\n")
 }
 
 impl<W: Write + Drop> Lines<W> {

@@ -22,7 +22,7 @@ use Rattle.smb_access.specs.Found.{path_asked, is_read_only_file, is_pending}
 use Rattle.smb_access.specs.Parts.{is_marked, is_on_entry, Use, use_of, has_conflict, share_asked}
 use Rattle.smb_access.specs.Opens.{open_of, without_open}
 use Rattle.smb_access.specs.Sharing.{is_shared_access, is_kept_out, is_conflict, use_asked}
-use Rattle.smb_access.specs.StatusRows.{StatusRow, first_status}
+use Rattle.smb_refusals.specs.Rows.{StatusRow, first_status}
 use Rattle.smb_access.proofs.Mores.{more_conflicts, or_has}
 use Rattle.smb_access.proofs.Rows.{rising_without, length-without}
 use Rattle.smb_entry.proofs.Looks.{hit}

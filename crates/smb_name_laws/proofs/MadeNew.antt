@@ -16,7 +16,7 @@ use Rattle.smb_access.specs.Found.{is_read_only_file}
 use Rattle.smb_access.specs.Opens.{has_open}
 use Rattle.smb_access.specs.Sharing.{use_asked, is_conflict}
 use Rattle.smb_opens.specs.Found.{entry_asked}
-use Rattle.smb_access.specs.StatusRows.{first_status}
+use Rattle.smb_refusals.specs.Rows.{first_status}
 use Rattle.smb_opens.specs.Create.{create_rows, create_status}
 use Rattle.smb_opens.specs.Good.{GoodStore}
 use Rattle.smb_opens.specs.State.{StoreState}

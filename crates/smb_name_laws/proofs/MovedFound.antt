@@ -4,8 +4,7 @@ use Rattle.std.proofs.lemmas.Bool.{eqb-true}
 use Rattle.std.proofs.lemmas.Bool.Decides.{nat_tests}
 use Rattle.std.specs.Option.{option_map, option_map_or}
 use Rattle.smb_wire.specs.Paths.{is_separator, path_spelled, path_fault, folded_path}
-use Rattle.smb_wire.specs.declared.nt_status.NtStatus.TheVariants.{Success, InvalidParameter, ObjectNameInvalid, FileClosed}
-use Rattle.smb_tree.specs.declared.fault.TreeFault.{TreeFault}
+use Rattle.smb_wire.specs.declared.nt_status.NtStatus.TheVariants.{Success, FileClosed}
 use Rattle.smb_tree.specs.Content.{Path, Row, Content, is_same_path, entry_at, number_at, numbered}
 use Rattle.smb_tree.specs.Entries.{Entry, is_folder_kind, last_part}
 use Rattle.smb_tree.specs.Faults.{move_fault}
@@ -22,7 +21,12 @@ use Rattle.smb_access.specs.declared.view.View.{View}
 use Rattle.smb_access.specs.Found.{is_read_only_file}
 use Rattle.smb_access.specs.Opens.{open_of, has_open}
 use Rattle.smb_access.specs.Parts.{is_on_entry, view_at, view_through}
-use Rattle.smb_access.specs.StatusRows.{StatusRow, first_status}
+use Rattle.smb_refusals.specs.declared.refusal.Refusal.{Refusal}
+use Rattle.smb_refusals.specs.declared.set_info.RenameRefusal.{RenameRefusal}
+use Rattle.smb_refusals.specs.declared.set_info.RenameRefusal.TheVariants.{NameBeginsWithSeparator, NameIsNoPath, PathTooDeep}
+use Rattle.smb_refusals.specs.Rows.{first_status, DecidingRow, first_decided, with_decided_statuses}
+use Rattle.smb_refusals.proofs.Fails.{rename_fails}
+use Rattle.smb_refusals.proofs.RowLemmas.{decided_unrefused, decided_before}
 use Rattle.smb_access.specs.Views.{view_of}
 use Rattle.smb_entry.specs.Rename.{path_named}
 use Rattle.smb_entry.specs.Parts.{is_not_replaced, rename_rows, dated, renamed_tree, path_numbered}
@@ -32,23 +36,9 @@ use Rattle.smb_entry.proofs.Under.{path_found, path_at}
 use Rattle.smb_opens.specs.Renames.{renamed_through}
 use Rattle.smb_opens.specs.State.{StoreState}
 use Rattle.smb_opens.specs.Views.{open_view}
-use Rattle.smb_opens.proofs.Decided.{rows_by, MayReplace, passes, code_of, status_moved}
-use Rattle.smb_opens.proofs.Passing.{pass_at}
+use Rattle.smb_opens.proofs.Decided.{rows_by, MayReplace, passes, pass_row, no_fault, refusal_moved}
 use Rattle.smb_name_laws.proofs.LastParts.{last_of}
 use Rattle.smb_name_laws.specs.Names.{IsRenamed, ARenameMovesItsEntry, ARenameDeletesWhatItReplaces}
-
--- the first rows of those of which none decides
-front_success : (xs ys : List StatusRow) → first_status (xs ++ ys) ≡ Success → first_status xs ≡ Success
-front_success [] ys e = refl
-front_success (x ∷ xs) ys e =
-    elim (x.0) as (λ b. (if b then x.1 else first_status (xs ++ ys)) ≡ Success → (if b then x.1 else first_status xs) ≡ Success) [
-      | true ↦ λ f. f
-      | false ↦ λ f. front_success xs ys f
-    ] e
-
-no_fault : (o : Option TreeFault) → code_of o ≡ Success → o ≡ None
-no_fault None e = refl
-no_fault (Some fault) e = absurd (cc)
 
 -- what moves
 pub record Moves (state : StoreState) (name : List ℕ) (row : OpenRow) (from : Path) (entry : Entry) : Type 0 where
@@ -74,17 +64,18 @@ passing state number name row from entry renamed =
     let shown : open_view state number ≡ Some view = ap (view_through rows) renamed.opened ∙ ap (option_map (λ (r : Row). view_of row.access r.1)) renamed.found in
     let found : numbered rows view.entry ≡ Some (from, entry) = ap (numbered rows) same ∙ renamed.found in
     let path : path_numbered rows view.entry ≡ from = path_found rows view.entry (from, entry) found in
-    let status : first_status (rename_rows rows state.opens view name renamed.replace from (path_named name)) ≡ Success =
-    sym (ap (λ (o : Option View). option_map_or (λ (v : View). first_status (rename_rows rows state.opens v name renamed.replace (path_numbered rows v.entry) (path_named name))) o FileClosed) shown
-    ∙ ap (λ (p : Path). first_status (rename_rows rows state.opens view name renamed.replace p (path_named name))) path) ∙ renamed.status in
-    let one = pass_at (length name == 0 || is_separator (slice_index name 0)) InvalidParameter _ (λ q. cc) status in
-    let two = pass_at (is_some (path_fault name)) ObjectNameInvalid _ (λ q. cc) one.1 in
+    let status : first_status (with_decided_statuses (λ refusal. Refusal.Rename refusal) (rename_rows rows state.opens view name renamed.replace from (path_named name))) ≡ Success =
+    sym (ap (λ (o : Option View). option_map_or (λ (v : View). first_status (with_decided_statuses (λ refusal. Refusal.Rename refusal) (rename_rows rows state.opens v name renamed.replace (path_numbered rows v.entry) (path_named name)))) o FileClosed) shown
+    ∙ ap (λ (p : Path). first_status (with_decided_statuses (λ refusal. Refusal.Rename refusal) (rename_rows rows state.opens view name renamed.replace p (path_named name)))) path) ∙ renamed.status in
+    let refusal : first_decided (rename_rows rows state.opens view name renamed.replace from (path_named name)) ≡ None = decided_unrefused (λ refusal. Refusal.Rename refusal) rename_fails (rename_rows rows state.opens view name renamed.replace from (path_named name)) status in
+    let one = pass_row (length name == 0 || is_separator (slice_index name 0)) NameBeginsWithSeparator _ refusal in
+    let two = pass_row (is_some (path_fault name)) NameIsNoPath _ one.1 in
     let first = one.0 in
     let second = two.0 in
-    let lawful : (rest : List StatusRow) → first_status (name_rows name ++ rest) ≡ first_status rest = λ rest. rw (first, second) refl in
-    let front = front_success (rows_by rows state.opens view from (path_named name) renamed.replace (is_same_path from (path_named name)) (is_some (entry_at rows (path_named name))) (is_not_replaced state.opens (entry_at rows (path_named name)))) ((would_be_too_deep rows from (path_named name), ObjectNameInvalid) ∷ []) two.1 in
-    let code = status_moved state.tree state.opens view (from, entry) (path_named name) name renamed.replace good found lawful front in
-    let free : move_fault state.tree view.entry (path_named name) ≡ None = no_fault (move_fault state.tree view.entry (path_named name)) (sym code ∙ status) in
+    let lawful : (rest : List (DecidingRow RenameRefusal)) → first_decided (name_rows name ++ rest) ≡ first_decided rest = λ rest. rw (first, second) refl in
+    let front = decided_before (rows_by rows state.opens view from (path_named name) renamed.replace (is_same_path from (path_named name)) (is_some (entry_at rows (path_named name))) (is_not_replaced state.opens (entry_at rows (path_named name)))) ((would_be_too_deep rows from (path_named name), Some PathTooDeep) ∷ []) two.1 in
+    let told = refusal_moved state.tree state.opens view (from, entry) (path_named name) name renamed.replace good found lawful front in
+    let free : move_fault state.tree view.entry (path_named name) ≡ None = no_fault (move_fault state.tree view.entry (path_named name)) (sym told ∙ refusal) in
     let here : move_fault state.tree row.entry (folded_path (path_spelled name)) ≡ None = ap (λ (n : ℕ). move_fault state.tree n (path_named name)) (sym same) ∙ free in
     record {
       moves = record {

@@ -2,7 +2,7 @@
 use Rattle.std.proofs.Common.{◌≡◌, Bool, true, false, ◌&&◌, ◌||◌, List, [], ◌∷◌, ◌++◌, refl, arith}
 use Rattle.std.specs.List.{AllByRecursion}
 use Rattle.smb_wire.specs.declared.nt_status.NtStatus.TheVariants.{Success}
-use Rattle.smb_access.specs.StatusRows.{StatusRow, first_status}
+use Rattle.smb_refusals.specs.Rows.{StatusRow, first_status}
 
 -- where no row holds
 pub none_holds : (rows : List StatusRow) → AllByRecursion (λ row. row.0 ≡ false) rows → first_status rows ≡ Success

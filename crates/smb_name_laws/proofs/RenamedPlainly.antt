@@ -22,7 +22,8 @@ use Rattle.smb_access.specs.Access.{is_deleting}
 use Rattle.smb_access.specs.Found.{is_pending, is_reached, is_read_only_file}
 use Rattle.smb_access.specs.Opens.{has_open}
 use Rattle.smb_access.specs.Parts.{view_through}
-use Rattle.smb_access.specs.StatusRows.{StatusRow, first_status}
+use Rattle.smb_refusals.specs.declared.refusal.Refusal.{Refusal}
+use Rattle.smb_refusals.specs.Rows.{StatusRow, first_status, with_decided_statuses}
 use Rattle.smb_access.specs.Views.{view_of}
 use Rattle.smb_access.proofs.Trees.{at_path, above_at}
 use Rattle.smb_entry.specs.Rename.{path_named}
@@ -39,15 +40,15 @@ use Rattle.smb_name_laws.proofs.NoneHold.{none_holds, none_before, or_off, and_o
 
 -- the status is that of the rows over what the open shows
 status_is : (state : StoreState) (number : ℕ) (name : List ℕ) (replace : Bool) (row : OpenRow) (from : Path) (entry : Entry) → MayRename state number row from entry →
-    rename_status state number name replace ≡ first_status (rename_rows state.tree.rows state.opens (view_of row.access entry) name replace from (path_named name))
+    rename_status state number name replace ≡ first_status (with_decided_statuses (λ refusal. Refusal.Rename refusal) (rename_rows state.tree.rows state.opens (view_of row.access entry) name replace from (path_named name)))
 status_is state number name replace row from entry may =
     let rows : List Row = state.tree.rows in
     let view : View = view_of row.access entry in
     let same : entry.number ≡ row.entry = number-from_numbered rows (from, entry) row.entry may.found in
     let seen : open_view state number ≡ Some view = ap (view_through rows) may.opened ∙ ap (option_map (λ (r : Row). view_of row.access r.1)) may.found in
     let path : path_numbered rows view.entry ≡ from = path_found rows view.entry (from, entry) (ap (numbered rows) same ∙ may.found) in
-    ap (λ (o : Option View). option_map_or (λ (v : View). first_status (rename_rows rows state.opens v name replace (path_numbered rows v.entry) (path_named name))) o FileClosed) seen
-    ∙ ap (λ (p : Path). first_status (rename_rows rows state.opens view name replace p (path_named name))) path
+    ap (λ (o : Option View). option_map_or (λ (v : View). first_status (with_decided_statuses (λ refusal. Refusal.Rename refusal) (rename_rows rows state.opens v name replace (path_numbered rows v.entry) (path_named name)))) o FileClosed) seen
+    ∙ ap (λ (p : Path). first_status (with_decided_statuses (λ refusal. Refusal.Rename refusal) (rename_rows rows state.opens view name replace p (path_named name)))) path
 
 -- the entry is not the root, whose number is 1
 not_root : (state : StoreState) (number : ℕ) (row : OpenRow) (from : Path) (entry : Entry) → GoodStore state → MayRename state number row from entry → (entry.number == 1) ≡ false

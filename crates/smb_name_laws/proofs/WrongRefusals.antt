@@ -11,7 +11,7 @@ use Rattle.smb_tree.specs.Content.{changed}
 use Rattle.smb_tree.specs.Entries.{Entry, new_entry, is_folder_kind}
 use Rattle.smb_tree.specs.declared.entry.Kind.TheVariants.{Folder}
 use Rattle.smb_access.specs.Asked.{FileAsked}
-use Rattle.smb_access.specs.StatusRows.{first_status}
+use Rattle.smb_refusals.specs.Rows.{first_status}
 use Rattle.smb_opens.specs.Create.{access_granted, create_rows, create_status}
 use Rattle.smb_opens.specs.Found.{entry_asked}
 use Rattle.smb_opens.specs.State.{StoreState}

@@ -18,7 +18,7 @@ use Rattle.smb_access.specs.Found.{is_read_only_file}
 use Rattle.smb_access.specs.Opens.{open_of}
 use Rattle.smb_access.specs.Parts.{is_on_entry, Use, use_of}
 use Rattle.smb_access.specs.Sharing.{is_shared_access, is_kept_out, is_conflict, use_asked}
-use Rattle.smb_access.specs.StatusRows.{first_status}
+use Rattle.smb_refusals.specs.Rows.{first_status}
 use Rattle.smb_opens.specs.Create.{access_granted, create_rows, create_status}
 use Rattle.smb_opens.specs.Found.{entry_asked}
 use Rattle.smb_opens.specs.Good.{GoodStore}

@@ -1,6 +1,7 @@
 -- For the proofs; nothing here need be believed.
 -- What a login is decided by, as it stands in memory, and a part of its table.
 use Rattle.std.specs.Prelude.{ℕ, not, if◌then◌else◌, List, map}
+use Rattle.smb_session.specs.Answers.{answered_by}
 use Rattle.smb_session.specs.Authenticator.{Answered, continues, denies}
 use Rattle.smb_ntlm.specs.Accounts.{KnownAccount, known}
 use Rattle.smb_ntlm.specs.Messages.{has_unicode, asked_flags, challenge_message}
@@ -8,6 +9,8 @@ use Rattle.smb_ntlm.specs.Proof.{challenge}
 use Rattle.smb_ntlm.specs.Tokens.{answer_token}
 use Rattle.smb_ntlm.specs.Login.{NtlmState}
 use Rattle.smb_ntlm.specs.declared.token.Wrapping.{Wrapping}
+use Rattle.smb_ntlm.specs.declared.decision.Decision.{Decision}
+use Rattle.smb_ntlm.specs.declared.decision.Decision.TheVariants.{Answers, Denies}
 use Rattle.smb_ntlm.specs.declared.entry.Entry.{Entry}
 use Rattle.smb_ntlm.specs.declared.login.Gate.{Gate}
 
@@ -29,3 +32,8 @@ abbrev pub negotiate_answer : List ℕ → ℕ → Wrapping → List ℕ → Ans
 negotiate_answer seed session wrapping message =
     if not (has_unicode (asked_flags message)) then denies
     else continues (answer_token wrapping (challenge_message (asked_flags message) (challenge seed session)))
+
+-- what a decision answers
+abbrev pub decided : Decision → Answered
+decided (Answers answer) = answered_by answer
+decided (Denies denial) = denies

@@ -2,9 +2,10 @@
 //! [`Authenticator`](smb_session::Authenticator).
 //!
 //! [`Ntlm`] lets in who knows an account's password, by NTLM's second version, and guests where these may come. It
-//! keeps nothing between tokens: which message a token brings stands in the token, and a session's challenge is a
-//! digest of a seed and the session's number. It signs and seals nothing. An [`Account`] has the NT hash of its
-//! password, which [`nt_hash_of`] makes; [`account_fault`] tells what is wrong with accounts.
+//! keeps nothing of a login between tokens: which message a token brings stands in the token, and a session's challenge
+//! is a digest of a seed and the session's number. Why the last token was denied is kept for who asks, and decides
+//! nothing. It signs and seals nothing. An [`Account`] has the NT hash of its password, which [`nt_hash_of`] makes;
+//! [`account_fault`] tells what is wrong with accounts.
 //!
 //! What a token is answered is a table of ten rows, `specs/Login.antt`. What the rows ask is read off the token:
 //! elements of DER (`Der.antt`), tokens of SPNEGO (`Spnego.antt`, `Tokens.antt`), messages (`Messages.antt`), and the
@@ -19,6 +20,7 @@
 
 mod account;
 mod capitals;
+mod decision;
 mod der;
 mod entry;
 mod hmac;

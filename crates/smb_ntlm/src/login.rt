@@ -1,13 +1,13 @@
 //! What a token is answered.
 
 ghost use Rattle.std.specs.Prelude.{◌≡◌, ◌≤◌, length, find, option_copied, IfOk};
-ghost use Rattle.smb_session.specs.Answers.{answered_by};
 ghost use Rattle.smb_ntlm.specs.Messages.{login_asked, challenge_message};
 ghost use Rattle.smb_ntlm.specs.Proof.{challenge, is_named};
 ghost use Rattle.smb_ntlm.specs.Tokens.{answer_token};
 ghost use Rattle.smb_ntlm.specs.Login.{guest_user, lets_in, first_answer, login_rows, message_rows, login_answer};
-ghost use Rattle.smb_ntlm.specs.Gates.{known_entry, gate_state, negotiate_answer};
+ghost use Rattle.smb_ntlm.specs.Gates.{known_entry, gate_state, negotiate_answer, decided};
 
+use super::decision::Decision;
 use super::entry::Entry;
 use super::messages::{
     CHALLENGE_SIZE, Login, NEGOTIATE, asked_flags, has_unicode, is_message, message_type,
@@ -15,6 +15,7 @@ use super::messages::{
 };
 use super::token::{Token, Wrapping, ask_token};
 use md5::{Digest, Md5};
+use smb_refusals::LoginRefusal;
 use smb_session::Answer;
 use smb_wire::WireFault;
 use smb_wire::limits::LONGEST_TOKEN;
@@ -79,30 +80,30 @@ fn challenge_token(
 }
 
 /// Lets a user in, to read only or to write too.
-fn let_in(
+fn let_in<'a>(
     alloc: Global,
     wrapping: Wrapping,
     user: Vec<u8>,
     read_only: bool,
-) -> Result<Answer, AllocError>
-    ensures { IfOk result (λ answer. answered_by answer ≡ lets_in wrapping user.items read_only) }
+) -> Result<Decision<'a>, AllocError>
+    ensures { IfOk result (λ decision. decided decision ≡ lets_in wrapping user.items read_only) }
 {
-    Ok(Answer::Accept {
+    Ok(Decision::Answers(Answer::Accept {
         user,
         flags: IS_GUEST,
         read_only,
         token: Vec::from_slice(alloc, wrapping.last_token())?,
-    })
+    }))
 }
 
 /// What a login is answered.
-fn answer_login(
+fn answer_login<'a>(
     gate: Gate<'_>,
     session: u64,
     wrapping: Wrapping,
-    login: &Login<'_>,
-) -> Result<Answer, AllocError>
-    ensures { IfOk result (λ answer. answered_by answer ≡
+    login: &Login<'a>,
+) -> Result<Decision<'a>, AllocError>
+    ensures { IfOk result (λ decision. decided decision ≡
         first_answer (login_rows (gate_state gate.entry) session wrapping (login_asked login.now))) }
 {
     match find_entry(gate.entries, login.user) {
@@ -110,73 +111,78 @@ fn answer_login(
             let user = Vec::from_slice(gate.alloc, &entry.account.name)?;
             let_in(gate.alloc, wrapping, user, entry.account.read_only)
         }
-        Some(_) => Ok(Answer::Deny),
+        Some(_) => Ok(Decision::denial(LoginRefusal::ProofWrong, login.user)),
         None if gate.guest => {
             let user = guest_user(gate.alloc, session)?;
             let_in(gate.alloc, wrapping, user, gate.guest_read_only)
         }
-        None => Ok(Answer::Deny),
+        None => Ok(Decision::denial(LoginRefusal::NoGuests, login.user)),
     }
 }
 
 /// What a NEGOTIATE is answered.
-fn answer_negotiate(
+fn answer_negotiate<'a>(
     gate: Gate<'_>,
     session: u64,
     wrapping: Wrapping,
-    message: &[u8],
-) -> Result<Answer, AllocError>
+    message: &'a [u8],
+) -> Result<Decision<'a>, AllocError>
     requires { 16 ≤ length message.now }
-    ensures { IfOk result (λ answer. answered_by answer ≡
+    ensures { IfOk result (λ decision. decided decision ≡
         negotiate_answer gate.entry.seed.now session wrapping message.now) }
 {
     let asked = asked_flags(message);
     if !has_unicode(asked) {
-        return Ok(Answer::Deny);
+        return Ok(Decision::denial(LoginRefusal::NoUnicode, &[]));
     }
     let challenge = challenge(gate.seed, session);
     match challenge_token(gate.alloc, wrapping, asked, &challenge) {
-        Ok(token) => Ok(Answer::Continue(token)),
+        Ok(token) => Ok(Decision::Answers(Answer::Continue(token))),
         Err(_) => Err(AllocError),
     }
 }
 
 /// What a message is answered.
 #[tactic(auto, unfolding(crate::specs::Login::message_rows))]
-fn answer_message(
+fn answer_message<'a>(
     gate: Gate<'_>,
     session: u64,
     wrapping: Wrapping,
-    message: &[u8],
-) -> Result<Answer, AllocError>
-    ensures { IfOk result (λ answer. answered_by answer ≡
+    message: &'a [u8],
+) -> Result<Decision<'a>, AllocError>
+    ensures { IfOk result (λ decision. decided decision ≡
         first_answer (message_rows (gate_state gate.entry) session wrapping message.now)) }
 {
     if !is_message(message) {
-        return Ok(Answer::Deny);
+        return Ok(Decision::denial(LoginRefusal::MessageUnknown, &[]));
     }
     if message_type(message) == NEGOTIATE {
         return answer_negotiate(gate, session, wrapping, message);
     }
     match Login::read(message) {
         Some(login) => answer_login(gate, session, wrapping, &login),
-        None => Ok(Answer::Deny),
+        None => Ok(Decision::denial(LoginRefusal::LoginUnreadable, &[])),
     }
 }
 
 /// What a token is answered.
 #[tactic(auto, unfolding(crate::specs::Login::login_answer))]
-pub fn answer_to(gate: Gate<'_>, session: u64, token: &[u8]) -> Result<Answer, AllocError>
-    ensures { IfOk result (λ answer. answered_by answer ≡ login_answer (gate_state gate.entry) session token.now) }
+pub fn answer_to<'a>(
+    gate: Gate<'_>,
+    session: u64,
+    token: &'a [u8],
+) -> Result<Decision<'a>, AllocError>
+    ensures { IfOk result (λ decision. decided decision ≡ login_answer (gate_state gate.entry) session token.now) }
 {
     if token.len() > LONGEST_TOKEN {
-        return Ok(Answer::Deny);
+        return Ok(Decision::denial(LoginRefusal::TokenUnreadable, &[]));
     }
     let Some(token) = Token::read(token) else {
-        return Ok(Answer::Deny);
+        return Ok(Decision::denial(LoginRefusal::TokenUnreadable, &[]));
     };
     if token.prefers_another() {
-        return Ok(Answer::Continue(Vec::from_slice(gate.alloc, ask_token())?));
+        let asked = Vec::from_slice(gate.alloc, ask_token())?;
+        return Ok(Decision::Answers(Answer::Continue(asked)));
     }
     answer_message(gate, session, token.wrapping, token.message)
 }

@@ -1,13 +1,17 @@
 //! The authenticator.
 
 ghost use Rattle.std.specs.Prelude.{◌≡◌, map, IfOk};
+ghost use Rattle.smb_session.specs.Authenticator.{IsLawful};
 ghost use Rattle.smb_ntlm.specs.Accounts.{known, AreLawful};
+ghost use Rattle.smb_ntlm.specs.Gates.{decided};
+ghost use Rattle.smb_ntlm.specs.Login.{login_answer};
 
 use super::account::Account;
+use super::decision::{Decision, KeptDenial};
 use super::entry::Entry;
 use super::login::{Gate, answer_to};
 use super::token::hello_token;
-use smb_session::{Answer, Authenticator};
+use smb_session::{Answer, Authenticator, Denial};
 use std::alloc::{AllocError, Global};
 use std::marker::Model;
 
@@ -15,7 +19,8 @@ use std::marker::Model;
 /// come. Who is let in has the session flag of a guest, since nothing is signed.
 ///
 /// An account's user is its name. A guest's is `guest`, a zero byte, and the session's number in decimal digits, so the
-/// guests of two sessions are two users. Steps change nothing, also those that end without memory.
+/// guests of two sessions are two users. Steps change nothing, also those that end without memory, but for the denial
+/// that is kept: why the last step denied, with the name that was typed where memory could be had for it.
 #[derive(Drop)]
 pub struct Ntlm {
     alloc: Global,
@@ -23,6 +28,7 @@ pub struct Ntlm {
     entries: Vec<Entry>,
     guest: bool,
     guest_read_only: bool,
+    denial: Option<KeptDenial>,
 }
 
 impl Model for Ntlm {
@@ -82,7 +88,23 @@ impl Ntlm {
             entries,
             guest,
             guest_read_only,
+            denial: None,
         })
+    }
+
+    /// What a token is answered.
+    fn decide<'a>(&self, session: u64, token: &'a [u8]) -> Result<Decision<'a>, AllocError>
+        ensures answer { IfOk result (λ decision. decided decision ≡ login_answer self.now session token.now) }
+        ensures lawful { IfOk result (λ decision. IsLawful (decided decision)) }
+    {
+        let gate = Gate {
+            alloc: self.alloc,
+            seed: &self.seed,
+            entries: &self.entries,
+            guest: self.guest,
+            guest_read_only: self.guest_read_only,
+        };
+        answer_to(gate, session, token)
     }
 }
 
@@ -96,13 +118,20 @@ impl Authenticator for Ntlm {
     }
 
     fn step(&mut self, session: u64, token: &[u8]) -> Result<Answer, AllocError> {
-        let gate = Gate {
-            alloc: self.alloc,
-            seed: &self.seed,
-            entries: &self.entries,
-            guest: self.guest,
-            guest_read_only: self.guest_read_only,
-        };
-        answer_to(gate, session, token)
+        self.denial = None;
+        match self.decide(session, token)? {
+            Decision::Answers(answer) => Ok(answer),
+            Decision::Denies(denial) => {
+                self.denial = Some(KeptDenial::of(self.alloc, denial));
+                Ok(Answer::Deny)
+            }
+        }
+    }
+
+    fn denial(&self) -> Option<Denial<'_>> {
+        match &self.denial {
+            Some(denial) => Some(denial.denial()),
+            None => None,
+        }
     }
 }

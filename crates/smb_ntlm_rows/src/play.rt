@@ -3,14 +3,31 @@
 use crate::row::{Hashed, Row, Step};
 use hex::encode;
 use smb_ntlm::{Account, Ntlm, account_fault, nt_hash_of};
-use smb_session::{Answer, Authenticator};
+use smb_session::{Answer, Authenticator, Denial};
 use std::alloc::{AllocError, Global};
 
-/// An answer in words: `deny`; `continue` with the token in hex; `accept` with the user in hex, the flags and the
-/// token, and `readonly` where the user may only read.
-fn words_of(alloc: Global, answer: &Answer) -> Result<String, AllocError> {
+/// A denial in words: `deny`, with the label of the reason and the name in hex, where one was read.
+fn denial_words(alloc: Global, denial: Option<Denial<'_>>) -> Result<String, AllocError> {
+    let Some(denial) = denial else {
+        return String::from_str(alloc, "deny");
+    };
+    let label = denial.reason.label();
+    if denial.name.is_empty() {
+        return format!(in alloc; "deny {label}");
+    }
+    let name = encode(alloc, denial.name)?;
+    format!(in alloc; "deny {label} {name}")
+}
+
+/// An answer in words: of a denial its own; `continue` with the token in hex; `accept` with the user in hex, the flags
+/// and the token, and `readonly` where the user may only read.
+fn words_of(
+    alloc: Global,
+    answer: &Answer,
+    denial: Option<Denial<'_>>,
+) -> Result<String, AllocError> {
     match answer {
-        Answer::Deny => String::from_str(alloc, "deny"),
+        Answer::Deny => denial_words(alloc, denial),
         Answer::Continue(token) => {
             let token = encode(alloc, token.as_slice())?;
             format!(in alloc; "continue {token}")
@@ -46,7 +63,7 @@ fn copies(alloc: Global, accounts: &[Account]) -> Result<Vec<Account>, AllocErro
 /// What a step gave in place of its answer, or None where it gave that.
 fn differs(alloc: Global, ntlm: &mut Ntlm, step: &Step) -> Result<Option<String>, AllocError> {
     let answer = ntlm.step(step.session, step.token.as_slice())?;
-    let words = words_of(alloc, &answer)?;
+    let words = words_of(alloc, &answer, ntlm.denial())?;
     if words.as_str() == step.answer.as_str() {
         Ok(None)
     } else {

@@ -2,7 +2,8 @@
 use Rattle.std.proofs.Common.{◌≡◌, ◌≢◌, ℕ, List, length, Bool, true, false, cond, Option, None, Some, Contains, refl, sym, ap, subst, ◌∙◌}
 use Rattle.std.specs.Option.{option_map_or}
 use Rattle.smb_wire.specs.declared.nt_status.NtStatus.TheVariants.{Success, InvalidParameter, InvalidDeviceRequest, AccessDenied, FileLockConflict, FileClosed}
-use Rattle.smb_access.specs.StatusRows.{first_status}
+use Rattle.smb_refusals.specs.declared.refusal.Refusal.{Refusal}
+use Rattle.smb_refusals.specs.Rows.{first_status, with_statuses}
 use Rattle.smb_locks.specs.declared.lock.Lock.{Lock}
 use Rattle.smb_locks.specs.Conflicts.{BarsRead, BarsWrite}
 use Rattle.smb_locks.specs.Parts.{bars_read, bars_write}
@@ -46,7 +47,7 @@ write_barred state number offset count view lock c bar =
 
 read_refused : (state : StoreState) (most number offset count minimum : ℕ) (row : OpenRow) (lock : Lock) (view : Option View) → view ≡ open_view state number → open_of state.opens number ≡ Some row → Contains (locks_on state.locks row.entry) lock →
     BarsRead number (record { offset = offset; length = count }) lock →
-    option_map_or (λ view. first_status (read_rows most view (keeps_from_reading state.locks number view offset count) offset count minimum)) view FileClosed ≢ Success
+    option_map_or (λ view. first_status (with_statuses (λ refusal. Refusal.Read refusal) (read_rows most view (keeps_from_reading state.locks number view offset count) offset count minimum))) view FileClosed ≢ Success
 read_refused state most number offset count minimum row lock None v opened c bar = λ e. cc
 read_refused state most number offset count minimum row lock (Some view) v opened c bar =
     let here : Contains (locks_on state.locks view.entry) lock = subst (λ (n : ℕ). Contains (locks_on state.locks n) lock) (sym (same_entry state number row view opened v)) c in
@@ -54,7 +55,7 @@ read_refused state most number offset count minimum row lock (Some view) v opene
 
 write_refused : (state : StoreState) (most number offset : ℕ) (buffer : List ℕ) (row : OpenRow) (lock : Lock) (view : Option View) → view ≡ open_view state number → open_of state.opens number ≡ Some row → Contains (locks_on state.locks row.entry) lock →
     BarsWrite number (record { offset = offset; length = length buffer }) lock →
-    option_map_or (λ view. first_status (write_rows most view (keeps_from_writing state.locks number view offset (length buffer)) offset (length buffer) (has_no_room state.tree view.entry offset buffer))) view FileClosed ≢ Success
+    option_map_or (λ view. first_status (with_statuses (λ refusal. Refusal.Write refusal) (write_rows most view (keeps_from_writing state.locks number view offset (length buffer)) offset (length buffer) (has_no_room state.tree view.entry offset buffer)))) view FileClosed ≢ Success
 write_refused state most number offset buffer row lock None v opened c bar = λ e. cc
 write_refused state most number offset buffer row lock (Some view) v opened c bar =
     let here : Contains (locks_on state.locks view.entry) lock = subst (λ (n : ℕ). Contains (locks_on state.locks n) lock) (sym (same_entry state number row view opened v)) c in

@@ -4,9 +4,11 @@ use Rattle.std.proofs.lemmas.Bool.{eqb-true}
 use Rattle.std.proofs.lemmas.Bool.Decides.{nat_tests}
 use Rattle.std.specs.List.{AllByRecursion}
 use Rattle.std.specs.Option.{option_map, option_map_or}
-use Rattle.smb_wire.specs.declared.nt_status.NtStatus.{NtStatus}
-use Rattle.smb_wire.specs.declared.nt_status.NtStatus.TheVariants.{Success, InvalidParameter, ObjectNameInvalid, AccessDenied, DeletePending, ObjectPathNotFound, ObjectNameCollision}
-use Rattle.smb_wire.specs.NtStatus.{status_code}
+use Rattle.smb_refusals.specs.declared.refused_by.RefusedBy.{RefusedBy}
+use Rattle.smb_refusals.specs.declared.refused_by.RefusedBy.TheVariants.{Row as ByRow, NoMemory}
+use Rattle.smb_refusals.specs.declared.set_info.RenameRefusal.{RenameRefusal}
+use Rattle.smb_refusals.specs.declared.set_info.RenameRefusal.TheVariants.{DeleteNotGranted, EntryToBeDeleted, NewPathIsBeneath, PathNotFound, OpenBeneath, TargetToBeDeleted, TargetExists, TargetNotReplaceable, PathTooDeep}
+use Rattle.smb_refusals.specs.Refused.{IsRefusedBy}
 use Rattle.smb_tree.specs.declared.fault.TreeFault.{TreeFault}
 use Rattle.smb_tree.specs.declared.fault.TreeFault.TheVariants.{ParentAbsent, Exists, TooDeep}
 use Rattle.smb_tree.specs.Entries.{Entry, is_folder, is_folder_kind}
@@ -18,33 +20,29 @@ use Rattle.smb_tree.specs.Laws.{AreApart}
 use Rattle.smb_tree.specs.Moves.{is_within, replaced}
 use Rattle.smb_tree.proofs.Heads.{within_or_not, replaced-within}
 use Rattle.smb_tree.proofs.Keys.{same_path-eq, same_path-itself}
-use Rattle.smb_access.specs.declared.fault.StoreFault.{StoreFault}
-use Rattle.smb_access.specs.declared.fault.StoreFault.TheVariants.{Status, NoMemory as NoRoom}
 use Rattle.smb_access.specs.declared.open_row.OpenRow.{OpenRow}
 use Rattle.smb_access.specs.declared.view.View.{View}
 use Rattle.smb_access.specs.Access.{is_deleting}
-use Rattle.smb_access.specs.StatusRows.{StatusRow, first_status}
-use Rattle.smb_access.specs.Faults.{IsRefusal}
+use Rattle.smb_refusals.specs.Rows.{DecidingRow, first_decided}
 use Rattle.smb_access.specs.Found.{is_pending, is_reached}
 use Rattle.smb_access.specs.Looked.{target_of}
 use Rattle.smb_entry.specs.Parts.{has_open_beneath, is_not_replaced, rename_rows, is_beneath, path_numbered}
 use Rattle.smb_entry.specs.Ways.{IsMoveRefusal, way_between, is_own_target, is_kept_target, name_rows, way_rows}
-use Rattle.smb_opens.proofs.Passing.{pass_at}
 use Rattle.smb_access.proofs.Trees.{folder_target, reached_told}
 use Rattle.smb_entry.proofs.Under.{beneath_parent, number_found, path_at}
 
 -- rows 3 to 11, by three of their conditions
-abbrev pub rows_by : List Row → List OpenRow → View → Path → Path → Bool → Bool → Bool → Bool → List StatusRow
+abbrev pub rows_by : List Row → List OpenRow → View → Path → Path → Bool → Bool → Bool → Bool → List (DecidingRow RenameRefusal)
 rows_by rows opens view from to replace own taken kept =
-    (not (is_deleting view.access) || view.entry == 1, AccessDenied)
-    ∷ (view.mark, DeletePending)
-    ∷ (is_beneath from to, InvalidParameter)
-    ∷ (not (is_reached rows to), ObjectPathNotFound)
-    ∷ (own, Success)
-    ∷ (is_folder_kind view.kind && has_open_beneath rows opens from, AccessDenied)
-    ∷ (is_pending rows to, DeletePending)
-    ∷ (taken && not replace, ObjectNameCollision)
-    ∷ (kept, AccessDenied)
+    (not (is_deleting view.access) || view.entry == 1, Some DeleteNotGranted)
+    ∷ (view.mark, Some EntryToBeDeleted)
+    ∷ (is_beneath from to, Some NewPathIsBeneath)
+    ∷ (not (is_reached rows to), Some PathNotFound)
+    ∷ (own, None)
+    ∷ (is_folder_kind view.kind && has_open_beneath rows opens from, Some OpenBeneath)
+    ∷ (is_pending rows to, Some TargetToBeDeleted)
+    ∷ (taken && not replace, Some TargetExists)
+    ∷ (kept, Some TargetNotReplaceable)
     ∷ []
 
 own_by : (n : ℕ) (o : Option Entry) → is_own_target n (option_map target_of o) ≡ option_map_or (λ k. k == n) (option_map (λ (e : Entry). e.number) o) false
@@ -87,15 +85,15 @@ pub way_told : (rows : List Row) (opens : List OpenRow) (view : View) (row : Row
     way_rows rows opens view (way_between rows row.0 to) replace ≡ rows_by rows opens view row.0 to replace (is_same_path row.0 to) (is_some (entry_at rows to)) (is_not_replaced opens (entry_at rows to))
 way_told rows opens view row to replace a h e =
     let own = own_is rows view.entry row to a h in
-    ap (λ (p : Path). (not (is_deleting view.access) || view.entry == 1, AccessDenied)
-    ∷ (view.mark, DeletePending)
-    ∷ (is_beneath row.0 to, InvalidParameter)
-    ∷ (not (is_reached rows to), ObjectPathNotFound)
-    ∷ (is_own_target view.entry (option_map target_of (entry_at rows to)), Success)
-    ∷ (is_folder_kind view.kind && has_open_beneath rows opens p, AccessDenied)
-    ∷ (is_pending rows to, DeletePending)
-    ∷ (is_some (option_map target_of (entry_at rows to)) && not replace, ObjectNameCollision)
-    ∷ (is_kept_target opens (option_map target_of (entry_at rows to)), AccessDenied)
+    ap (λ (p : Path). (not (is_deleting view.access) || view.entry == 1, Some DeleteNotGranted)
+    ∷ (view.mark, Some EntryToBeDeleted)
+    ∷ (is_beneath row.0 to, Some NewPathIsBeneath)
+    ∷ (not (is_reached rows to), Some PathNotFound)
+    ∷ (is_own_target view.entry (option_map target_of (entry_at rows to)), None)
+    ∷ (is_folder_kind view.kind && has_open_beneath rows opens p, Some OpenBeneath)
+    ∷ (is_pending rows to, Some TargetToBeDeleted)
+    ∷ (is_some (option_map target_of (entry_at rows to)) && not replace, Some TargetExists)
+    ∷ (is_kept_target opens (option_map target_of (entry_at rows to)), Some TargetNotReplaceable)
     ∷ []) e
     ∙ (λ i. rows_by rows opens view row.0 to replace (own i) (taken_is (entry_at rows to) i) (kept_is opens (entry_at rows to) i))
 
@@ -121,22 +119,27 @@ off_not : (b : Bool) → not b ≡ false → b ≡ true
 off_not true h = refl
 off_not false h = absurd (let e : true ≡ false = h in cc)
 
+-- where no row refuses, one that would does not hold
+pub pass_row : (b : Bool) (refusal : RenameRefusal) (rest : Option RenameRefusal) → (if b then Some refusal else rest) ≡ None → (b ≡ false) × (rest ≡ None)
+pass_row true refusal rest e = absurd (cc)
+pass_row false refusal rest e = (refl, e)
+
 pub passes : (rows : List Row) (opens : List OpenRow) (view : View) (from to : Path) (replace : Bool) →
-    first_status (rows_by rows opens view from to replace (is_same_path from to) (is_some (entry_at rows to)) (is_not_replaced opens (entry_at rows to))) ≡ Success →
+    first_decided (rows_by rows opens view from to replace (is_same_path from to) (is_some (entry_at rows to)) (is_not_replaced opens (entry_at rows to))) ≡ None →
     MayMove rows opens view from to × ((is_same_path from to ≡ true) ⊎ MayReplace rows opens view replace from to)
 passes rows opens view from to replace e =
-    let p = pass_at (not (is_deleting view.access) || view.entry == 1) AccessDenied _ (λ q. cc) e in
-    let p2 = pass_at view.mark DeletePending _ (λ q. cc) p.1 in
-    let p3 = pass_at (is_beneath from to) InvalidParameter _ (λ q. cc) p2.1 in
-    let p4 = pass_at (not (is_reached rows to)) ObjectPathNotFound _ (λ q. cc) p3.1 in (
+    let p = pass_row (not (is_deleting view.access) || view.entry == 1) DeleteNotGranted _ e in
+    let p2 = pass_row view.mark EntryToBeDeleted _ p.1 in
+    let p3 = pass_row (is_beneath from to) NewPathIsBeneath _ p2.1 in
+    let p4 = pass_row (not (is_reached rows to)) PathNotFound _ p3.1 in (
       record { other = second_off (not (is_deleting view.access)) (view.entry == 1) p.0; unmarked = p2.0; outside = p3.0; reached = off_not (is_reached rows to) p4.0 },
-      elim (is_same_path from to) as (λ b. is_same_path from to ≡ b → first_status ((b, Success) ∷ (is_folder_kind view.kind && has_open_beneath rows opens from, AccessDenied) ∷ (is_pending rows to, DeletePending) ∷ (is_some (entry_at rows to) && not replace, ObjectNameCollision) ∷ (is_not_replaced opens (entry_at rows to), AccessDenied) ∷ []) ≡ Success → (b ≡ true) ⊎ MayReplace rows opens view replace from to) [
+      elim (is_same_path from to) as (λ b. is_same_path from to ≡ b → first_decided ((b, None) ∷ (is_folder_kind view.kind && has_open_beneath rows opens from, Some OpenBeneath) ∷ (is_pending rows to, Some TargetToBeDeleted) ∷ (is_some (entry_at rows to) && not replace, Some TargetExists) ∷ (is_not_replaced opens (entry_at rows to), Some TargetNotReplaceable) ∷ []) ≡ None → (b ≡ true) ⊎ MayReplace rows opens view replace from to) [
         | true ↦ λ s f. inl refl
         | false ↦ λ s f. inr (
-            let p6 = pass_at (is_folder_kind view.kind && has_open_beneath rows opens from) AccessDenied _ (λ q. cc) f in
-            let p7 = pass_at (is_pending rows to) DeletePending _ (λ q. cc) p6.1 in
-            let p8 = pass_at (is_some (entry_at rows to) && not replace) ObjectNameCollision _ (λ q. cc) p7.1 in
-            let p9 = pass_at (is_not_replaced opens (entry_at rows to)) AccessDenied _ (λ q. cc) p8.1 in
+            let p6 = pass_row (is_folder_kind view.kind && has_open_beneath rows opens from) OpenBeneath _ f in
+            let p7 = pass_row (is_pending rows to) TargetToBeDeleted _ p6.1 in
+            let p8 = pass_row (is_some (entry_at rows to) && not replace) TargetExists _ p7.1 in
+            let p9 = pass_row (is_not_replaced opens (entry_at rows to)) TargetNotReplaceable _ p8.1 in
             record { apart = s; closed = p6.0; pending = p7.0; taken = p8.0; kept = p9.0 }
             )
       ] refl p4.1,
@@ -196,91 +199,94 @@ fault_left content opens view replace row to good h may either =
     file (inl s) = other_own view.entry (entry_at content.rows to) (own_is content.rows view.entry row to good.apart h ∙ s)
     file (inr m) = other_kept view.entry opens (entry_at content.rows to) m.kept
 
--- the status of what a tree refuses
-abbrev pub code_of : Option TreeFault → NtStatus
-code_of None = Success
-code_of (Some fault) = ObjectNameInvalid
+-- why a rename is refused where a tree refuses it
+abbrev pub told_by : Option TreeFault → Option RenameRefusal
+told_by None = None
+told_by (Some fault) = Some PathTooDeep
 
-code_deep : (deep : Bool) → first_status ((deep, ObjectNameInvalid) ∷ []) ≡ code_of (if deep then Some TooDeep else None)
-code_deep true = refl
-code_deep false = refl
+pub no_fault : (o : Option TreeFault) → told_by o ≡ None → o ≡ None
+no_fault None e = refl
+no_fault (Some fault) e = absurd (cc)
 
-none_before : (xs ys : List StatusRow) → AllByRecursion (λ row. row.0 ≡ false) xs → first_status (xs ++ ys) ≡ first_status ys
+deep_told : (deep : Bool) → first_decided ((deep, Some PathTooDeep) ∷ []) ≡ told_by (if deep then Some TooDeep else None)
+deep_told true = refl
+deep_told false = refl
+
+none_before : (xs ys : List (DecidingRow RenameRefusal)) → AllByRecursion (λ row. row.0 ≡ false) xs → first_decided (xs ++ ys) ≡ first_decided ys
 none_before [] ys h = refl
 none_before (x ∷ xs) ys h = rw (h.0) (none_before xs ys h.1)
 
-refused_before : (xs ys : List StatusRow) → first_status xs ≢ Success → first_status (xs ++ ys) ≡ first_status xs
+refused_before : (xs ys : List (DecidingRow RenameRefusal)) → first_decided xs ≢ None → first_decided (xs ++ ys) ≡ first_decided xs
 refused_before [] ys h = absurd (h refl)
 refused_before (x ∷ xs) ys h =
-    elim (x.0) as (λ b. (if b then x.1 else first_status xs) ≢ Success → (if b then x.1 else first_status (xs ++ ys)) ≡ (if b then x.1 else first_status xs)) [
+    elim (x.0) as (λ b. (if b then x.1 else first_decided xs) ≢ None → (if b then x.1 else first_decided (xs ++ ys)) ≡ (if b then x.1 else first_decided xs)) [
       | true ↦ λ _. refl
       | false ↦ λ k. refused_before xs ys k
     ] h
 
 -- rows 3 to 12
-abbrev rest_rows : List Row → List OpenRow → View → Path → Path → Bool → List StatusRow
+abbrev rest_rows : List Row → List OpenRow → View → Path → Path → Bool → List (DecidingRow RenameRefusal)
 rest_rows rows opens view from to replace =
-    rows_by rows opens view from to replace (is_same_path from to) (is_some (entry_at rows to)) (is_not_replaced opens (entry_at rows to)) ++ (would_be_too_deep rows from to, ObjectNameInvalid) ∷ []
+    rows_by rows opens view from to replace (is_same_path from to) (is_some (entry_at rows to)) (is_not_replaced opens (entry_at rows to)) ++ (would_be_too_deep rows from to, Some PathTooDeep) ∷ []
 
 -- rows 8 to 12
-abbrev later_rows : List Row → List OpenRow → View → Path → Path → Bool → List StatusRow
+abbrev later_rows : List Row → List OpenRow → View → Path → Path → Bool → List (DecidingRow RenameRefusal)
 later_rows rows opens view from to replace =
-    (is_folder_kind view.kind && has_open_beneath rows opens from, AccessDenied)
-    ∷ (is_pending rows to, DeletePending)
-    ∷ (is_some (entry_at rows to) && not replace, ObjectNameCollision)
-    ∷ (is_not_replaced opens (entry_at rows to), AccessDenied)
-    ∷ (would_be_too_deep rows from to, ObjectNameInvalid)
+    (is_folder_kind view.kind && has_open_beneath rows opens from, Some OpenBeneath)
+    ∷ (is_pending rows to, Some TargetToBeDeleted)
+    ∷ (is_some (entry_at rows to) && not replace, Some TargetExists)
+    ∷ (is_not_replaced opens (entry_at rows to), Some TargetNotReplaceable)
+    ∷ (would_be_too_deep rows from to, Some PathTooDeep)
     ∷ []
 
-own_passes : (a b c d own : Bool) (w x y z : NtStatus) (rest : List StatusRow) → a ≡ false → b ≡ false → c ≡ false → d ≡ false → own ≡ true → first_status ((a, w) ∷ (b, x) ∷ (c, y) ∷ (d, z) ∷ (own, Success) ∷ rest) ≡ Success
+own_passes : (a b c d own : Bool) (w x y z : Option RenameRefusal) (rest : List (DecidingRow RenameRefusal)) → a ≡ false → b ≡ false → c ≡ false → d ≡ false → own ≡ true → first_decided ((a, w) ∷ (b, x) ∷ (c, y) ∷ (d, z) ∷ (own, None) ∷ rest) ≡ None
 own_passes a b c d own w x y z rest e f g h i = rw (e, f, g, h, i) refl
 
-code_none : (deep : Bool) → deep ≡ false → Success ≡ code_of (if deep then Some TooDeep else None)
-code_none deep e = rw e refl
+none_told : (deep : Bool) → deep ≡ false → None ≡ told_by (if deep then Some TooDeep else None)
+none_told deep e = rw e refl
 
--- the status of a rename that passes rows 1 to 11
-pub status_moved : (content : Content) (opens : List OpenRow) (view : View) (row : Row) (to : Path) (name : List ℕ) (replace : Bool) → GoodContent content → numbered content.rows view.entry ≡ Some row →
-    ((rest : List StatusRow) → first_status (name_rows name ++ rest) ≡ first_status rest) →
-    first_status (rows_by content.rows opens view row.0 to replace (is_same_path row.0 to) (is_some (entry_at content.rows to)) (is_not_replaced opens (entry_at content.rows to))) ≡ Success →
-    first_status (rename_rows content.rows opens view name replace row.0 to) ≡ code_of (move_fault content view.entry to)
-status_moved content opens view row to name replace good h lawful e =
+-- why a rename that passes rows 1 to 11 is refused
+pub refusal_moved : (content : Content) (opens : List OpenRow) (view : View) (row : Row) (to : Path) (name : List ℕ) (replace : Bool) → GoodContent content → numbered content.rows view.entry ≡ Some row →
+    ((rest : List (DecidingRow RenameRefusal)) → first_decided (name_rows name ++ rest) ≡ first_decided rest) →
+    first_decided (rows_by content.rows opens view row.0 to replace (is_same_path row.0 to) (is_some (entry_at content.rows to)) (is_not_replaced opens (entry_at content.rows to))) ≡ None →
+    first_decided (rename_rows content.rows opens view name replace row.0 to) ≡ told_by (move_fault content view.entry to)
+refusal_moved content opens view row to name replace good h lawful e =
     let p = passes content.rows opens view row.0 to replace e in
-    lawful (rest_rows content.rows opens view row.0 to replace) ∙ rest p.0 p.1 ∙ ap code_of (sym (fault_left content opens view replace row to good h p.0 p.1))
+    lawful (rest_rows content.rows opens view row.0 to replace) ∙ rest p.0 p.1 ∙ ap told_by (sym (fault_left content opens view replace row to good h p.0 p.1))
   where
     own_deep : is_same_path row.0 to ≡ true → would_be_too_deep content.rows row.0 to ≡ false
     own_deep s = ap (would_be_too_deep content.rows row.0) (sym (same_path-eq row.0 to s)) ∙ short_rows row.0 content.rows good.shallow
 
-    denied : first_status (rows_by content.rows opens view row.0 to replace (is_same_path row.0 to) (is_some (entry_at content.rows to)) (is_not_replaced opens (entry_at content.rows to))) ≡ Success → (not (is_deleting view.access) || view.entry == 1) ≡ false
-    denied f = (pass_at (not (is_deleting view.access) || view.entry == 1) AccessDenied _ (λ q. cc) f).0
+    denied : first_decided (rows_by content.rows opens view row.0 to replace (is_same_path row.0 to) (is_some (entry_at content.rows to)) (is_not_replaced opens (entry_at content.rows to))) ≡ None → (not (is_deleting view.access) || view.entry == 1) ≡ false
+    denied f = (pass_row (not (is_deleting view.access) || view.entry == 1) DeleteNotGranted _ f).0
 
-    rest : MayMove content.rows opens view row.0 to → ((is_same_path row.0 to ≡ true) ⊎ MayReplace content.rows opens view replace row.0 to) → first_status (rest_rows content.rows opens view row.0 to replace) ≡ code_of (if would_be_too_deep content.rows row.0 to then Some TooDeep else None)
+    rest : MayMove content.rows opens view row.0 to → ((is_same_path row.0 to ≡ true) ⊎ MayReplace content.rows opens view replace row.0 to) → first_decided (rest_rows content.rows opens view row.0 to replace) ≡ told_by (if would_be_too_deep content.rows row.0 to then Some TooDeep else None)
     rest may (inl s) =
         let reached : not (is_reached content.rows to) ≡ false = rw (may.reached) refl in
-        own_passes (not (is_deleting view.access) || view.entry == 1) view.mark (is_beneath row.0 to) (not (is_reached content.rows to)) (is_same_path row.0 to) AccessDenied DeletePending InvalidParameter ObjectPathNotFound (later_rows content.rows opens view row.0 to replace) (denied e) may.unmarked may.outside reached s
-        ∙ code_none (would_be_too_deep content.rows row.0 to) (own_deep s)
+        own_passes (not (is_deleting view.access) || view.entry == 1) view.mark (is_beneath row.0 to) (not (is_reached content.rows to)) (is_same_path row.0 to) (Some DeleteNotGranted) (Some EntryToBeDeleted) (Some NewPathIsBeneath) (Some PathNotFound) (later_rows content.rows opens view row.0 to replace) (denied e) may.unmarked may.outside reached s
+        ∙ none_told (would_be_too_deep content.rows row.0 to) (own_deep s)
     rest may (inr m) =
         let reached : not (is_reached content.rows to) ≡ false = rw (may.reached) refl in
-        none_before (rows_by content.rows opens view row.0 to replace (is_same_path row.0 to) (is_some (entry_at content.rows to)) (is_not_replaced opens (entry_at content.rows to))) ((would_be_too_deep content.rows row.0 to, ObjectNameInvalid) ∷ [])
+        none_before (rows_by content.rows opens view row.0 to replace (is_same_path row.0 to) (is_some (entry_at content.rows to)) (is_not_replaced opens (entry_at content.rows to))) ((would_be_too_deep content.rows row.0 to, Some PathTooDeep) ∷ [])
         (denied e, (may.unmarked, (may.outside, (reached, (m.apart, (m.closed, (m.pending, (m.taken, (m.kept, tt)))))))))
-        ∙ code_deep (would_be_too_deep content.rows row.0 to)
+        ∙ deep_told (would_be_too_deep content.rows row.0 to)
 
 -- a rename that rows 3 to 11 refuse
-pub status_refused : (content : Content) (opens : List OpenRow) (view : View) (row : Row) (to : Path) (name : List ℕ) (replace : Bool) →
-    ((rest : List StatusRow) → first_status (name_rows name ++ rest) ≡ first_status rest) →
-    first_status (rows_by content.rows opens view row.0 to replace (is_same_path row.0 to) (is_some (entry_at content.rows to)) (is_not_replaced opens (entry_at content.rows to))) ≢ Success →
-    first_status (rename_rows content.rows opens view name replace row.0 to) ≡ first_status (rows_by content.rows opens view row.0 to replace (is_same_path row.0 to) (is_some (entry_at content.rows to)) (is_not_replaced opens (entry_at content.rows to)))
-status_refused content opens view row to name replace lawful k =
+pub refusal_found : (content : Content) (opens : List OpenRow) (view : View) (row : Row) (to : Path) (name : List ℕ) (replace : Bool) →
+    ((rest : List (DecidingRow RenameRefusal)) → first_decided (name_rows name ++ rest) ≡ first_decided rest) →
+    first_decided (rows_by content.rows opens view row.0 to replace (is_same_path row.0 to) (is_some (entry_at content.rows to)) (is_not_replaced opens (entry_at content.rows to))) ≢ None →
+    first_decided (rename_rows content.rows opens view name replace row.0 to) ≡ first_decided (rows_by content.rows opens view row.0 to replace (is_same_path row.0 to) (is_some (entry_at content.rows to)) (is_not_replaced opens (entry_at content.rows to)))
+refusal_found content opens view row to name replace lawful k =
     lawful (rest_rows content.rows opens view row.0 to replace)
-    ∙ refused_before (rows_by content.rows opens view row.0 to replace (is_same_path row.0 to) (is_some (entry_at content.rows to)) (is_not_replaced opens (entry_at content.rows to))) ((would_be_too_deep content.rows row.0 to, ObjectNameInvalid) ∷ []) k
+    ∙ refused_before (rows_by content.rows opens view row.0 to replace (is_same_path row.0 to) (is_some (entry_at content.rows to)) (is_not_replaced opens (entry_at content.rows to))) ((would_be_too_deep content.rows row.0 to, Some PathTooDeep) ∷ []) k
 
 -- a rename that rows 1 and 2 refuse
-pub status_named : (rows : List Row) (opens : List OpenRow) (view : View) (name : List ℕ) (replace : Bool) (from to : Path) (status : NtStatus) → ((rest : List StatusRow) → first_status (name_rows name ++ rest) ≡ status) →
-    status ≡ first_status (rename_rows rows opens view name replace from to)
-status_named rows opens view name replace from to status h = sym (h (rest_rows rows opens view from to replace))
+pub refusal_named : (rows : List Row) (opens : List OpenRow) (view : View) (name : List ℕ) (replace : Bool) (from to : Path) (told : Option RenameRefusal) → ((rest : List (DecidingRow RenameRefusal)) → first_decided (name_rows name ++ rest) ≡ told) →
+    told ≡ first_decided (rename_rows rows opens view name replace from to)
+refusal_named rows opens view name replace from to told h = sym (h (rest_rows rows opens view from to replace))
 
 -- a refusal of the move is one of the rename
-pub refusal_by : (o : Option TreeFault) (status : NtStatus) (fault : StoreFault) → status ≡ code_of o → IsMoveRefusal o fault → IsRefusal status fault
-refusal_by None status (Status code) e h = absurd (h.0 refl)
-refusal_by (Some f) status (Status code) e h =
-    (h.1 ∙ ap status_code (sym e), λ q. cc)
-refusal_by o status NoRoom e h = e ∙ ap code_of h
+pub refusal_by : (o : Option TreeFault) (told : Option RenameRefusal) (refused : RefusedBy RenameRefusal) → told ≡ told_by o → IsMoveRefusal o refused → IsRefusedBy told refused
+refusal_by None told (ByRow refusal) e h = absurd (h.0 refl)
+refusal_by (Some f) told (ByRow refusal) e h = e ∙ ap (λ r. Some r) (sym h.1)
+refusal_by o told NoMemory e h = e ∙ ap told_by h

@@ -22,3 +22,4 @@ pub mod RenameStates
 pub mod RenameLaws
 pub mod ScanLaws
 pub mod Readers
+pub mod ByRow

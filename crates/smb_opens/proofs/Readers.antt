@@ -25,7 +25,8 @@ use Rattle.smb_access.specs.Asked.{FileAsked}
 use Rattle.smb_access.specs.Close.{is_deletable, has_mark}
 use Rattle.smb_access.specs.Effect.{entry_after, tree_after}
 use Rattle.smb_access.specs.Opens.{open_of, without_open, with_scan, open_numbers, is_held_by}
-use Rattle.smb_access.specs.StatusRows.{StatusRow, first_status}
+use Rattle.smb_refusals.specs.declared.refusal.Refusal.{Refusal}
+use Rattle.smb_refusals.specs.Rows.{StatusRow, first_status, with_statuses, with_decided_statuses}
 use Rattle.smb_access.specs.Views.{view_of}
 use Rattle.smb_entry.specs.Parts.{keeps_from_writing, has_no_room, write_rows, has_entries, delete_rows, has_no_space, size_rows, basic_rows, rename_rows, path_numbered}
 use Rattle.smb_entry.specs.Rename.{path_named}
@@ -110,19 +111,19 @@ refused_through state number row rows e reads refuses =
 pub refuses_changes : AReadersOpenIsRefused
 refuses_changes state number row e reads = (
   λ most offset buffer.
-      refused_through state number row (λ view. write_rows most view (keeps_from_writing state.locks number view offset (length buffer)) offset (length buffer) (has_no_room state.tree view.entry offset buffer)) e reads
+      refused_through state number row (λ view. with_statuses (λ refusal. Refusal.Write refusal) (write_rows most view (keeps_from_writing state.locks number view offset (length buffer)) offset (length buffer) (has_no_room state.tree view.entry offset buffer))) e reads
       (λ view r. third_refuses _ _ _ InvalidParameter InvalidDeviceRequest AccessDenied _ (λ q. cc) (λ q. cc) (λ q. cc) (ap (λ (b : Bool). not b || not (has_any view.access.0 FILE_WRITE_DATA) && nat_lt offset view.size) (never_writing view.access r))),
   λ is_deleted.
-      refused_through state number row (λ view. delete_rows view (has_entries state.tree.rows view.entry) is_deleted) e reads
+      refused_through state number row (λ view. with_statuses (λ refusal. Refusal.SetDisposition refusal) (delete_rows view (has_entries state.tree.rows view.entry) is_deleted)) e reads
       (λ view r. first_refuses _ AccessDenied _ (λ q. cc) (ap not (never_deleting view.access r))),
   λ size.
-      refused_through state number row (λ view. size_rows view (has_no_space state.tree view.entry size)) e reads
+      refused_through state number row (λ view. with_statuses (λ refusal. Refusal.SetSize refusal) (size_rows view (has_no_space state.tree view.entry size))) e reads
       (λ view r. second_refuses _ _ InvalidParameter AccessDenied _ (λ q. cc) (λ q. cc) (ap not (reads_alone view.access FILE_WRITE_DATA r refl))),
   λ ask.
-      refused_through state number row (λ view. basic_rows view ask) e reads
+      refused_through state number row (λ view. with_statuses (λ refusal. Refusal.SetBasic refusal) (basic_rows view ask)) e reads
       (λ view r. second_refuses _ _ InvalidParameter AccessDenied _ (λ q. cc) (λ q. cc) (ap not (reads_alone view.access FILE_WRITE_ATTRIBUTES r refl))),
   λ name replace.
-      refused_through state number row (λ view. rename_rows state.tree.rows state.opens view name replace (path_numbered state.tree.rows view.entry) (path_named name)) e reads
+      refused_through state number row (λ view. with_decided_statuses (λ refusal. Refusal.Rename refusal) (rename_rows state.tree.rows state.opens view name replace (path_numbered state.tree.rows view.entry) (path_named name))) e reads
       (λ view r. third_refuses _ _ _ InvalidParameter ObjectNameInvalid AccessDenied _ (λ q. cc) (λ q. cc) (λ q. cc) (ap (λ (b : Bool). not b || (view.entry == 1)) (never_deleting view.access r))),
 )
 

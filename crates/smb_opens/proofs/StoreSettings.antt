@@ -2,9 +2,10 @@
 use Rattle.std.proofs.Common.{◌≡◌, ◌==◌, ◌≤◌, ℕ, List, [], ◌∷◌, length, true, false, Bool, cond, ◌||◌, not, if◌then◌else◌, Option, None, Some, is_some, refl, sym, ap, subst, arith, ◌∙◌}
 use Rattle.std.proofs.lemmas.Bool.{eqb-true}
 use Rattle.std.proofs.lemmas.Bool.Decides.{nat_tests}
-use Rattle.std.specs.Option.{option_map, option_map_or}
+use Rattle.std.specs.Option.{option_map, option_map_or, option_and_then}
 use Rattle.std.specs.Prelude.{Result, Ok, Err, OnOk, OnErr}
-use Rattle.smb_wire.specs.declared.nt_status.NtStatus.TheVariants.{Success, AccessDenied, CannotDelete, DirectoryNotEmpty, FileClosed}
+use Rattle.smb_refusals.specs.declared.set_info.SetDispositionRefusal.{SetDispositionRefusal}
+use Rattle.smb_refusals.specs.declared.set_info.SetDispositionRefusal.TheVariants.{DeleteNotGranted, EntryNotDeletable, DirectoryNotEmpty}
 use Rattle.smb_tree.specs.Parts.{has_children, with_size, with_mark}
 use Rattle.smb_tree.specs.Content.{Row, Content, numbered, changed, resized, used_space, changed_in}
 use Rattle.smb_tree.specs.Entries.{Entry, is_folder_kind}
@@ -12,20 +13,19 @@ use Rattle.smb_tree.proofs.Apart.{numbered-changed, number-from_numbered}
 use Rattle.smb_tree.proofs.Parts.{length-resized}
 use Rattle.smb_tree.proofs.Spaces.{space_changed}
 use Rattle.smb_entry.specs.declared.ask.BasicAsk.{BasicAsk}
-use Rattle.smb_access.specs.declared.fault.StoreFault.{StoreFault}
 use Rattle.smb_access.specs.declared.open_row.OpenRow.{OpenRow}
 use Rattle.smb_access.specs.declared.view.View.{View}
 use Rattle.smb_access.specs.Access.{is_deleting}
 use Rattle.smb_access.specs.Close.{is_deletable}
 use Rattle.smb_access.specs.Parts.{can_be_deleted}
-use Rattle.smb_access.specs.StatusRows.{first_status}
+use Rattle.smb_refusals.specs.Rows.{first_refusal}
 use Rattle.smb_tree.proofs.Lawful.{KeepsLawful, lawful_changed, keeps_kept, kept_twice}
 use Rattle.smb_tree.specs.Good.{GoodContent}
 use Rattle.smb_opens.specs.Good.{IsKept}
 use Rattle.smb_opens.specs.Parts.{AreMarksDue}
 use Rattle.smb_access.specs.Opens.{open_of, has_open}
 use Rattle.smb_entry.specs.Parts.{shows_read_only_file, has_entries, attributes_set, delete_rows, delete_set, has_no_space, resized_file, leaves_size, size_set, entry_set}
-use Rattle.smb_opens.specs.SetInfo.{changed_through, size_set_through, delete_status}
+use Rattle.smb_opens.specs.SetInfo.{changed_through, size_set_through, delete_refusal}
 use Rattle.smb_opens.specs.State.{StoreState}
 use Rattle.smb_access.proofs.Changes.{Keeps, Shrinks, keeps_of, good_changed, length-changed, present_changed}
 use Rattle.smb_access.proofs.Marks.{deletable_changed, mark_elsewhere}
@@ -33,7 +33,6 @@ use Rattle.smb_entry.proofs.Settings.{changed_alike}
 use Rattle.smb_opens.proofs.Shows.{ShownBy, entry_of}
 use Rattle.smb_opens.proofs.Through.{kind_shown, marks_kept}
 use Rattle.smb_entry.proofs.Writes.{good_within}
-use Rattle.smb_wire.specs.declared.nt_status.NtStatus.{NtStatus}
 use Rattle.smb_opens.specs.Views.{open_view}
 
 -- the entry that is shown exists
@@ -83,7 +82,7 @@ kept_based state number view ask moment after opens_count entries_count s is kep
     (marks_kept f state.tree.rows view.entry state.opens (λ _. refl) (λ _. refl) kept.good.marked) kept
 
 -- an entry for which no row holds, and which is to be deleted, is not the root, and no entries are in it
-free_by : (may root read_only occupied : Bool) → (if not may then AccessDenied else if root || read_only then CannotDelete else if occupied then DirectoryNotEmpty else Success) ≡ Success →
+free_by : (may root read_only occupied : Bool) → (if not may then Some DeleteNotGranted else if root || read_only then Some EntryNotDeletable else if occupied then Some DirectoryNotEmpty else None) ≡ None →
     (root ≡ false) × (occupied ≡ false)
 free_by false root read_only occupied e = absurd (cc)
 free_by true true read_only occupied e = absurd (cc)
@@ -91,7 +90,7 @@ free_by true false true occupied e = absurd (cc)
 free_by true false false true e = absurd (cc)
 free_by true false false false e = (refl, refl)
 
-free_entry : (view : View) (is_occupied : Bool) → first_status (delete_rows view is_occupied true) ≡ Success → ((view.entry == 1) ≡ false) × (is_occupied ≡ false)
+free_entry : (view : View) (is_occupied : Bool) → first_refusal (delete_rows view is_occupied true) ≡ None → ((view.entry == 1) ≡ false) × (is_occupied ≡ false)
 free_entry view is_occupied e = free_by (is_deleting view.access) (view.entry == 1) (shows_read_only_file view) is_occupied e
 
 deletable_entry : (rows : List Row) (n : ℕ) (row : Row) → numbered rows n ≡ Some row → (n == 1) ≡ false → has_entries rows n ≡ false → is_deletable rows n ≡ true
@@ -126,7 +125,7 @@ marks_set rows opens n d free h m e =
 
 -- a mark
 pub kept_deleted : (state : StoreState) (number : ℕ) (view : View) (is_deleted : Bool) (after : Content) (opens_count entries_count : ℕ) → ShownBy state number view → after ≡ with_mark state.tree view.entry is_deleted →
-    first_status (delete_rows view (has_entries state.tree.rows view.entry) is_deleted) ≡ Success → IsKept state.tree state.opens state.locks state.next opens_count entries_count → IsKept after state.opens state.locks state.next opens_count entries_count
+    first_refusal (delete_rows view (has_entries state.tree.rows view.entry) is_deleted) ≡ None → IsKept state.tree state.opens state.locks state.next opens_count entries_count → IsKept after state.opens state.locks state.next opens_count entries_count
 kept_deleted state number view is_deleted after opens_count entries_count s is lawful kept =
     let f : Entry → Entry = delete_set is_deleted in
     let at = at_shown state number view s in
@@ -134,7 +133,7 @@ kept_deleted state number view is_deleted after opens_count entries_count s is l
     kept_changed f state view.entry opens_count entries_count after is (keeps_of f k) (record { number = λ _. refl; spelling = λ _. refl; attributes = λ _ h. h })
     (good_changed f state.tree view.entry s.row k at kept.good.tree)
     (marks_set state.tree.rows state.opens view.entry is_deleted (λ on. (
-    let free = free_entry view (has_entries state.tree.rows view.entry) (subst (λ (d : Bool). first_status (delete_rows view (has_entries state.tree.rows view.entry) d) ≡ Success) on lawful) in
+    let free = free_entry view (has_entries state.tree.rows view.entry) (subst (λ (d : Bool). first_refusal (delete_rows view (has_entries state.tree.rows view.entry) d) ≡ None) on lawful) in
     (deletable_entry state.tree.rows view.entry s.row at free.0 free.1, ap (has_open state.opens) (entry_of state number view s) ∙ opened_on state.opens number s.held s.opened)
     )) kept.good.marked) kept
 
@@ -148,7 +147,7 @@ space_resized content n size moment row h =
     let other = space_changed (λ entry. record entry { bytes = resized size entry.bytes }) content.rows n row h in
     omega (arith, one, other)
 
-pub kept_sized : {X : Type 0} (r : Result X StoreFault) (state : StoreState) (number : ℕ) (view : View) (size moment : ℕ) (after : Content) (opens_count entries_count : ℕ) → ShownBy state number view → is_folder_kind view.kind ≡ false →
+pub kept_sized : {X E : Type 0} (r : Result X E) (state : StoreState) (number : ℕ) (view : View) (size moment : ℕ) (after : Content) (opens_count entries_count : ℕ) → ShownBy state number view → is_folder_kind view.kind ≡ false →
     has_no_space state.tree view.entry size ≡ false → OnOk r (after ≡ changed_in (resized_file size moment) state.tree view.entry) → OnErr r (after ≡ state.tree) →
     IsKept state.tree state.opens state.locks state.next opens_count entries_count → IsKept after state.opens state.locks state.next opens_count entries_count
 kept_sized (Ok x) state number view size moment after opens_count entries_count s file free ok err kept =
@@ -179,7 +178,7 @@ sets_by : (size moment : ℕ) (entry : Entry) (b : Bool) → b ≡ false → (if
 sets_by size moment entry b e = rw e refl
 
 -- a size that is set
-pub sized_done : {X : Type 0} (r : Result X StoreFault) (state : StoreState) (number : ℕ) (view : View) (size : ℕ) (is_allocation : Bool) (moment : ℕ) (after : Content) → ShownBy state number view →
+pub sized_done : {X E : Type 0} (r : Result X E) (state : StoreState) (number : ℕ) (view : View) (size : ℕ) (is_allocation : Bool) (moment : ℕ) (after : Content) → ShownBy state number view →
     leaves_size view.size size is_allocation ≡ false → OnOk r (after ≡ changed_in (resized_file size moment) state.tree view.entry) →
     OnOk r (record { tree = after; opens = state.opens; locks = state.locks; next = state.next } ≡ size_set_through state number size is_allocation moment)
 sized_done (Err e) state number view size is_allocation moment after s sets ok = tt
@@ -208,9 +207,9 @@ nothing_set state number view size is_allocation moment s leaves =
     let same : changed f state.tree.rows view.entry ≡ state.tree.rows = changed_itself f state.tree.rows view.entry s.row (at_shown state number view s) (leaves_by size moment s.row.1 (leaves_size (length s.row.1.bytes) size is_allocation) more) in
     set_through f state number view state.tree s (sym (ap (λ (rows : List Row). let c : Content = record state.tree { rows = rows } in c) same))
 
--- what refuses by the rows for what is shown is the status of a SET_INFO of a mark
-pub delete_refused : (state : StoreState) (number : ℕ) (view : View) (is_deleted is_occupied : Bool) (status : NtStatus) → Some view ≡ open_view state number →
-    is_occupied ≡ has_entries state.tree.rows view.entry → first_status (delete_rows view is_occupied is_deleted) ≡ status → delete_status state number is_deleted ≡ status
-delete_refused state number view is_deleted is_occupied status shows there why =
-    ap (λ (o : Option View). option_map_or (λ (v : View). first_status (delete_rows v (has_entries state.tree.rows v.entry) is_deleted)) o FileClosed) (sym shows)
-    ∙ ap (λ (b : Bool). first_status (delete_rows view b is_deleted)) (sym there) ∙ why
+-- what refuses by the rows for what is shown refuses a SET_INFO of a mark
+pub delete_refused : (state : StoreState) (number : ℕ) (view : View) (is_deleted is_occupied : Bool) (told : Option SetDispositionRefusal) → Some view ≡ open_view state number →
+    is_occupied ≡ has_entries state.tree.rows view.entry → first_refusal (delete_rows view is_occupied is_deleted) ≡ told → delete_refusal state number is_deleted ≡ told
+delete_refused state number view is_deleted is_occupied told shows there why =
+    ap (λ (o : Option View). option_and_then (λ (v : View). first_refusal (delete_rows v (has_entries state.tree.rows v.entry) is_deleted)) o) (sym shows)
+    ∙ ap (λ (b : Bool). first_refusal (delete_rows view b is_deleted)) (sym there) ∙ why

@@ -4,8 +4,8 @@ use Rattle.std.proofs.lemmas.Grind.{common_steps}
 use Rattle.std.proofs.lemmas.Bool.Decides.{nat_tests}
 use Rattle.std.specs.Option.{option_map, option_map_or}
 use Rattle.std.specs.Prelude.{Result, Ok, Err, OnOk, OnErr, IfErr, nat_lt, if◌then◌else◌}
-use Rattle.smb_wire.specs.declared.nt_status.NtStatus.{NtStatus}
-use Rattle.smb_wire.specs.declared.nt_status.NtStatus.TheVariants.{Success, DiskFull}
+use Rattle.smb_refusals.specs.declared.file.WriteRefusal.{WriteRefusal}
+use Rattle.smb_refusals.specs.declared.file.WriteRefusal.TheVariants.{NoSpaceLeft}
 use Rattle.smb_tree.specs.declared.fault.TreeFault.{TreeFault}
 use Rattle.smb_tree.specs.Entries.{Entry, is_folder_kind}
 use Rattle.smb_tree.specs.Content.{Row, Content, numbered, changed}
@@ -13,13 +13,13 @@ use Rattle.smb_tree.specs.Parts.{bytes_read}
 use Rattle.smb_tree.specs.Faults.{size_fault, write_fault}
 use Rattle.smb_tree.proofs.Changes.{bytes_found}
 use Rattle.smb_locks.specs.Table.{Table}
-use Rattle.smb_access.specs.declared.fault.StoreFault.{StoreFault}
 use Rattle.smb_access.specs.declared.open_row.OpenRow.{OpenRow}
 use Rattle.smb_access.specs.declared.view.View.{View}
 use Rattle.smb_opens.specs.Bytes.{file_bytes, written_to}
 use Rattle.smb_entry.specs.Parts.{keeps_from_writing, write_rows, has_no_room, written_file, written_tree}
-use Rattle.smb_access.specs.StatusRows.{first_status}
-use Rattle.smb_access.specs.Faults.{IsRefusal}
+use Rattle.smb_refusals.specs.declared.refused_by.RefusedBy.{RefusedBy}
+use Rattle.smb_refusals.specs.Refused.{IsRefusedBy}
+use Rattle.smb_refusals.specs.Rows.{first_refusal}
 use Rattle.smb_tree.proofs.Lawful.{lawful_changed, keeps_kept, kept_twice}
 use Rattle.smb_tree.specs.Good.{GoodContent}
 use Rattle.smb_opens.specs.Good.{IsKept}
@@ -54,7 +54,7 @@ marks_kept f rows n opens k s h = λ m e.
     (deletable_changed f rows n m k ∙ before.0, before.1)
 
 -- a store is kept good over a WRITE, whether it is refused or not
-pub kept_write : {X : Type 0} (r : Result X StoreFault) (before after : Content) (opens : List OpenRow) (locks : Table) (next opens_count entries_count n offset : ℕ) (buffer : List ℕ) (moment : ℕ) (row : Row) →
+pub kept_write : {X E : Type 0} (r : Result X E) (before after : Content) (opens : List OpenRow) (locks : Table) (next opens_count entries_count n offset : ℕ) (buffer : List ℕ) (moment : ℕ) (row : Row) →
     numbered before.rows n ≡ Some row → is_folder_kind row.1.kind ≡ false → OnOk r (after ≡ written_tree before n offset buffer moment) → OnOk r (write_fault before n offset (length buffer) ≡ None) → OnErr r (after ≡ before) →
     IsKept before opens locks next opens_count entries_count → IsKept after opens locks next opens_count entries_count
 kept_write (Ok x) before after opens locks next opens_count entries_count n offset buffer moment row h file ok free err kept =
@@ -80,7 +80,7 @@ kept_write (Ok x) before after opens locks next opens_count entries_count n offs
 kept_write (Err e) before after opens locks next opens_count entries_count n offset buffer moment row h file ok free err kept =
     subst (λ (tree : Content). IsKept tree opens locks next opens_count entries_count) (sym err) kept
 
-pub kept_shown : {X : Type 0} (r : Result X StoreFault) (state : StoreState) (after : Content) (opens_count entries_count number offset : ℕ) (buffer : List ℕ) (moment : ℕ) (view : View) →
+pub kept_shown : {X E : Type 0} (r : Result X E) (state : StoreState) (after : Content) (opens_count entries_count number offset : ℕ) (buffer : List ℕ) (moment : ℕ) (view : View) →
     ShownBy state number view → is_folder_kind view.kind ≡ false → OnOk r (after ≡ written_tree state.tree view.entry offset buffer moment) → OnOk r (write_fault state.tree view.entry offset (length buffer) ≡ None) → OnErr r (after ≡ state.tree) →
     IsKept state.tree state.opens state.locks state.next opens_count entries_count → IsKept after state.opens state.locks state.next opens_count entries_count
 kept_shown r state after opens_count entries_count number offset buffer moment view s file ok free err kept =
@@ -88,7 +88,7 @@ kept_shown r state after opens_count entries_count number offset buffer moment v
     kept_write r state.tree after state.opens state.locks state.next opens_count entries_count view.entry offset buffer moment s.row at (kind_shown state number view s file) ok free err kept
 
 -- what is left is the store written
-pub stored : {X : Type 0} (r : Result X StoreFault) (state : StoreState) (after : Content) (number offset : ℕ) (buffer : List ℕ) (moment : ℕ) (view : View) →
+pub stored : {X E : Type 0} (r : Result X E) (state : StoreState) (after : Content) (number offset : ℕ) (buffer : List ℕ) (moment : ℕ) (view : View) →
     ShownBy state number view → (length buffer == 0) ≡ false → OnOk r (after ≡ written_tree state.tree view.entry offset buffer moment) →
     OnOk r (record { tree = after; opens = state.opens; locks = state.locks; next = state.next } ≡ written_to state number offset buffer moment)
 stored (Ok x) state after number offset buffer moment view s some ok =
@@ -113,35 +113,35 @@ room_shown state number view offset buffer good s file =
     let at : numbered state.tree.rows view.entry ≡ Some s.row = ap (numbered state.tree.rows) (entry_of state number view s) ∙ s.at_entry in
     fault_room state.tree view.entry offset buffer s.row at (kind_shown state number view s file) (of_number (λ row. length row.1.bytes ≤ 16777216) state.tree.rows view.entry s.row good.small at)
 
--- the status of a WRITE of an open that shows this
-abbrev pub written_status : ℕ → Content → Table → ℕ → View → ℕ → List ℕ → NtStatus
-written_status most tree locks number view offset buffer =
-    first_status (write_rows most view (keeps_from_writing locks number view offset (length buffer)) offset (length buffer) (has_no_room tree view.entry offset buffer))
+-- why a WRITE of an open that shows this is refused
+abbrev pub written_refusal : ℕ → Content → Table → ℕ → View → ℕ → List ℕ → Option WriteRefusal
+written_refusal most tree locks number view offset buffer =
+    first_refusal (write_rows most view (keeps_from_writing locks number view offset (length buffer)) offset (length buffer) (has_no_room tree view.entry offset buffer))
 
 -- whether a lock bars it decides its row
 rows_barred : (most : ℕ) (tree : Content) (locks : Table) (number : ℕ) (view : View) (is_barred : Bool) (offset : ℕ) (buffer : List ℕ) → is_barred ≡ keeps_from_writing locks number view offset (length buffer) →
-    first_status (write_rows most view is_barred offset (length buffer) (has_no_room tree view.entry offset buffer)) ≡ written_status most tree locks number view offset buffer
+    first_refusal (write_rows most view is_barred offset (length buffer) (has_no_room tree view.entry offset buffer)) ≡ written_refusal most tree locks number view offset buffer
 rows_barred most tree locks number view is_barred offset buffer bar =
-    ap (λ (b : Bool). first_status (write_rows most view b offset (length buffer) (has_no_room tree view.entry offset buffer))) bar
+    ap (λ (b : Bool). first_refusal (write_rows most view b offset (length buffer) (has_no_room tree view.entry offset buffer))) bar
 
 -- a WRITE that is done had room
-pub lawful_written : {X : Type 0} (r : Result X StoreFault) (most : ℕ) (tree : Content) (locks : Table) (number : ℕ) (view : View) (is_barred : Bool) (offset : ℕ) (buffer : List ℕ) → is_barred ≡ keeps_from_writing locks number view offset (length buffer) →
-    ((is_full : Bool) → first_status (write_rows most view is_barred offset (length buffer) is_full) ≡ (if nat_lt 0 (length buffer) && is_full then DiskFull else Success)) →
+pub lawful_written : {X : Type 0} (r : Result X (RefusedBy WriteRefusal)) (most : ℕ) (tree : Content) (locks : Table) (number : ℕ) (view : View) (is_barred : Bool) (offset : ℕ) (buffer : List ℕ) → is_barred ≡ keeps_from_writing locks number view offset (length buffer) →
+    ((is_full : Bool) → first_refusal (write_rows most view is_barred offset (length buffer) is_full) ≡ (if nat_lt 0 (length buffer) && is_full then Some NoSpaceLeft else None)) →
     is_some (write_fault tree view.entry offset (length buffer)) ≡ has_no_room tree view.entry offset buffer →
-    OnOk r (write_fault tree view.entry offset (length buffer) ≡ None) → OnOk r (written_status most tree locks number view offset buffer ≡ Success)
+    OnOk r (write_fault tree view.entry offset (length buffer) ≡ None) → OnOk r (written_refusal most tree locks number view offset buffer ≡ None)
 lawful_written (Ok x) most tree locks number view is_barred offset buffer bar goes same none =
     let room : has_no_room tree view.entry offset buffer ≡ false = sym same ∙ ap (λ (o : Option TreeFault). is_some o) none in
     sym (rows_barred most tree locks number view is_barred offset buffer bar) ∙ goes (has_no_room tree view.entry offset buffer) ∙ grind (arith, nat_tests, room)
 lawful_written (Err e) most tree locks number view is_barred offset buffer bar goes same none = tt
 
 -- a WRITE for which there is no room is refused for that
-pub why_written : {X : Type 0} (r : Result X StoreFault) (most : ℕ) (tree : Content) (locks : Table) (number : ℕ) (view : View) (is_barred : Bool) (offset : ℕ) (buffer : List ℕ) → (length buffer == 0) ≡ false → is_barred ≡ keeps_from_writing locks number view offset (length buffer) →
-    ((is_full : Bool) → first_status (write_rows most view is_barred offset (length buffer) is_full) ≡ (if nat_lt 0 (length buffer) && is_full then DiskFull else Success)) →
+pub why_written : {X : Type 0} (r : Result X (RefusedBy WriteRefusal)) (most : ℕ) (tree : Content) (locks : Table) (number : ℕ) (view : View) (is_barred : Bool) (offset : ℕ) (buffer : List ℕ) → (length buffer == 0) ≡ false → is_barred ≡ keeps_from_writing locks number view offset (length buffer) →
+    ((is_full : Bool) → first_refusal (write_rows most view is_barred offset (length buffer) is_full) ≡ (if nat_lt 0 (length buffer) && is_full then Some NoSpaceLeft else None)) →
     is_some (write_fault tree view.entry offset (length buffer)) ≡ has_no_room tree view.entry offset buffer →
-    IfErr r (λ fault. IsRefusal (if is_some (write_fault tree view.entry offset (length buffer)) then DiskFull else Success) fault) →
-    IfErr r (λ fault. IsRefusal (written_status most tree locks number view offset buffer) fault)
+    IfErr r (λ refused. IsRefusedBy (if is_some (write_fault tree view.entry offset (length buffer)) then Some NoSpaceLeft else None) refused) →
+    IfErr r (λ refused. IsRefusedBy (written_refusal most tree locks number view offset buffer) refused)
 why_written (Ok x) most tree locks number view is_barred offset buffer some bar goes same h = tt
-why_written (Err fault) most tree locks number view is_barred offset buffer some bar goes same h =
-    let status : written_status most tree locks number view offset buffer ≡ (if is_some (write_fault tree view.entry offset (length buffer)) then DiskFull else Success) =
+why_written (Err refused) most tree locks number view is_barred offset buffer some bar goes same h =
+    let refusal : written_refusal most tree locks number view offset buffer ≡ (if is_some (write_fault tree view.entry offset (length buffer)) then Some NoSpaceLeft else None) =
     sym (rows_barred most tree locks number view is_barred offset buffer bar) ∙ goes (has_no_room tree view.entry offset buffer) ∙ grind (arith, nat_tests, some, same) in
-    subst (λ (told : NtStatus). IsRefusal told fault) (sym status) h
+    subst (λ (told : Option WriteRefusal). IsRefusedBy told refused) (sym refusal) h

@@ -1,5 +1,5 @@
 -- LOCK of a file through an open of a store ([MS-SMB2] 3.3.5.14).
-use Rattle.std.specs.Prelude.{ℕ, List, [], if◌then◌else◌, ◌++◌, ◌==◌}
+use Rattle.std.specs.Prelude.{ℕ, List, [], Option, if◌then◌else◌, ◌++◌, ◌==◌}
 use Rattle.std.specs.Option.{option_map, option_map_or}
 use Rattle.std.specs.List.{list_all}
 use Rattle.smb_wire.specs.declared.nt_status.NtStatus.{NtStatus}
@@ -11,19 +11,36 @@ use Rattle.smb_locks.specs.Unlocking.{unlock_all_error, all_unlocked}
 use Rattle.smb_access.specs.declared.view.View.{View}
 use Rattle.smb_opens.specs.State.{StoreState}
 use Rattle.smb_opens.specs.Views.{open_view}
-use Rattle.smb_entry.specs.Locks.{lock_status_by}
+use Rattle.smb_refusals.specs.declared.file.LockRefusal.{LockRefusal}
+use Rattle.smb_entry.specs.Locks.{lock_refusal_by, lock_status_by}
 use Rattle.smb_locks.specs.Asks.{locks_asked}
 use Rattle.smb_wire.specs.LockFlags.{UNLOCK}
 
--- the status of a LOCK that locks, through the open of a number: the first of its elements that is refused beside those
--- before it, and their flags before all (3.3.5.14.2)
+-- why a LOCK that locks is refused, through the open of a number, if it is: by the first of its elements that is
+-- refused beside those before it, and by their flags before all (3.3.5.14.2)
+abbrev pub lock_refusal : StoreState → ℕ → List LockAsk → Option LockRefusal
+lock_refusal state number asks =
+    lock_refusal_by (open_view state number)
+    (lock_all_fault
+    (option_map_or (λ (view : View). locks_on state.locks view.entry) (open_view state number) []) number asks)
+
+-- its status
 abbrev pub lock_status : StoreState → ℕ → List LockAsk → NtStatus
 lock_status state number asks =
     lock_status_by (open_view state number)
     (lock_all_fault
     (option_map_or (λ (view : View). locks_on state.locks view.entry) (open_view state number) []) number asks)
 
--- the status of a LOCK that unlocks: its first element that is refused, and the flags of all of them before (3.3.5.14.1)
+-- why a LOCK that unlocks is refused, if it is: by its first element that is refused, and by the flags of all of them
+-- before (3.3.5.14.1)
+abbrev pub unlock_refusal : StoreState → ℕ → List LockAsk → Option LockRefusal
+unlock_refusal state number asks =
+    lock_refusal_by (open_view state number)
+    (option_map (λ error. error.fault)
+    (unlock_all_error
+    (option_map_or (λ (view : View). locks_on state.locks view.entry) (open_view state number) []) number asks))
+
+-- its status
 abbrev pub unlock_status : StoreState → ℕ → List LockAsk → NtStatus
 unlock_status state number asks =
     lock_status_by (open_view state number)

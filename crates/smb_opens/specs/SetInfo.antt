@@ -1,6 +1,6 @@
 -- SET_INFO of a file or a folder through an open of a store ([MS-SMB2] 3.3.5.21.1, [MS-FSA] 2.1.5.15). The rows are those
--- of docs/PROFILE.md, each status by the first that holds.
-use Rattle.std.specs.Prelude.{ℕ, Bool, ◌||◌, ◌&&◌, false, not, nat_lt, [], ◌∷◌, nat_le, if◌then◌else◌, ◌==◌, length}
+-- of docs/PROFILE.md, of which the first that holds decides.
+use Rattle.std.specs.Prelude.{ℕ, Bool, ◌||◌, ◌&&◌, false, not, nat_lt, List, [], ◌∷◌, Option, nat_le, if◌then◌else◌, ◌==◌, length}
 use Rattle.std.specs.List.{list_any}
 use Rattle.std.specs.Option.{option_map_or}
 use Rattle.smb_wire.specs.declared.nt_status.NtStatus.{NtStatus}
@@ -9,10 +9,15 @@ use Rattle.smb_entry.specs.declared.ask.BasicAsk.{BasicAsk}
 use Rattle.smb_access.specs.declared.open_row.OpenRow.{OpenRow}
 use Rattle.smb_access.specs.Opens.{open_of}
 use Rattle.smb_opens.specs.State.{StoreState}
-use Rattle.smb_opens.specs.Views.{status_through}
+use Rattle.smb_opens.specs.Views.{refusal_through, status_through}
 use Rattle.smb_entry.specs.SetInfo.{is_bad_time, time_set}
 use Rattle.smb_tree.specs.Content.{changed_in, used_space, resized, numbered}
-use Rattle.smb_wire.specs.declared.nt_status.NtStatus.TheVariants.{InvalidParameter, AccessDenied, CannotDelete, DiskFull, DirectoryNotEmpty}
+use Rattle.smb_refusals.specs.declared.set_info.SetBasicRefusal.{SetBasicRefusal}
+use Rattle.smb_refusals.specs.declared.set_info.SetDispositionRefusal.{SetDispositionRefusal}
+use Rattle.smb_refusals.specs.declared.set_info.SetSizeRefusal.{SetSizeRefusal}
+use Rattle.smb_refusals.specs.declared.refusal.Refusal.{Refusal}
+use Rattle.smb_refusals.specs.Rows.{RefusalRow, with_statuses}
+use Rattle.smb_access.specs.declared.view.View.{View}
 use Rattle.smb_access.specs.Access.{is_deleting}
 use Rattle.smb_tree.specs.Children.{is_child}
 use Rattle.smb_wire.specs.Limits.{most_file_bytes}
@@ -28,25 +33,34 @@ changed_through change state number = option_map_or
 
 -- FileDispositionInformation: an entry is to be deleted with its last open, or no longer ([MS-FSCC] 2.4.11)
 
--- the status of a SET_INFO that marks the entry of an open, or takes its mark away
-abbrev pub delete_status : StoreState → ℕ → Bool → NtStatus
-delete_status state number is_deleted = status_through state number (λ view.
-    -- the open was not granted DELETE ([MS-FSA] 2.1.5.15.3)
-    (not (is_deleting view.access), AccessDenied)
+-- the rows of a SET_INFO that marks the entry of an open, which shows this, or takes its mark away
+abbrev pub delete_refusals : StoreState → Bool → View → List (RefusalRow SetDispositionRefusal)
+delete_refusals state is_deleted view =
+    -- SD1. the open was not granted DELETE ([MS-FSA] 2.1.5.15.3)
+    (not (is_deleting view.access), SetDispositionRefusal.DeleteNotGranted)
     -- (of an entry that is no longer to be deleted, this row alone)
     ∷ (if is_deleted then
-    -- it is the root, or a read-only file ([MS-FSA] 2.1.5.15.3, [MS-FSCC] 2.6)
+    -- SD2. it is the root, or a read-only file ([MS-FSA] 2.1.5.15.3, [MS-FSCC] 2.6)
     (
       view.entry == 1 || not (is_folder_kind view.kind) && has_any view.attributes.0 FILE_ATTRIBUTE_READONLY,
-      CannotDelete,
+      SetDispositionRefusal.EntryNotDeletable,
     )
-    -- it is a folder in which entries are ([MS-FSA] 2.1.5.15.3)
+    -- SD3. it is a folder in which entries are ([MS-FSA] 2.1.5.15.3)
     ∷ (
       option_map_or (λ row. list_any (is_child row.0) state.tree.rows) (numbered state.tree.rows view.entry) false,
-      DirectoryNotEmpty,
+      SetDispositionRefusal.DirectoryNotEmpty,
     )
     ∷ []
-    else []))
+    else [])
+
+-- why it is refused, if it is
+abbrev pub delete_refusal : StoreState → ℕ → Bool → Option SetDispositionRefusal
+delete_refusal state number is_deleted = refusal_through state number (delete_refusals state is_deleted)
+
+-- its status
+abbrev pub delete_status : StoreState → ℕ → Bool → NtStatus
+delete_status state number is_deleted = status_through state number
+    (λ view. with_statuses (λ refusal. Refusal.SetDisposition refusal) (delete_refusals state is_deleted view))
 
 -- the store afterwards; what its opens are to delete when they are closed is left ([MS-FSA] 2.1.5.15.3)
 abbrev pub delete_set_through : StoreState → ℕ → Bool → StoreState
@@ -54,18 +68,27 @@ delete_set_through state number is_deleted = changed_through (λ entry. record e
 
 -- FileEndOfFileInformation and FileAllocationInformation: a file's size ([MS-FSCC] 2.4.13, 2.4.4)
 
--- the status of a SET_INFO that sets the size of a file through the open of a number, or its allocation size
-abbrev pub size_status : StoreState → ℕ → ℕ → NtStatus
-size_status state number size = status_through state number (λ view.
+-- the rows of a SET_INFO that sets the size of a file through an open, which shows this, or its allocation size
+abbrev pub size_refusals : StoreState → ℕ → View → List (RefusalRow SetSizeRefusal)
+size_refusals state size view =
     let after = changed_in (λ entry. record entry { bytes = resized size entry.bytes }) state.tree view.entry in
-    -- the entry is a folder ([MS-FSA] 2.1.5.15.1, 2.1.5.15.4)
-    (is_folder_kind view.kind, InvalidParameter)
-    -- the open was not granted FILE_WRITE_DATA ([MS-FSA] 2.1.5.15.1, 2.1.5.15.4)
-    ∷ (not (has_any view.access.0 FILE_WRITE_DATA), AccessDenied)
-    -- there is no room: the size is over 16,777,216 bytes, or the space that files use would pass the capacity
+    -- SZ1. the entry is a folder ([MS-FSA] 2.1.5.15.1, 2.1.5.15.4)
+    (is_folder_kind view.kind, SetSizeRefusal.EntryIsDirectory)
+    -- SZ2. the open was not granted FILE_WRITE_DATA ([MS-FSA] 2.1.5.15.1, 2.1.5.15.4)
+    ∷ (not (has_any view.access.0 FILE_WRITE_DATA), SetSizeRefusal.WriteNotGranted)
+    -- SZ3. there is no room: the size is over 16,777,216 bytes, or the space that files use would pass the capacity
     -- ([MS-FSA] 2.1.5.15.1, 2.1.5.15.4)
-    ∷ (nat_lt most_file_bytes size || nat_lt state.tree.capacity (used_space after.rows), DiskFull)
-    ∷ [])
+    ∷ (nat_lt most_file_bytes size || nat_lt state.tree.capacity (used_space after.rows), SetSizeRefusal.NoSpaceLeft)
+    ∷ []
+
+-- why it is refused, if it is
+abbrev pub size_refusal : StoreState → ℕ → ℕ → Option SetSizeRefusal
+size_refusal state number size = refusal_through state number (size_refusals state size)
+
+-- its status
+abbrev pub size_status : StoreState → ℕ → ℕ → NtStatus
+size_status state number size = status_through state number
+    (λ view. with_statuses (λ refusal. Refusal.SetSize refusal) (size_refusals state size view))
 
 -- the store afterwards: the bytes are cut, or have zeros behind them, and the times of the last write and change are the
 -- moment (2.1.5.15.4); an allocation size that is no less than the size before sets nothing (2.1.5.15.1); locks stay
@@ -79,19 +102,29 @@ size_set_through state number size is_allocation moment = changed_through
 
 -- FileBasicInformation: an entry's times and attributes ([MS-FSCC] 2.4.7)
 
--- the status of a SET_INFO that sets the times and attributes of the entry of an open
-abbrev pub basic_status : StoreState → ℕ → BasicAsk → NtStatus
-basic_status state number ask = status_through state number (λ view.
-    -- what is asked for is no time, or a file is to have FILE_ATTRIBUTE_DIRECTORY ([MS-FSCC] 2.4.7, [MS-FSA] 2.1.5.15.2)
+-- the rows of a SET_INFO that sets the times and attributes of the entry of an open, which shows this
+abbrev pub basic_refusals : BasicAsk → View → List (RefusalRow SetBasicRefusal)
+basic_refusals ask view =
+    -- SB1. what is asked for is no time, or a file is to have FILE_ATTRIBUTE_DIRECTORY ([MS-FSCC] 2.4.7, [MS-FSA]
+    -- 2.1.5.15.2)
     (
       is_bad_time ask.creation_time || is_bad_time ask.last_access_time || is_bad_time ask.last_write_time
           || is_bad_time ask.change_time
           || not (is_folder_kind view.kind) && has_any ask.attributes.0 FILE_ATTRIBUTE_DIRECTORY,
-      InvalidParameter,
+      SetBasicRefusal.TimeOrAttributesInvalid,
     )
-    -- the open was not granted FILE_WRITE_ATTRIBUTES ([MS-FSA] 2.1.5.15.2)
-    ∷ (not (has_any view.access.0 FILE_WRITE_ATTRIBUTES), AccessDenied)
-    ∷ [])
+    -- SB2. the open was not granted FILE_WRITE_ATTRIBUTES ([MS-FSA] 2.1.5.15.2)
+    ∷ (not (has_any view.access.0 FILE_WRITE_ATTRIBUTES), SetBasicRefusal.AttributesNotGranted)
+    ∷ []
+
+-- why it is refused, if it is
+abbrev pub basic_refusal : StoreState → ℕ → BasicAsk → Option SetBasicRefusal
+basic_refusal state number ask = refusal_through state number (basic_refusals ask)
+
+-- its status
+abbrev pub basic_status : StoreState → ℕ → BasicAsk → NtStatus
+basic_status state number ask = status_through state number
+    (λ view. with_statuses (λ refusal. Refusal.SetBasic refusal) (basic_refusals ask view))
 
 -- the store afterwards; for a 0 the time of the last change becomes the moment, and the attributes are left ([MS-FSA]
 -- 2.1.5.15.2); of the attributes a tree keeps four ([MS-FSCC] 2.6)

@@ -20,8 +20,10 @@
 //! entry's name: with the status that the table of `specs/Renames.antt` gives; or the entry is moved with all that lies beneath it, as the
 //! same file says.
 //!
-//! Each call that has a table is Ok only where its status by the table is STATUS_SUCCESS, and out of memory comes only
-//! there too (`IsRefusal` of smb_access).
+//! Each call that has a table comes twice. [`Store::write_by_row`], and so each of that ending, is Ok only where no row
+//! of its table refuses it, and else names the row; out of memory comes only where none does (`IsRefusedBy` of
+//! smb_refusals). [`Store::write`], and so each without that ending, is Ok only where its status by the table is
+//! STATUS_SUCCESS, and else tells the status; out of memory comes only there too (`IsRefusal` of smb_access).
 //!
 //! [`Store::set_scan`] keeps how far a scan of a directory has come through an open.
 //!

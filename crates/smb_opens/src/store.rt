@@ -1,6 +1,6 @@
 //! The store: a tree and its opens, joined.
 
-ghost use Rattle.std.specs.Prelude.{◌≡◌, ◌≢◌, ◌∷◌, [], None, Some, true, false, IsSome, IfOk, IfErr, OnOk, OnErr, is_some, filter, length, not};
+ghost use Rattle.std.specs.Prelude.{◌≡◌, ◌∷◌, [], None, Some, true, false, IsSome, IfOk, IfErr, OnOk, OnErr, is_some, filter, length, not};
 ghost use Rattle.std.specs.Option.{option_map};
 ghost use Rattle.smb_wire.specs.Paths.{path_spelled, folded_path};
 ghost use Rattle.smb_wire.specs.PathViews.{parts_of};
@@ -12,11 +12,12 @@ ghost use Rattle.smb_access.specs.Access.{granted};
 ghost use Rattle.smb_wire.specs.Dispositions.{disposition_code, overwrites_by};
 ghost use Rattle.smb_access.specs.Asked.{asked};
 ghost use Rattle.smb_opens.specs.Close.{closed, closed_all, is_removed_with};
-ghost use Rattle.smb_opens.specs.Create.{create_status};
-ghost use Rattle.smb_access.specs.StatusRows.{first_status};
+ghost use Rattle.smb_opens.specs.Create.{create_refusal, create_status};
+ghost use Rattle.smb_refusals.specs.Rows.{first_refusal};
 ghost use Rattle.smb_opens.specs.Effect.{created, create_result};
 ghost use Rattle.smb_opens.specs.Parts.{created_by, create_result_by, has_all_opens, has_all_entries};
 ghost use Rattle.smb_access.specs.Faults.{IsRefusal};
+ghost use Rattle.smb_refusals.specs.Refused.{IsRefusedBy};
 ghost use Rattle.smb_opens.specs.Found.{entry_asked};
 ghost use Rattle.smb_access.specs.Parts.{is_marked};
 ghost use Rattle.smb_opens.specs.Looked.{found_at};
@@ -24,7 +25,7 @@ ghost use Rattle.smb_access.specs.Looked.{found_rows, is_read_only_target, targe
 ghost use Rattle.smb_opens.specs.Good.{UnmarkedTree, GoodStore};
 ghost use Rattle.smb_access.specs.Opens.{open_of, is_held_by};
 ghost use Rattle.smb_opens.specs.Views.{open_view};
-ghost use Rattle.smb_access.specs.declared.fault.StoreFault.TheVariants.{NoMemory};
+ghost use Rattle.smb_refusals.specs.declared.refused_by.RefusedBy.TheVariants.{NoMemory};
 
 use smb_access::access::granted;
 use smb_access::checks::{
@@ -33,12 +34,12 @@ use smb_access::checks::{
 };
 use smb_access::close::{mark_closed, remove_if_delete_pending};
 use smb_access::effect::{action_on, attributes_asked, kind_asked, opened_by, overwrite_if_asked};
-use smb_access::fault::refusal_of;
 use smb_access::found::{CreateLookup, Target};
 use smb_access::look::{count_entries, entry_view, find_with_above};
 use smb_access::sharing::conflicts;
 use smb_access::{Closed, CreateAsk, Created, OpenNo, Opens, Owner, StoreFault, View};
 use smb_locks::LockTable;
+use smb_refusals::{CreateRefusal, Refusal, RefusedBy};
 use smb_tree::{EntryNo, Tree};
 use smb_wire::limits::{MOST_ENTRIES, MOST_OPENS};
 use smb_wire::{CreateAction, CreateDisposition, NtStatus, PathView};
@@ -134,14 +135,18 @@ impl<T: Tree + Drop, O: Opens + Drop> Store<T, O> {
     /// Answers a CREATE at a moment (in units of 100 ns since 1601): opens the entry at a path, which is
     /// added, overwritten or left as it stands ([MS-SMB2] 3.3.5.9).
     ///
-    /// [`Status`](StoreFault::Status) tells the first row of the table that holds, and
-    /// [`NoMemory`](StoreFault::NoMemory) that an allocation was refused where none does.
-    pub fn create(&mut self, ask: &CreateAsk<'_>, moment: u64) -> Result<Created, StoreFault>
+    /// [`Row`](RefusedBy::Row) tells the first row of the table that holds, and [`NoMemory`](RefusedBy::NoMemory)
+    /// that an allocation was refused where none does.
+    pub fn create_by_row(
+        &mut self,
+        ask: &CreateAsk<'_>,
+        moment: u64,
+    ) -> Result<Created, RefusedBy<CreateRefusal>>
         ensures store { OnOk result (self.new ≡ created self.old (asked ask.now) moment) }
         ensures told { IfOk result (λ done. done ≡ create_result self.old (asked ask.now) moment) }
-        ensures lawful { OnOk result (create_status self.old (asked ask.now) ≡ NtStatus.Success) }
+        ensures lawful { OnOk result (create_refusal self.old (asked ask.now) ≡ None) }
         ensures err { OnErr result (self.new ≡ self.old) }
-        ensures why { IfErr result (λ fault. IsRefusal (create_status self.old (asked ask.now)) fault) }
+        ensures why { IfErr result (λ refused. IsRefusedBy (create_refusal self.old (asked ask.now)) refused) }
     {
         self.good();
         let (disposition, path) = asked_path(ask)?;
@@ -150,6 +155,20 @@ impl<T: Tree + Drop, O: Opens + Drop> Store<T, O> {
         match found.target {
             None => self.create_new(ask, &path, moment),
             Some(target) => self.open_standing(ask, disposition, target, moment),
+        }
+    }
+
+    /// [`create_by_row`](Store::create_by_row), with a refusal's status in its place.
+    pub fn create(&mut self, ask: &CreateAsk<'_>, moment: u64) -> Result<Created, StoreFault>
+        ensures store { OnOk result (self.new ≡ created self.old (asked ask.now) moment) }
+        ensures told { IfOk result (λ done. done ≡ create_result self.old (asked ask.now) moment) }
+        ensures lawful { OnOk result (create_status self.old (asked ask.now) ≡ NtStatus.Success) }
+        ensures err { OnErr result (self.new ≡ self.old) }
+        ensures why { IfErr result (λ fault. IsRefusal (create_status self.old (asked ask.now)) fault) }
+    {
+        match self.create_by_row(ask, moment) {
+            Ok(done) => Ok(done),
+            Err(refused) => Err(StoreFault::from(RefusedBy::<Refusal>::from(refused))),
         }
     }
 
@@ -181,22 +200,21 @@ impl<T: Tree + Drop, O: Opens + Drop> Store<T, O> {
         self.entries_count - 1 >= MOST_ENTRIES || self.tree.next_no().is_none()
     }
 
-    // Whether what was found lets a request pass, or the status that answers it.
+    // Whether what was found lets a request pass, or why not.
     fn check_found(
         &self,
         ask: &CreateAsk<'_>,
         disposition: CreateDisposition,
         found: &CreateLookup,
-    ) -> Result<(), NtStatus>
+    ) -> Result<(), CreateRefusal>
         requires { disposition_code disposition ≡ ask.now.disposition.0 }
-        ensures lawful { OnOk result (first_status (found_rows self.now.opens (asked ask.now) found.now) ≡ NtStatus.Success) }
-        ensures why { IfErr result (λ status. first_status (found_rows self.now.opens (asked ask.now) found.now) ≡ status) }
-        ensures refused { IfErr result (λ status. status ≢ NtStatus.Success) }
+        ensures lawful { OnOk result (first_refusal (found_rows self.now.opens (asked ask.now) found.now) ≡ None) }
+        ensures why { IfErr result (λ refusal. first_refusal (found_rows self.now.opens (asked ask.now) found.now) ≡ Some refusal) }
     {
         check_place(ask, disposition, found)?;
         check_kind(ask, disposition, &found.target)?;
         if conflicts(&self.opens, ask, disposition, &found.target) {
-            return Err(NtStatus::SharingViolation);
+            return Err(CreateRefusal::OpenConflicts);
         }
         check_room(found)
     }
@@ -207,7 +225,7 @@ impl<T: Tree + Drop, O: Opens + Drop> Store<T, O> {
         ask: &CreateAsk<'_>,
         path: &PathView<'_>,
         moment: u64,
-    ) -> Result<Created, StoreFault>
+    ) -> Result<Created, RefusedBy<CreateRefusal>>
         requires path { parts_of path.now ≡ path_spelled (units_of ask.now.name) }
         requires free { add_fault self.old.tree (folded_path (parts_of path.now)) ≡ None }
         requires above { is_marked (entry_at self.old.tree.rows (parent (folded_path (parts_of path.now)))) ≡ false }
@@ -215,7 +233,7 @@ impl<T: Tree + Drop, O: Opens + Drop> Store<T, O> {
         ensures store { OnOk result (self.new ≡ created_by self.old (asked ask.now) moment (granted ask.now.access.0 ask.now.read_only false) None) }
         ensures told { IfOk result (λ done. done ≡ create_result_by self.old (asked ask.now) moment (granted ask.now.access.0 ask.now.read_only false) None) }
         ensures err { OnErr result (self.new ≡ self.old) }
-        ensures memory { IfErr result (λ fault. fault ≡ NoMemory) }
+        ensures memory { IfErr result (λ refused. refused ≡ NoMemory) }
     {
         let number = self.next;
         let access = granted(ask.access, ask.read_only, false);
@@ -224,12 +242,12 @@ impl<T: Tree + Drop, O: Opens + Drop> Store<T, O> {
             unreachable!();
         };
         self.opens.add(opened_by(ask, number, entry, access))?;
-        if let Err(fault) = self
+        if let Err(_) = self
             .tree
             .add(path, kind, attributes_asked(kind, ask), moment)
         {
             self.opens.remove(number);
-            return Err(refusal_of(fault));
+            return Err(RefusedBy::NoMemory);
         }
         self.next = number + 1;
         self.opens_count += 1;
@@ -251,7 +269,7 @@ impl<T: Tree + Drop, O: Opens + Drop> Store<T, O> {
         disposition: CreateDisposition,
         target: Target,
         moment: u64,
-    ) -> Result<Created, StoreFault>
+    ) -> Result<Created, RefusedBy<CreateRefusal>>
         requires disposition { disposition_code disposition ≡ ask.now.disposition.0 }
         requires target { option_map target_of (entry_asked self.old (asked ask.now)) ≡ Some target }
         requires file { overwrites_by ask.now.disposition.0 ≡ true → is_folder_kind target.kind ≡ false }
@@ -260,7 +278,7 @@ impl<T: Tree + Drop, O: Opens + Drop> Store<T, O> {
         ensures store { OnOk result (self.new ≡ created_by self.old (asked ask.now) moment (granted ask.now.access.0 ask.now.read_only (is_read_only_target (Some target))) (entry_asked self.old (asked ask.now))) }
         ensures told { IfOk result (λ done. done ≡ create_result_by self.old (asked ask.now) moment (granted ask.now.access.0 ask.now.read_only (is_read_only_target (Some target))) (entry_asked self.old (asked ask.now))) }
         ensures err { OnErr result (self.new ≡ self.old) }
-        ensures memory { IfErr result (λ fault. fault ≡ NoMemory) }
+        ensures memory { IfErr result (λ refused. refused ≡ NoMemory) }
     {
         let number = self.next;
         let access = granted(
@@ -270,9 +288,9 @@ impl<T: Tree + Drop, O: Opens + Drop> Store<T, O> {
         );
         self.opens
             .add(opened_by(ask, number, target.number, access))?;
-        if let Err(fault) = overwrite_if_asked(&mut self.tree, ask, disposition, target, moment) {
+        if let Err(_) = overwrite_if_asked(&mut self.tree, ask, disposition, target, moment) {
             self.opens.remove(number);
-            return Err(fault);
+            return Err(RefusedBy::NoMemory);
         }
         self.next = number + 1;
         self.opens_count += 1;

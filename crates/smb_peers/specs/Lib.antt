@@ -1,4 +1,5 @@
 pub mod Event
+pub mod Ending
 pub mod Record
 pub mod Clock
 pub mod Peers

@@ -95,7 +95,8 @@ pub struct Given<'a> {
 pub enum Detail<'a> {
     /// Its line alone.
     Brief,
-    /// A second line, where there is more to say; and in a replay a line for each connection that the share ends.
+    /// A second line, where there is more to say; and in a replay a line for each request that the share refuses, and each connection that
+    /// it ends.
     Explained(Given<'a>),
 }
 

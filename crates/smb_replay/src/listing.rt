@@ -167,7 +167,7 @@ fn put_replies(
     Ok(false)
 }
 
-/// Adds what a line of a replay's output says; false where it is none.
+/// Adds what a line of a replay's output says, of a comment itself; false where it is none.
 fn put_line(alloc: Global, line: &str, text: &mut String) -> Result<bool, AllocError> {
     if let Some(answer) = line.strip_prefix("< ") {
         let Some((connection, digits)) = answer.split_once(' ') else {
@@ -181,7 +181,7 @@ fn put_line(alloc: Global, line: &str, text: &mut String) -> Result<bool, AllocE
     }
     text.push_str(line)?;
     text.push_str("\n")?;
-    Ok(line.starts_with("x "))
+    Ok(line.starts_with("x ") || line.starts_with("#"))
 }
 
 /// The listing of a replay's output; None where it is none.

@@ -6,18 +6,18 @@ ghost use Rattle.smb_tree.specs.Content.{new_content};
 use crate::fault::{CommandFault, Detail};
 use crate::hears::{Deaf, Hears};
 use crate::input::read_input;
-use crate::script::{Part, Script, Unread};
-use crate::streams::Streams;
+use crate::playing::{Playing, ReplayWords, Telling};
+use crate::script::{Part, Unread};
 use smb_config::Configuration;
-use smb_engine::{Answer, Authenticator, Event, RunFault, ServeFault, Share};
+use smb_engine::{Answer, Authenticator, Event, ServeFault, Share};
 use smb_handles::HandleTable;
 use smb_nodes::NodeTree;
 use smb_opens::{Opens, PlainOpens};
 use smb_session::Tokens;
 use smb_tree::{PlainTree, Tree, TreeFault};
 use std::alloc::Global;
+use std::io;
 use std::io::{Read, Write};
-use std::{io, slice};
 
 /// How many bytes are written as hex at a time.
 const HEX_PART: usize = 512;
@@ -35,7 +35,7 @@ pub(crate) fn write_hex<W: Write>(bytes: &[u8], output: &mut W) -> io::Result<()
 }
 
 /// Writes an answer as a line.
-fn write_answer<W: Write>(answer: &Answer, output: &mut W) -> io::Result<()> {
+pub(crate) fn write_answer<W: Write>(answer: &Answer, output: &mut W) -> io::Result<()> {
     match answer {
         Answer::Frame(connection, frame) => {
             write!(output, "< {connection} ")?;
@@ -54,32 +54,6 @@ pub fn write_answers<W: Write>(answers: &[Answer], output: &mut W) -> Result<(),
         write_answer(answer, output).map_err(|_| CommandFault::OutputFailed)?;
     }
     output.flush().map_err(|_| CommandFault::OutputFailed)
-}
-
-/// How many connections these events open.
-fn count_opened(events: &[Event]) -> u64 {
-    let mut count = 0u64;
-    for event in events {
-        if let Event::Opened(_) = event {
-            count = count.saturating_add(1);
-        }
-    }
-    count
-}
-
-/// What a fault of the share is in the text's lines. `opened` is how many connections were opened before the script.
-fn fault_at(script: &Script, opened: u64, fault: RunFault) -> CommandFault {
-    let line = script.places.get(fault.place).copied().unwrap_or(0);
-    match fault.fault {
-        ServeFault::TooManyConnections => CommandFault::TooManyConnections(line),
-        ServeFault::BadEvent => {
-            let performed = script.events.get(..fault.place).unwrap_or(&[]);
-            let opened = opened.saturating_add(count_opened(performed));
-            CommandFault::BadEvent(line, opened.saturating_add(1))
-        }
-        ServeFault::NoMemory { done: _ } => CommandFault::NoMemory,
-        ServeFault::BadConfig => CommandFault::ConfigRefused(None),
-    }
 }
 
 /// A new share of a configuration over a tree that was made for it, and a list of opens: the root alone, and nothing is open.
@@ -129,110 +103,17 @@ pub fn new_plain_share(
     share_over(alloc, configuration, tree, PlainOpens::new(alloc))
 }
 
-/// What is said of connections that the share ends, beside its answers: nothing, or the rule by which each was ended.
-#[derive(Drop)]
-struct Beside<'a, E: Write> {
-    /// The streams that are read anew, where the rules are to be said.
-    streams: Option<Streams>,
-    errors: &'a mut E,
-    /// How many connections were opened.
-    opened: u64,
-}
-
-impl<'a, E: Write> Beside<'a, E> {
-    /// Beside a new share.
-    fn new(alloc: Global, detail: Detail<'_>, errors: &'a mut E) -> Self {
-        let streams = match detail {
-            Detail::Brief => None,
-            Detail::Explained(_) => Some(Streams::new(alloc)),
-        };
-        Beside {
-            streams,
-            errors,
-            opened: 0,
-        }
-    }
-
-    /// Takes the first events of a script, which the share performed, so many. That the writer fails is passed over.
-    fn take(&mut self, script: &Script, count: usize) -> Result<(), CommandFault> {
-        let events = script.events.get(..count).unwrap_or(&script.events);
-        self.opened = self.opened.saturating_add(count_opened(events));
-        let Some(streams) = &mut self.streams else {
-            return Ok(());
-        };
-        for (event, line) in events.iter().zip(script.places.iter()) {
-            if let Some(rule) = streams.take(event)? {
-                let connection = event.connection();
-                let _ = writeln!(self.errors, "x {connection}, line {line}: {rule}");
-            }
-        }
-        Ok(())
-    }
-}
-
-/// Runs events on a share one by one, and adds what it answers; each event that it performed is heard with its answers.
-fn run_events<A: Authenticator + Drop, T: Tree + Drop, O: Opens + Drop, H: Hears>(
-    share: &mut Share<A, T, O>,
-    events: &[Event],
-    answers: &mut Vec<Answer>,
-    heard: &mut H,
-) -> Result<(), RunFault> {
-    let mut place = 0usize;
-    for event in events {
-        let before = answers.len();
-        if let Err(fault) = share.run(slice::from_ref(event), answers) {
-            return Err(RunFault { place, ..fault });
-        }
-        heard.hear(event, answers.get(before..).unwrap_or(&[]));
-        place = place.saturating_add(1);
-    }
-    Ok(())
-}
-
-/// Runs the events of a script on a share, and writes what it answers.
-fn run_script<
-    A: Authenticator + Drop,
-    T: Tree + Drop,
-    O: Opens + Drop,
-    W: Write,
-    E: Write,
-    H: Hears,
->(
-    alloc: Global,
-    share: &mut Share<A, T, O>,
-    script: &Script,
-    output: &mut W,
-    beside: &mut Beside<'_, E>,
-    heard: &mut H,
-) -> Result<(), CommandFault> {
-    let mut answers = Vec::new(alloc);
-    let ran = run_events(share, &script.events, &mut answers, heard);
-    write_answers(&answers, output)?;
-    if let Err(fault) = ran {
-        let refused = fault_at(script, beside.opened, fault);
-        beside.take(script, fault.place)?;
-        return Err(refused);
-    }
-    beside.take(script, script.events.len())?;
-    match script.unreadable_at {
-        Some((line, expected)) => Err(CommandFault::Unreadable(line, expected)),
-        None => Ok(()),
-    }
-}
-
-/// Runs the events of a text on a share, part by part, and writes what it answers.
+/// Plays the events of a text on a share, part by part, and writes what it answers.
 fn run_text<A: Authenticator + Drop, T: Tree + Drop, O: Opens + Drop, W: Write, E: Write, H: Hears>(
     alloc: Global,
     share: &mut Share<A, T, O>,
     text: &[u8],
-    output: &mut W,
-    beside: &mut Beside<'_, E>,
-    heard: &mut H,
+    playing: &mut Playing<'_, W, E, H>,
 ) -> Result<(), CommandFault> {
     let mut left = Some(Unread::of(text));
     while let Some(unread) = left {
         let part = Part::read(alloc, unread)?;
-        run_script(alloc, share, &part.script, output, beside, heard)?;
+        playing.play_script(share, &part.script)?;
         left = part.left;
     }
     Ok(())
@@ -272,12 +153,11 @@ fn replay<R: Read + Drop, W: Write, E: Write>(
     alloc: Global,
     config: &str,
     input: R,
-    output: &mut W,
-    mut beside: Beside<'_, E>,
+    mut playing: Playing<'_, W, E, Deaf>,
 ) -> Result<(), CommandFault> {
     let (configuration, text) = read_replay(alloc, config, input)?;
     let mut share = new_share(alloc, configuration)?;
-    run_text(alloc, &mut share, &text, output, &mut beside, &mut Deaf)
+    run_text(alloc, &mut share, &text, &mut playing)
 }
 
 /// Replays a text on a share in which nothing has happened yet, and writes what the share answers.
@@ -285,12 +165,10 @@ fn replay_on<A: Authenticator + Drop, R: Read + Drop, W: Write, E: Write, H: Hea
     alloc: Global,
     mut share: Share<A, NodeTree, HandleTable>,
     input: R,
-    output: &mut W,
-    mut beside: Beside<'_, E>,
-    heard: &mut H,
+    mut playing: Playing<'_, W, E, H>,
 ) -> Result<(), CommandFault> {
     let text = read_input(alloc, input)?;
-    run_text(alloc, &mut share, &text, output, &mut beside, heard)
+    run_text(alloc, &mut share, &text, &mut playing)
 }
 
 /// Replays a text on a new plain share, and writes what the share answers.
@@ -298,12 +176,11 @@ fn replay_plain<R: Read + Drop, W: Write, E: Write>(
     alloc: Global,
     config: &str,
     input: R,
-    output: &mut W,
-    mut beside: Beside<'_, E>,
+    mut playing: Playing<'_, W, E, Deaf>,
 ) -> Result<(), CommandFault> {
     let (configuration, text) = read_replay(alloc, config, input)?;
     let mut share = new_plain_share(alloc, configuration)?;
-    run_text(alloc, &mut share, &text, output, &mut beside, &mut Deaf)
+    run_text(alloc, &mut share, &text, &mut playing)
 }
 
 /// Writes the fault of a replay, if there is one, and gives the exit status.
@@ -337,8 +214,7 @@ pub fn replay_text<R: Read + Drop, W: Write, E: Write>(
 }
 
 /// The same; with [`Detail::Explained`] `errors` gets a second line behind a fault, where there is more to say of it, and before it a
-/// line `x N, line L: RULE` for each connection that the share ends: the rule by which it did. The streams are read a second time for
-/// it.
+/// line `< N, line L: WHY` for each request that the share refuses, and `x N, line L: WHY` for each connection that it ends.
 pub fn replay_in_detail<R: Read + Drop, W: Write, E: Write>(
     alloc: Global,
     config: &str,
@@ -347,8 +223,10 @@ pub fn replay_in_detail<R: Read + Drop, W: Write, E: Write>(
     output: &mut W,
     errors: &mut E,
 ) -> u8 {
-    let beside = Beside::new(alloc, detail, errors);
-    let replayed = replay(alloc, config, input, output, beside);
+    let mut heard = Deaf;
+    let telling = Telling::of(detail, false);
+    let playing = Playing::new(alloc, telling, output, errors, &mut heard);
+    let replayed = replay(alloc, config, input, playing);
     status_of(alloc, replayed, detail, errors)
 }
 
@@ -361,21 +239,28 @@ pub fn replay_on_share<A: Authenticator + Drop, R: Read + Drop, W: Write, E: Wri
     output: &mut W,
     errors: &mut E,
 ) -> u8 {
-    replay_heard(alloc, share, detail, input, output, errors, &mut Deaf)
+    let words = ReplayWords::of(detail);
+    replay_heard(alloc, share, words, input, output, errors, &mut Deaf)
 }
 
-/// The same, where `heard` hears each event that the share performs, with what it answers, before the next is performed.
+/// The same, where `heard` hears each event that the share performs, with what it answers, before the next is performed. Words with
+/// reasons have them written as comments into `output`, each behind the answer that it is of, and not into `errors`.
 pub fn replay_heard<A: Authenticator + Drop, R: Read + Drop, W: Write, E: Write, H: Hears>(
     alloc: Global,
     share: Share<A, NodeTree, HandleTable>,
-    detail: Detail<'_>,
+    words: ReplayWords<'_>,
     input: R,
     output: &mut W,
     errors: &mut E,
     heard: &mut H,
 ) -> u8 {
-    let beside = Beside::new(alloc, detail, errors);
-    let replayed = replay_on(alloc, share, input, output, beside, heard);
+    let ReplayWords {
+        detail,
+        with_reasons,
+    } = words;
+    let telling = Telling::of(detail, with_reasons);
+    let playing = Playing::new(alloc, telling, output, errors, heard);
+    let replayed = replay_on(alloc, share, input, playing);
     status_of(alloc, replayed, detail, errors)
 }
 
@@ -387,7 +272,8 @@ pub fn replay_plain_text<R: Read + Drop, W: Write, E: Write>(
     output: &mut W,
     errors: &mut E,
 ) -> u8 {
-    let beside = Beside::new(alloc, Detail::Brief, errors);
-    let replayed = replay_plain(alloc, config, input, output, beside);
+    let mut heard = Deaf;
+    let playing = Playing::new(alloc, Telling::Nowhere, output, errors, &mut heard);
+    let replayed = replay_plain(alloc, config, input, playing);
     status_of(alloc, replayed, Detail::Brief, errors)
 }

@@ -1,7 +1,7 @@
 -- One request, seen from the sessions of other connections.
 use Rattle.std.proofs.Common.{◌≡◌, ◌==◌, ℕ, Bool, true, false, if◌then◌else◌, List, [], ◌∷◌, length, filter, ◌⊎◌, Option, None, Some, is_some, refl, sym, ap, subst, arith, ◌∙◌}
 use Rattle.std.proofs.lemmas.Bool.Decides.{nat_tests}
-use Rattle.std.specs.Option.{option_map_or, option_and_then}
+use Rattle.std.specs.Option.{is_none, option_map, option_map_or, option_and_then}
 use Rattle.smb_wire.specs.Limits.{most_at_once}
 use Rattle.smb_session.specs.Session.{SessionState}
 use Rattle.smb_session.specs.Laws.{setup_number}
@@ -20,8 +20,6 @@ use Rattle.smb_request.specs.declared.context.ContextOpen.{ContextOpen}
 use Rattle.smb_request.specs.declared.context.ContextOpen.TheVariants.{Nothing, Named, Refused}
 use Rattle.smb_request.specs.Context.{open_named, named_on, open_for_next_related}
 use Rattle.smb_request.specs.Parts.{number_named, named_open, names_open, file_asked, close_response, asks_unlock, needs_session, is_unsupported, is_cancel_command, check_session_tree_and_open, dialect_after, lock_asks, hello_of, open_refusal, performed_by, success, with_store, set_through, negotiated, file_locked, file_unlocked}
-use Rattle.smb_request.specs.Refusals.{status_of_refusal}
-use Rattle.smb_wire.specs.declared.nt_status.NtStatus.{NtStatus}
 use Rattle.smb_request.specs.Needs.{needs_of}
 use Rattle.smb_request.specs.Negotiate.{negotiate_answer}
 use Rattle.smb_request.specs.Call.{body_of, call_of}
@@ -31,7 +29,6 @@ use Rattle.smb_session.specs.Authenticator.{Meaning}
 use Rattle.smb_opens.specs.Close.{closed_all}
 use Rattle.smb_request.specs.Response.{CommandStep, Performed}
 use Rattle.smb_tree.specs.Entries.{is_folder_kind}
-use Rattle.smb_wire.specs.NtStatus.{is_success}
 use Rattle.smb_body.specs.Create.{CreateAsked}
 use Rattle.smb_body.specs.Write.{WriteAsked}
 use Rattle.smb_body.specs.declared.read.ReadRequest.{ReadRequest}
@@ -40,11 +37,16 @@ use Rattle.smb_access.specs.declared.view.View.{View}
 use Rattle.smb_access.specs.Asked.{FileAsked}
 use Rattle.smb_locks.specs.declared.ask.LockAsk.{LockAsk}
 use Rattle.smb_locks.specs.Table.{Table, locked, unlocked}
-use Rattle.smb_opens.specs.Locks.{lock_status, unlock_status, unlocked_through}
+use Rattle.smb_opens.specs.Locks.{lock_refusal, unlock_refusal, unlocked_through}
 use Rattle.smb_opens.specs.Parts.{with_locks_of}
-use Rattle.smb_opens.specs.Bytes.{read_status, write_status, written_to}
+use Rattle.smb_opens.specs.Bytes.{read_refusal, write_refusal, written_to}
 use Rattle.smb_opens.specs.Close.{closed}
-use Rattle.smb_opens.specs.Create.{access_granted, create_status}
+use Rattle.smb_opens.specs.Create.{access_granted, create_refusal}
+use Rattle.smb_refusals.specs.declared.refusal.Refusal.{Refusal}
+use Rattle.smb_refusals.specs.declared.file.CloseRefusal.{CloseRefusal}
+use Rattle.smb_refusals.specs.declared.request.RequestRefusal.{RequestRefusal}
+use Rattle.smb_refusals.specs.declared.request.RequestRefusal.TheVariants.{UnknownCommand, CommandNotPerformed, BodyUnreadable}
+use Rattle.smb_refusals.specs.declared.request.NegotiateRefusal.TheVariants.{NoDialect}
 use Rattle.smb_access.specs.Effect.{entry_after}
 use Rattle.smb_access.specs.Parts.{opened_by}
 use Rattle.smb_opens.specs.Effect.{created}
@@ -61,8 +63,7 @@ use Rattle.smb_session.specs.Table.{tree_disconnect_refusal}
 use Rattle.smb_session.specs.Sessions.{tree_connect_refusal}
 use Rattle.smb_body.specs.Replies.{answers_close, answers_lock}
 use Rattle.smb_request.specs.declared.call.Call.{Call}
-use Rattle.smb_wire.specs.declared.nt_status.NtStatus.TheVariants.{InvalidParameter, FileClosed, NotSupported}
-use Rattle.smb_request.specs.Response.{refused}
+use Rattle.smb_request.specs.Response.{refused, through_open, unless_refused}
 use Rattle.smb_request.specs.Session.{may_only_read, session_logged_off, tree_joined, tree_left}
 use Rattle.smb_request.specs.State.{ServerState}
 use Rattle.smb_request.specs.Laws.{NumbersInOrder, IsInOrder, IsAsItWas, IsOver, ReplacesSession}
@@ -162,18 +163,14 @@ module _ {S : Type 0} (may : ℕ → SessionState → Type 0) (acts : ℕ → Bo
       leaves_then acts server.sessions.table server.sessions.table table server.store (closed_all server.store owner) (closed_all server.store owner) o one (step one.order)
 
   -- a refusal changes nothing
-  by_status : (step : CommandStep S) (status : Option NtStatus) → (status ≡ None → Left step.server) → Left (option_map_or (refused server call.ids) status step).server
-  by_status step (Some status) h = same
-  by_status step None h = h refl
-
-  where_done : (step : CommandStep S) (status : NtStatus) (b : Bool) → Left step.server → Left (let x : CommandStep S = if b then step else refused server call.ids status in x).server
-  where_done step status true h = h
-  where_done step status false h = same
+  by_row : (step : CommandStep S) (refusal : Option Refusal) → (refusal ≡ None → Left step.server) → Left (unless_refused server call.ids refusal step).server
+  by_row step (Some refusal) h = same
+  by_row step None h = h refl
 
   -- LOGOFF
   logged_off_left : Left (session_logged_off server call).server
   unfolding session_logged_off
-  logged_off_left = by_status _ (option_and_then status_of_refusal (logoff_refusal server.sessions.table c s)) (λ e.
+  logged_off_left = by_row _ (option_map (λ refusal. Refusal.Logoff refusal) (logoff_refusal server.sessions.table c s)) (λ e.
       let known : IsKnown = grind (arith, e) in
       let apart = known_apart acts server.sessions.table c s a known in
       closed_then (Session s) (session_ended server.sessions.table s) apart (λ n d. others_held s n server.store.opens d)
@@ -182,14 +179,14 @@ module _ {S : Type 0} (may : ℕ → SessionState → Type 0) (acts : ℕ → Bo
   -- TREE_CONNECT
   joined_left : (path : List ℕ) → Left (tree_joined server call path).server
   unfolding tree_joined
-  joined_left path = by_status _ (option_and_then status_of_refusal (tree_connect_refusal server.sessions c s path)) (λ e.
+  joined_left path = by_row _ (option_map (λ refusal. Refusal.TreeConnect refusal) (tree_connect_refusal server.sessions c s path)) (λ e.
       let known : IsKnown = grind (arith, e) in
       leaves_changed acts server.sessions.table server.store o s (known_apart acts server.sessions.table c s a known) with_tree)
 
   -- TREE_DISCONNECT
   disconnected_left : Left (tree_left server call).server
   unfolding tree_left
-  disconnected_left = by_status _ (option_and_then status_of_refusal (tree_disconnect_refusal server.sessions.table c s call.ids.tree_id)) (λ e.
+  disconnected_left = by_row _ (option_map (λ refusal. Refusal.TreeDisconnect refusal) (tree_disconnect_refusal server.sessions.table c s call.ids.tree_id)) (λ e.
       let known : IsKnown = grind (arith, e) in
       let apart = known_apart acts server.sessions.table c s a known in
       closed_then (Tree s call.ids.tree_id) (tree_disconnected server.sessions.table s call.ids.tree_id) apart (λ n d. others_of_tree s call.ids.tree_id n server.store.opens d)
@@ -206,7 +203,7 @@ module _ {S : Type 0} (may : ℕ → SessionState → Type 0) (acts : ℕ → Bo
   unfolding file_created
   created_left asked known =
       let ask = file_asked call.ids asked (may_only_read server call) in
-      where_done _ _ (is_success (create_status server.store ask)) (opened_left ask call.moment known)
+      by_row _ (option_map (λ refusal. Refusal.Create refusal) (create_refusal server.store ask)) (λ e. opened_left ask call.moment known)
 
   -- CLOSE
   closed_open_left : (row : Option OpenRow) → open_of server.store.opens k ≡ row → IsHeld row → IsKnown → Left (with_store server (closed server.store k))
@@ -216,7 +213,7 @@ module _ {S : Type 0} (may : ℕ → SessionState → Type 0) (acts : ℕ → Bo
       (opens_closed server.store k (ap (λ (o : Option OpenRow). is_some o) e)) (next_closed server.store k) (λ n d. closed_held server.store s call.ids.tree_id n k row e h o.opens d)
 
   closed_at : (flags : CloseFlags) (view : Option View) → Left (with_store server (closed server.store k)) →
-      Left (option_map_or (λ view. let x : CommandStep S = record { server = with_store server (closed server.store k); response = success call.ids (answers_close (close_response flags view)) } in x) view (refused server call.ids FileClosed)).server
+      Left (option_map_or (λ view. let x : CommandStep S = record { server = with_store server (closed server.store k); response = success call.ids (answers_close (close_response flags view)) } in x) view (refused server call.ids (Refusal.Close CloseRefusal.UnknownOpen))).server
   closed_at flags None h = same
   closed_at flags (Some view) h = h
 
@@ -239,15 +236,15 @@ module _ {S : Type 0} (may : ℕ → SessionState → Type 0) (acts : ℕ → Bo
   locks_kept table = opens_kept (with_locks_of table server.store (open_view server.store k)) (locks_opens table server.store (open_view server.store k)) (locks_next table server.store (open_view server.store k))
 
   locked_left : (asks : List LockAsk) → Left (file_locked server call asks).server
-  locked_left asks = where_done _ _ (is_success (lock_status server.store k asks)) (locks_kept (λ entry. locked server.store.locks entry k asks))
+  locked_left asks = by_row _ (through_open server.store k (option_map (λ refusal. Refusal.Lock refusal) (lock_refusal server.store k asks))) (λ e. locks_kept (λ entry. locked server.store.locks entry k asks))
 
-  unlocked_at : (after : ServerState S) (status : NtStatus) (b : Bool) → Left after → Left (let x : CommandStep S = if b then record { server = after; response = success call.ids answers_lock } else refused after call.ids status in x).server
-  unlocked_at after status true h = h
-  unlocked_at after status false h = h
+  unlocked_at : (after : ServerState S) (refusal : Option Refusal) → Left after → Left (unless_refused after call.ids refusal (record { server = after; response = success call.ids answers_lock })).server
+  unlocked_at after None h = h
+  unlocked_at after (Some refusal) h = h
 
   unlocked_left : (asks : List LockAsk) → Left (file_unlocked server call asks).server
   unlocked_left asks =
-      unlocked_at (with_store server (unlocked_through server.store k asks)) (unlock_status server.store k asks) (is_success (unlock_status server.store k asks)) (locks_kept (λ entry. unlocked server.store.locks entry k asks))
+      unlocked_at (with_store server (unlocked_through server.store k asks)) (through_open server.store k (option_map (λ refusal. Refusal.Lock refusal) (unlock_refusal server.store k asks))) (locks_kept (λ entry. unlocked server.store.locks entry k asks))
 
   locks_left : (asks : List LockAsk) (b : Bool) → Left (let x : CommandStep S = if b then file_unlocked server call asks else file_locked server call asks in x).server
   locks_left asks true = unlocked_left asks
@@ -256,17 +253,17 @@ module _ {S : Type 0} (may : ℕ → SessionState → Type 0) (acts : ℕ → Bo
   -- READ and WRITE
   read_left : (asked : ReadRequest) → Left (file_read server call asked).server
   unfolding file_read
-  read_left asked = where_done _ _ (is_success (read_status server.store (most_at_once call.dialect) k asked.offset asked.length asked.minimum_count)) same
+  read_left asked = by_row _ (through_open server.store k (option_map (λ refusal. Refusal.Read refusal) (read_refusal server.store (most_at_once call.dialect) k asked.offset asked.length asked.minimum_count))) (λ e. same)
 
   written_left : (asked : WriteAsked) → Left (file_written server call asked).server
   unfolding file_written
   written_left asked =
-      where_done _ _ (is_success (write_status server.store (most_at_once call.dialect) k asked.offset asked.buffer))
-      (opens_kept (written_to server.store k asked.offset asked.buffer call.moment) (opens_left server.store k asked.offset asked.buffer call.moment) (written_next server.store k asked.offset asked.buffer call.moment))
+      by_row _ (through_open server.store k (option_map (λ refusal. Refusal.Write refusal) (write_refusal server.store (most_at_once call.dialect) k asked.offset asked.buffer)))
+      (λ e. opens_kept (written_to server.store k asked.offset asked.buffer call.moment) (opens_left server.store k asked.offset asked.buffer call.moment) (written_next server.store k asked.offset asked.buffer call.moment))
 
   -- NEGOTIATE
   negotiated_at : (m : Meaning S) (best : Option Dialect) →
-      Left (option_map_or (λ best. let x : CommandStep S = record { server = server; response = success call.ids (negotiate_answer server.settings.guid (hello_of m server) call.moment (Some best) (revision_of best)) } in x) best (refused server call.ids NotSupported)).server
+      Left (option_map_or (λ best. let x : CommandStep S = record { server = server; response = success call.ids (negotiate_answer server.settings.guid (hello_of m server) call.moment (Some best) (revision_of best)) } in x) best (refused server call.ids (Refusal.Negotiate NoDialect))).server
   negotiated_at m None = same
   negotiated_at m (Some best) = same
 
@@ -322,14 +319,15 @@ module _ {S : Type 0} (may : ℕ → SessionState → Type 0) (acts : ℕ → Bo
   acted_left m (asks_set_info x) read cause e =
       info_set_left Left server same call (λ ask done. opens_kept (set_through server.store k call.moment ask) (set_opens server.store k call.moment ask) (set_next server.store k call.moment ask)) x
 
-  checked_left : (m : Meaning S) (asked : RequestValue) (refusal : Option NtStatus) → IsCallOf call (Some asked) → Causes m asked → check_request server call asked ≡ refusal →
-      Left (option_map_or (refused server call.ids) refusal (acted m server call asked)).server
-  checked_left m asked (Some status) read cause e = same
+  checked_left : (m : Meaning S) (asked : RequestValue) (refusal : Option RequestRefusal) → IsCallOf call (Some asked) → Causes m asked → check_request server call asked ≡ refusal →
+      Left (unless_refused server call.ids (option_map (λ refusal. Refusal.Request refusal) refusal) (acted m server call asked)).server
+  checked_left m asked (Some refusal) read cause e = same
   checked_left m asked None read cause e = acted_left m asked read cause (request_passed server call asked e)
 
   body_left : (m : Meaning S) (unsupported : Bool) (body : Option RequestValue) → IsCallOf call body → ((value : RequestValue) → body ≡ Some value → Causes m value) →
-      Left (let x : CommandStep S = if unsupported then refused server call.ids NotSupported else
-      option_map_or (λ asked. option_map_or (refused server call.ids) (check_request server call asked) (acted m server call asked)) body (refused server call.ids InvalidParameter) in x).server
+      Left (let x : CommandStep S = if unsupported then refused server call.ids (Refusal.Request CommandNotPerformed) else
+      option_map_or (λ asked. unless_refused server call.ids (option_map (λ refusal. Refusal.Request refusal) (check_request server call asked)) (acted m server call asked)) body
+      (refused server call.ids (Refusal.Request (if is_none call.command then UnknownCommand else BodyUnreadable))) in x).server
   body_left m true body read cause = same
   body_left m false None read cause = same
   body_left m false (Some asked) read cause = checked_left m asked (check_request server call asked) read (cause asked refl) refl

@@ -10,8 +10,8 @@ use Rattle.smb_request.specs.declared.context.HeaderIds.{HeaderIds}
 use Rattle.smb_request.specs.Parts.{number_named, due_of, names_open, check_session_tree_and_open, open_refusal}
 use Rattle.smb_body.specs.Requests.{RequestValue, payload_of}
 use Rattle.smb_request.specs.declared.call.Call.{Call}
-use Rattle.smb_wire.specs.declared.nt_status.NtStatus.{NtStatus}
-use Rattle.smb_wire.specs.declared.nt_status.NtStatus.TheVariants.{InvalidParameter}
+use Rattle.smb_refusals.specs.declared.request.RequestRefusal.{RequestRefusal}
+use Rattle.smb_refusals.specs.declared.request.RequestRefusal.TheVariants.{ChargeTooSmall}
 use Rattle.smb_request.specs.State.{ServerState}
 use Rattle.smb_request.specs.Request.{check_request}
 
@@ -36,9 +36,9 @@ mapped_there f None h = h
 mapped_there f (Some x) h = refl
 
 -- a request that passed all checks passed those behind the first
-passed_at : (b : Bool) (x : NtStatus) (z : Option NtStatus) → (if b then Some x else z) ≡ None → z ≡ None
+passed_at : (b : Bool) (x : RequestRefusal) (z : Option RequestRefusal) → (if b then Some x else z) ≡ None → z ≡ None
 passed_at true x z e = absurd (cc)
 passed_at false x z e = e
 
 pub request_passed : {S : Type 0} (server : ServerState S) (call : Call) (asked : RequestValue) → check_request server call asked ≡ None → check_session_tree_and_open server call asked ≡ None
-request_passed server call asked e = passed_at (nat_lt call.charge (due_of (payload_of asked))) InvalidParameter (check_session_tree_and_open server call asked) e
+request_passed server call asked e = passed_at (nat_lt call.charge (due_of (payload_of asked))) ChargeTooSmall (check_session_tree_and_open server call asked) e

@@ -1,5 +1,5 @@
 -- QUERY_INFO and SET_INFO: what holds of the state that they leave, where it holds with the tree alone changed.
-use Rattle.std.proofs.Common.{◌∙◌, ◌≡◌, ℕ, Bool, true, false, not, nat_lt, if◌then◌else◌, List, length, Option, None, Some, refl}
+use Rattle.std.proofs.Common.{◌≡◌, ℕ, Bool, true, false, not, nat_lt, if◌then◌else◌, List, length, Option, None, Some, refl}
 use Rattle.std.specs.Option.{option_map_or}
 use Rattle.smb_wire.specs.NtStatus.{is_success}
 use Rattle.smb_wire.specs.Paths.{path_spelled}
@@ -15,11 +15,14 @@ use Rattle.smb_entry.specs.Parts.{renamed_tree, delete_set, size_set, entry_set}
 use Rattle.smb_opens.specs.State.{StoreState}
 use Rattle.smb_request.specs.declared.call.Call.{Call}
 use Rattle.smb_wire.specs.declared.nt_status.NtStatus.{NtStatus}
-use Rattle.smb_wire.specs.declared.nt_status.NtStatus.TheVariants.{Success, InvalidParameter, InvalidInfoClass, InfoLengthMismatch}
+use Rattle.smb_wire.specs.declared.nt_status.NtStatus.TheVariants.{Success}
+use Rattle.smb_refusals.specs.declared.refusal.Refusal.{Refusal}
+use Rattle.smb_refusals.specs.declared.set_info.SetInfoRefusal.{SetInfoRefusal}
+use Rattle.smb_request.proofs.Refused.{set_succeeds}
 use Rattle.smb_request.specs.QueryInfo.{information_queried}
-use Rattle.smb_request.specs.Response.{CommandStep, refused}
+use Rattle.smb_request.specs.Response.{CommandStep, refused, through_open, unless_refused}
 use Rattle.smb_request.specs.SetInfo.{information_set}
-use Rattle.smb_request.specs.Parts.{set_type_refusal, set_as_asked, class_set, success, set_status, set_through, with_store}
+use Rattle.smb_request.specs.Parts.{set_type_refusal, set_as_asked, class_set, success, set_refusal, set_status, set_through, with_store}
 use Rattle.smb_request.specs.State.{ServerState}
 
 -- what a store has beside its tree is as it was
@@ -53,21 +56,21 @@ module _ {S : Type 0} (Left : ServerState S → Type 0) (server : ServerState S)
   queried_left asked = same
 
   module _ (set : (ask : SetAsked) → set_status server.store call.open_number ask ≡ Success → Left (with_store server (set_through server.store call.open_number call.moment ask))) where
-    by_status : (ask : SetAsked) (status : NtStatus) (b : Bool) → set_status server.store call.open_number ask ≡ status → is_success status ≡ b →
-        Left (let x : CommandStep S = if b then record { server = with_store server (set_through server.store call.open_number call.moment ask); response = success call.ids answers_set_info } else refused server call.ids status in x).server
-    by_status ask status true is t = set ask (is ∙ yes_success status t)
-    by_status ask status false is t = same
+    by_row : (ask : SetAsked) (refusal : Option Refusal) → through_open server.store call.open_number (set_refusal server.store call.open_number ask) ≡ refusal →
+        Left (unless_refused server call.ids refusal (record { server = with_store server (set_through server.store call.open_number call.moment ask); response = success call.ids answers_set_info })).server
+    by_row ask None is = set ask (set_succeeds server.store call.open_number ask is)
+    by_row ask (Some refusal) is = same
 
     by_class : (buffer : List ℕ) (class : SetInformationClass) (b c : Bool) →
-        Left (let x : CommandStep S = if b then refused server call.ids InfoLengthMismatch else if c then refused server call.ids InvalidParameter else set_as_asked server call (asked_of buffer class) in x).server
+        Left (let x : CommandStep S = if b then refused server call.ids (Refusal.SetInfo SetInfoRefusal.BufferTooShort) else if c then refused server call.ids (Refusal.SetInfo SetInfoRefusal.RenameSaysNoName) else set_as_asked server call (asked_of buffer class) in x).server
     by_class buffer class true c = same
     by_class buffer class false true = same
     by_class buffer class false false =
-        by_status (asked_of buffer class) (set_status server.store call.open_number (asked_of buffer class)) (is_success (set_status server.store call.open_number (asked_of buffer class))) refl refl
+        by_row (asked_of buffer class) (through_open server.store call.open_number (set_refusal server.store call.open_number (asked_of buffer class))) refl
 
-    by_type : (buffer : List ℕ) (class : Option SetInformationClass) (refusal : Option NtStatus) →
-        Left (option_map_or (refused server call.ids) refusal (option_map_or (class_set server call buffer) class (refused server call.ids InvalidInfoClass))).server
-    by_type buffer class (Some status) = same
+    by_type : (buffer : List ℕ) (class : Option SetInformationClass) (refusal : Option SetInfoRefusal) →
+        Left (option_map_or (λ refusal. refused server call.ids (Refusal.SetInfo refusal)) refusal (option_map_or (class_set server call buffer) class (refused server call.ids (Refusal.SetInfo SetInfoRefusal.UnknownClass)))).server
+    by_type buffer class (Some refusal) = same
     by_type buffer None None = same
     by_type buffer (Some class) None = by_class buffer class (nat_lt (length buffer) (set_length class)) (not (is_readable buffer class))
 

@@ -1,5 +1,5 @@
 -- QUERY_DIRECTORY: what holds of the state that it leaves, where it holds with the scan of an open set.
-use Rattle.std.proofs.Common.{◌≡◌, ◌≢◌, ◌==◌, ◌<◌, ◌≤◌, ◌+◌, ◌^◌, ℕ, zero, suc, Bool, true, false, cond, filter, length, take, replicate, length-append, length-take, nat_le, List, [], ◌∷◌, ◌++◌, if◌then◌else◌, nat_lt, Option, None, Some, IfSome, Result, Ok, Err, IsErrAnd, refl, sym, ap, arith, ◌∙◌}
+use Rattle.std.proofs.Common.{◌≡◌, ◌≢◌, ◌==◌, ◌<◌, ◌≤◌, ◌+◌, ◌^◌, ℕ, zero, suc, Bool, true, false, cond, filter, length, take, replicate, length-append, length-take, nat_le, List, [], ◌∷◌, ◌++◌, if◌then◌else◌, nat_lt, Option, None, Some, IfSome, Err, refl, sym, ap, arith, ◌∙◌}
 use Rattle.std.proofs.lemmas.Bool.Decides.{nat_tests}
 use Rattle.std.proofs.Math.Nat.{min-le_left}
 use Rattle.std.specs.Prelude.{option_and_then}
@@ -21,11 +21,14 @@ use Rattle.smb_opens.specs.State.{StoreState}
 use Rattle.smb_info.specs.OpenQueries.{open_list_fault, open_bytes_listed, open_scan_after, IsListRefusal}
 use Rattle.smb_info.specs.declared.fault.InfoFault.{InfoFault}
 use Rattle.smb_info.specs.declared.fault.InfoFault.TheVariants.{BadClass, BadPattern, TooSmall, NoMatch, NoMore, Unreadable, NoMemory}
-use Rattle.smb_wire.specs.declared.nt_status.NtStatus.{NtStatus}
-use Rattle.smb_wire.specs.declared.nt_status.NtStatus.TheVariants.{InfoLengthMismatch}
+use Rattle.smb_refusals.specs.declared.query.QueryDirectoryRefusal.{QueryDirectoryRefusal}
+use Rattle.smb_refusals.specs.declared.query.QueryInfoRefusal.{QueryInfoRefusal}
+use Rattle.smb_refusals.specs.declared.refused_by.RefusedBy.{RefusedBy}
+use Rattle.smb_refusals.specs.declared.refused_by.RefusedBy.TheVariants.{Row as ByRow, NoMemory as NoRoom}
+use Rattle.smb_refusals.specs.Refused.{refused_as}
 use Rattle.smb_request.specs.declared.call.Call.{Call}
 use Rattle.smb_request.specs.declared.query_directory.ListingRefusal.{ListingRefusal}
-use Rattle.smb_request.specs.QueryDirectory.{listing_refusal, directory_queried}
+use Rattle.smb_request.specs.QueryDirectory.{has_room_for_fields, listing_refusal, directory_queried}
 use Rattle.smb_request.specs.Parts.{list_asked_by, listing_refused, directory_listed, listed_as_asked, is_owned, room_refusal, directory_refusal, with_store, request_refusal, information_asked}
 use Rattle.smb_request.specs.Response.{refused}
 use Rattle.smb_request.specs.State.{ServerState}
@@ -36,15 +39,14 @@ use Rattle.smb_access.specs.Numbers.{AreRising}
 use Rattle.smb_access.specs.Opens.{open_of, open_numbers, with_scan, is_held_by}
 use Rattle.smb_access.specs.Parts.{has_number}
 use Rattle.smb_info.specs.Information.{Information, info_fault, told}
-use Rattle.smb_request.specs.Information.{fault_status, IsWhy}
+use Rattle.smb_request.specs.Information.{IsWhy}
 use Rattle.smb_request.specs.Owners.{AreOwned}
 use Rattle.smb_request.specs.QueryInfo.{information_queried}
 use Rattle.smb_body.specs.declared.query_info.QueryInfoRequest.{QueryInfoRequest}
 use Rattle.smb_session.specs.Authenticator.{Meaning}
-use Rattle.smb_request.specs.declared.refusal.Refusal.{Refusal}
-use Rattle.smb_request.specs.declared.response.Response.{Response}
+use Rattle.smb_refusals.specs.declared.refusal.Refusal.{Refusal}
 use Rattle.smb_request.specs.Bodies.{result_step}
-use Rattle.smb_request.specs.Refusals.{info_refusal}
+use Rattle.smb_request.specs.Refusals.{query_info_refused}
 
 module _ {S : Type 0} (Left : ServerState S → Type 0) (server : ServerState S) (same : Left server) (call : Call)
     (set : (scan : Scan) → Left (with_store server (scan_set server.store call.open_number scan))) where
@@ -56,8 +58,8 @@ module _ {S : Type 0} (Left : ServerState S → Type 0) (server : ServerState S)
   unless_at ask None = set (open_scan_after server.store call.open_number ask)
   unless_at ask (Some refusal) = refused_at refusal.scan
 
-  by_refusal : (ask : ListAsked) (status : Option NtStatus) → Left (option_map_or (λ status. refused server call.ids status) status (listed_as_asked server call ask)).server
-  by_refusal ask None = unless_at ask (option_and_then listing_refusal (open_list_fault server.store call.open_number ask))
+  by_refusal : (ask : ListAsked) (status : Option QueryDirectoryRefusal) → Left (option_map_or (λ refusal. refused server call.ids (Refusal.QueryDirectory refusal)) status (listed_as_asked server call ask)).server
+  by_refusal ask None = unless_at ask (option_and_then (listing_refusal (has_room_for_fields ask)) (open_list_fault server.store call.open_number ask))
   by_refusal ask (Some status) = same
 
   pub listed_left : (asked : QueryDirectoryAsked) → Left (directory_queried server call asked).server
@@ -117,39 +119,35 @@ held_scanned m n scan held (row ∷ rows) r h o =
         let other : (row.number == n) ≡ false = (let above = a.0 in grind (arith, nat_tests, above)) in
         rw other (ap (λ (zs : List OpenRow). if is_held_by (Session m) row then row ∷ zs else zs) (same_above m n scan rows a.1))
 
--- why a class tells nothing, as a status
-same_refusal : (information : Option Information) (room : ℕ) → room_refusal information room ≡ option_and_then fault_status (info_fault information room)
-same_refusal None room = refl
-same_refusal (Some information) room =
-    elim (nat_lt room (fixed_length information)) as (λ b. (let x : Option NtStatus = if b then Some InfoLengthMismatch else None in x) ≡ option_and_then fault_status (let y : Option InfoFault = if b then Some TooSmall else None in y)) [ true ↦ refl | false ↦ refl ]
-
-pub why_status : (information : Option Information) (room : ℕ) (fault : InfoFault) (status : NtStatus) → (fault ≢ NoMemory → info_fault information room ≡ Some fault) → fault_status fault ≡ Some status → room_refusal information room ≡ Some status
-why_status information room fault status why e =
-    let there : fault ≢ NoMemory = λ q. (let none : fault_status fault ≡ None = ap fault_status q in let no : None ≡ Some status = sym none ∙ e in cc) in
-    same_refusal information room ∙ ap (option_and_then fault_status) (why there) ∙ e
-
 -- where a QUERY_INFO is refused by what its class says
-refused_for : {S : Type 0} (server : ServerState S) (call : Call) (asked : QueryInfoRequest) (status : NtStatus) → request_refusal (most_at_once call.dialect) asked ≡ None →
-    room_refusal (information_asked server call.open_number asked) asked.output_buffer_length ≡ Some status → refused server call.ids status ≡ information_queried server call asked
+refused_for : {S : Type 0} (server : ServerState S) (call : Call) (asked : QueryInfoRequest) (refusal : QueryInfoRefusal) → request_refusal (most_at_once call.dialect) asked ≡ None →
+    room_refusal (information_asked server call.open_number asked) asked.output_buffer_length ≡ Some refusal → refused server call.ids (Refusal.QueryInfo refusal) ≡ information_queried server call asked
 unfolding information_queried
-refused_for server call asked status h e = rw (h, e) refl
+refused_for server call asked refusal h e = rw (h, e) refl
 
-query_refused : {S : Type 0} (m : Meaning S) (server : ServerState S) (call : Call) (asked : QueryInfoRequest) (fault : InfoFault) (refusal : Refusal) → request_refusal (most_at_once call.dialect) asked ≡ None →
-    IsWhy (information_asked server call.open_number asked) asked.output_buffer_length fault → refusal ≡ info_refusal fault →
-    IfSome (result_step m server call (Err refusal)) (λ step. step ≡ information_queried server call asked)
-query_refused m server call asked BadClass refusal h why e = rw e (refused_for server call asked _ h (why_status _ asked.output_buffer_length BadClass _ why refl))
-query_refused m server call asked BadPattern refusal h why e = rw e (refused_for server call asked _ h (why_status _ asked.output_buffer_length BadPattern _ why refl))
-query_refused m server call asked TooSmall refusal h why e = rw e (refused_for server call asked _ h (why_status _ asked.output_buffer_length TooSmall _ why refl))
-query_refused m server call asked (NoMatch scan) refusal h why e = rw e (refused_for server call asked _ h (why_status _ asked.output_buffer_length (NoMatch scan) _ why refl))
-query_refused m server call asked NoMore refusal h why e = rw e (refused_for server call asked _ h (why_status _ asked.output_buffer_length NoMore _ why refl))
-query_refused m server call asked Unreadable refusal h why e = rw e (refused_for server call asked _ h (why_status _ asked.output_buffer_length Unreadable _ why refl))
-query_refused m server call asked NoMemory refusal h why e = rw e tt
+-- the row by which a class says nothing
+row_of : (information : Option Information) (room : ℕ) (fault : InfoFault) (row : QueryInfoRefusal) → info_fault information room ≡ Some fault → query_info_refused fault ≡ ByRow row → room_refusal information room ≡ Some row
+row_of None room fault row why e = let is : BadClass ≡ fault = cc in let named : ByRow QueryInfoRefusal.UnknownClass ≡ ByRow row = ap query_info_refused is ∙ e in cc
+row_of (Some information) room fault row why e = by_room (nat_lt room (fixed_length information)) why
+  where
+    by_room : (b : Bool) → (let x : Option InfoFault = if b then Some TooSmall else None in x) ≡ Some fault → (let y : Option QueryInfoRefusal = if b then Some QueryInfoRefusal.NoRoomForFields else None in y) ≡ Some row
+    by_room true w = let is : TooSmall ≡ fault = cc in let named : ByRow QueryInfoRefusal.NoRoomForFields ≡ ByRow row = ap query_info_refused is ∙ e in cc
+    by_room false w = absurd (cc)
 
-pub query_failed : {S : Type 0} (m : Meaning S) (server : ServerState S) (call : Call) (asked : QueryInfoRequest) (fault : InfoFault) (result : Result Response Refusal) → request_refusal (most_at_once call.dialect) asked ≡ None →
-    IsWhy (information_asked server call.open_number asked) asked.output_buffer_length fault → IsErrAnd result (λ refusal. refusal ≡ info_refusal fault) →
-    IfSome (result_step m server call result) (λ step. step ≡ information_queried server call asked)
-query_failed m server call asked fault (Ok response) h why e = absurd e
-query_failed m server call asked fault (Err refusal) h why e = query_refused m server call asked fault refusal h why e
+memory_not : (fault : InfoFault) (row : QueryInfoRefusal) → query_info_refused fault ≡ ByRow row → fault ≢ NoMemory
+memory_not fault row e q = let no : NoRoom ≡ ByRow row = sym (ap query_info_refused q) ∙ e in cc
+
+by_found : {S : Type 0} (m : Meaning S) (server : ServerState S) (call : Call) (asked : QueryInfoRequest) (fault : InfoFault) (found : RefusedBy QueryInfoRefusal) → request_refusal (most_at_once call.dialect) asked ≡ None →
+    IsWhy (information_asked server call.open_number asked) asked.output_buffer_length fault → query_info_refused fault ≡ found →
+    IfSome (result_step m server call (Err (refused_as (λ refusal. Refusal.QueryInfo refusal) found))) (λ step. step ≡ information_queried server call asked)
+by_found m server call asked fault (ByRow row) h why e =
+    refused_for server call asked row h (row_of (information_asked server call.open_number asked) asked.output_buffer_length fault row (why (memory_not fault row e)) e)
+by_found m server call asked fault NoRoom h why e = tt
+
+pub query_failed : {S : Type 0} (m : Meaning S) (server : ServerState S) (call : Call) (asked : QueryInfoRequest) (fault : InfoFault) (found : RefusedBy Refusal) → request_refusal (most_at_once call.dialect) asked ≡ None →
+    IsWhy (information_asked server call.open_number asked) asked.output_buffer_length fault → found ≡ refused_as (λ refusal. Refusal.QueryInfo refusal) (query_info_refused fault) →
+    IfSome (result_step m server call (Err found)) (λ step. step ≡ information_queried server call asked)
+query_failed m server call asked fault found h why e = rw e (by_found m server call asked fault (query_info_refused fault) h why refl)
 
 -- what a QUERY_INFO returns is short enough
 pub told_short : (most : ℕ) (information : Option Information) (asked : QueryInfoRequest) (bytes : List ℕ) → most ≤ most_in_any_dialect → request_refusal most asked ≡ None → bytes ≡ told information asked.output_buffer_length → length bytes ≤ most_in_any_dialect
@@ -225,24 +223,24 @@ open_readable store ask None e = cc
 open_readable store ask (Some row) e = list_readable store.tree.rows row.entry row.scan ask (directory_class ask.class) e
 
 -- so a listing's refusal that is not for want of memory comes to something
-pub refusal_comes : (store : StoreState) (number : ℕ) (ask : ListAsked) (fault : InfoFault) → fault ≢ NoMemory → IsListRefusal (open_list_fault store number ask) fault → listing_refusal fault ≡ None → ⊥
-refusal_comes store number ask BadClass q why none = cc
-refusal_comes store number ask BadPattern q why none = cc
-refusal_comes store number ask TooSmall q why none = cc
-refusal_comes store number ask (NoMatch scan) q why none = cc
-refusal_comes store number ask NoMore q why none = cc
-refusal_comes store number ask Unreadable q why none = open_readable store ask (open_of store.opens number) why
-refusal_comes store number ask NoMemory q why none = q refl
+pub refusal_comes : (store : StoreState) (number : ℕ) (ask : ListAsked) (fault : InfoFault) → fault ≢ NoMemory → IsListRefusal (open_list_fault store number ask) fault → (b : Bool) → listing_refusal b fault ≡ None → ⊥
+refusal_comes store number ask BadClass q why b none = cc
+refusal_comes store number ask BadPattern q why b none = cc
+refusal_comes store number ask TooSmall q why b none = cc
+refusal_comes store number ask (NoMatch scan) q why b none = cc
+refusal_comes store number ask NoMore q why b none = cc
+refusal_comes store number ask Unreadable q why b none = open_readable store ask (open_of store.opens number) why
+refusal_comes store number ask NoMemory q why b none = q refl
 
-pub refusal_listed : (store : StoreState) (number : ℕ) (ask : ListAsked) (fault : InfoFault) (refusal : ListingRefusal) → IsListRefusal (open_list_fault store number ask) fault → listing_refusal fault ≡ Some refusal →
-    option_and_then listing_refusal (open_list_fault store number ask) ≡ Some refusal
-refusal_listed store number ask BadClass refusal why e = ap (option_and_then listing_refusal) why ∙ e
-refusal_listed store number ask BadPattern refusal why e = ap (option_and_then listing_refusal) why ∙ e
-refusal_listed store number ask TooSmall refusal why e = ap (option_and_then listing_refusal) why ∙ e
-refusal_listed store number ask (NoMatch scan) refusal why e = ap (option_and_then listing_refusal) why ∙ e
-refusal_listed store number ask NoMore refusal why e = ap (option_and_then listing_refusal) why ∙ e
-refusal_listed store number ask Unreadable refusal why e = cc
-refusal_listed store number ask NoMemory refusal why e = cc
+pub refusal_listed : (store : StoreState) (number : ℕ) (ask : ListAsked) (fault : InfoFault) (refusal : ListingRefusal) → IsListRefusal (open_list_fault store number ask) fault → (b : Bool) → listing_refusal b fault ≡ Some refusal →
+    option_and_then (listing_refusal b) (open_list_fault store number ask) ≡ Some refusal
+refusal_listed store number ask BadClass refusal why b e = ap (option_and_then (listing_refusal b)) why ∙ e
+refusal_listed store number ask BadPattern refusal why b e = ap (option_and_then (listing_refusal b)) why ∙ e
+refusal_listed store number ask TooSmall refusal why b e = ap (option_and_then (listing_refusal b)) why ∙ e
+refusal_listed store number ask (NoMatch scan) refusal why b e = ap (option_and_then (listing_refusal b)) why ∙ e
+refusal_listed store number ask NoMore refusal why b e = ap (option_and_then (listing_refusal b)) why ∙ e
+refusal_listed store number ask Unreadable refusal why b e = cc
+refusal_listed store number ask NoMemory refusal why b e = cc
 
 -- what was opened and is cut off again
 front_again : (old more : List ℕ) → take (length old) (old ++ more) ≡ old

@@ -7,7 +7,8 @@ use Rattle.std.specs.Option.{option_map, option_map_or}
 use Rattle.std.specs.Map.{lookup, remove_entry}
 use Rattle.std.specs.BTreeMap.{is_at}
 use Rattle.std.specs.Ordering.{nat_cmp}
-use Rattle.smb_session.specs.declared.fault.SessionFault.TheVariants.{UnknownSession, NotAccepted}
+use Rattle.smb_refusals.specs.declared.session.SetupRefusal.{SetupRefusal}
+use Rattle.smb_refusals.specs.declared.session.SetupRefusal.TheVariants.{BindingAsked, SessionFinished}
 use Rattle.smb_session.specs.Authenticator.{Answered, continues, accepts, denies, Meaning}
 use Rattle.smb_session.specs.Numbers.{contains}
 use Rattle.smb_session.specs.Session.{SessionState}
@@ -229,13 +230,13 @@ past false fault others h = h
 
 -- a session that is set up is not finished
 unfinished : (c tree : ℕ) (s : SessionState) → known_session_refusal c s ≡ None → has_tree tree s ≡ false
-unfinished c tree s h = at (is_some s.user) refl (past (not (eqb s.connection c)) UnknownSession _ h)
+unfinished c tree s h = at (is_some s.user) refl (past (not (eqb s.connection c)) SetupRefusal.UnknownSession _ h)
   where
-    at : (b : Bool) → is_some s.user ≡ b → (if is_some s.user then Some NotAccepted else None) ≡ None → has_tree tree s ≡ false
+    at : (b : Bool) → is_some s.user ≡ b → (if is_some s.user then Some SessionFinished else None) ≡ None → has_tree tree s ≡ false
     at true t i = let n = rw t at i in cc
     at false t i = rw t refl
 
-unfinished_at : (c tree : ℕ) (o : Option SessionState) → option_map_or (known_session_refusal c) o (Some UnknownSession) ≡ None → option_map_or (has_tree tree) o false ≡ false
+unfinished_at : (c tree : ℕ) (o : Option SessionState) → option_map_or (known_session_refusal c) o (Some SetupRefusal.UnknownSession) ≡ None → option_map_or (has_tree tree) o false ≡ false
 unfinished_at c tree None h = cc
 unfinished_at c tree (Some s) h = unfinished c tree s h
 
@@ -245,7 +246,7 @@ module _ (table : TableState) (c number flags : ℕ) (given : AllByRecursion (λ
     where
       at : (b : Bool) → eqb number 0 ≡ b → stands (setup_table table c number) (setup_number table number) tree ≡ false
       at true t = rw t (passes-last (has_tree tree) table.next table.sessions (fresh_session c) given refl)
-      at false t = let i = rw t at h in rw t (unfinished_at c tree (session_at table number) (past (not (eqb (bit_and flags 1) 0)) NotAccepted _ i))
+      at false t = let i = rw t at h in rw t (unfinished_at c tree (session_at table number) (past (not (eqb (bit_and flags 1) 0)) BindingAsked _ i))
 
   begun_owned : (rows : List OpenRow) → AreOwned table rows → AreOwned (setup_table table c number) rows
   begun_owned rows a = at (eqb number 0) refl

@@ -2,13 +2,11 @@
 use Rattle.std.proofs.Common.{◌≡◌, ◌≢◌, ◌==◌, ◌&&◌, ◌||◌, eqb, ℕ, Bool, true, false, not, if◌then◌else◌, List, [], ◌∷◌, Option, None, Some, is_some, refl, sym, ap, subst, arith, ◌∙◌}
 use Rattle.std.proofs.lemmas.Bool.{eqb-true, and_parts}
 use Rattle.std.specs.Prelude.{slice_get}
-use Rattle.std.specs.Option.{option_map, option_map_or, option_and_then}
+use Rattle.std.specs.Option.{is_none, option_map, option_map_or}
 use Rattle.smb_wire.specs.Limits.{most_at_once}
-use Rattle.smb_wire.specs.NtStatus.{is_success}
 use Rattle.smb_wire.specs.Dialects.{revision_of}
 use Rattle.smb_wire.specs.declared.dialect.Dialect.{Dialect}
-use Rattle.smb_wire.specs.declared.nt_status.NtStatus.{NtStatus}
-use Rattle.smb_wire.specs.declared.nt_status.NtStatus.TheVariants.{Success, InvalidParameter, NotSupported, FileClosed}
+use Rattle.smb_wire.specs.declared.nt_status.NtStatus.TheVariants.{Success}
 use Rattle.smb_body.specs.Requests.{RequestValue, asks_negotiate, asks_session_setup, asks_logoff, asks_tree_connect, asks_tree_disconnect, asks_create, asks_close, asks_flush, asks_read, asks_write, asks_lock, asks_cancel, asks_echo, asks_query_directory, asks_query_info, asks_set_info, file_id_of}
 use Rattle.smb_body.specs.SessionSetup.{SessionSetupAsked}
 use Rattle.smb_body.specs.Create.{CreateAsked}
@@ -35,12 +33,18 @@ use Rattle.smb_access.specs.declared.view.View.{View}
 use Rattle.smb_locks.specs.declared.ask.LockAsk.{LockAsk}
 use Rattle.smb_locks.specs.Table.{locked, unlocked}
 use Rattle.smb_info.specs.SetInformation.{SetAsked, asks_basic, asks_rename, asks_mark, asks_allocation, asks_end}
-use Rattle.smb_opens.specs.Bytes.{read_status, write_status}
+use Rattle.smb_opens.specs.Bytes.{read_refusal, write_refusal}
 use Rattle.smb_opens.specs.Close.{closed, closed_all}
-use Rattle.smb_opens.specs.Create.{access_granted, create_status}
+use Rattle.smb_opens.specs.Create.{access_granted, create_refusal, create_status}
+use Rattle.smb_refusals.specs.declared.refusal.Refusal.{Refusal}
+use Rattle.smb_refusals.specs.declared.file.CloseRefusal.{CloseRefusal}
+use Rattle.smb_refusals.specs.declared.request.RequestRefusal.{RequestRefusal}
+use Rattle.smb_refusals.specs.declared.request.RequestRefusal.TheVariants.{UnknownCommand, CommandNotPerformed, BodyUnreadable}
+use Rattle.smb_refusals.specs.declared.request.NegotiateRefusal.TheVariants.{NoDialect}
+use Rattle.smb_request.proofs.Refused.{none_named, create_succeeds, write_succeeds}
 use Rattle.smb_opens.specs.Effect.{created}
 use Rattle.smb_opens.specs.Found.{entry_asked}
-use Rattle.smb_opens.specs.Locks.{lock_status, unlock_status, unlocked_through}
+use Rattle.smb_opens.specs.Locks.{lock_refusal, unlock_refusal, unlocked_through}
 use Rattle.smb_opens.specs.Readers.{LeavesFiles, IsReadersOpen}
 use Rattle.smb_opens.specs.Scans.{scan_set}
 use Rattle.smb_opens.specs.State.{StoreState}
@@ -56,21 +60,20 @@ use Rattle.smb_request.specs.Call.{body_of, call_of}
 use Rattle.smb_request.specs.Context.{named_on, open_for_next_related}
 use Rattle.smb_request.specs.Files.{file_created, file_closed}
 use Rattle.smb_request.specs.Parts.{file_asked, close_response, asks_unlock, needs_session, is_unsupported, is_cancel_command, has_tree, only_reads, owns, is_owned, check_session_tree_and_open, dialect_after, closed_for, setup_answered, without_connection, lock_asks, hello_of, performed_by, success, set_status, set_through, with_store, closed_with, file_locked, file_unlocked, negotiated}
-use Rattle.smb_request.specs.Refusals.{status_of_refusal}
 use Rattle.smb_request.specs.Held.{IsCallOf, opens_left}
 use Rattle.smb_request.specs.Laws.{NumbersInOrder, AllMayOnlyRead, ChangesNoFile}
 use Rattle.smb_request.specs.Needs.{needs_of}
 use Rattle.smb_request.specs.Negotiate.{negotiate_answer}
 use Rattle.smb_request.specs.Owners.{AreOwned}
 use Rattle.smb_request.specs.Request.{check_request, acted, performed}
-use Rattle.smb_request.specs.Response.{CommandStep, Performed, refused}
+use Rattle.smb_request.specs.Response.{CommandStep, Performed, refused, through_open, unless_refused}
 use Rattle.smb_request.specs.Session.{may_only_read, session_set_up, session_logged_off, tree_joined, tree_left}
 use Rattle.smb_request.specs.State.{ServerState, connection_ended}
 use Rattle.smb_request.proofs.Apart.{acts_known, id_held}
 use Rattle.smb_request.proofs.Configured.{locks_opens}
 use Rattle.smb_request.proofs.Endings.{one_session, none_left}
 use Rattle.smb_request.proofs.Handed.{request_passed}
-use Rattle.smb_request.proofs.InfoApart.{yes_success, set_opens, queried_left, info_set_left}
+use Rattle.smb_request.proofs.InfoApart.{set_opens, queried_left, info_set_left}
 use Rattle.smb_request.proofs.Listings.{owned_scanned, listed_left}
 use Rattle.smb_request.proofs.Numbers.{others_left, order_ended, order_closed}
 use Rattle.smb_request.proofs.Owners.{owned_ended, owned_tree, owned_untree, owned_setup, owned_some, owned_same, owned_new, owned_push, reader_only}
@@ -146,13 +149,9 @@ module _ {S : Type 0} (call : Call) (server : ServerState S) (o : NumbersInOrder
   same : Left server
   same = record { files = leaves_files_refl server.store; owned = own }
 
-  by_status : (step : CommandStep S) (status : Option NtStatus) → (status ≡ None → Left step.server) → Left (option_map_or (refused server call.ids) status step).server
-  by_status step (Some status) h = same
-  by_status step None h = h refl
-
-  where_done : (step : CommandStep S) (status : NtStatus) (b : Bool) → is_success status ≡ b → (status ≡ Success → Left step.server) → Left (let x : CommandStep S = if b then step else refused server call.ids status in x).server
-  where_done step status true t h = h (yes_success status t)
-  where_done step status false t h = same
+  by_row : (step : CommandStep S) (refusal : Option Refusal) → (refusal ≡ None → Left step.server) → Left (unless_refused server call.ids refusal step).server
+  by_row step (Some refusal) h = same
+  by_row step None h = h refl
 
   -- the open that a request names may only read
   held_reads : (row : OpenRow) → is_owned table row ≡ true → is_held_by (Tree s call.ids.tree_id) row ≡ true → IsKnown → only_reads row ≡ true
@@ -167,12 +166,12 @@ module _ {S : Type 0} (call : Call) (server : ServerState S) (o : NumbersInOrder
       (row, e, not_so (is_past_reading row.access) (and_parts (not (is_past_reading row.access)) (not row.delete_on_close) reads).0)
 
   -- SESSION_SETUP
-  set_up_at : (m : Meaning S) (asked : SessionSetupAsked) (refusal : Option NtStatus) → option_and_then status_of_refusal (setup_refusal table c s asked.flags.0) ≡ refusal →
-      Left (option_map_or (refused server call.ids) refusal (setup_answered server call.ids (setup_step m server.sessions c s asked.previous_session_id asked.security_buffer))).server
-  set_up_at m asked (Some status) e = same
+  set_up_at : (m : Meaning S) (asked : SessionSetupAsked) (refusal : Option Refusal) → option_map (λ refusal. Refusal.SessionSetup refusal) (setup_refusal table c s asked.flags.0) ≡ refusal →
+      Left (unless_refused server call.ids refusal (setup_answered server call.ids (setup_step m server.sessions c s asked.previous_session_id asked.security_buffer))).server
+  set_up_at m asked (Some refusal) e = same
   set_up_at m asked None e =
       let step = setup_step m server.sessions c s asked.previous_session_id asked.security_buffer in
-      let unrefused : setup_refusal table c s asked.flags.0 ≡ None = grind (arith, e) in
+      let unrefused : setup_refusal table c s asked.flags.0 ≡ None = none_named (λ refusal. Refusal.SessionSetup refusal) (setup_refusal table c s asked.flags.0) e in
       record {
         files = closed_for_files server.store step.told.ended;
         owned = rw (closed_for_opens table server.store step.told.ended o) (owned_setup m server.sessions c s asked.previous_session_id asked.flags.0 asked.security_buffer server.store.opens o.sessions_given unrefused own);
@@ -180,12 +179,12 @@ module _ {S : Type 0} (call : Call) (server : ServerState S) (o : NumbersInOrder
 
   set_up_reads : (m : Meaning S) (asked : SessionSetupAsked) → Left (session_set_up m server call asked).server
   unfolding session_set_up
-  set_up_reads m asked = set_up_at m asked (option_and_then status_of_refusal (setup_refusal table c s asked.flags.0)) refl
+  set_up_reads m asked = set_up_at m asked (option_map (λ refusal. Refusal.SessionSetup refusal) (setup_refusal table c s asked.flags.0)) refl
 
   -- LOGOFF
   logged_off_reads : Left (session_logged_off server call).server
   unfolding session_logged_off
-  logged_off_reads = by_status _ (option_and_then status_of_refusal (logoff_refusal table c s)) (λ e. record {
+  logged_off_reads = by_row _ (option_map (λ refusal. Refusal.Logoff refusal) (logoff_refusal table c s)) (λ e. record {
     files = step_leaves_files server.store (closes_all (Session s)) tt;
     owned = rw (others_left server.store (Session s) o.opens).opens (owned_ended table s server.store.opens own);
   })
@@ -193,7 +192,7 @@ module _ {S : Type 0} (call : Call) (server : ServerState S) (o : NumbersInOrder
   -- TREE_CONNECT
   joined_reads : (path : List ℕ) → Left (tree_joined server call path).server
   unfolding tree_joined
-  joined_reads path = by_status _ (option_and_then status_of_refusal (tree_connect_refusal server.sessions c s path)) (λ e. record {
+  joined_reads path = by_row _ (option_map (λ refusal. Refusal.TreeConnect refusal) (tree_connect_refusal server.sessions c s path)) (λ e. record {
     files = leaves_files_refl server.store;
     owned = owned_tree table s server.store.opens own;
   })
@@ -201,7 +200,7 @@ module _ {S : Type 0} (call : Call) (server : ServerState S) (o : NumbersInOrder
   -- TREE_DISCONNECT
   left_reads : Left (tree_left server call).server
   unfolding tree_left
-  left_reads = by_status _ (option_and_then status_of_refusal (tree_disconnect_refusal table c s call.ids.tree_id)) (λ e. record {
+  left_reads = by_row _ (option_map (λ refusal. Refusal.TreeDisconnect refusal) (tree_disconnect_refusal table c s call.ids.tree_id)) (λ e. record {
     files = step_leaves_files server.store (closes_all (Tree s call.ids.tree_id)) tt;
     owned = rw (others_left server.store (Tree s call.ids.tree_id) o.opens).opens (owned_untree table s call.ids.tree_id server.store.opens own);
   })
@@ -224,7 +223,8 @@ module _ {S : Type 0} (call : Call) (server : ServerState S) (o : NumbersInOrder
   created_reads asked known tree =
       let ask = file_asked call.ids asked (may_only_read server call) in
       let reader : may_only_read server call ≡ true = rw (reader_known table c s known all) refl in
-      where_done _ _ (is_success (create_status server.store ask)) refl (opened_reads ask call.moment refl refl reader known tree)
+      by_row _ (option_map (λ refusal. Refusal.Create refusal) (create_refusal server.store ask))
+      (λ e. opened_reads ask call.moment refl refl reader known tree (create_succeeds server.store ask (none_named (λ refusal. Refusal.Create refusal) (create_refusal server.store ask) e)))
 
   -- CLOSE
   closed_reads : (row : Option OpenRow) → open_of server.store.opens k ≡ row → IsHeld row → Left (with_store server (closed server.store k))
@@ -235,7 +235,7 @@ module _ {S : Type 0} (call : Call) (server : ServerState S) (o : NumbersInOrder
   }
 
   closed_at : (flags : CloseFlags) (view : Option View) → Left (with_store server (closed server.store k)) →
-      Left (option_map_or (λ view. let x : CommandStep S = record { server = with_store server (closed server.store k); response = success call.ids (answers_close (close_response flags view)) } in x) view (refused server call.ids FileClosed)).server
+      Left (option_map_or (λ view. let x : CommandStep S = record { server = with_store server (closed server.store k); response = success call.ids (answers_close (close_response flags view)) } in x) view (refused server call.ids (Refusal.Close CloseRefusal.UnknownOpen))).server
   closed_at flags None h = same
   closed_at flags (Some view) h = h
 
@@ -252,18 +252,18 @@ module _ {S : Type 0} (call : Call) (server : ServerState S) (o : NumbersInOrder
 
   -- LOCK
   locked_reads : (asks : List LockAsk) → Left (file_locked server call asks).server
-  locked_reads asks = where_done _ _ (is_success (lock_status server.store k asks)) refl (λ done. record {
+  locked_reads asks = by_row _ (through_open server.store k (option_map (λ refusal. Refusal.Lock refusal) (lock_refusal server.store k asks))) (λ done. record {
     files = step_leaves_files server.store (locks k asks) tt;
     owned = rw (locks_opens (λ entry. locked server.store.locks entry k asks) server.store (open_view server.store k)) own;
   })
 
-  unlocked_at : (after : ServerState S) (status : NtStatus) (b : Bool) → Left after → Left (let x : CommandStep S = if b then record { server = after; response = success call.ids answers_lock } else refused after call.ids status in x).server
-  unlocked_at after status true h = h
-  unlocked_at after status false h = h
+  unlocked_at : (after : ServerState S) (refusal : Option Refusal) → Left after → Left (unless_refused after call.ids refusal (record { server = after; response = success call.ids answers_lock })).server
+  unlocked_at after None h = h
+  unlocked_at after (Some refusal) h = h
 
   unlocked_reads : (asks : List LockAsk) → Left (file_unlocked server call asks).server
   unlocked_reads asks =
-      unlocked_at (with_store server (unlocked_through server.store k asks)) (unlock_status server.store k asks) (is_success (unlock_status server.store k asks)) (record {
+      unlocked_at (with_store server (unlocked_through server.store k asks)) (through_open server.store k (option_map (λ refusal. Refusal.Lock refusal) (unlock_refusal server.store k asks))) (record {
         files = step_leaves_files server.store (unlocks k asks) tt;
         owned = rw (locks_opens (λ entry. unlocked server.store.locks entry k asks) server.store (open_view server.store k)) own;
       })
@@ -275,13 +275,13 @@ module _ {S : Type 0} (call : Call) (server : ServerState S) (o : NumbersInOrder
   -- READ and WRITE
   read_reads : (asked : ReadRequest) → Left (file_read server call asked).server
   unfolding file_read
-  read_reads asked = where_done _ _ (is_success (read_status server.store (most_at_once call.dialect) k asked.offset asked.length asked.minimum_count)) refl (λ done. same)
+  read_reads asked = by_row _ (through_open server.store k (option_map (λ refusal. Refusal.Read refusal) (read_refusal server.store (most_at_once call.dialect) k asked.offset asked.length asked.minimum_count))) (λ done. same)
 
   written_reads : (asked : WriteAsked) → IsReadersOpen server.store k → Left (file_written server call asked).server
   unfolding file_written
   written_reads asked reader =
-      where_done _ _ (is_success (write_status server.store (most_at_once call.dialect) k asked.offset asked.buffer)) refl (λ done. record {
-        files = step_leaves_files server.store (writes k asked.offset asked.buffer call.moment) (reader, (most_at_once call.dialect, done));
+      by_row _ (through_open server.store k (option_map (λ refusal. Refusal.Write refusal) (write_refusal server.store (most_at_once call.dialect) k asked.offset asked.buffer))) (λ done. record {
+        files = step_leaves_files server.store (writes k asked.offset asked.buffer call.moment) (reader, (most_at_once call.dialect, write_succeeds server.store (most_at_once call.dialect) k asked.offset asked.buffer done));
         owned = rw (opens_written server.store k asked.offset asked.buffer call.moment) own;
       })
 
@@ -298,7 +298,7 @@ module _ {S : Type 0} (call : Call) (server : ServerState S) (o : NumbersInOrder
 
   -- NEGOTIATE
   negotiated_at : (m : Meaning S) (best : Option Dialect) →
-      Left (option_map_or (λ best. let x : CommandStep S = record { server = server; response = success call.ids (negotiate_answer server.settings.guid (hello_of m server) call.moment (Some best) (revision_of best)) } in x) best (refused server call.ids NotSupported)).server
+      Left (option_map_or (λ best. let x : CommandStep S = record { server = server; response = success call.ids (negotiate_answer server.settings.guid (hello_of m server) call.moment (Some best) (revision_of best)) } in x) best (refused server call.ids (Refusal.Negotiate NoDialect))).server
   negotiated_at m None = same
   negotiated_at m (Some best) = same
 
@@ -334,14 +334,15 @@ module _ {S : Type 0} (call : Call) (server : ServerState S) (o : NumbersInOrder
   acted_reads m (asks_set_info x) read e =
       info_set_left Left server same call (set_reads (reader_at (open_of server.store.opens k) refl (held_by (asks_set_info x) read refl e) (known_by (asks_set_info x) refl e))) x
 
-  checked_reads : (m : Meaning S) (asked : RequestValue) (refusal : Option NtStatus) → IsCallOf call (Some asked) → check_request server call asked ≡ refusal →
-      Left (option_map_or (refused server call.ids) refusal (acted m server call asked)).server
-  checked_reads m asked (Some status) read e = same
+  checked_reads : (m : Meaning S) (asked : RequestValue) (refusal : Option RequestRefusal) → IsCallOf call (Some asked) → check_request server call asked ≡ refusal →
+      Left (unless_refused server call.ids (option_map (λ refusal. Refusal.Request refusal) refusal) (acted m server call asked)).server
+  checked_reads m asked (Some refusal) read e = same
   checked_reads m asked None read e = acted_reads m asked read (request_passed server call asked e)
 
   body_reads : (m : Meaning S) (unsupported : Bool) (body : Option RequestValue) → IsCallOf call body →
-      Left (let x : CommandStep S = if unsupported then refused server call.ids NotSupported else
-      option_map_or (λ asked. option_map_or (refused server call.ids) (check_request server call asked) (acted m server call asked)) body (refused server call.ids InvalidParameter) in x).server
+      Left (let x : CommandStep S = if unsupported then refused server call.ids (Refusal.Request CommandNotPerformed) else
+      option_map_or (λ asked. unless_refused server call.ids (option_map (λ refusal. Refusal.Request refusal) (check_request server call asked)) (acted m server call asked)) body
+      (refused server call.ids (Refusal.Request (if is_none call.command then UnknownCommand else BodyUnreadable))) in x).server
   body_reads m true body read = same
   body_reads m false None read = same
   body_reads m false (Some asked) read = checked_reads m asked (check_request server call asked) read refl

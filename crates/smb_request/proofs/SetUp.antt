@@ -3,7 +3,7 @@ use Rattle.std.proofs.Common.{◌≡◌, ◌==◌, ◌<◌, ℕ, Bool, true, fal
 use Rattle.std.proofs.lemmas.Bool.Decides.{nat_tests}
 use Rattle.std.proofs.lemmas.Slice.Eq.{bytes_eq-Decides}
 use Rattle.std.specs.List.{AllByRecursion}
-use Rattle.std.specs.Option.{option_map_or}
+use Rattle.std.specs.Option.{option_map, option_map_or}
 use Rattle.std.specs.Map.{lookup}
 use Rattle.std.specs.BTreeMap.{is_at}
 use Rattle.std.specs.Ordering.{nat_cmp}
@@ -11,9 +11,9 @@ use Rattle.smb_session.specs.Session.{SessionState}
 use Rattle.smb_session.specs.Table.{TableState, session_at, session_changed, session_ended}
 use Rattle.smb_access.specs.declared.open_row.Owner.TheVariants.{Session}
 use Rattle.smb_request.proofs.Numbered.{at_is}
-use Rattle.std.specs.Option.{option_eq, option_and_then}
+use Rattle.std.specs.Option.{option_eq}
 use Rattle.std.specs.Str.{bytes_eq}
-use Rattle.smb_session.specs.declared.fault.SessionFault.TheVariants.{UnknownSession}
+use Rattle.smb_refusals.specs.declared.session.SetupRefusal.TheVariants.{UnknownSession}
 use Rattle.smb_session.specs.Authenticator.{Answered, continues, accepts, denies, Meaning}
 use Rattle.smb_session.specs.Parts.{fresh_session, finished_by, begun, known_session_refusal, is_of_user}
 use Rattle.smb_session.specs.Sessions.{setup_step}
@@ -23,12 +23,13 @@ use Rattle.smb_body.specs.SessionSetup.{SessionSetupAsked}
 use Rattle.smb_opens.specs.Close.{closed_all}
 use Rattle.smb_request.specs.Session.{session_set_up}
 use Rattle.smb_request.specs.Parts.{closed_for, setup_answered}
-use Rattle.smb_request.specs.Refusals.{status_of_refusal}
+use Rattle.smb_refusals.specs.declared.refusal.Refusal.{Refusal}
+use Rattle.smb_refusals.specs.declared.refusal.Refusal.TheVariants.{SessionSetup}
+use Rattle.smb_request.proofs.Refused.{none_named}
 use Rattle.smb_opens.specs.State.{StoreState}
 use Rattle.smb_request.specs.declared.call.Call.{Call}
 use Rattle.smb_request.specs.declared.context.HeaderIds.{HeaderIds}
-use Rattle.smb_wire.specs.declared.nt_status.NtStatus.{NtStatus}
-use Rattle.smb_request.specs.Response.{refused}
+use Rattle.smb_request.specs.Response.{unless_refused}
 use Rattle.smb_request.specs.State.{ServerState}
 use Rattle.smb_request.specs.Laws.{NumbersInOrder}
 use Rattle.smb_request.proofs.Leaving.{LeavesBut, LeavesSharedBut, IsApart, leaves_then, leaves_same, leaves_begun, leaves_changed, leaves_ended, leaves_whole, other_connection, look_removed, gone}
@@ -115,21 +116,17 @@ module _ (may : ℕ → SessionState → Type 0) (acts : ℕ → Bool) (c : ℕ)
       (answered_left may acts c a (begun table c) store first.order table.next previous answer cause (apart_begun may acts c a table store o))
   step_left s flags previous answer false cause t e = answered_left may acts c a table store o s previous answer cause (apart_stood may acts c a table store o s (grind (arith, e, t)))
 
--- what has no status is no refusal
-unrefused : (table : TableState) (c s flags : ℕ) → option_and_then status_of_refusal (setup_refusal table c s flags) ≡ None → setup_refusal table c s flags ≡ None
-unrefused table c s flags e = grind (arith, e)
-
 module _ {S : Type 0} (may : ℕ → SessionState → Type 0) (m : Meaning S) (acts : ℕ → Bool) (c : ℕ) (a : acts c ≡ true) (server : ServerState S) (o : NumbersInOrder server.sessions.table server.store) where
-  set_up_at : (ids : HeaderIds) (asked : SessionSetupAsked) (status : Option NtStatus) →
-      MayReplace may asked.previous_session_id (m.answer server.sessions.authenticator (setup_number server.sessions.table ids.session_id) asked.security_buffer) → option_and_then status_of_refusal (setup_refusal server.sessions.table c ids.session_id asked.flags.0) ≡ status →
-      LeavesSharedBut may acts server (option_map_or (refused server ids) status (setup_answered server ids (setup_step m server.sessions c ids.session_id asked.previous_session_id asked.security_buffer))).server
-  set_up_at ids asked (Some status) cause e = leaves_same acts server.sessions.table server.store o
+  set_up_at : (ids : HeaderIds) (asked : SessionSetupAsked) (reason : Option Refusal) →
+      MayReplace may asked.previous_session_id (m.answer server.sessions.authenticator (setup_number server.sessions.table ids.session_id) asked.security_buffer) → option_map (λ refusal. SessionSetup refusal) (setup_refusal server.sessions.table c ids.session_id asked.flags.0) ≡ reason →
+      LeavesSharedBut may acts server (unless_refused server ids reason (setup_answered server ids (setup_step m server.sessions c ids.session_id asked.previous_session_id asked.security_buffer))).server
+  set_up_at ids asked (Some reason) cause e = leaves_same acts server.sessions.table server.store o
   set_up_at ids asked None cause e =
       let s = ids.session_id in
       step_left may acts c a server.sessions.table server.store o s asked.flags.0 asked.previous_session_id (m.answer server.sessions.authenticator (setup_number server.sessions.table s) asked.security_buffer) (s == 0) cause refl
-      (unrefused server.sessions.table c s asked.flags.0 e)
+      (none_named (λ refusal. SessionSetup refusal) (setup_refusal server.sessions.table c s asked.flags.0) e)
 
 module _ {S : Type 0} (may : ℕ → SessionState → Type 0) (m : Meaning S) (acts : ℕ → Bool) (call : Call) (a : acts call.connection ≡ true) (server : ServerState S) (o : NumbersInOrder server.sessions.table server.store) where
   pub set_up_left : (asked : SessionSetupAsked) → MayReplace may asked.previous_session_id (m.answer server.sessions.authenticator (setup_number server.sessions.table call.ids.session_id) asked.security_buffer) → LeavesSharedBut may acts server (session_set_up m server call asked).server
   unfolding session_set_up
-  set_up_left asked cause = set_up_at may m acts call.connection a server o call.ids asked (option_and_then status_of_refusal (setup_refusal server.sessions.table call.connection call.ids.session_id asked.flags.0)) cause refl
+  set_up_left asked cause = set_up_at may m acts call.connection a server o call.ids asked (option_map (λ refusal. SessionSetup refusal) (setup_refusal server.sessions.table call.connection call.ids.session_id asked.flags.0)) cause refl

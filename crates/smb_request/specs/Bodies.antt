@@ -2,27 +2,29 @@
 -- What the code's responses and refusals come to.
 use Rattle.std.specs.Prelude.{◌≡◌, ◌≤◌, Bool, true, false, length, Option, None, Some, IsSome, Result, Ok, Err}
 use Rattle.smb_wire.specs.Limits.{most_in_any_dialect, longest_token}
-use Rattle.smb_body.specs.Replies.{ReplyValue, answers_error, answers_session_setup, answers_logoff, answers_tree_connect, answers_tree_disconnect, answers_create, answers_close, answers_flush, answers_read, answers_write, answers_lock, answers_echo, answers_query_info, answers_set_info}
+use Rattle.smb_body.specs.Replies.{ReplyValue, reply_spelling, answers_error, answers_session_setup, answers_logoff, answers_tree_connect, answers_tree_disconnect, answers_create, answers_close, answers_flush, answers_read, answers_write, answers_lock, answers_echo, answers_query_info, answers_set_info}
 use Rattle.smb_body.specs.QueryDirectory.{query_directory_asked}
 use Rattle.smb_access.specs.Opens.{open_of}
 use Rattle.smb_session.specs.Authenticator.{Meaning}
 use Rattle.smb_wire.specs.Dialects.{revision_of}
 use Rattle.smb_opens.specs.Bytes.{part_bytes}
 use Rattle.smb_request.specs.declared.call.Call.{Call}
-use Rattle.smb_request.specs.declared.refusal.Refusal.{Refusal}
-use Rattle.smb_request.specs.declared.refusal.Refusal.TheVariants.{Status as ByStatus, NoMemory}
+use Rattle.smb_refusals.specs.declared.refusal.Refusal.{Refusal}
+use Rattle.smb_refusals.specs.declared.refused_by.RefusedBy.{RefusedBy}
+use Rattle.smb_refusals.specs.declared.refused_by.RefusedBy.TheVariants.{Row, NoMemory}
 use Rattle.smb_opens.specs.declared.bytes.FilePart.{FilePart}
 use Rattle.smb_request.specs.declared.response.Body.{Body}
 use Rattle.smb_request.specs.declared.response.Body.TheVariants.{Error, Negotiate, SessionSetup, Logoff, TreeConnect, TreeDisconnect, Create, Close, Flush, Write, Lock, Echo, QueryInfo, SetInfo}
 use Rattle.smb_request.specs.declared.response.Response.{Response}
 use Rattle.smb_request.specs.declared.response.Response.TheVariants.{Ready, Bytes, Listing}
+use Rattle.smb_request.specs.declared.response.Answered.{Answered}
 use Rattle.smb_request.specs.declared.response.NoReply.{NoReply}
 use Rattle.smb_request.specs.declared.response.NoReply.TheVariants.{NotPerformed, Performed}
 use Rattle.smb_request.specs.Negotiate.{negotiate_answer}
 use Rattle.smb_request.specs.State.{ServerState}
 use Rattle.smb_request.specs.Parts.{hello_of, success}
 use Rattle.smb_request.specs.QueryDirectory.{directory_queried}
-use Rattle.smb_request.specs.Response.{CommandStep, with_body, refused}
+use Rattle.smb_request.specs.Response.{CommandStep, ResponseState, refused}
 
 -- the value of each body
 abbrev pub body_value : {S : Type 0} → Meaning S → ServerState S → Call → Body → ReplyValue
@@ -41,16 +43,20 @@ body_value authenticator server call Echo = answers_echo
 body_value authenticator server call (QueryInfo bytes) = answers_query_info bytes.items
 body_value authenticator server call SetInfo = answers_set_info
 
+-- a response with this body
+abbrev pub response_of : Answered → ReplyValue → ResponseState
+response_of answered reply = record { status = answered.status; refusal = answered.refusal; ids = answered.ids; body = reply_spelling reply }
+
 -- what a response comes to, from the server after its command: a listing is still to be performed
 abbrev pub response_step : {S : Type 0} → Meaning S → ServerState S → Call → Response → CommandStep S
-response_step authenticator server call (Ready answered body) = record { server = server; response = with_body answered.ids answered.status (body_value authenticator server call body) }
+response_step authenticator server call (Ready answered body) = record { server = server; response = response_of answered (body_value authenticator server call body) }
 response_step authenticator server call (Bytes part) = record { server = server; response = success call.ids (answers_read (part_bytes server.store part)) }
 response_step authenticator server call (Listing asked) = directory_queried server call (query_directory_asked asked)
 
 -- what a command comes to; None where memory ran out
-abbrev pub result_step : {S : Type 0} → Meaning S → ServerState S → Call → Result Response Refusal → Option (CommandStep S)
+abbrev pub result_step : {S : Type 0} → Meaning S → ServerState S → Call → Result Response (RefusedBy Refusal) → Option (CommandStep S)
 result_step authenticator server call (Ok response) = Some (response_step authenticator server call response)
-result_step authenticator server call (Err (ByStatus status)) = Some (refused server call.ids status)
+result_step authenticator server call (Err (Row refusal)) = Some (refused server call.ids refusal)
 result_step authenticator server call (Err NoMemory) = None
 
 -- a body that is short enough for a response

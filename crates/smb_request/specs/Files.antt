@@ -1,18 +1,20 @@
 -- CREATE and CLOSE ([MS-SMB2] 3.3.5.9, 3.3.5.10).
 use Rattle.std.specs.Prelude.{◌==◌, bit_and, if◌then◌else◌}
-use Rattle.std.specs.Option.{option_map_or}
+use Rattle.std.specs.Option.{option_map, option_map_or}
 use Rattle.smb_body.specs.declared.close.CloseFlags.{CloseFlags}
 use Rattle.smb_body.specs.Create.{CreateAsked}
 use Rattle.smb_body.specs.Replies.{answers_create, answers_close}
 use Rattle.smb_access.specs.Asked.{FileAsked}
-use Rattle.smb_opens.specs.Create.{create_status}
+use Rattle.smb_opens.specs.Create.{create_refusal}
 use Rattle.smb_opens.specs.Effect.{created, create_result}
 use Rattle.smb_opens.specs.Views.{open_view}
 use Rattle.smb_opens.specs.Close.{closed}
-use Rattle.smb_wire.specs.declared.nt_status.NtStatus.TheVariants.{Success, FileClosed}
+use Rattle.smb_wire.specs.declared.nt_status.NtStatus.TheVariants.{Success}
 use Rattle.smb_request.specs.declared.call.Call.{Call}
 use Rattle.smb_request.specs.State.{ServerState}
-use Rattle.smb_request.specs.Response.{CommandStep, with_body, refused, by_status}
+use Rattle.smb_request.specs.Response.{CommandStep, with_body, refused, unless_refused}
+use Rattle.smb_refusals.specs.declared.refusal.Refusal.{Refusal}
+use Rattle.smb_refusals.specs.declared.file.CloseRefusal.{CloseRefusal}
 use Rattle.smb_request.specs.Session.{may_only_read}
 
 -- CREATE (3.3.5.9), under a session, which may only read or write too, and a tree. Where it succeeds it is answered: no
@@ -31,7 +33,7 @@ file_created server call asked =
       read_only = may_only_read server call;
     } in
     let done = create_result server.store ask call.moment in
-    by_status server call.ids (create_status server.store ask) (record {
+    unless_refused server call.ids (option_map (λ refusal. Refusal.Create refusal) (create_refusal server.store ask)) (record {
       server = record server { store = created server.store ask call.moment };
       response = with_body call.ids Success (answers_create (record {
         oplock_level = record { 0 = 0 };
@@ -76,4 +78,4 @@ file_closed server call flags = option_map_or
           }));
     })
     (open_view server.store call.open_number)
-    (refused server call.ids FileClosed)
+    (refused server call.ids (Refusal.Close CloseRefusal.UnknownOpen))

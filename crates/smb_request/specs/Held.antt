@@ -16,6 +16,8 @@ use Rattle.smb_request.specs.declared.response.Response.{Response}
 use Rattle.smb_request.specs.declared.response.Response.TheVariants.{Ready}
 use Rattle.smb_request.specs.Parts.{named_open, number_named, is_unsupported}
 use Rattle.smb_wire.specs.declared.nt_status.NtStatus.{NtStatus}
+use Rattle.smb_refusals.specs.declared.refusal.Refusal.{Refusal}
+use Rattle.smb_refusals.specs.declared.session.SetupRefusal.TheVariants.{Denied}
 use Rattle.smb_session.specs.Table.{TableState}
 use Rattle.smb_access.specs.declared.open_row.OpenRow.{OpenRow}
 use Rattle.smb_access.specs.declared.open_row.Owner.TheVariants.{Session}
@@ -50,9 +52,9 @@ pub record IsCallOf (call : Call) (body : Option RequestValue) : Type 0 where
 
 -- the response to a SESSION_SETUP that was not refused
 abbrev pub setup_by : HeaderIds → SetupStatus → Body → Response
-setup_by ids Success body = Ready (record { status = NtStatus.Success; ids = ids }) body
-setup_by ids MoreProcessingRequired body = Ready (record { status = NtStatus.MoreProcessingRequired; ids = ids }) body
-setup_by ids LogonFailure body = Ready (record { status = NtStatus.LogonFailure; ids = ids }) Error
+setup_by ids Success body = Ready (record { status = NtStatus.Success; refusal = None; ids = ids }) body
+setup_by ids MoreProcessingRequired body = Ready (record { status = NtStatus.MoreProcessingRequired; refusal = None; ids = ids }) body
+setup_by ids LogonFailure body = Ready (record { status = NtStatus.LogonFailure; refusal = Some (Refusal.SessionSetup Denied); ids = ids }) Error
 
 abbrev pub setup_response_of : HeaderIds → SetupDone → Response
 setup_response_of ids done = setup_by (record ids { session_id = done.session }) done.status (SessionSetup (record { 0 = done.flags }) done.token)

@@ -6,21 +6,23 @@ use Rattle.smb_wire.specs.declared.nt_status.NtStatus.{NtStatus}
 use Rattle.smb_request.specs.declared.context.HeaderIds.{HeaderIds}
 use Rattle.smb_request.specs.declared.context.Context.{Context}
 use Rattle.smb_request.specs.declared.response.Answered.{Answered}
+use Rattle.smb_refusals.specs.declared.refusal.Refusal.{Refusal}
 use Rattle.smb_request.specs.State.{ServerState}
 use Rattle.smb_request.specs.Response.{ResponseState, Performed}
 
 -- a response, with all that stands where its body was added
 pub record AnswerHeld : Type 0 where
   pub status : NtStatus
+  pub refusal : Option Refusal
   pub ids : HeaderIds
   pub out : List ℕ
 
 abbrev pub answer_held : Answered → List ℕ → AnswerHeld
-answer_held answered out = record { status = answered.status; ids = answered.ids; out = out }
+answer_held answered out = record { status = answered.status; refusal = answered.refusal; ids = answered.ids; out = out }
 
 -- a response behind a front
 abbrev pub answer_behind : List ℕ → ResponseState → AnswerHeld
-answer_behind front response = record { status = response.status; ids = response.ids; out = front ++ response.body }
+answer_behind front response = record { status = response.status; refusal = response.refusal; ids = response.ids; out = front ++ response.body }
 
 -- a request's step, with its body behind a front
 pub record PerformedHeld (S : Type 0) : Type 0 where

@@ -1,19 +1,10 @@
 -- For the proofs; nothing here need be believed.
 -- What the code holds of an information class, and of what is refused before one is looked at.
 use Rattle.std.specs.Prelude.{◌≡◌, ◌≢◌, ℕ, Option, Some, None}
-use Rattle.std.specs.Option.{option_map}
 use Rattle.smb_info.specs.declared.fault.InfoFault.{InfoFault}
-use Rattle.smb_info.specs.declared.fault.InfoFault.TheVariants.{Unreadable, NoMemory}
+use Rattle.smb_info.specs.declared.fault.InfoFault.TheVariants.{NoMemory}
 use Rattle.smb_info.specs.Information.{Information, told, information_written, info_fault}
 use Rattle.smb_request.specs.declared.query_info.InformationBytes.{InformationBytes}
-use Rattle.smb_wire.specs.declared.nt_status.NtStatus.{NtStatus}
-use Rattle.smb_wire.specs.declared.nt_status.NtStatus.TheVariants.{InvalidParameter}
-use Rattle.smb_request.specs.QueryDirectory.{listing_refusal}
-
--- the status of a refusal: that of a rename that is unreadable, else as of a listing; being out of memory has none
-abbrev pub fault_status : InfoFault → Option NtStatus
-fault_status Unreadable = Some InvalidParameter
-fault_status fault = option_map (λ refusal. refusal.status) (listing_refusal fault)
 
 -- what is answered of information
 pub record IsToldOf (information : Option Information) (room : ℕ) (it : InformationBytes) : Type 0 where

@@ -1,7 +1,7 @@
 -- For the proofs; nothing here need be believed.
 -- Parts of the definitions that the proofs and private functions speak of.
 use Rattle.std.specs.Prelude.{ℕ, ◌^◌, List, Option, Some, None, if◌then◌else◌, ◌+◌, ◌-◌, ◌/◌, Bool, false, ◌&&◌, ◌==◌, bit_and, [], ◌∷◌, true, ◌||◌, not, is_some, option_and_then, nat_lt, length, ◌%◌, nat_le, filter, map}
-use Rattle.std.specs.Option.{option_map, option_map_or}
+use Rattle.std.specs.Option.{is_none, option_map, option_map_or}
 use Rattle.smb_head.specs.Chains.{is_related}
 use Rattle.smb_request.specs.declared.call.Call.{Call}
 use Rattle.smb_request.specs.declared.context.Context.{Context}
@@ -9,7 +9,17 @@ use Rattle.smb_request.specs.declared.context.ContextOpen.{ContextOpen}
 use Rattle.smb_request.specs.Context.{open_named}
 use Rattle.smb_request.specs.declared.context.ContextOpen.TheVariants.{Nothing, Named, Refused}
 use Rattle.smb_wire.specs.declared.nt_status.NtStatus.{NtStatus}
-use Rattle.smb_wire.specs.declared.nt_status.NtStatus.TheVariants.{Success, InvalidParameter, AccessDenied, BufferOverflow, InvalidInfoClass, InfoLengthMismatch, NetworkNameDeleted, UserSessionDeleted, FileClosed, NotSupported}
+use Rattle.smb_wire.specs.declared.nt_status.NtStatus.{NtStatus}
+use Rattle.smb_wire.specs.declared.nt_status.NtStatus.TheVariants.{Success, BufferOverflow}
+use Rattle.smb_refusals.specs.declared.refusal.Refusal.{Refusal}
+use Rattle.smb_refusals.specs.declared.request.RequestRefusal.{RequestRefusal}
+use Rattle.smb_refusals.specs.declared.request.RequestRefusal.TheVariants.{UnknownCommand, CommandNotPerformed, BodyUnreadable, UnknownTreeConnect, NoOpenHandedOn, CreateBeforeRefused, UnknownOpen}
+use Rattle.smb_refusals.specs.declared.request.NegotiateRefusal.TheVariants.{NoDialect}
+use Rattle.smb_refusals.specs.declared.session.SetupRefusal.TheVariants.{Denied}
+use Rattle.smb_refusals.specs.declared.query.QueryDirectoryRefusal.{QueryDirectoryRefusal}
+use Rattle.smb_refusals.specs.declared.query.QueryDirectoryRefusal.TheVariants.{ListNotGranted}
+use Rattle.smb_refusals.specs.declared.query.QueryInfoRefusal.{QueryInfoRefusal}
+use Rattle.smb_refusals.specs.declared.set_info.SetInfoRefusal.{SetInfoRefusal}
 use Rattle.smb_wire.specs.declared.file_id.FileId.{FileId}
 use Rattle.smb_body.specs.declared.create.CreateResponse.{CreateResponse}
 use Rattle.smb_body.specs.declared.close.CloseFlags.{CloseFlags}
@@ -38,14 +48,14 @@ use Rattle.smb_access.specs.Access.{is_past_reading, most_allowed}
 use Rattle.smb_wire.specs.Access.{has_any, FILE_READ_DATA}
 use Rattle.smb_tree.specs.Entries.{is_folder_kind}
 use Rattle.smb_body.specs.QueryDirectory.{QueryDirectoryAsked}
-use Rattle.smb_body.specs.Replies.{ReplyValue, answers_error, answers_session_setup, answers_query_directory, answers_set_info, answers_lock}
+use Rattle.smb_body.specs.Replies.{ReplyValue, answers_session_setup, answers_query_directory, answers_set_info, answers_lock}
 use Rattle.smb_opens.specs.Scans.{scan_set}
 use Rattle.smb_info.specs.Queries.{ListAsked}
 use Rattle.smb_info.specs.OpenQueries.{open_list_fault, open_bytes_listed, open_scan_after}
 use Rattle.smb_request.specs.declared.query_directory.ListingRefusal.{ListingRefusal}
-use Rattle.smb_request.specs.Response.{ResponseState, CommandStep, with_body, refused, by_status}
+use Rattle.smb_request.specs.Response.{ResponseState, CommandStep, with_body, failure, refused, through_open, unless_refused}
 use Rattle.smb_request.specs.State.{ServerState}
-use Rattle.smb_request.specs.QueryDirectory.{listing_refusal}
+use Rattle.smb_request.specs.QueryDirectory.{has_room_for_fields, listing_refusal}
 use Rattle.smb_tree.specs.Content.{used_space}
 use Rattle.smb_tree.specs.WholeNames.{entry_copied}
 use Rattle.smb_body.specs.declared.query_info.QueryInfoRequest.{QueryInfoRequest}
@@ -59,7 +69,7 @@ use Rattle.smb_opens.specs.State.{StoreState}
 use Rattle.smb_session.specs.Negotiate.{best_of}
 use Rattle.smb_wire.specs.Dialects.{revision_of}
 use Rattle.smb_request.specs.Negotiate.{negotiate_answer}
-use Rattle.smb_opens.specs.Locks.{lock_status, unlock_status, locked_through, unlocked_through}
+use Rattle.smb_opens.specs.Locks.{lock_refusal, unlock_refusal, locked_through, unlocked_through}
 use Rattle.smb_body.specs.Requests.{RequestValue, asks_negotiate}
 use Rattle.smb_request.specs.Needs.{needs_of}
 use Rattle.smb_request.specs.Request.{acted, check_request}
@@ -72,8 +82,8 @@ use Rattle.smb_session.specs.declared.setup.SetupStatus.TheVariants.{Success as 
 use Rattle.smb_info.specs.declared.set_info.SetInformationClass.{SetInformationClass}
 use Rattle.smb_info.specs.SetInformation.{SetAsked, asks_basic, asks_rename, asks_mark, asks_allocation, asks_end, set_length, is_readable, asked_of}
 use Rattle.smb_request.specs.InfoTypes.{FILE, FILESYSTEM, SECURITY, QUOTA}
-use Rattle.smb_opens.specs.Renames.{rename_status, renamed_through}
-use Rattle.smb_opens.specs.SetInfo.{delete_status, delete_set_through, size_status, size_set_through, basic_status, basic_set_through}
+use Rattle.smb_opens.specs.Renames.{rename_refusal, rename_status, renamed_through}
+use Rattle.smb_opens.specs.SetInfo.{delete_refusal, delete_status, delete_set_through, size_refusal, size_status, size_set_through, basic_refusal, basic_status, basic_set_through}
 use Rattle.std.specs.List.{list_all, list_any, fold}
 use Rattle.smb_session.specs.Authenticator.{Meaning}
 
@@ -88,10 +98,6 @@ with_store server store = record server { store = store }
 -- the response to a request that succeeds, under the session and tree connect of the request
 abbrev pub success : HeaderIds → ReplyValue → ResponseState
 success ids reply = with_body ids Success reply
-
--- the response to one that fails
-abbrev pub failure : HeaderIds → NtStatus → ResponseState
-failure ids status = with_body ids status answers_error
 
 -- a FileId of all ones stands for the inherited open
 abbrev pub is_all_ones : FileId → Bool
@@ -109,16 +115,16 @@ setup_response ids told SetUp = with_body ids Success
     (answers_session_setup (record { session_flags = record { 0 = told.flags }; security_buffer = told.token }))
 setup_response ids told MoreProcessingRequired = with_body ids NtStatus.MoreProcessingRequired
     (answers_session_setup (record { session_flags = record { 0 = told.flags }; security_buffer = told.token }))
-setup_response ids told LogonFailure = with_body ids NtStatus.LogonFailure answers_error
+setup_response ids told LogonFailure = failure ids (Refusal.SessionSetup Denied)
 
 -- why a request that names this open is refused (P6 to P8)
-abbrev pub open_refusal : List OpenRow → HeaderIds → ContextOpen → Option NtStatus
-open_refusal opens ids Nothing = Some InvalidParameter
-open_refusal opens ids (Refused status) = Some status
+abbrev pub open_refusal : List OpenRow → HeaderIds → ContextOpen → Option RequestRefusal
+open_refusal opens ids Nothing = Some NoOpenHandedOn
+open_refusal opens ids (Refused status) = Some (CreateBeforeRefused status)
 open_refusal opens ids (Named id) =
     if id.persistent == id.volatile
     && option_map_or (is_held_by (Tree ids.session_id ids.tree_id)) (open_of opens id.persistent) false
-    then None else Some FileClosed
+    then None else Some UnknownOpen
 
 -- the open that a request inherits; one that is not related inherits none (3.3.5.2.7.2)
 abbrev pub inherited_open : Context → List ℕ → Option ContextOpen
@@ -266,16 +272,16 @@ list_asked_by asked = record {
 
 -- why an open may not list: it is not of a directory, or it was not granted FILE_LIST_DIRECTORY, the bit that is
 -- FILE_READ_DATA of a file (2.2.13.1.2)
-abbrev pub view_refusal : View → Option NtStatus
+abbrev pub view_refusal : View → Option QueryDirectoryRefusal
 view_refusal view =
-    if not (is_folder_kind view.kind) then Some InvalidParameter else
-    if not (has_any view.access.0 FILE_READ_DATA) then Some AccessDenied else None
+    if not (is_folder_kind view.kind) then Some QueryDirectoryRefusal.EntryIsFile else
+    if not (has_any view.access.0 FILE_READ_DATA) then Some ListNotGranted else None
 
 -- why a query is refused before its class is looked at, the first that holds
-abbrev pub directory_refusal : ℕ → Option View → QueryDirectoryAsked → Option NtStatus
+abbrev pub directory_refusal : ℕ → Option View → QueryDirectoryAsked → Option QueryDirectoryRefusal
 directory_refusal most view asked =
-    if nat_lt most asked.output_buffer_length then Some InvalidParameter else
-    option_map_or view_refusal view (Some InvalidParameter)
+    if nat_lt most asked.output_buffer_length then Some QueryDirectoryRefusal.LengthTooGreat else
+    option_map_or view_refusal view (Some QueryDirectoryRefusal.EntryIsFile)
 
 -- a listing that is not refused: the entries, and the open's scan goes on behind them
 abbrev pub directory_listed : {S : Type 0} → ServerState S → Call → ListAsked → CommandStep S
@@ -288,14 +294,14 @@ directory_listed server call ask = record {
 abbrev pub listing_refused : {S : Type 0} → ServerState S → Call → ListingRefusal → CommandStep S
 listing_refused server call refusal = record {
   server = option_map_or (λ scan. with_store server (scan_set server.store call.open_number scan)) refusal.scan server;
-  response = failure call.ids refusal.status;
+  response = failure call.ids (Refusal.QueryDirectory refusal.refusal);
 }
 
 -- what is listed, or why nothing is
 abbrev pub listed_as_asked : {S : Type 0} → ServerState S → Call → ListAsked → CommandStep S
 listed_as_asked server call ask = option_map_or
     (listing_refused server call)
-    (option_and_then listing_refusal (open_list_fault server.store call.open_number ask))
+    (option_and_then (listing_refusal (has_room_for_fields ask)) (open_list_fault server.store call.open_number ask))
     (directory_listed server call ask)
 
 -- what the class of a number tells of the entry of an open, if there is such a class ([MS-FSCC] 2.4)
@@ -321,18 +327,18 @@ information_asked server open_number asked =
     else fs_information asked.file_info_class.0 (volume_of server)
 
 -- why a request is refused whatever information it asks for, by the most bytes that it may ask for
-abbrev pub request_refusal : ℕ → QueryInfoRequest → Option NtStatus
+abbrev pub request_refusal : ℕ → QueryInfoRequest → Option QueryInfoRefusal
 request_refusal most asked =
-    if asked.info_type.0 == SECURITY || asked.info_type.0 == QUOTA then Some NotSupported else
-    if not (asked.info_type.0 == FILE || asked.info_type.0 == FILESYSTEM) then Some InvalidParameter else
-    if nat_lt most asked.output_buffer_length then Some InvalidParameter else None
+    if asked.info_type.0 == SECURITY || asked.info_type.0 == QUOTA then Some QueryInfoRefusal.TypeNotSupported else
+    if not (asked.info_type.0 == FILE || asked.info_type.0 == FILESYSTEM) then Some QueryInfoRefusal.UnknownType else
+    if nat_lt most asked.output_buffer_length then Some QueryInfoRefusal.LengthTooGreat else None
 
 -- why information is not given: there is no such class, or no room for its fixed part ([MS-FSCC] 2.4, 2.5)
-abbrev pub room_refusal : Option Information → ℕ → Option NtStatus
+abbrev pub room_refusal : Option Information → ℕ → Option QueryInfoRefusal
 room_refusal information room = option_map_or
-    (λ known. if nat_lt room (fixed_length known) then Some InfoLengthMismatch else None)
+    (λ known. if nat_lt room (fixed_length known) then Some QueryInfoRefusal.NoRoomForFields else None)
     information
-    (Some InvalidInfoClass)
+    (Some QueryInfoRefusal.UnknownClass)
 
 -- the status of information that is returned: where it is cut, BUFFER_OVERFLOW, which is no failure (3.3.4.4)
 abbrev pub written_status : Truncation → NtStatus
@@ -346,14 +352,14 @@ dialect_after dialect asked = elim asked [
 ]
 
 -- why a request whose charge is enough is refused
-abbrev pub check_session_tree_and_open : {S : Type 0} → ServerState S → Call → RequestValue → Option NtStatus
+abbrev pub check_session_tree_and_open : {S : Type 0} → ServerState S → Call → RequestValue → Option RequestRefusal
 check_session_tree_and_open server call asked =
     -- P4. the SessionId is that of no finished session of the connection (3.3.5.2.9)
     if needs_session (needs_of asked) && not (knows_session server.sessions.table call.connection call.ids.session_id)
-    then Some UserSessionDeleted else
+    then Some RequestRefusal.UnknownSession else
     -- P5. the TreeId is that of no tree connect of the session (3.3.5.2.11)
     if needs_tree (needs_of asked) && not (knows_tree server.sessions.table call.ids.session_id call.ids.tree_id)
-    then Some NetworkNameDeleted else
+    then Some UnknownTreeConnect else
     option_and_then (open_refusal server.store.opens call.ids) (named_open call)
 
 -- where a session ended, its opens are closed
@@ -376,7 +382,15 @@ tree_response read_only = record {
   maximal_access = record { 0 = most_allowed read_only false };
 }
 
--- the status that the store gives what is asked of the entry of an open (3.3.5.21.1)
+-- why the store refuses what is asked of the entry of an open (3.3.5.21.1)
+abbrev pub set_refusal : StoreState → ℕ → SetAsked → Option Refusal
+set_refusal store open_number (asks_basic ask) = option_map (λ row. Refusal.SetBasic row) (basic_refusal store open_number ask)
+set_refusal store open_number (asks_rename replace name) = option_map (λ row. Refusal.Rename row) (rename_refusal store open_number name replace)
+set_refusal store open_number (asks_mark mark) = option_map (λ row. Refusal.SetDisposition row) (delete_refusal store open_number mark)
+set_refusal store open_number (asks_allocation size) = option_map (λ row. Refusal.SetSize row) (size_refusal store open_number size)
+set_refusal store open_number (asks_end size) = option_map (λ row. Refusal.SetSize row) (size_refusal store open_number size)
+
+-- the status that the store gives it
 abbrev pub set_status : StoreState → ℕ → SetAsked → NtStatus
 set_status store open_number (asks_basic ask) = basic_status store open_number ask
 set_status store open_number (asks_rename replace name) = rename_status store open_number name replace
@@ -394,8 +408,8 @@ set_through store open_number moment (asks_end size) = size_set_through store op
 
 -- what is asked: a refusal changes nothing
 abbrev pub set_as_asked : {S : Type 0} → ServerState S → Call → SetAsked → CommandStep S
-set_as_asked server call ask = by_status server call.ids
-    (set_status server.store call.open_number ask)
+set_as_asked server call ask = unless_refused server call.ids
+    (through_open server.store call.open_number (set_refusal server.store call.open_number ask))
     (record {
       server = with_store server (set_through server.store call.open_number call.moment ask);
       response = success call.ids answers_set_info;
@@ -405,18 +419,18 @@ set_as_asked server call ask = by_status server call.ids
 abbrev pub class_set : {S : Type 0} → ServerState S → Call → List ℕ → SetInformationClass → CommandStep S
 class_set server call buffer class =
     -- the buffer is shorter than the fixed part (3.3.5.21.1)
-    if nat_lt (length buffer) (set_length class) then refused server call.ids InfoLengthMismatch else
+    if nat_lt (length buffer) (set_length class) then refused server call.ids (Refusal.SetInfo SetInfoRefusal.BufferTooShort) else
     -- a rename says no name ([MS-FSCC] 2.4.42)
-    if not (is_readable buffer class) then refused server call.ids InvalidParameter else
+    if not (is_readable buffer class) then refused server call.ids (Refusal.SetInfo SetInfoRefusal.RenameSaysNoName) else
     set_as_asked server call (asked_of buffer class)
 
 -- why nothing is set of an InfoType, or None for that of a file or a directory
-abbrev pub set_type_refusal : ℕ → Option NtStatus
+abbrev pub set_type_refusal : ℕ → Option SetInfoRefusal
 set_type_refusal info_type =
     -- the share as a file system, a security descriptor, or quotas (3.3.5.21.2 to 3.3.5.21.4)
-    if info_type == FILESYSTEM || info_type == SECURITY || info_type == QUOTA then Some NotSupported else
+    if info_type == FILESYSTEM || info_type == SECURITY || info_type == QUOTA then Some SetInfoRefusal.TypeNotSupported else
     -- no InfoType (2.2.39)
-    if not (info_type == FILE) then Some InvalidParameter else None
+    if not (info_type == FILE) then Some SetInfoRefusal.UnknownType else None
 
 -- the characters that no name has: " * / : < > ? \ |
 abbrev pub barred : List ℕ
@@ -456,14 +470,13 @@ hello_of authenticator server = authenticator.hello server.sessions.authenticato
 -- a request other than CANCEL: it is refused by the first row that holds, or performed
 abbrev pub performed_by : {S : Type 0} → Meaning S → ServerState S → Call → Option RequestValue → CommandStep S
 performed_by authenticator server call body =
-    if option_map_or is_unsupported call.command false then refused server call.ids NotSupported else
+    if option_map_or is_unsupported call.command false then refused server call.ids (Refusal.Request CommandNotPerformed) else
     option_map_or
-    (λ asked. option_map_or
-    (refused server call.ids)
-    (check_request server call asked)
+    (λ asked. unless_refused server call.ids
+    (option_map (λ refusal. Refusal.Request refusal) (check_request server call asked))
     (acted authenticator server call asked))
     body
-    (refused server call.ids InvalidParameter)
+    (refused server call.ids (Refusal.Request (if is_none call.command then UnknownCommand else BodyUnreadable)))
 
 -- NEGOTIATE (3.3.5.4): it is answered by the greatest dialect of the server's that its body lists
 abbrev pub negotiated : {S : Type 0} → Meaning S → ServerState S → Call → List ℕ → CommandStep S
@@ -478,12 +491,12 @@ negotiated authenticator server call dialects = option_map_or
           (revision_of best));
     })
     (best_of dialects)
-    (refused server call.ids NotSupported)
+    (refused server call.ids (Refusal.Negotiate NoDialect))
 
 -- a LOCK that locks (3.3.5.14.2): a refusal changes nothing
 abbrev pub file_locked : {S : Type 0} → ServerState S → Call → List LockAsk → CommandStep S
-file_locked server call asks = by_status server call.ids
-    (lock_status server.store call.open_number asks)
+file_locked server call asks = unless_refused server call.ids
+    (through_open server.store call.open_number (option_map (λ refusal. Refusal.Lock refusal) (lock_refusal server.store call.open_number asks)))
     (record {
       server = with_store server (locked_through server.store call.open_number asks);
       response = success call.ids answers_lock;
@@ -493,5 +506,5 @@ file_locked server call asks = by_status server call.ids
 abbrev pub file_unlocked : {S : Type 0} → ServerState S → Call → List LockAsk → CommandStep S
 file_unlocked server call asks =
     let after = with_store server (unlocked_through server.store call.open_number asks) in
-    by_status after call.ids (unlock_status server.store call.open_number asks)
+    unless_refused after call.ids (through_open server.store call.open_number (option_map (λ refusal. Refusal.Lock refusal) (unlock_refusal server.store call.open_number asks)))
     (record { server = after; response = success call.ids answers_lock })

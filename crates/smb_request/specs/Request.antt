@@ -1,6 +1,6 @@
 -- One request: the checks in their order, and the table of commands ([MS-SMB2] 3.3.5.2).
 use Rattle.std.specs.Prelude.{ℕ, ◌+◌, ◌-◌, ◌/◌, ◌==◌, Bool, ◌&&◌, true, false, not, nat_lt, List, Option, Some, None, if◌then◌else◌}
-use Rattle.std.specs.Option.{option_map, option_map_or, option_and_then}
+use Rattle.std.specs.Option.{is_none, option_map, option_map_or, option_and_then}
 use Rattle.smb_wire.specs.Dialects.{revision_of}
 use Rattle.smb_wire.specs.declared.dialect.Dialect.{Dialect}
 use Rattle.smb_session.specs.Authenticator.{Meaning}
@@ -16,8 +16,11 @@ use Rattle.smb_request.specs.declared.call.Call.{Call}
 use Rattle.smb_request.specs.declared.context.Context.{Context}
 use Rattle.smb_request.specs.declared.context.ContextOpen.{ContextOpen}
 use Rattle.smb_request.specs.declared.context.ContextOpen.TheVariants.{Nothing, Named, Refused}
-use Rattle.smb_wire.specs.declared.nt_status.NtStatus.{NtStatus}
-use Rattle.smb_wire.specs.declared.nt_status.NtStatus.TheVariants.{Success, InvalidParameter, NotSupported, NetworkNameDeleted, FileClosed, UserSessionDeleted}
+use Rattle.smb_wire.specs.declared.nt_status.NtStatus.TheVariants.{Success}
+use Rattle.smb_refusals.specs.declared.refusal.Refusal.{Refusal}
+use Rattle.smb_refusals.specs.declared.request.RequestRefusal.{RequestRefusal}
+use Rattle.smb_refusals.specs.declared.request.RequestRefusal.TheVariants.{UnknownCommand, CommandNotPerformed, BodyUnreadable, ChargeTooSmall, UnknownTreeConnect, NoOpenHandedOn, CreateBeforeRefused, UnknownOpen}
+use Rattle.smb_refusals.specs.declared.request.NegotiateRefusal.TheVariants.{NoDialect}
 use Rattle.smb_request.specs.Call.{call_of}
 use Rattle.smb_wire.specs.Commands.{code_of}
 use Rattle.smb_request.specs.Context.{open_named, open_for_next_related, named_on}
@@ -25,7 +28,7 @@ use Rattle.smb_request.specs.Needs.{needs_of}
 use Rattle.smb_request.specs.declared.needs.Needs.TheVariants.{Session, Tree, Open}
 use Rattle.smb_request.specs.Negotiate.{negotiate_answer}
 use Rattle.smb_request.specs.State.{ServerState}
-use Rattle.smb_request.specs.Response.{CommandStep, Performed, with_body, refused}
+use Rattle.smb_request.specs.Response.{CommandStep, Performed, with_body, refused, unless_refused}
 use Rattle.smb_request.specs.Session.{session_set_up, session_logged_off, tree_joined, tree_left}
 use Rattle.smb_request.specs.Files.{file_created, file_closed}
 use Rattle.smb_request.specs.Bytes.{file_read, file_written}
@@ -49,7 +52,7 @@ module _ {S : Type 0} (authenticator : Meaning S) (server : ServerState S) (call
             (revision_of best));
       })
       (best_of asked.dialects)
-      (refused server call.ids NotSupported)
+      (refused server call.ids (Refusal.Negotiate NoDialect))
   acted (asks_session_setup asked) = session_set_up authenticator server call asked
   acted (asks_logoff asked) = session_logged_off server call
   acted (asks_tree_connect asked) = tree_joined server call asked.path
@@ -61,34 +64,34 @@ module _ {S : Type 0} (authenticator : Meaning S) (server : ServerState S) (call
   acted (asks_write asked) = file_written server call asked
   acted (asks_lock asked) = locks_changed server call asked.locks
   -- never the step of a CANCEL, which `performed` passes over
-  acted (asks_cancel asked) = refused server call.ids NotSupported
+  acted (asks_cancel asked) = refused server call.ids (Refusal.Request CommandNotPerformed)
   acted (asks_echo asked) = record { server = server; response = with_body call.ids Success answers_echo }
   acted (asks_query_directory asked) = directory_queried server call asked
   acted (asks_query_info asked) = information_queried server call asked
   acted (asks_set_info asked) = information_set server call asked
 
 -- why a request whose body is read is refused, by the rows of docs/PROFILE.md
-abbrev pub check_request : {S : Type 0} → ServerState S → Call → RequestValue → Option NtStatus
+abbrev pub check_request : {S : Type 0} → ServerState S → Call → RequestValue → Option RequestRefusal
 check_request server call asked =
     let ids = call.ids in
     -- P3b. it takes fewer MessageIds than it has to: 1, and 1 more for each further 65,536 bytes, begun or whole, that
     -- it sends or asks for (3.3.5.2.5)
-    if nat_lt call.charge ((payload_of asked - 1) / 65536 + 1) then Some InvalidParameter else
+    if nat_lt call.charge ((payload_of asked - 1) / 65536 + 1) then Some ChargeTooSmall else
     -- P4. it needs a session, and the SessionId is that of no finished session of the connection (3.3.5.2.9)
     let needs_session : Bool = elim (needs_of asked) [ Session ↦ true | Tree ↦ true | Open ↦ true | _ ↦ false ] in
     if needs_session && not (knows_session server.sessions.table call.connection ids.session_id)
-    then Some UserSessionDeleted else
+    then Some RequestRefusal.UnknownSession else
     -- P5. it needs a tree connect, and the TreeId is that of none of the session (3.3.5.2.11)
     let needs_tree : Bool = elim (needs_of asked) [ Tree ↦ true | Open ↦ true | _ ↦ false ] in
     if needs_tree && not (knows_tree server.sessions.table ids.session_id ids.tree_id)
-    then Some NetworkNameDeleted else
+    then Some UnknownTreeConnect else
     -- by the open that its FileId names; in a related request one of all ones names that which it inherits
     option_and_then
     (λ (named : ContextOpen). elim named [
       -- P6. it inherits no open (3.3.5.2.7.2)
-      | Nothing ↦ Some InvalidParameter
+      | Nothing ↦ Some NoOpenHandedOn
       -- P7. it inherits the open that a CREATE was to make, which was refused by this status (3.3.5.2.7.2)
-      | Refused status ↦ Some status
+      | Refused status ↦ Some (CreateBeforeRefused status)
       -- P8. the FileId is that of no open of its session and tree connect: both its halves are the open's number
       -- (3.3.5.10)
       | Named id ↦
@@ -97,7 +100,7 @@ check_request server call asked =
           (is_held_by (Owner.Tree ids.session_id ids.tree_id))
           (open_of server.store.opens id.persistent)
           false
-          then None else Some FileClosed
+          then None else Some UnknownOpen
     ])
     (option_map (open_named call.inherited) call.file_id)
 
@@ -113,15 +116,14 @@ performed authenticator connection moment server dialect context request =
     let is_cancel : Bool = option_map_or (λ command. elim command [ Cancel ↦ true | _ ↦ false ]) call.command false in
     let step =
     -- P2. a command that this server does not perform
-    if option_map_or is_unsupported call.command false then refused server call.ids NotSupported else
+    if option_map_or is_unsupported call.command false then refused server call.ids (Refusal.Request CommandNotPerformed) else
     option_map_or
-    (λ asked. option_map_or
-    (refused server call.ids)
-    (check_request server call asked)
+    (λ asked. unless_refused server call.ids
+    (option_map (λ refusal. Refusal.Request refusal) (check_request server call asked))
     (acted authenticator server call asked))
     body
-    -- P1, P3. no such command, or a body that cannot be read
-    (refused server call.ids InvalidParameter) in
+    -- P1. no such command; P3. a body that cannot be read
+    (refused server call.ids (Refusal.Request (if is_none call.command then UnknownCommand else BodyUnreadable))) in
     if is_cancel
     then record {
       server = server;

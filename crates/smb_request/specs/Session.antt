@@ -1,43 +1,32 @@
 -- SESSION_SETUP, LOGOFF, TREE_CONNECT and TREE_DISCONNECT ([MS-SMB2] 3.3.5.5 to 3.3.5.8).
-use Rattle.std.specs.Prelude.{ℕ, ◌+◌, ◌==◌, ◌||◌, Bool, false, true, not, nat_le, List, [], ◌∷◌, ◌++◌, length, filter, Option, Some, None, option_and_then, unwrap_or, if◌then◌else◌}
+use Rattle.std.specs.Prelude.{ℕ, ◌+◌, ◌==◌, ◌||◌, Bool, false, true, not, nat_le, List, [], ◌∷◌, ◌++◌, length, filter, Some, None, unwrap_or, if◌then◌else◌}
 use Rattle.std.specs.Option.{option_map, option_map_or}
 use Rattle.smb_wire.specs.Counters.{is_spent}
 use Rattle.smb_wire.specs.Limits.{most_tree_connects}
 use Rattle.smb_wire.specs.Names.{is_same_name}
-use Rattle.smb_body.specs.Replies.{ReplyValue, answers_error, answers_session_setup, answers_logoff, answers_tree_connect, answers_tree_disconnect}
+use Rattle.smb_body.specs.Replies.{ReplyValue, answers_session_setup, answers_logoff, answers_tree_connect, answers_tree_disconnect}
 use Rattle.smb_body.specs.SessionSetup.{SessionSetupAsked}
 use Rattle.smb_session.specs.Authenticator.{Meaning}
 use Rattle.smb_session.specs.Path.{path_parts, share_in}
 use Rattle.smb_session.specs.Session.{SessionState}
 use Rattle.smb_session.specs.Setup.{setup_refusal, setup_result, table_answered}
 use Rattle.smb_session.specs.Table.{knows_session, knows_tree, session_at, session_ended, session_changed}
-use Rattle.smb_session.specs.declared.fault.SessionFault.{SessionFault}
-use Rattle.smb_session.specs.declared.fault.SessionFault.TheVariants.{UnknownSession, UnknownTree, NoShare, NotAccepted, NoDialect, NoMemory}
 use Rattle.smb_session.specs.declared.setup.SetupStatus.TheVariants.{MoreProcessingRequired, LogonFailure, Success as SetUp}
 use Rattle.smb_access.specs.Access.{most_allowed}
 use Rattle.smb_access.specs.declared.open_row.Owner.TheVariants.{Session, Tree}
 use Rattle.smb_opens.specs.Close.{closed_all}
 use Rattle.smb_wire.specs.declared.nt_status.NtStatus.{NtStatus}
-use Rattle.smb_wire.specs.declared.nt_status.NtStatus.TheVariants.{Success, NotSupported, NetworkNameDeleted, BadNetworkName, RequestNotAccepted, UserSessionDeleted}
+use Rattle.smb_wire.specs.declared.nt_status.NtStatus.TheVariants.{Success}
 use Rattle.smb_request.specs.declared.call.Call.{Call}
 use Rattle.smb_request.specs.declared.context.HeaderIds.{HeaderIds}
 use Rattle.smb_request.specs.State.{ServerState}
-use Rattle.smb_request.specs.Response.{CommandStep, with_body, refused}
-
--- a request that the sessions refuse, with the status of the refusal, or else what is done (no definition refuses for
--- being out of memory)
-abbrev pub unless_refused : {S : Type 0} → ServerState S → HeaderIds → Option SessionFault → CommandStep S → CommandStep S
-unless_refused server ids refusal step =
-    let status_of : SessionFault → Option NtStatus =
-    λ fault. elim fault [
-      | UnknownSession ↦ Some UserSessionDeleted
-      | UnknownTree ↦ Some NetworkNameDeleted
-      | NoShare ↦ Some BadNetworkName
-      | NotAccepted ↦ Some RequestNotAccepted
-      | NoDialect ↦ Some NotSupported
-      | NoMemory ↦ None
-    ] in
-    option_map_or (refused server ids) (option_and_then status_of refusal) step
+use Rattle.smb_request.specs.Response.{CommandStep, with_body, failure, unless_refused}
+use Rattle.smb_refusals.specs.declared.refusal.Refusal.{Refusal}
+use Rattle.smb_refusals.specs.declared.session.TreeConnectRefusal.{TreeConnectRefusal}
+use Rattle.smb_refusals.specs.declared.session.LogoffRefusal.{LogoffRefusal}
+use Rattle.smb_refusals.specs.declared.session.TreeDisconnectRefusal.{TreeDisconnectRefusal}
+use Rattle.smb_refusals.specs.declared.session.SetupRefusal.TheVariants.{Denied}
+use Rattle.smb_refusals.specs.declared.session.TreeConnectRefusal.TheVariants.{UnknownShare, NoTreeConnectLeft}
 
 -- SESSION_SETUP (3.3.5.5): where no row of `setup_refusal` holds, the authenticator is asked once about the session,
 -- and its answer is performed (3.3.5.5.3). The previous session, where one ended, ends with its opens
@@ -70,7 +59,7 @@ session_set_up authenticator server call asked =
       security_buffer = setup.token;
     }) in
     unless_refused server ids
-    (setup_refusal sessions.table call.connection ids.session_id asked.flags.0)
+    (option_map (λ refusal. Refusal.SessionSetup refusal) (setup_refusal sessions.table call.connection ids.session_id asked.flags.0))
     (record {
       server = record server {
         sessions = record sessions {
@@ -83,7 +72,7 @@ session_set_up authenticator server call asked =
       response = elim setup.status [
         | SetUp ↦ with_body answered_ids Success reply
         | MoreProcessingRequired ↦ with_body answered_ids NtStatus.MoreProcessingRequired reply
-        | LogonFailure ↦ with_body answered_ids NtStatus.LogonFailure answers_error
+        | LogonFailure ↦ failure answered_ids (Refusal.SessionSetup Denied)
       ];
     })
 
@@ -92,8 +81,9 @@ unfoldable pub session_logged_off : {S : Type 0} → ServerState S → Call → 
 session_logged_off server call =
     let table = server.sessions.table in
     unless_refused server call.ids
-    -- only a finished session of the connection is logged off
-    (if knows_session table call.connection call.ids.session_id then None else Some UnknownSession)
+    (option_map (λ refusal. Refusal.Logoff refusal) (
+    -- LO1. the session is no finished one of the connection
+    if knows_session table call.connection call.ids.session_id then None else Some LogoffRefusal.UnknownSession))
     (record {
       server = record server {
         sessions = record server.sessions { table = session_ended table call.ids.session_id };
@@ -120,17 +110,18 @@ tree_joined server call path =
     let table = server.sessions.table in
     let session = session_at table call.ids.session_id in
     unless_refused server call.ids
-    -- the session is no finished one of the connection
-    (if not (knows_session table call.connection call.ids.session_id) then Some UnknownSession else
-    -- the path names another share
+    (option_map (λ refusal. Refusal.TreeConnect refusal) (
+    -- TC1. the session is no finished one of the connection
+    if not (knows_session table call.connection call.ids.session_id) then Some TreeConnectRefusal.UnknownSession else
+    -- TC2. the path names another share
     if not (option_map_or (λ named. is_same_name named server.sessions.share) (share_in (path_parts path)) false)
-    then Some NoShare else
-    -- the session has 16 trees, or their numbers are spent
+    then Some UnknownShare else
+    -- TC3. the session has 16 trees, or their numbers are spent
     if option_map_or
     (λ (state : SessionState). nat_le most_tree_connects (length state.trees) || is_spent 32 state.next_tree)
     session
     true
-    then Some NotAccepted else None)
+    then Some NoTreeConnectLeft else None))
     (record {
       server = record server {
         sessions = record server.sessions {
@@ -156,9 +147,11 @@ unfoldable pub tree_left : {S : Type 0} → ServerState S → Call → CommandSt
 tree_left server call =
     let table = server.sessions.table in
     unless_refused server call.ids
-    -- the session is no finished one of the connection, or has no such tree
-    (if not (knows_session table call.connection call.ids.session_id) then Some UnknownSession else
-    if knows_tree table call.ids.session_id call.ids.tree_id then None else Some UnknownTree)
+    (option_map (λ refusal. Refusal.TreeDisconnect refusal) (
+    -- TD1. the session is no finished one of the connection
+    if not (knows_session table call.connection call.ids.session_id) then Some TreeDisconnectRefusal.UnknownSession else
+    -- TD2. the session has no such tree
+    if knows_tree table call.ids.session_id call.ids.tree_id then None else Some TreeDisconnectRefusal.UnknownTreeConnect))
     (record {
       server = record server {
         sessions = record server.sessions {

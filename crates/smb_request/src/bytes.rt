@@ -1,7 +1,8 @@
 //! READ and WRITE ([MS-SMB2] 3.3.5.12, 3.3.5.13).
 
-ghost use Rattle.std.specs.Prelude.{◌≡◌, ◌≤◌, ◌+◌, ◌++◌, IfOk, IfErr, IfSome, OnOk, OnErr, length, take};
+ghost use Rattle.std.specs.Prelude.{◌≡◌, ◌≤◌, ◌+◌, ◌++◌, IfOk, IfErr, IfSome, IsSome, OnOk, OnErr, length, take};
 ghost use Rattle.smb_wire.specs.Limits.{longest_body};
+ghost use Rattle.smb_access.specs.Opens.{open_of};
 ghost use Rattle.smb_body.specs.Replies.{answers_read};
 ghost use Rattle.smb_body.specs.Write.{write_asked};
 ghost use Rattle.smb_opens.specs.Bytes.{part_bytes};
@@ -11,11 +12,11 @@ ghost use Rattle.smb_request.specs.InPlace.{answer_held, answer_behind};
 ghost use Rattle.smb_request.specs.Parts.{success};
 
 use super::call::Call;
-use super::refusal::Refusal;
 use super::response::{Answered, Body, Response};
 use super::server::Server;
 use smb_body::{ReadRequest, WriteRequest, WriteResponse, put_read_head};
 use smb_opens::{FilePart, Opens};
+use smb_refusals::{Refusal, RefusedBy};
 use smb_session::Authenticator;
 use smb_tree::Tree;
 use smb_wire::NtStatus;
@@ -23,12 +24,13 @@ use std::alloc::AllocError;
 
 impl<A: Authenticator + Drop, T: Tree + Drop, O: Opens + Drop> Server<A, T, O> {
     /// READ ([MS-SMB2] 3.3.5.12). Its bytes are read by [`put_bytes`](Self::put_bytes), where they are sent from.
-    #[tactic(auto, unfolding(crate::specs::Bytes::file_read), using(smb_wire::proofs::Statuses::success_yes))]
+    #[tactic(auto, unfolding(crate::specs::Bytes::file_read))]
     pub(crate) fn read_file<'a>(
         &self,
         call: Call,
         request: &ReadRequest,
-    ) -> Result<Response<'a>, Refusal>
+    ) -> Result<Response<'a>, RefusedBy<Refusal>>
+        requires { IsSome (open_of self.now.store.opens call.open_number) }
         ensures ok { IfSome (result_step A.meaning self.now call result) (λ step. step ≡ file_read self.now call request.now) }
         ensures put { IfOk result (IsReadyAfter self.now self.now call) }
     {
@@ -40,24 +42,25 @@ impl<A: Authenticator + Drop, T: Tree + Drop, O: Opens + Drop> Server<A, T, O> {
         let most = call.most_at_once();
         let part = self
             .store
-            .find_bytes(most, call.open_number, offset, length, minimum_count)?;
+            .find_bytes_by_row(most, call.open_number, offset, length, minimum_count)?;
         Ok(Response::Bytes(part))
     }
 
     /// WRITE ([MS-SMB2] 3.3.5.13). The bytes go from the request straight into the file.
-    #[tactic(auto, unfolding(crate::specs::Bytes::file_written), using(smb_wire::proofs::Statuses::success_yes))]
+    #[tactic(auto, unfolding(crate::specs::Bytes::file_written))]
     pub(crate) fn write_file<'a>(
         &mut self,
         call: Call,
         request: &WriteRequest<'_>,
-    ) -> Result<Response<'a>, Refusal>
+    ) -> Result<Response<'a>, RefusedBy<Refusal>>
+        requires { IsSome (open_of self.old.store.opens call.open_number) }
         ensures ok { IfSome (result_step A.meaning self.new call result) (λ step. step ≡ file_written self.old call (write_asked request.now)) }
         ensures put { IfOk result (IsReadyAfter self.old self.new call) }
         ensures err { IfErr result (λ refusal. self.new ≡ self.old) }
         ensures known { self.new.sessions.table.connections ≡ self.old.sessions.table.connections }
     {
         let (offset, buffer) = (request.offset, request.buffer);
-        self.store.write(
+        self.store.write_by_row(
             call.most_at_once(),
             call.open_number,
             offset,
@@ -88,6 +91,7 @@ impl<A: Authenticator + Drop, T: Tree + Drop, O: Opens + Drop> Server<A, T, O> {
         match self.store.add_part(part, out) {
             Ok(()) => Ok(Answered {
                 status: NtStatus::Success,
+                refusal: None,
                 ids: call.ids,
             }),
             Err(AllocError) => {

@@ -11,11 +11,11 @@ ghost use Rattle.smb_request.specs.Bodies.{response_step, result_step, IsReadyAf
 
 use super::call::Call;
 use super::context::HeaderIds;
-use super::refusal::Refusal;
 use super::response::{Body, Response};
 use super::server::Server;
 use smb_body::{CloseFlags, CloseResponse, CreateRequest, CreateResponse, OplockLevel};
 use smb_opens::{CreateAsk, Created, Opens, Owner, View};
+use smb_refusals::{Refusal, RefusedBy};
 use smb_session::Authenticator;
 use smb_tree::Tree;
 use smb_wire::{FileAttributes, FileId};
@@ -104,12 +104,12 @@ impl<A: Authenticator + Drop, T: Tree + Drop, O: Opens + Drop> Server<A, T, O> {
     }
 
     /// CREATE ([MS-SMB2] 3.3.5.9), under a session and a tree connect that exist.
-    #[tactic(auto, unfolding(crate::specs::Files::file_created), using(smb_wire::proofs::Statuses::success_yes))]
+    #[tactic(auto, unfolding(crate::specs::Files::file_created))]
     pub(crate) fn create_file<'a>(
         &mut self,
         call: Call,
         request: &CreateRequest<'_>,
-    ) -> Result<Response<'a>, Refusal>
+    ) -> Result<Response<'a>, RefusedBy<Refusal>>
         requires session { knows_session self.old.sessions.table call.connection call.ids.session_id ≡ true }
         requires tree { knows_tree self.old.sessions.table call.ids.session_id call.ids.tree_id ≡ true }
         ensures ok { IfSome (result_step A.meaning self.new call result) (λ step. step ≡ file_created self.old call (create_asked request.now)) }
@@ -119,7 +119,7 @@ impl<A: Authenticator + Drop, T: Tree + Drop, O: Opens + Drop> Server<A, T, O> {
     {
         let read_only = self.may_only_read(call);
         let ask = file_asked(call.ids, request, read_only);
-        let done = self.store.create(&ask, call.moment)?;
+        let done = self.store.create_by_row(&ask, call.moment)?;
         Ok(Response::success(call.ids, Body::Create(create_response(&done))))
     }
 

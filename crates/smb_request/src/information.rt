@@ -1,11 +1,11 @@
-//! The statuses of information classes.
+//! The refusals of information classes.
 
 ghost use Rattle.std.specs.Prelude.{◌≡◌};
-ghost use Rattle.smb_request.specs.Information.{fault_status};
 ghost use Rattle.smb_request.specs.Parts.{written_status};
+ghost use Rattle.smb_request.specs.Refusals.{query_info_refused, set_info_refusal};
 
-use super::query_directory::listing_refusal;
 use smb_info::{InfoFault, Truncation};
+use smb_refusals::{QueryInfoRefusal, RefusedBy, SetInfoRefusal};
 use smb_wire::NtStatus;
 
 /// The status of a response with information: where it was cut, one that is no failure ([MS-SMB2] 3.3.4.4).
@@ -18,15 +18,26 @@ pub(crate) fn written_status(written: Truncation) -> NtStatus
     }
 }
 
-/// The status of a refusal. Out of memory has none.
-pub(crate) fn fault_status(fault: InfoFault) -> Option<NtStatus>
-    ensures { result ≡ fault_status fault }
+/// Why a QUERY_INFO is not answered: its class is unknown, there is no room for its fixed part, or an allocation was
+/// refused.
+pub(crate) fn query_info_refused(fault: InfoFault) -> RefusedBy<QueryInfoRefusal>
+    ensures { result ≡ query_info_refused fault }
 {
     match fault {
-        InfoFault::Unreadable => Some(NtStatus::InvalidParameter),
-        fault => match listing_refusal(fault) {
-            Some(refusal) => Some(refusal.status),
-            None => None,
-        },
+        InfoFault::NoMemory => RefusedBy::NoMemory,
+        InfoFault::TooSmall => RefusedBy::Row(QueryInfoRefusal::NoRoomForFields),
+        _ => RefusedBy::Row(QueryInfoRefusal::UnknownClass),
+    }
+}
+
+/// Why the buffer of a SET_INFO is refused: its class is unknown, it is shorter than the fixed part, or it is a rename
+/// that says no name.
+pub(crate) fn set_info_refusal(fault: InfoFault) -> SetInfoRefusal
+    ensures { result ≡ set_info_refusal fault }
+{
+    match fault {
+        InfoFault::TooSmall => SetInfoRefusal::BufferTooShort,
+        InfoFault::Unreadable => SetInfoRefusal::RenameSaysNoName,
+        _ => SetInfoRefusal::UnknownClass,
     }
 }

@@ -27,7 +27,6 @@ mod needs;
 mod negotiate;
 mod query_directory;
 mod query_info;
-mod refusal;
 mod request;
 mod response;
 mod server;

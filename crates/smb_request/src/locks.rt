@@ -1,21 +1,22 @@
 //! LOCK ([MS-SMB2] 3.3.5.14).
 
-ghost use Rattle.std.specs.Prelude.{◌≡◌, take, IfOk, IfErr, IfSome};
+ghost use Rattle.std.specs.Prelude.{◌≡◌, take, IfOk, IfErr, IfSome, IsSome};
+ghost use Rattle.smb_access.specs.Opens.{open_of};
 ghost use Rattle.smb_body.specs.LockLists.{locks_of};
 ghost use Rattle.smb_body.specs.Lock.{lock_asked};
 ghost use Rattle.smb_request.specs.Locks.{locks_changed};
 ghost use Rattle.smb_request.specs.Parts.{lock_asks, lock_ask, asks_unlock, file_locked, file_unlocked};
 ghost use Rattle.smb_request.specs.Bodies.{result_step, IsReadyAfter};
-ghost use Rattle.smb_request.specs.declared.refusal.Refusal.TheVariants.{NoMemory};
+ghost use Rattle.smb_refusals.specs.declared.refused_by.RefusedBy.TheVariants.{NoMemory};
 
 use super::call::Call;
-use super::refusal::Refusal;
 use super::response::{Body, Response};
 use super::server::Server;
 use bitflags::Flags;
 use smb_body::{LockElement, LockList, LockRequest};
 use smb_locks::LockAsk;
 use smb_opens::Opens;
+use smb_refusals::{Refusal, RefusedBy};
 use smb_session::Authenticator;
 use smb_tree::Tree;
 use smb_wire::LockFlags;
@@ -58,26 +59,34 @@ fn asks_unlock(asks: &[LockAsk]) -> bool
 
 impl<A: Authenticator + Drop, T: Tree + Drop, O: Opens + Drop> Server<A, T, O> {
     /// A LOCK that locks ([MS-SMB2] 3.3.5.14.2).
-    #[tactic(auto, using(smb_wire::proofs::Statuses::success_yes))]
-    fn lock_file<'a>(&mut self, call: Call, asks: &[LockAsk]) -> Result<Response<'a>, Refusal>
+    fn lock_file<'a>(
+        &mut self,
+        call: Call,
+        asks: &[LockAsk],
+    ) -> Result<Response<'a>, RefusedBy<Refusal>>
+        requires { IsSome (open_of self.old.store.opens call.open_number) }
         ensures ok { IfSome (result_step A.meaning self.new call result) (λ step. step ≡ file_locked self.old call asks.now) }
         ensures put { IfOk result (IsReadyAfter self.old self.new call) }
         ensures err { IfErr result (λ refusal. self.new ≡ self.old) }
         ensures known { self.new.sessions.table.connections ≡ self.old.sessions.table.connections }
     {
-        self.store.lock(call.open_number, asks)?;
+        self.store.lock_by_row(call.open_number, asks)?;
         Ok(Response::success(call.ids, Body::Lock))
     }
 
     /// A LOCK that unlocks ([MS-SMB2] 3.3.5.14.1). It takes no memory.
-    #[tactic(auto, using(smb_wire::proofs::Statuses::success_yes))]
-    fn unlock_file<'a>(&mut self, call: Call, asks: &[LockAsk]) -> Result<Response<'a>, Refusal>
+    fn unlock_file<'a>(
+        &mut self,
+        call: Call,
+        asks: &[LockAsk],
+    ) -> Result<Response<'a>, RefusedBy<Refusal>>
+        requires { IsSome (open_of self.old.store.opens call.open_number) }
         ensures ok { IfSome (result_step A.meaning self.new call result) (λ step. step ≡ file_unlocked self.old call asks.now) }
         ensures put { IfOk result (IsReadyAfter self.old self.new call) }
         ensures err { IfErr result (λ refusal. refusal ≡ NoMemory → self.new ≡ self.old) }
         ensures known { self.new.sessions.table.connections ≡ self.old.sessions.table.connections }
     {
-        self.store.unlock(call.open_number, asks)?;
+        self.store.unlock_by_row(call.open_number, asks)?;
         Ok(Response::success(call.ids, Body::Lock))
     }
 
@@ -86,7 +95,8 @@ impl<A: Authenticator + Drop, T: Tree + Drop, O: Opens + Drop> Server<A, T, O> {
         &mut self,
         call: Call,
         request: &LockRequest<'_>,
-    ) -> Result<Response<'a>, Refusal>
+    ) -> Result<Response<'a>, RefusedBy<Refusal>>
+        requires { IsSome (open_of self.old.store.opens call.open_number) }
         ensures ok { IfSome (result_step A.meaning self.new call result) (λ step. step
             ≡ locks_changed self.old call (lock_asked request.now).locks) }
         ensures put { IfOk result (IsReadyAfter self.old self.new call) }

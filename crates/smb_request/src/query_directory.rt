@@ -7,16 +7,17 @@ ghost use Rattle.smb_body.specs.QueryDirectory.{query_directory_asked};
 ghost use Rattle.smb_info.specs.Asks.{list_asked};
 ghost use Rattle.smb_opens.specs.Views.{open_view};
 ghost use Rattle.smb_request.specs.InPlace.{answer_held, answer_behind};
-ghost use Rattle.smb_request.specs.QueryDirectory.{listing_refusal, directory_queried};
+ghost use Rattle.smb_request.specs.QueryDirectory.{has_room_for_fields, listing_refusal, directory_queried};
 ghost use Rattle.smb_request.specs.Parts.{list_asked_by, view_refusal, listed_as_asked, listing_refused, directory_refusal};
 
 use super::call::Call;
-use super::response::{Answered, put_response};
+use super::response::{Answered, failure, put_response};
 use super::server::Server;
 use bitflags::Flags;
 use smb_body::{QueryDirectoryRequest, Reply, close_query_response, open_query_response};
-use smb_info::{InfoFault, ListAsk, list};
+use smb_info::{DirectoryInformationClass, InfoFault, ListAsk, list};
 use smb_opens::{Opens, Scan, View};
+use smb_refusals::{QueryDirectoryRefusal, Refusal};
 use smb_session::Authenticator;
 use smb_tree::{Kind, Tree};
 use smb_wire::{Access, NtStatus};
@@ -25,7 +26,7 @@ use std::alloc::AllocError;
 /// What a refusal of a listing comes to.
 #[derive(Clone, Copy)]
 pub(crate) struct ListingRefusal {
-    pub(crate) status: NtStatus,
+    pub(crate) refusal: QueryDirectoryRefusal,
     /// The scan that the query started, though no name is matched: it is the open's.
     pub(crate) scan: Option<Scan>,
 }
@@ -42,43 +43,58 @@ fn list_ask<'a>(request: &QueryDirectoryRequest<'a>) -> ListAsk<'a>
     }
 }
 
-/// What a refusal comes to. None where no listing is refused so.
-pub(crate) fn listing_refusal(fault: InfoFault) -> Option<ListingRefusal>
-    ensures { result ≡ listing_refusal fault }
+/// Whether there is room for the fixed part of an entry of the class that is asked for.
+fn has_room_for_fields(ask: &ListAsk<'_>) -> bool
+    ensures { result ≡ has_room_for_fields (list_asked ask.now) }
 {
-    let (status, scan) = match fault {
-        InfoFault::BadClass => (NtStatus::InvalidInfoClass, None),
-        InfoFault::BadPattern => (NtStatus::ObjectNameInvalid, None),
-        InfoFault::TooSmall => (NtStatus::InfoLengthMismatch, None),
-        InfoFault::NoMatch(scan) => (NtStatus::NoSuchFile, Some(scan)),
-        InfoFault::NoMore => (NtStatus::NoMoreFiles, None),
+    match DirectoryInformationClass::of(ask.class) {
+        Some(class) => class.fixed_length() <= ask.room as usize,
+        None => false,
+    }
+}
+
+/// What a refusal comes to, by whether there is room for the fixed part of an entry. None where no listing is refused so.
+fn listing_refusal(has_room: bool, fault: InfoFault) -> Option<ListingRefusal>
+    ensures { result ≡ listing_refusal has_room fault }
+{
+    let (refusal, scan) = match fault {
+        InfoFault::BadClass => (QueryDirectoryRefusal::UnknownClass, None),
+        InfoFault::BadPattern => (QueryDirectoryRefusal::PatternTooLong, None),
+        InfoFault::TooSmall if has_room => (QueryDirectoryRefusal::NoRoomForName, None),
+        InfoFault::TooSmall => (QueryDirectoryRefusal::NoRoomForFields, None),
+        InfoFault::NoMatch(scan) => (QueryDirectoryRefusal::NoNameMatches, Some(scan)),
+        InfoFault::NoMore => (QueryDirectoryRefusal::NoMoreNames, None),
         InfoFault::Unreadable | InfoFault::NoMemory => return None,
     };
-    Some(ListingRefusal { status, scan })
+    Some(ListingRefusal { refusal, scan })
 }
 
 /// Why the open that shows this may not list, or None.
-fn view_refusal(view: &View) -> Option<NtStatus>
+fn view_refusal(view: &View) -> Option<QueryDirectoryRefusal>
     ensures { result ≡ view_refusal view.now }
 {
     match view.kind {
-        Kind::File => Some(NtStatus::InvalidParameter),
+        Kind::File => Some(QueryDirectoryRefusal::EntryIsFile),
         Kind::Folder if view.access.intersects(Access::READ_DATA) => None,
-        Kind::Folder => Some(NtStatus::AccessDenied),
+        Kind::Folder => Some(QueryDirectoryRefusal::ListNotGranted),
     }
 }
 
 impl<A: Authenticator + Drop, T: Tree + Drop, O: Opens + Drop> Server<A, T, O> {
     /// Why a query is refused before its class is looked at, or None.
-    fn directory_refusal(&self, call: Call, request: &QueryDirectoryRequest<'_>) -> Option<NtStatus>
+    fn directory_refusal(
+        &self,
+        call: Call,
+        request: &QueryDirectoryRequest<'_>,
+    ) -> Option<QueryDirectoryRefusal>
         ensures { result ≡ directory_refusal (most_at_once call.dialect) (open_view self.now.store call.open_number) (query_directory_asked request.now) }
     {
         if request.output_buffer_length > call.most_at_once() {
-            return Some(NtStatus::InvalidParameter);
+            return Some(QueryDirectoryRefusal::LengthTooGreat);
         }
         match self.store.view(call.open_number) {
             Some(view) => view_refusal(&view),
-            None => Some(NtStatus::InvalidParameter),
+            None => Some(QueryDirectoryRefusal::EntryIsFile),
         }
     }
 
@@ -99,7 +115,8 @@ impl<A: Authenticator + Drop, T: Tree + Drop, O: Opens + Drop> Server<A, T, O> {
         ensures kept { take (length out.old.items) out.new.items ≡ out.old.items }
         ensures known { self.new.sessions.table.connections ≡ self.old.sessions.table.connections }
     {
-        let answered = put_response(refusal.status, call.ids, &Reply::Error, out)?;
+        let answered = failure(call.ids, Refusal::QueryDirectory(refusal.refusal));
+        let answered = put_response(answered, &Reply::Error, out)?;
         if let Some(scan) = refusal.scan {
             self.store.set_scan(call.open_number, scan);
         }
@@ -133,6 +150,7 @@ impl<A: Authenticator + Drop, T: Tree + Drop, O: Opens + Drop> Server<A, T, O> {
                 self.store.set_scan(call.open_number, scan);
                 Ok(Answered {
                     status: NtStatus::Success,
+                    refusal: None,
                     ids: call.ids,
                 })
             }
@@ -141,7 +159,8 @@ impl<A: Authenticator + Drop, T: Tree + Drop, O: Opens + Drop> Server<A, T, O> {
                 match fault {
                     InfoFault::NoMemory => Err(AllocError),
                     fault => {
-                        let Some(refusal) = listing_refusal(fault) else {
+                        let has_room = has_room_for_fields(&ask);
+                        let Some(refusal) = listing_refusal(has_room, fault) else {
                             unreachable!();
                         };
                         let answered = self.refuse_listing(call, &refusal, out)?;
@@ -172,8 +191,9 @@ impl<A: Authenticator + Drop, T: Tree + Drop, O: Opens + Drop> Server<A, T, O> {
         ensures known { self.new.sessions.table.connections ≡ self.old.sessions.table.connections }
     {
         let _ = &self.sessions;
-        if let Some(status) = self.directory_refusal(call, asked) {
-            return put_response(status, call.ids, &Reply::Error, out);
+        if let Some(refusal) = self.directory_refusal(call, asked) {
+            let answered = failure(call.ids, Refusal::QueryDirectory(refusal));
+            return put_response(answered, &Reply::Error, out);
         }
         self.list_directory(call, asked, out)
     }

@@ -9,16 +9,15 @@ ghost use Rattle.smb_request.specs.QueryInfo.{information_queried};
 ghost use Rattle.smb_request.specs.Parts.{open_information, volume_of, information_asked, request_refusal};
 
 use super::call::Call;
-use super::information::written_status;
-use super::refusal::Refusal;
+use super::information::{query_info_refused, written_status};
 use super::response::{Answered, Body, Response};
 use super::server::Server;
 use smb_body::{InfoType, QueryInfoRequest};
 use smb_info::{InfoFault, Truncation, file_info, fs_info};
 use smb_opens::Opens;
+use smb_refusals::{QueryInfoRefusal, Refusal, RefusedBy};
 use smb_session::Authenticator;
 use smb_tree::{Tree, TreeFault};
-use smb_wire::NtStatus;
 
 /// Information of a class: whether that is all, and its bytes, as many as there is room for.
 #[derive(Drop)]
@@ -28,19 +27,19 @@ pub(crate) struct InformationBytes {
 }
 
 /// Checks what does not depend on the information that is asked for. One request may ask for `most` bytes.
-fn check_request(most: u32, request: &QueryInfoRequest) -> Result<(), NtStatus>
+fn check_request(most: u32, request: &QueryInfoRequest) -> Result<(), QueryInfoRefusal>
     ensures ok { OnOk result (request_refusal most request.now ≡ None) }
-    ensures err { IfErr result (λ status. request_refusal most request.now ≡ Some status) }
+    ensures err { IfErr result (λ refusal. request_refusal most request.now ≡ Some refusal) }
 {
     let info_type = request.info_type;
     if info_type == InfoType::SECURITY || info_type == InfoType::QUOTA {
-        return Err(NtStatus::NotSupported);
+        return Err(QueryInfoRefusal::TypeNotSupported);
     }
     if info_type != InfoType::FILE && info_type != InfoType::FILESYSTEM {
-        return Err(NtStatus::InvalidParameter);
+        return Err(QueryInfoRefusal::UnknownType);
     }
     if request.output_buffer_length > most {
-        return Err(NtStatus::InvalidParameter);
+        return Err(QueryInfoRefusal::LengthTooGreat);
     }
     Ok(())
 }
@@ -108,15 +107,19 @@ impl<A: Authenticator + Drop, T: Tree + Drop, O: Opens + Drop> Server<A, T, O> {
         &self,
         call: Call,
         request: &QueryInfoRequest,
-    ) -> Result<Response<'a>, Refusal>
+    ) -> Result<Response<'a>, RefusedBy<Refusal>>
         requires { IsSome (open_of self.now.store.opens call.open_number) }
         ensures ok { IfSome (result_step A.meaning self.now call result) (λ step. step ≡ information_queried self.now call request.now) }
         ensures put { IfOk result (IsReadyAfter self.now self.now call) }
     {
         check_request(call.most_at_once(), request)?;
-        let information = self.information_asked(call.open_number, request)?;
+        let information = match self.information_asked(call.open_number, request) {
+            Ok(information) => information,
+            Err(fault) => return Err(RefusedBy::from(query_info_refused(fault))),
+        };
         let answered = Answered {
             status: written_status(information.written),
+            refusal: None,
             ids: call.ids,
         };
         Ok(Response::Ready(answered, Body::QueryInfo(information.bytes)))

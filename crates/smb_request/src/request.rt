@@ -1,7 +1,8 @@
 //! One request: the checks in their order, and the table of commands ([MS-SMB2] 3.3.5.2).
 
 ghost use Rattle.std.specs.Prelude.{◌≡◌, ◌≤◌, ◌+◌, true, IfOk, IfErr, IfSome, IfNone, IsSome, is_some, Some, None, OnOk, OnErr, length, take, if◌then◌else◌};
-ghost use Rattle.std.specs.Option.{option_map, option_map_or};
+ghost use Rattle.std.specs.Option.{is_none, option_map, option_map_or};
+ghost use Rattle.smb_refusals.specs.declared.request.RequestRefusal.TheVariants.{UnknownCommand, BodyUnreadable};
 ghost use Rattle.smb_wire.specs.Limits.{longest_body};
 ghost use Rattle.smb_head.specs.Headers.{header_of};
 ghost use Rattle.smb_body.specs.Dialects.{dialects_of};
@@ -15,40 +16,54 @@ ghost use Rattle.smb_request.specs.InPlace.{answer_held, answer_behind, performe
 ghost use Rattle.smb_request.specs.Needs.{needs_of};
 ghost use Rattle.smb_request.specs.Parts.{needs_session, needs_tree, dialect_after, check_session_tree_and_open, open_refusal, performed_by, negotiated};
 ghost use Rattle.smb_request.specs.Request.{acted, check_request, performed};
-ghost use Rattle.smb_request.specs.declared.refusal.Refusal.TheVariants.{NoMemory};
+ghost use Rattle.smb_refusals.specs.declared.refused_by.RefusedBy.TheVariants.{NoMemory};
 
 use super::call::{Call, body_of};
 use super::charge::due_of;
 use super::context::{Context, ContextOpen, HeaderIds};
 use super::needs::{is_cancel_command, is_unsupported, needs_of};
-use super::refusal::Refusal;
 use super::response::{Answered, Body, NoReply, Response};
 use super::server::Server;
 use smb_body::{Dialects, Request, payload};
 use smb_head::Header;
 use smb_opens::Opens;
+use smb_refusals::{NegotiateRefusal, Refusal, RefusedBy, RequestRefusal};
 use smb_session::Authenticator;
 use smb_tree::Tree;
-use smb_wire::{Dialect, NtStatus};
+use smb_wire::Dialect;
+
+/// Why a request is refused whose body is not read: there is no such command, or the body cannot be read.
+fn unread_refusal(call: Call) -> RequestRefusal
+    ensures { result ≡ (if is_none call.command then UnknownCommand else BodyUnreadable) }
+{
+    match call.command {
+        None => RequestRefusal::UnknownCommand,
+        Some(_) => RequestRefusal::BodyUnreadable,
+    }
+}
 
 impl<A: Authenticator + Drop, T: Tree + Drop, O: Opens + Drop> Server<A, T, O> {
     /// Checks that a request which names this open may act on it.
-    fn check_open(&self, ids: HeaderIds, named: ContextOpen) -> Result<(), NtStatus>
+    fn check_open(&self, ids: HeaderIds, named: ContextOpen) -> Result<(), RequestRefusal>
         ensures ok { OnOk result (open_refusal self.now.store.opens ids named ≡ None) }
-        ensures err { IfErr result (λ status. open_refusal self.now.store.opens ids named ≡ Some status) }
+        ensures err { IfErr result (λ refusal. open_refusal self.now.store.opens ids named ≡ Some refusal) }
     {
         match named {
-            ContextOpen::Nothing => Err(NtStatus::InvalidParameter),
-            ContextOpen::Refused(status) => Err(status),
+            ContextOpen::Nothing => Err(RequestRefusal::NoOpenHandedOn),
+            ContextOpen::Refused(status) => Err(RequestRefusal::CreateBeforeRefused(status)),
             ContextOpen::Named(id) if self.names_open(ids, id) => Ok(()),
-            ContextOpen::Named(_) => Err(NtStatus::FileClosed),
+            ContextOpen::Named(_) => Err(RequestRefusal::UnknownOpen),
         }
     }
 
     /// Checks that the session, the tree connect and the open exist that a request needs.
-    fn check_session_tree_and_open(&self, call: Call, request: &Request<'_>) -> Result<(), NtStatus>
+    fn check_session_tree_and_open(
+        &self,
+        call: Call,
+        request: &Request<'_>,
+    ) -> Result<(), RequestRefusal>
         ensures ok { OnOk result (check_session_tree_and_open self.now call (request_value request.now) ≡ None) }
-        ensures err { IfErr result (λ status. check_session_tree_and_open self.now call (request_value request.now) ≡ Some status) }
+        ensures err { IfErr result (λ refusal. check_session_tree_and_open self.now call (request_value request.now) ≡ Some refusal) }
     {
         let needs = needs_of(request);
         let (connection, session_id) = (call.connection, call.ids.session_id);
@@ -56,10 +71,10 @@ impl<A: Authenticator + Drop, T: Tree + Drop, O: Opens + Drop> Server<A, T, O> {
         let tree_id = Some(call.ids.tree_id);
         if !needs.has_tree() || !self.sessions.knows(connection, session_id, tree_id) {
             if needs.has_session() && !self.sessions.knows(connection, session_id, None) {
-                return Err(NtStatus::UserSessionDeleted);
+                return Err(RequestRefusal::UnknownSession);
             }
             if needs.has_tree() {
-                return Err(NtStatus::NetworkNameDeleted);
+                return Err(RequestRefusal::UnknownTreeConnect);
             }
         }
         match call.named_open() {
@@ -69,12 +84,12 @@ impl<A: Authenticator + Drop, T: Tree + Drop, O: Opens + Drop> Server<A, T, O> {
     }
 
     /// Checks that a request takes as many MessageIds as it has to, and that what it needs exists.
-    fn check_request(&self, call: Call, request: &Request<'_>) -> Result<(), NtStatus>
+    fn check_request(&self, call: Call, request: &Request<'_>) -> Result<(), RequestRefusal>
         ensures ok { OnOk result (check_request self.now call (request_value request.now) ≡ None) }
-        ensures err { IfErr result (λ status. check_request self.now call (request_value request.now) ≡ Some status) }
+        ensures err { IfErr result (λ refusal. check_request self.now call (request_value request.now) ≡ Some refusal) }
     {
         if u32::from(call.charge) < due_of(payload(request)) {
-            return Err(NtStatus::InvalidParameter);
+            return Err(RequestRefusal::ChargeTooSmall);
         }
         self.check_session_tree_and_open(call, request)
     }
@@ -95,7 +110,7 @@ impl<A: Authenticator + Drop, T: Tree + Drop, O: Opens + Drop> Server<A, T, O> {
         call: Call,
         dialect: &mut Option<Dialect>,
         dialects: Dialects<'_>,
-    ) -> Result<Response<'a>, Refusal>
+    ) -> Result<Response<'a>, RefusedBy<Refusal>>
         ensures ok { IfSome (result_step A.meaning self.now call result) (λ step. step ≡ negotiated A.meaning self.now call (dialects_of dialects.entry)) }
         ensures dialect { dialect.new ≡ option_map_or (λ best. Some best) (best_of (dialects_of dialects.entry)) dialect.old }
         ensures put { IfOk result (IsReadyAfter self.now self.now call) }
@@ -103,7 +118,7 @@ impl<A: Authenticator + Drop, T: Tree + Drop, O: Opens + Drop> Server<A, T, O> {
         ensures listing { IfOk result (λ response. is_listing response ≡ true → dialect.new ≡ dialect.old) }
     {
         let Some(best) = self.best_dialect(call.connection, dialects) else {
-            return Err(Refusal::Status(NtStatus::NotSupported));
+            return Err(RefusedBy::from(NegotiateRefusal::NoDialect));
         };
         *dialect = Some(best);
         Ok(Response::success(call.ids, Body::Negotiate(best)))
@@ -115,7 +130,7 @@ impl<A: Authenticator + Drop, T: Tree + Drop, O: Opens + Drop> Server<A, T, O> {
         call: Call,
         dialect: &mut Option<Dialect>,
         request: &Request<'a>,
-    ) -> Result<Response<'a>, Refusal>
+    ) -> Result<Response<'a>, RefusedBy<Refusal>>
         requires session { needs_session (needs_of (request_value request.now)) ≡ true → knows_session self.old.sessions.table call.connection call.ids.session_id ≡ true }
         requires tree { needs_tree (needs_of (request_value request.now)) ≡ true → knows_tree self.old.sessions.table call.ids.session_id call.ids.tree_id ≡ true }
         requires open { is_some (file_id_of (request_value request.now)) ≡ true → IsSome (open_of self.old.store.opens call.open_number) }
@@ -146,7 +161,7 @@ impl<A: Authenticator + Drop, T: Tree + Drop, O: Opens + Drop> Server<A, T, O> {
             Request::QueryDirectory(asked) => Ok(Response::Listing(*asked)),
             Request::QueryInfo(asked) => self.query_info(call, asked),
             Request::SetInfo(asked) => self.set_info(call, asked),
-            Request::Cancel(_) => Err(Refusal::Status(NtStatus::NotSupported)),
+            Request::Cancel(_) => Err(RefusedBy::from(RequestRefusal::CommandNotPerformed)),
         }
     }
 
@@ -156,7 +171,7 @@ impl<A: Authenticator + Drop, T: Tree + Drop, O: Opens + Drop> Server<A, T, O> {
         call: Call,
         dialect: &mut Option<Dialect>,
         body: &Option<Request<'a>>,
-    ) -> Result<Response<'a>, Refusal>
+    ) -> Result<Response<'a>, RefusedBy<Refusal>>
         requires { IsCallOf call (option_map request_value body.now) }
         ensures ok { IfSome (result_step A.meaning self.new call result) (λ step. step ≡ performed_by A.meaning self.old call (option_map request_value body.now)) }
         ensures dialect { dialect.new ≡ option_map_or (dialect_after dialect.old) (option_map request_value body.now) dialect.old }
@@ -168,13 +183,13 @@ impl<A: Authenticator + Drop, T: Tree + Drop, O: Opens + Drop> Server<A, T, O> {
     {
         let _ = &self.sessions;
         match call.command {
-            Some(command) if is_unsupported(command) => return Err(Refusal::Status(
-                NtStatus::NotSupported,
-            )),
+            Some(command) if is_unsupported(command) => {
+                return Err(RefusedBy::from(RequestRefusal::CommandNotPerformed));
+            }
             _ => {}
         }
         let Some(request) = body else {
-            return Err(Refusal::Status(NtStatus::InvalidParameter));
+            return Err(RefusedBy::from(unread_refusal(call)));
         };
         self.check_request(call, request)?;
         self.act(call, dialect, request)
@@ -203,11 +218,8 @@ impl<A: Authenticator + Drop, T: Tree + Drop, O: Opens + Drop> Server<A, T, O> {
     {
         let response = match self.respond(call, dialect, body) {
             Ok(response) => response,
-            Err(Refusal::Status(status)) => {
-                let ids = call.ids;
-                Response::Ready(Answered { status, ids }, Body::Error)
-            }
-            Err(Refusal::NoMemory) => return Err(NoReply::NotPerformed),
+            Err(RefusedBy::Row(refusal)) => Response::refused(call.ids, refusal),
+            Err(RefusedBy::NoMemory) => return Err(NoReply::NotPerformed),
         };
         self.put(call, &response, out)
     }

@@ -1,11 +1,11 @@
 //! The response to a request, before and behind the writing of its body.
 
-ghost use Rattle.std.specs.Prelude.{◌≡◌, ◌≤◌, ◌+◌, ◌++◌, OnOk, OnErr, IfOk, IfErr, length, take};
+ghost use Rattle.std.specs.Prelude.{◌≡◌, ◌≤◌, ◌+◌, ◌++◌, None, Some, OnOk, OnErr, IfOk, IfErr, length, take};
 ghost use Rattle.smb_wire.specs.Limits.{longest_body};
 ghost use Rattle.smb_body.specs.Replies.{reply_value, reply_length, reply_spelling};
-ghost use Rattle.smb_request.specs.Bodies.{body_value, response_step, IsShort, CanBePut, no_reply_of};
+ghost use Rattle.smb_request.specs.Bodies.{body_value, response_of, response_step, IsShort, CanBePut, no_reply_of};
+ghost use Rattle.smb_refusals.specs.Refusals.{refusal_status};
 ghost use Rattle.smb_request.specs.InPlace.{answer_held, answer_behind};
-ghost use Rattle.smb_request.specs.Response.{with_body};
 
 use super::call::Call;
 use super::context::HeaderIds;
@@ -15,6 +15,7 @@ use smb_body::{
     SessionSetupResponse, TreeConnectResponse, WriteResponse, write_reply,
 };
 use smb_opens::{FilePart, Opens};
+use smb_refusals::Refusal;
 use smb_session::Authenticator;
 use smb_tree::Tree;
 use smb_wire::{Dialect, NtStatus};
@@ -22,9 +23,11 @@ use std::alloc::AllocError;
 use thiserror::Error;
 
 /// A response but for its body, which is where it is sent from: its status, and the ids of its header.
-#[derive(Clone, Copy, Debug, PartialEq, Eq)]
+#[derive(Clone, Copy)]
 pub struct Answered {
     pub status: NtStatus,
+    /// By which row its request was refused.
+    pub refusal: Option<Refusal>,
     pub ids: HeaderIds,
 }
 
@@ -71,30 +74,51 @@ pub(crate) enum Response<'a> {
 }
 
 impl<'a> Response<'a> {
+    /// A refusal by a row, under these ids.
+    pub(crate) fn refused(ids: HeaderIds, refusal: Refusal) -> Response<'a>
+        ensures { result ≡ Response.Ready (record { status = refusal_status refusal; refusal = Some refusal; ids = ids }) Body.Error }
+    {
+        Response::Ready(failure(ids, refusal), Body::Error)
+    }
+
     /// A success under these ids.
     pub(crate) fn success(ids: HeaderIds, body: Body) -> Response<'a>
-        ensures { result ≡ Response.Ready (record { status = NtStatus.Success; ids = ids }) body }
+        ensures { result ≡ Response.Ready (record { status = NtStatus.Success; refusal = None; ids = ids }) body }
     {
-        let status = NtStatus::Success;
-        Response::Ready(Answered { status, ids }, body)
+        let answered = Answered {
+            status: NtStatus::Success,
+            refusal: None,
+            ids,
+        };
+        Response::Ready(answered, body)
     }
 }
 
-/// Adds the body of a reply to `out`, for a response of this status. After an error `out` is as it was.
+/// A response to a request that is refused by a row, but for its body.
+pub(crate) fn failure(ids: HeaderIds, refusal: Refusal) -> Answered
+    ensures { result ≡ record { status = refusal_status refusal; refusal = Some refusal; ids = ids } }
+{
+    Answered {
+        status: refusal.status(),
+        refusal: Some(refusal),
+        ids,
+    }
+}
+
+/// Adds the body of a reply to `out`, for this response. After an error `out` is as it was.
 pub(crate) fn put_response(
-    status: NtStatus,
-    ids: HeaderIds,
+    answered: Answered,
     reply: &Reply<'_>,
     out: &mut Vec<u8>,
 ) -> Result<Answered, AllocError>
     requires { reply_length (reply_value reply.now) ≤ longest_body }
-    ensures ok { IfOk result (λ r. answer_held r out.new.items ≡ answer_behind out.old.items (with_body ids status (reply_value reply.now))) }
+    ensures ok { IfOk result (λ r. answer_held r out.new.items ≡ answer_behind out.old.items (response_of answered (reply_value reply.now))) }
     ensures len { OnOk result (length out.new.items ≤ length out.old.items + longest_body) }
     ensures err { OnErr result (out.new.items ≡ out.old.items) }
     ensures kept { take (length out.old.items) out.new.items ≡ out.old.items }
 {
     match write_reply(reply, out) {
-        Ok(()) => Ok(Answered { status, ids }),
+        Ok(()) => Ok(answered),
         Err(_) => Err(AllocError),
     }
 }
@@ -154,7 +178,7 @@ impl<A: Authenticator + Drop, T: Tree + Drop, O: Opens + Drop> Server<A, T, O> {
         match response {
             Response::Ready(answered, body) => {
                 let reply = self.reply_of(call, body);
-                match put_response(answered.status, answered.ids, &reply, out) {
+                match put_response(*answered, &reply, out) {
                     Ok(answered) => Ok(answered),
                     Err(_) => Err(NoReply::Performed),
                 }

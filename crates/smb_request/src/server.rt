@@ -25,7 +25,7 @@ use super::smb1::Smb1Answer;
 use smb_body::{Reply, write_reply};
 use smb_info::Volume;
 use smb_opens::{Opens, Owner, Store};
-use smb_session::{Authenticator, Sessions};
+use smb_session::{Authenticator, Denial, Sessions};
 use smb_tree::{Tree, Usage};
 use smb_wire::{Dialect, Units, put_u16};
 use std::alloc::{AllocError, Global};
@@ -119,6 +119,11 @@ impl<A: Authenticator + Drop, T: Tree + Drop, O: Opens + Drop> Server<A, T, O> {
     /// The allocator of what the share makes.
     pub fn allocator(&self) -> Global {
         self.alloc
+    }
+
+    /// Why the authenticator denied the client of the last SESSION_SETUP, where it keeps that.
+    pub fn denial(&self) -> Option<Denial<'_>> {
+        self.sessions.denial()
     }
 
     /// How much the share holds. It takes no time that grows with it.

@@ -7,14 +7,12 @@ ghost use Rattle.smb_wire.specs.Units.{units_of};
 ghost use Rattle.smb_body.specs.SessionSetup.{session_setup_asked};
 ghost use Rattle.smb_request.specs.Session.{session_set_up, session_logged_off, may_only_read, tree_joined, tree_left};
 ghost use Rattle.smb_request.specs.Parts.{closed_for, tree_response};
-ghost use Rattle.smb_request.specs.Refusals.{status_of_refusal};
 ghost use Rattle.smb_request.specs.Held.{opens_left, setup_response_of};
 ghost use Rattle.smb_request.specs.Bodies.{result_step, IsReadyAfter};
-ghost use Rattle.smb_request.specs.declared.refusal.Refusal.TheVariants.{NoMemory};
+ghost use Rattle.smb_refusals.specs.declared.refused_by.RefusedBy.TheVariants.{NoMemory};
 
 use super::call::Call;
 use super::context::HeaderIds;
-use super::refusal::Refusal;
 use super::response::{Answered, Body, Response};
 use super::server::Server;
 use smb_access::most_allowed;
@@ -22,7 +20,8 @@ use smb_body::{
     Capabilities, SessionFlags, SessionSetupRequest, ShareFlags, ShareType, TreeConnectResponse,
 };
 use smb_opens::{Opens, Owner, Store};
-use smb_session::{Authenticator, SessionFault, SetupAsk, SetupDone, SetupStatus};
+use smb_refusals::{Refusal, RefusedBy, SetupRefusal};
+use smb_session::{Authenticator, SetupAsk, SetupDone, SetupStatus};
 use smb_tree::Tree;
 use smb_wire::{NtStatus, Units};
 use std::alloc::AllocError;
@@ -37,20 +36,6 @@ fn tree_response(read_only: bool) -> TreeConnectResponse
         share_flags: ShareFlags(0),
         capabilities: Capabilities(0),
         maximal_access: most_allowed(read_only, false),
-    }
-}
-
-/// The status of a refusal. Out of memory has none.
-pub(crate) fn status_of_refusal(fault: SessionFault) -> Option<NtStatus>
-    ensures { result ≡ status_of_refusal fault }
-{
-    match fault {
-        SessionFault::UnknownSession => Some(NtStatus::UserSessionDeleted),
-        SessionFault::UnknownTree => Some(NtStatus::NetworkNameDeleted),
-        SessionFault::NoShare => Some(NtStatus::BadNetworkName),
-        SessionFault::NotAccepted => Some(NtStatus::RequestNotAccepted),
-        SessionFault::NoDialect => Some(NtStatus::NotSupported),
-        SessionFault::NoMemory => None,
     }
 }
 
@@ -73,7 +58,9 @@ fn setup_response_of<'a>(ids: HeaderIds, done: SetupDone) -> Response<'a>
         ..ids
     };
     let (status, body) = match done.status {
-        SetupStatus::LogonFailure => (NtStatus::LogonFailure, Body::Error),
+        SetupStatus::LogonFailure => {
+            return Response::refused(ids, Refusal::SessionSetup(SetupRefusal::Denied));
+        }
         SetupStatus::Success => (NtStatus::Success, setup_body(done.flags, done.token)),
         SetupStatus::MoreProcessingRequired => {
             (
@@ -82,7 +69,12 @@ fn setup_response_of<'a>(ids: HeaderIds, done: SetupDone) -> Response<'a>
             )
         }
     };
-    Response::Ready(Answered { status, ids }, body)
+    let answered = Answered {
+        status,
+        refusal: None,
+        ids,
+    };
+    Response::Ready(answered, body)
 }
 
 /// Closes the opens of a session that ended, where one did.
@@ -97,12 +89,12 @@ fn close_ended<T: Tree + Drop, O: Opens + Drop>(store: &mut Store<T, O>, ended: 
 
 impl<A: Authenticator + Drop, T: Tree + Drop, O: Opens + Drop> Server<A, T, O> {
     /// SESSION_SETUP ([MS-SMB2] 3.3.5.5).
-    #[tactic(auto, unfolding(crate::specs::Session::session_set_up), using(crate::proofs::Refused::unless_session))]
+    #[tactic(auto, unfolding(crate::specs::Session::session_set_up), using(crate::proofs::Refused::failed, crate::proofs::Refused::named_refused))]
     pub(crate) fn set_up<'a>(
         &mut self,
         call: Call,
         asked: &SessionSetupRequest<'_>,
-    ) -> Result<Response<'a>, Refusal>
+    ) -> Result<Response<'a>, RefusedBy<Refusal>>
         ensures ok { IfSome (result_step A.meaning self.new call result) (λ step. step
             ≡ session_set_up A.meaning self.old call (session_setup_asked asked.now)) }
         ensures put { IfOk result (IsReadyAfter self.old self.new call) }
@@ -117,20 +109,21 @@ impl<A: Authenticator + Drop, T: Tree + Drop, O: Opens + Drop> Server<A, T, O> {
         };
         let done = self
             .sessions
-            .setup(call.connection, call.ids.session_id, &ask)?;
+            .setup_by_row(call.connection, call.ids.session_id, &ask)?;
         close_ended(&mut self.store, done.ended);
         Ok(setup_response_of(call.ids, done))
     }
 
     /// LOGOFF ([MS-SMB2] 3.3.5.6).
-    #[tactic(auto, unfolding(crate::specs::Session::session_logged_off), using(crate::proofs::Refused::unless_session))]
-    pub(crate) fn log_off<'a>(&mut self, call: Call) -> Result<Response<'a>, Refusal>
+    #[tactic(auto, unfolding(crate::specs::Session::session_logged_off), using(crate::proofs::Refused::failed, crate::proofs::Refused::named_row))]
+    pub(crate) fn log_off<'a>(&mut self, call: Call) -> Result<Response<'a>, RefusedBy<Refusal>>
         ensures ok { IfSome (result_step A.meaning self.new call result) (λ step. step ≡ session_logged_off self.old call) }
         ensures put { IfOk result (IsReadyAfter self.old self.new call) }
         ensures err { IfErr result (λ refusal. self.new ≡ self.old) }
         ensures known { self.new.sessions.table.connections ≡ self.old.sessions.table.connections }
     {
-        self.sessions.logoff(call.connection, call.ids.session_id)?;
+        self.sessions
+            .logoff_by_row(call.connection, call.ids.session_id)?;
         self.store.close_all(Owner::Session(call.ids.session_id));
         Ok(Response::success(call.ids, Body::Logoff))
     }
@@ -145,12 +138,12 @@ impl<A: Authenticator + Drop, T: Tree + Drop, O: Opens + Drop> Server<A, T, O> {
     }
 
     /// TREE_CONNECT ([MS-SMB2] 3.3.5.7).
-    #[tactic(auto, unfolding(crate::specs::Session::tree_joined), using(crate::proofs::Refused::unless_session))]
+    #[tactic(auto, unfolding(crate::specs::Session::tree_joined), using(crate::proofs::Refused::failed, crate::proofs::Refused::named_row))]
     pub(crate) fn connect_tree<'a>(
         &mut self,
         call: Call,
         path: Units<'_>,
-    ) -> Result<Response<'a>, Refusal>
+    ) -> Result<Response<'a>, RefusedBy<Refusal>>
         ensures ok { IfSome (result_step A.meaning self.new call result) (λ step. step ≡ tree_joined self.old call (units_of path.entry)) }
         ensures put { IfOk result (IsReadyAfter self.old self.new call) }
         ensures err { IfErr result (λ refusal. self.new ≡ self.old) }
@@ -160,7 +153,7 @@ impl<A: Authenticator + Drop, T: Tree + Drop, O: Opens + Drop> Server<A, T, O> {
         let session_id = call.ids.session_id;
         let tree_id = self
             .sessions
-            .tree_connect(call.connection, session_id, path)?;
+            .tree_connect_by_row(call.connection, session_id, path)?;
         let ids = HeaderIds {
             session_id,
             tree_id,
@@ -169,8 +162,11 @@ impl<A: Authenticator + Drop, T: Tree + Drop, O: Opens + Drop> Server<A, T, O> {
     }
 
     /// TREE_DISCONNECT ([MS-SMB2] 3.3.5.8).
-    #[tactic(auto, unfolding(crate::specs::Session::tree_left), using(crate::proofs::Refused::unless_session))]
-    pub(crate) fn disconnect_tree<'a>(&mut self, call: Call) -> Result<Response<'a>, Refusal>
+    #[tactic(auto, unfolding(crate::specs::Session::tree_left), using(crate::proofs::Refused::failed, crate::proofs::Refused::named_row))]
+    pub(crate) fn disconnect_tree<'a>(
+        &mut self,
+        call: Call,
+    ) -> Result<Response<'a>, RefusedBy<Refusal>>
         ensures ok { IfSome (result_step A.meaning self.new call result) (λ step. step ≡ tree_left self.old call) }
         ensures put { IfOk result (IsReadyAfter self.old self.new call) }
         ensures err { IfErr result (λ refusal. self.new ≡ self.old) }
@@ -181,7 +177,7 @@ impl<A: Authenticator + Drop, T: Tree + Drop, O: Opens + Drop> Server<A, T, O> {
             tree_id,
         } = call.ids;
         self.sessions
-            .tree_disconnect(call.connection, session_id, tree_id)?;
+            .tree_disconnect_by_row(call.connection, session_id, tree_id)?;
         self.store.close_all(Owner::Tree(session_id, tree_id));
         Ok(Response::success(call.ids, Body::TreeDisconnect))
     }

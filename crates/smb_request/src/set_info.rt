@@ -1,28 +1,30 @@
 //! SET_INFO ([MS-SMB2] 3.3.5.21).
 
-ghost use Rattle.std.specs.Prelude.{◌≡◌, Some, None, IfOk, IfErr, IfSome, OnOk, OnErr};
+ghost use Rattle.std.specs.Prelude.{◌≡◌, is_some, true, Some, None, IfOk, IfErr, IfSome, IsSome, OnOk, OnErr};
 ghost use Rattle.smb_body.specs.SetInfo.{set_info_asked};
 ghost use Rattle.smb_info.specs.SetAsks.{set_asked};
-ghost use Rattle.smb_access.specs.Faults.{IsRefusal};
+ghost use Rattle.smb_access.specs.Opens.{open_of};
+ghost use Rattle.smb_refusals.specs.Refused.{IsRefusedBy};
+ghost use Rattle.smb_opens.specs.Views.{open_view};
 ghost use Rattle.smb_request.specs.Bodies.{result_step, IsReadyAfter};
 ghost use Rattle.smb_request.specs.SetInfo.{information_set};
-ghost use Rattle.smb_request.specs.Parts.{set_type_refusal, set_as_asked, set_status, set_through};
+ghost use Rattle.smb_request.specs.Parts.{set_type_refusal, set_as_asked, set_refusal, set_through};
 
 use super::call::Call;
-use super::refusal::Refusal;
+use super::information::set_info_refusal;
 use super::response::{Body, Response};
 use super::server::Server;
 use smb_body::{InfoType, SetInfoRequest};
 use smb_info::{SetAsk, read_set_info};
-use smb_opens::{Opens, Store, StoreFault};
+use smb_opens::{Opens, Store};
+use smb_refusals::{Refusal, RefusedBy, SetInfoRefusal};
 use smb_session::Authenticator;
 use smb_tree::Tree;
-use smb_wire::NtStatus;
 
 /// Checks the type of information that is to be set.
-fn check_type(info_type: InfoType) -> Result<(), NtStatus>
+fn check_type(info_type: InfoType) -> Result<(), SetInfoRefusal>
     ensures ok { OnOk result (set_type_refusal info_type.0 ≡ None) }
-    ensures err { IfErr result (λ status. set_type_refusal info_type.0 ≡ Some status) }
+    ensures err { IfErr result (λ refusal. set_type_refusal info_type.0 ≡ Some refusal) }
 {
     if info_type == InfoType::FILE {
         return Ok(());
@@ -31,45 +33,60 @@ fn check_type(info_type: InfoType) -> Result<(), NtStatus>
         || info_type == InfoType::SECURITY
         || info_type == InfoType::QUOTA
     {
-        return Err(NtStatus::NotSupported);
+        return Err(SetInfoRefusal::TypeNotSupported);
     }
-    Err(NtStatus::InvalidParameter)
+    Err(SetInfoRefusal::UnknownType)
 }
 
 /// Sets what is asked, of the entry of the open of a number, at a moment in units of 100 ns since 1601.
 ///
-/// [`Status`](StoreFault::Status) tells why the store refuses, and [`NoMemory`](StoreFault::NoMemory) that it does not,
-/// and an allocation was refused; it is then as it was.
+/// [`Row`](RefusedBy::Row) says why the store refuses, and [`NoMemory`](RefusedBy::NoMemory) that it does not, and an
+/// allocation was refused; it is then as it was.
 fn set_through<T: Tree + Drop, O: Opens + Drop>(
     store: &mut Store<T, O>,
     open_number: u64,
     moment: u64,
     ask: &SetAsk<'_>,
-) -> Result<(), StoreFault>
+) -> Result<(), RefusedBy<Refusal>>
+    requires { IsSome (open_of store.old.opens open_number) }
+    ensures shown { is_some (open_view store.old open_number) ≡ true }
     ensures store { OnOk result (store.new ≡ set_through store.old open_number moment (set_asked ask.now)) }
-    ensures lawful { OnOk result (set_status store.old open_number (set_asked ask.now) ≡ NtStatus.Success) }
+    ensures lawful { OnOk result (set_refusal store.old open_number (set_asked ask.now) ≡ None) }
     ensures err { OnErr result (store.new ≡ store.old) }
-    ensures why { IfErr result (IsRefusal (set_status store.old open_number (set_asked ask.now))) }
+    ensures why { IfErr result (IsRefusedBy (set_refusal store.old open_number (set_asked ask.now))) }
 {
     match ask {
         SetAsk::Basic(basic) => {
-            store.set_basic(open_number, basic, moment)?;
+            store.set_basic_by_row(open_number, basic, moment)?;
             Ok(())
         }
-        SetAsk::Rename(replace, name) => store.rename(open_number, *name, *replace, moment),
+        SetAsk::Rename(replace, name) => {
+            store.rename_by_row(open_number, *name, *replace, moment)?;
+            Ok(())
+        }
         SetAsk::Mark(mark) => {
-            store.set_delete(open_number, *mark)?;
+            store.set_delete_by_row(open_number, *mark)?;
             Ok(())
         }
-        SetAsk::Allocation(size) => store.set_size(open_number, *size, true, moment),
-        SetAsk::End(size) => store.set_size(open_number, *size, false, moment),
+        SetAsk::Allocation(size) => {
+            store.set_size_by_row(open_number, *size, true, moment)?;
+            Ok(())
+        }
+        SetAsk::End(size) => {
+            store.set_size_by_row(open_number, *size, false, moment)?;
+            Ok(())
+        }
     }
 }
 
 impl<A: Authenticator + Drop, T: Tree + Drop, O: Opens + Drop> Server<A, T, O> {
     /// Sets what is asked, of the entry of the open of a request.
-    #[tactic(auto, using(smb_wire::proofs::Statuses::success_yes))]
-    fn set_as_asked<'a>(&mut self, call: Call, ask: &SetAsk<'_>) -> Result<Response<'a>, Refusal>
+    fn set_as_asked<'a>(
+        &mut self,
+        call: Call,
+        ask: &SetAsk<'_>,
+    ) -> Result<Response<'a>, RefusedBy<Refusal>>
+        requires { IsSome (open_of self.old.store.opens call.open_number) }
         ensures ok { IfSome (result_step A.meaning self.new call result) (λ step. step ≡ set_as_asked self.old call (set_asked ask.now)) }
         ensures put { IfOk result (IsReadyAfter self.old self.new call) }
         ensures err { IfErr result (λ refusal. self.new ≡ self.old) }
@@ -85,7 +102,8 @@ impl<A: Authenticator + Drop, T: Tree + Drop, O: Opens + Drop> Server<A, T, O> {
         &mut self,
         call: Call,
         request: &SetInfoRequest<'_>,
-    ) -> Result<Response<'a>, Refusal>
+    ) -> Result<Response<'a>, RefusedBy<Refusal>>
+        requires { IsSome (open_of self.old.store.opens call.open_number) }
         ensures ok { IfSome (result_step A.meaning self.new call result) (λ step. step ≡ information_set self.old call (set_info_asked request.now)) }
         ensures put { IfOk result (IsReadyAfter self.old self.new call) }
         ensures err { IfErr result (λ refusal. self.new ≡ self.old) }
@@ -95,7 +113,7 @@ impl<A: Authenticator + Drop, T: Tree + Drop, O: Opens + Drop> Server<A, T, O> {
         check_type(request.info_type)?;
         match read_set_info(request.file_info_class.0, request.buffer) {
             Ok(ask) => self.set_as_asked(call, &ask),
-            Err(fault) => Err(Refusal::from(fault)),
+            Err(fault) => Err(RefusedBy::from(set_info_refusal(fault))),
         }
     }
 }

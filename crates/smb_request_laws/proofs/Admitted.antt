@@ -3,13 +3,13 @@ use Rattle.std.proofs.Common.{◌≡◌, ◌≢◌, ◌==◌, ◌∙◌, ℕ, �
 use Rattle.std.proofs.lemmas.Bool.{eqb-true}
 use Rattle.std.proofs.lemmas.Bool.Decides.{nat_tests}
 use Rattle.std.specs.List.{AllByRecursion}
-use Rattle.std.specs.Option.{option_map_or, option_and_then}
+use Rattle.std.specs.Option.{option_map, option_map_or}
 use Rattle.std.specs.Map.{lookup}
 use Rattle.std.specs.BTreeMap.{is_at}
 use Rattle.std.specs.Ordering.{nat_cmp}
+use Rattle.smb_wire.specs.Limits.{most_at_once}
 use Rattle.smb_wire.specs.declared.command.Command.TheVariants.{SessionSetup}
-use Rattle.smb_wire.specs.declared.nt_status.NtStatus.{NtStatus}
-use Rattle.smb_wire.specs.declared.nt_status.NtStatus.TheVariants.{Success, FileClosed, NotSupported}
+use Rattle.smb_wire.specs.declared.nt_status.NtStatus.TheVariants.{Success}
 use Rattle.smb_body.specs.Requests.{RequestValue, asks_negotiate, asks_session_setup, asks_logoff, asks_tree_connect, asks_tree_disconnect, asks_create, asks_close, asks_flush, asks_read, asks_write, asks_lock, asks_cancel, asks_echo, asks_query_directory, asks_query_info, asks_set_info}
 use Rattle.smb_body.specs.SessionSetup.{SessionSetupAsked}
 use Rattle.smb_session.specs.Authenticator.{Answered, Meaning, continues, accepts, denies}
@@ -21,7 +21,15 @@ use Rattle.smb_session.specs.Session.{SessionState}
 use Rattle.smb_session.specs.Sessions.{setup_step, tree_connect_refusal}
 use Rattle.smb_session.specs.Setup.{setup_refusal, setup_result, table_answered}
 use Rattle.smb_session.specs.Table.{TableState, session_at, session_ended, tree_disconnect_refusal}
-use Rattle.smb_session.specs.declared.fault.SessionFault.TheVariants.{UnknownSession}
+use Rattle.smb_refusals.specs.declared.session.SetupRefusal.{SetupRefusal}
+use Rattle.smb_refusals.specs.declared.refusal.Refusal.{Refusal}
+use Rattle.smb_refusals.specs.declared.file.CloseRefusal.{CloseRefusal}
+use Rattle.smb_refusals.specs.declared.request.NegotiateRefusal.TheVariants.{NoDialect}
+use Rattle.smb_refusals.proofs.Fails.{setup_fails}
+use Rattle.smb_request.proofs.Refused.{none_named}
+use Rattle.smb_opens.specs.Bytes.{read_refusal, write_refusal}
+use Rattle.smb_opens.specs.Create.{create_refusal}
+use Rattle.smb_opens.specs.Locks.{lock_refusal, unlock_refusal}
 use Rattle.smb_opens.specs.State.{StoreState}
 use Rattle.smb_opens.specs.Views.{open_view}
 use Rattle.smb_request.specs.declared.context.HeaderIds.{HeaderIds}
@@ -29,10 +37,9 @@ use Rattle.smb_request.specs.Bytes.{file_read, file_written}
 use Rattle.smb_request.specs.Call.{body_of, call_of}
 use Rattle.smb_request.specs.Files.{file_created, file_closed}
 use Rattle.smb_request.specs.Laws.{IsInOrder, NumbersInOrder, request_ids}
-use Rattle.smb_request.specs.Parts.{asks_unlock, lock_asks, setup_answered, setup_response, closed_for, file_locked, file_unlocked}
-use Rattle.smb_request.specs.Refusals.{status_of_refusal}
-use Rattle.smb_request.specs.Response.{CommandStep, ResponseState, refused}
-use Rattle.smb_request.specs.Session.{session_set_up, session_logged_off, tree_joined, tree_left}
+use Rattle.smb_request.specs.Parts.{asks_unlock, file_asked, lock_asks, setup_answered, setup_response, closed_for, file_locked, file_unlocked}
+use Rattle.smb_request.specs.Response.{CommandStep, ResponseState, refused, through_open, unless_refused}
+use Rattle.smb_request.specs.Session.{may_only_read, session_set_up, session_logged_off, tree_joined, tree_left}
 use Rattle.smb_request.specs.State.{ServerState}
 use Rattle.smb_request.proofs.InfoApart.{queried_left, info_set_left}
 use Rattle.smb_request.proofs.Leaving.{leaves_begun}
@@ -42,7 +49,7 @@ use Rattle.smb_request_laws.specs.Acting.{command_in}
 use Rattle.smb_request_laws.specs.Admission.{WasIn, IsLetIn}
 use Rattle.smb_request_laws.specs.Doing.{Sent, Succeeds, answered}
 use Rattle.smb_request_laws.proofs.Answered.{step_by, comes_to, command_for, says_command}
-use Rattle.smb_request_laws.proofs.Done.{acts, is_acted, and_then_fails}
+use Rattle.smb_request_laws.proofs.Done.{acts, is_acted}
 use Rattle.smb_request_laws.proofs.LetIn.{Keeps, keeps_same, keeps_then, keeps_ended, keeps_changed, keeps_begun, accepted_in, nobody_else}
 
 -- what is given the next number is found there
@@ -57,7 +64,7 @@ pub record IsBegun (table : TableState) (number c : ℕ) : Type 0 where
   pub connection : state.connection ≡ c
   pub user : state.user ≡ None
 
-known_begun : (table : TableState) (c s : ℕ) (o : Option SessionState) → session_at table s ≡ o → option_map_or (known_session_refusal c) o (Some UnknownSession) ≡ None → IsBegun table s c
+known_begun : (table : TableState) (c s : ℕ) (o : Option SessionState) → session_at table s ≡ o → option_map_or (known_session_refusal c) o (Some SetupRefusal.UnknownSession) ≡ None → IsBegun table s c
 known_begun table c s None at e = cc
 known_begun table c s (Some state) at e =
     let own : (state.connection == c) ≡ true = grind (arith, e) in
@@ -68,10 +75,6 @@ known_begun table c s (Some state) at e =
     by_user (Some user) t =
         let some : is_some state.user ≡ true = ap (λ (u : Option (List ℕ)). is_some u) t in
         absurd (let own : (state.connection == c) ≡ true = grind (arith, e) in let none : is_some state.user ≡ false = grind (arith, e, own) in let both : true ≡ false = sym some ∙ none in cc)
-
--- what has no status is no refusal
-unrefused : (table : TableState) (c s flags : ℕ) → option_and_then status_of_refusal (setup_refusal table c s flags) ≡ None → setup_refusal table c s flags ≡ None
-unrefused table c s flags e = grind (arith, e)
 
 module _ (table : TableState) (store : StoreState) (o : NumbersInOrder table store) (c : ℕ) where
   set_up_rising : (s : ℕ) → IsRising (map (λ e. e.0) (setup_table table c s).sessions)
@@ -99,28 +102,27 @@ module _ {S : Type 0} (m : Meaning S) (it : Sent S) (o : IsInOrder it.server) wh
   abbrev ids : HeaderIds
   ids = request_ids it.context it.request
 
+  abbrev opened : ℕ
+  opened = (call_of it.connection it.moment it.dialect it.context it.request).open_number
+
   abbrev Left : ServerState S → Type 0
   Left after = Keeps table after.sessions.table
 
   same : Left server
   same = keeps_same table
 
-  if_left : (done : CommandStep S) (status : NtStatus) (b : Bool) → Left done.server → Left (let x : CommandStep S = if b then done else refused server ids status in x).server
-  if_left done status true h = h
-  if_left done status false h = same
+  row_left : (done : CommandStep S) (refusal : Option Refusal) → Left done.server → Left (unless_refused server ids refusal done).server
+  row_left done None h = h
+  row_left done (Some row) h = same
 
-  unless_left : (done : CommandStep S) (status : Option NtStatus) → Left done.server → Left (option_map_or (refused server ids) status done).server
-  unless_left done None h = h
-  unless_left done (Some status) h = same
+  view_left : {X : Type 0} (after : ServerState S) (answer : X → ResponseState) (row : Refusal) (found : Option X) → Left after →
+      Left (option_map_or (λ found. let x : CommandStep S = record { server = after; response = answer found } in x) found (refused server ids row)).server
+  view_left after answer row None h = same
+  view_left after answer row (Some found) h = h
 
-  view_left : {X : Type 0} (after : ServerState S) (answer : X → ResponseState) (status : NtStatus) (found : Option X) → Left after →
-      Left (option_map_or (λ found. let x : CommandStep S = record { server = after; response = answer found } in x) found (refused server ids status)).server
-  view_left after answer status None h = same
-  view_left after answer status (Some found) h = h
-
-  unlocked_left : (after : ServerState S) (status : NtStatus) (done : ResponseState) (b : Bool) → Left after → Left (let x : CommandStep S = if b then record { server = after; response = done } else refused after ids status in x).server
-  unlocked_left after status done true h = h
-  unlocked_left after status done false h = h
+  unlocked_left : (after : ServerState S) (refusal : Option Refusal) (done : ResponseState) → Left after → Left (unless_refused after ids refusal (record { server = after; response = done })).server
+  unlocked_left after None done h = h
+  unlocked_left after (Some row) done h = h
 
   lock_left : (b : Bool) (unlocks locks : CommandStep S) → Left unlocks.server → Left locks.server → Left (let x : CommandStep S = if b then unlocks else locks in x).server
   lock_left true unlocks locks h g = h
@@ -129,19 +131,23 @@ module _ {S : Type 0} (m : Meaning S) (it : Sent S) (o : IsInOrder it.server) wh
   -- each command but SESSION_SETUP
   act_left : (asked : RequestValue) → ((x : SessionSetupAsked) → asked ≢ asks_session_setup x) → Left (acts m it asked).server
   unfolding session_logged_off tree_joined tree_left file_created file_closed file_read file_written
-  act_left (asks_negotiate x) other = view_left server _ NotSupported (best_of x.dialects) same
+  act_left (asks_negotiate x) other = view_left server _ (Refusal.Negotiate NoDialect) (best_of x.dialects) same
   act_left (asks_session_setup x) other = absurd (other x refl)
-  act_left (asks_logoff x) other = unless_left _ (option_and_then status_of_refusal (logoff_refusal table it.connection ids.session_id)) (keeps_ended table ids.session_id o.sessions)
-  act_left (asks_tree_connect x) other = unless_left _ (option_and_then status_of_refusal (tree_connect_refusal server.sessions it.connection ids.session_id x.path)) (keeps_changed with_tree table ids.session_id (λ x. (refl, refl, refl)))
+  act_left (asks_logoff x) other = row_left _ (option_map (λ refusal. Refusal.Logoff refusal) (logoff_refusal table it.connection ids.session_id)) (keeps_ended table ids.session_id o.sessions)
+  act_left (asks_tree_connect x) other = row_left _ (option_map (λ refusal. Refusal.TreeConnect refusal) (tree_connect_refusal server.sessions it.connection ids.session_id x.path)) (keeps_changed with_tree table ids.session_id (λ x. (refl, refl, refl)))
   act_left (asks_tree_disconnect x) other =
-      unless_left _ (option_and_then status_of_refusal (tree_disconnect_refusal table it.connection ids.session_id ids.tree_id)) (keeps_changed (without_tree ids.tree_id) table ids.session_id (λ x. (refl, refl, refl)))
-  act_left (asks_create x) other = if_left _ _ _ same
-  act_left (asks_close x) other = view_left _ _ FileClosed (open_view server.store (call_of it.connection it.moment it.dialect it.context it.request).open_number) same
+      row_left _ (option_map (λ refusal. Refusal.TreeDisconnect refusal) (tree_disconnect_refusal table it.connection ids.session_id ids.tree_id)) (keeps_changed (without_tree ids.tree_id) table ids.session_id (λ x. (refl, refl, refl)))
+  act_left (asks_create x) other =
+      row_left _ (option_map (λ refusal. Refusal.Create refusal) (create_refusal server.store (file_asked ids x (may_only_read server (call_of it.connection it.moment it.dialect it.context it.request))))) same
+  act_left (asks_close x) other = view_left _ _ (Refusal.Close CloseRefusal.UnknownOpen) (open_view server.store (call_of it.connection it.moment it.dialect it.context it.request).open_number) same
   act_left (asks_flush x) other = same
-  act_left (asks_read x) other = if_left _ _ _ same
-  act_left (asks_write x) other = if_left _ _ _ same
+  act_left (asks_read x) other =
+      row_left _ (through_open server.store opened (option_map (λ refusal. Refusal.Read refusal) (read_refusal server.store (most_at_once it.dialect) opened x.offset x.length x.minimum_count))) same
+  act_left (asks_write x) other =
+      row_left _ (through_open server.store opened (option_map (λ refusal. Refusal.Write refusal) (write_refusal server.store (most_at_once it.dialect) opened x.offset x.buffer))) same
   act_left (asks_lock x) other = lock_left (asks_unlock (lock_asks x.locks)) (file_unlocked server (call_of it.connection it.moment it.dialect it.context it.request) (lock_asks x.locks)) (file_locked server (call_of it.connection it.moment it.dialect it.context it.request) (lock_asks x.locks))
-      (unlocked_left _ _ _ _ same) (if_left _ _ _ same)
+      (unlocked_left _ (through_open server.store opened (option_map (λ refusal. Refusal.Lock refusal) (unlock_refusal server.store opened (lock_asks x.locks)))) _ same)
+      (row_left _ (through_open server.store opened (option_map (λ refusal. Refusal.Lock refusal) (lock_refusal server.store opened (lock_asks x.locks)))) same)
   act_left (asks_cancel x) other = same
   act_left (asks_echo x) other = same
   act_left (asks_query_directory x) other = listed_left Left server same (call_of it.connection it.moment it.dialect it.context it.request) (λ scan. same) x
@@ -193,16 +199,16 @@ module _ {S : Type 0} (m : Meaning S) (it : Sent S) (o : IsInOrder it.server) wh
             (nobody_else begun_table number asked.previous_session_id n (accepts user flags read_only token) state (set_up_rising table server.store o it.connection ids.session_id) t e) f)
       ] refl
 
-  set_up_at : (asked : SessionSetupAsked) (refusal : Option NtStatus) → body_of (command_in it.request) it.request ≡ Some (asks_session_setup asked) → option_and_then status_of_refusal (setup_refusal table it.connection ids.session_id asked.flags.0) ≡ refusal →
-      Lets (option_map_or (refused server ids) refusal (setup_answered server ids (setup_step m server.sessions it.connection ids.session_id asked.previous_session_id asked.security_buffer))).server.sessions.table
-  set_up_at asked (Some status) says e = λ n state at f. inl (keeps_same table n state at f)
+  set_up_at : (asked : SessionSetupAsked) (refusal : Option Refusal) → body_of (command_in it.request) it.request ≡ Some (asks_session_setup asked) → option_map (λ refusal. Refusal.SessionSetup refusal) (setup_refusal table it.connection ids.session_id asked.flags.0) ≡ refusal →
+      Lets (unless_refused server ids refusal (setup_answered server ids (setup_step m server.sessions it.connection ids.session_id asked.previous_session_id asked.security_buffer))).server.sessions.table
+  set_up_at asked (Some row) says e = λ n state at f. inl (keeps_same table n state at f)
   set_up_at asked None says e =
       answered_lets asked (m.answer server.sessions.authenticator number asked.security_buffer) says refl
-      (set_up_begun table server.store o it.connection ids.session_id asked.flags.0 (unrefused table it.connection ids.session_id asked.flags.0 e))
+      (set_up_begun table server.store o it.connection ids.session_id asked.flags.0 (none_named (λ refusal. Refusal.SessionSetup refusal) (setup_refusal table it.connection ids.session_id asked.flags.0) e))
 
   set_up_lets : (asked : SessionSetupAsked) → body_of (command_in it.request) it.request ≡ Some (asks_session_setup asked) → Lets (acts m it (asks_session_setup asked)).server.sessions.table
   unfolding session_set_up
-  set_up_lets asked says = set_up_at asked (option_and_then status_of_refusal (setup_refusal table it.connection ids.session_id asked.flags.0)) says refl
+  set_up_lets asked says = set_up_at asked (option_map (λ refusal. Refusal.SessionSetup refusal) (setup_refusal table it.connection ids.session_id asked.flags.0)) says refl
 
   act_lets : (asked : RequestValue) → body_of (command_in it.request) it.request ≡ Some asked → Lets (acts m it asked).server.sessions.table
   act_lets (asks_session_setup asked) says = set_up_lets asked says
@@ -214,7 +220,7 @@ module _ {S : Type 0} (m : Meaning S) (it : Sent S) (o : IsInOrder it.server) wh
       (λ after response. Lets after.sessions.table)
       (λ n state e f. inl (keeps_same table n state e f))
       (step_by m it.connection it.moment it.server it.dialect it.context it.request (λ step. Lets step.server.sessions.table)
-      (λ status fails n state e f. inl (keeps_same table n state e f))
+      (λ refusal fails n state e f. inl (keeps_same table n state e f))
       (λ asked says t. act_lets asked says))
 
   -- a SESSION_SETUP that succeeds
@@ -230,17 +236,17 @@ module _ {S : Type 0} (m : Meaning S) (it : Sent S) (o : IsInOrder it.server) wh
       let e = accepted_in begun_table number asked.previous_session_id user flags read_only token is.state is.at is.user in
       (finished_by user read_only is.state, e, let_in_at asked user flags read_only token number (finished_by user read_only is.state) says a is refl e)
 
-  succeeds_at : (asked : SessionSetupAsked) (refusal : Option NtStatus) → body_of (command_in it.request) it.request ≡ Some (asks_session_setup asked) → option_and_then status_of_refusal (setup_refusal table it.connection ids.session_id asked.flags.0) ≡ refusal →
-      (option_map_or (refused server ids) refusal (setup_answered server ids (setup_step m server.sessions it.connection ids.session_id asked.previous_session_id asked.security_buffer))).response.status ≡ Success →
-      In (option_map_or (refused server ids) refusal (setup_answered server ids (setup_step m server.sessions it.connection ids.session_id asked.previous_session_id asked.security_buffer))).server.sessions.table
-  succeeds_at asked (Some status) says e h = absurd (and_then_fails server (setup_refusal table it.connection ids.session_id asked.flags.0) (e ∙ ap (λ (s : NtStatus). Some s) h))
+  succeeds_at : (asked : SessionSetupAsked) (refusal : Option SetupRefusal) → body_of (command_in it.request) it.request ≡ Some (asks_session_setup asked) → setup_refusal table it.connection ids.session_id asked.flags.0 ≡ refusal →
+      (unless_refused server ids (option_map (λ refusal. Refusal.SessionSetup refusal) refusal) (setup_answered server ids (setup_step m server.sessions it.connection ids.session_id asked.previous_session_id asked.security_buffer))).response.status ≡ Success →
+      In (unless_refused server ids (option_map (λ refusal. Refusal.SessionSetup refusal) refusal) (setup_answered server ids (setup_step m server.sessions it.connection ids.session_id asked.previous_session_id asked.security_buffer))).server.sessions.table
+  succeeds_at asked (Some row) says e h = absurd (setup_fails row h)
   succeeds_at asked None says e h =
       accepted_succeeds asked (m.answer server.sessions.authenticator number asked.security_buffer) says refl
-      (set_up_begun table server.store o it.connection ids.session_id asked.flags.0 (unrefused table it.connection ids.session_id asked.flags.0 e)) h
+      (set_up_begun table server.store o it.connection ids.session_id asked.flags.0 e) h
 
   set_up_succeeds : (asked : SessionSetupAsked) → body_of (command_in it.request) it.request ≡ Some (asks_session_setup asked) → (acts m it (asks_session_setup asked)).response.status ≡ Success → In (acts m it (asks_session_setup asked)).server.sessions.table
   unfolding session_set_up
-  set_up_succeeds asked says h = succeeds_at asked (option_and_then status_of_refusal (setup_refusal table it.connection ids.session_id asked.flags.0)) says refl h
+  set_up_succeeds asked says h = succeeds_at asked (setup_refusal table it.connection ids.session_id asked.flags.0) says refl h
 
   pub success_lets_in : (asked : SessionSetupAsked) → Succeeds it (answered m it) (asks_session_setup asked) → In (answered m it).server.sessions.table
   success_lets_in asked h =
@@ -259,10 +265,10 @@ module _ {S : Type 0} (m : Meaning S) (it : Sent S) where
   answered_closes asked sessions session denies h = refl
   answered_closes asked sessions session (accepts user flags read_only token) h = absurd (h refl)
 
-  set_up_closes_at : (asked : SessionSetupAsked) (refusal : Option NtStatus) →
-      IsClosedNot (option_map_or (refused it.server (request_ids it.context it.request)) refusal
+  set_up_closes_at : (asked : SessionSetupAsked) (refusal : Option Refusal) →
+      IsClosedNot (unless_refused it.server (request_ids it.context it.request) refusal
       (setup_answered it.server (request_ids it.context it.request) (setup_step m it.server.sessions it.connection (request_ids it.context it.request).session_id asked.previous_session_id asked.security_buffer)))
-  set_up_closes_at asked (Some status) h = refl
+  set_up_closes_at asked (Some row) h = refl
   set_up_closes_at asked None h =
       let s = (request_ids it.context it.request).session_id in
       let number = setup_number it.server.sessions.table s in
@@ -270,7 +276,7 @@ module _ {S : Type 0} (m : Meaning S) (it : Sent S) where
 
   act_closes : (asked : RequestValue) → Some (command_for asked) ≡ Some SessionSetup → IsClosedNot (acts m it asked)
   unfolding session_set_up
-  act_closes (asks_session_setup x) e h = set_up_closes_at x (option_and_then status_of_refusal (setup_refusal it.server.sessions.table it.connection (request_ids it.context it.request).session_id x.flags.0)) h
+  act_closes (asks_session_setup x) e h = set_up_closes_at x (option_map (λ refusal. Refusal.SessionSetup refusal) (setup_refusal it.server.sessions.table it.connection (request_ids it.context it.request).session_id x.flags.0)) h
   act_closes asked e h = cc
 
   pub closes_nothing : command_in it.request ≡ Some SessionSetup → IfSome (answered m it).response (λ response. response.status ≢ Success) → (answered m it).server.store ≡ it.server.store
@@ -279,5 +285,5 @@ module _ {S : Type 0} (m : Meaning S) (it : Sent S) where
       (λ after response. IfSome response (λ response. response.status ≢ Success) → after.store ≡ it.server.store)
       (λ h. refl)
       (step_by m it.connection it.moment it.server it.dialect it.context it.request IsClosedNot
-      (λ status fails h. refl)
+      (λ refusal fails h. refl)
       (λ asked says t. act_closes asked (sym (says_command (command_in it.request) it.request asked says) ∙ command)))

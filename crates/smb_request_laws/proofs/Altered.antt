@@ -1,9 +1,10 @@
 -- What a request leaves, by definitions of who may act and of what is done: the right ones, or others.
 use Rattle.std.proofs.Common.{◌≡◌, ◌==◌, ◌&&◌, ◌-◌, ◌/◌, ◌+◌, ℕ, nat_lt, Bool, false, not, if◌then◌else◌, List, Option, None, Some, refl}
-use Rattle.std.specs.Option.{option_map, option_map_or, option_and_then}
+use Rattle.std.specs.Option.{is_none, option_map, option_map_or, option_and_then}
 use Rattle.smb_wire.specs.declared.dialect.Dialect.{Dialect}
-use Rattle.smb_wire.specs.declared.nt_status.NtStatus.{NtStatus}
-use Rattle.smb_wire.specs.declared.nt_status.NtStatus.TheVariants.{InvalidParameter, NotSupported, NetworkNameDeleted, FileClosed, UserSessionDeleted}
+use Rattle.smb_refusals.specs.declared.refusal.Refusal.{Refusal}
+use Rattle.smb_refusals.specs.declared.request.RequestRefusal.{RequestRefusal}
+use Rattle.smb_refusals.specs.declared.request.RequestRefusal.TheVariants.{UnknownCommand, CommandNotPerformed, BodyUnreadable, ChargeTooSmall, UnknownTreeConnect, NoOpenHandedOn, CreateBeforeRefused, UnknownOpen}
 use Rattle.smb_body.specs.Requests.{RequestValue, payload_of}
 use Rattle.smb_session.specs.Authenticator.{Meaning}
 use Rattle.smb_session.specs.Table.{knows_session, knows_tree}
@@ -19,7 +20,7 @@ use Rattle.smb_request.specs.Context.{named_on, open_named, open_for_next_relate
 use Rattle.smb_request.specs.Needs.{needs_of}
 use Rattle.smb_request.specs.Parts.{needs_session, needs_tree, is_unsupported, is_cancel_command, dialect_after}
 use Rattle.smb_request.specs.Request.{acted, performed}
-use Rattle.smb_request.specs.Response.{CommandStep, Performed, refused}
+use Rattle.smb_request.specs.Response.{CommandStep, Performed, refused, unless_refused}
 use Rattle.smb_request.specs.State.{ServerState}
 
 -- what needs a session, what needs a tree connect, whose an open is, and what becomes of what is done
@@ -39,18 +40,18 @@ right = record {
 }
 
 module _ {S : Type 0} (m : Meaning S) (rules : Rules S) where
-  abbrev check : ServerState S → ℕ → ℕ → HeaderIds → Option ContextOpen → RequestValue → Option NtStatus
+  abbrev check : ServerState S → ℕ → ℕ → HeaderIds → Option ContextOpen → RequestValue → Option RequestRefusal
   check server connection charge ids opened asked =
-      if nat_lt charge ((payload_of asked - 1) / 65536 + 1) then Some InvalidParameter else
-      if rules.session asked && not (knows_session server.sessions.table connection ids.session_id) then Some UserSessionDeleted else
-      if rules.tree asked && not (knows_tree server.sessions.table ids.session_id ids.tree_id) then Some NetworkNameDeleted else
+      if nat_lt charge ((payload_of asked - 1) / 65536 + 1) then Some ChargeTooSmall else
+      if rules.session asked && not (knows_session server.sessions.table connection ids.session_id) then Some RequestRefusal.UnknownSession else
+      if rules.tree asked && not (knows_tree server.sessions.table ids.session_id ids.tree_id) then Some UnknownTreeConnect else
       option_and_then
       (λ (named : ContextOpen). elim named [
-        | Nothing ↦ Some InvalidParameter
-        | Refused status ↦ Some status
+        | Nothing ↦ Some NoOpenHandedOn
+        | Refused status ↦ Some (CreateBeforeRefused status)
         | Named id ↦
             if id.persistent == id.volatile && option_map_or (rules.held ids) (open_of server.store.opens id.persistent) false
-            then None else Some FileClosed
+            then None else Some UnknownOpen
       ])
       opened
 
@@ -60,14 +61,13 @@ module _ {S : Type 0} (m : Meaning S) (rules : Rules S) where
       let call = call_of connection moment dialect context request in
       let body = body_of call.command request in
       let step : CommandStep S =
-      if option_map_or is_unsupported call.command false then refused server call.ids NotSupported else
+      if option_map_or is_unsupported call.command false then refused server call.ids (Refusal.Request CommandNotPerformed) else
       option_map_or
-      (λ asked. option_map_or
-      (refused server call.ids)
-      (check server connection call.charge call.ids (option_map (open_named call.inherited) call.file_id) asked)
+      (λ asked. unless_refused server call.ids
+      (option_map (λ refusal. Refusal.Request refusal) (check server connection call.charge call.ids (option_map (open_named call.inherited) call.file_id) asked))
       (rules.done server call.ids asked (acted m server call asked)))
       body
-      (refused server call.ids InvalidParameter) in
+      (refused server call.ids (Refusal.Request (if is_none call.command then UnknownCommand else BodyUnreadable))) in
       if is_cancel_command call.command
       then record { server = server; dialect = dialect; context = record { ids = call.ids; last_open = named_on call.inherited call.file_id }; response = None }
       else record {

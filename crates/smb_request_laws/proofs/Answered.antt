@@ -1,20 +1,28 @@
 -- A request that is answered: by its checks, or by its command.
-use Rattle.std.proofs.Common.{◌≡◌, ◌≢◌, ◌==◌, ◌&&◌, ◌-◌, ◌/◌, ◌+◌, ℕ, nat_lt, Bool, true, false, not, if◌then◌else◌, List, Option, None, Some, refl, sym, ap, ◌∙◌}
-use Rattle.std.specs.Option.{option_map, option_map_or, option_and_then}
+use Rattle.std.proofs.Common.{◌≡◌, ◌≢◌, ◌==◌, ◌&&◌, ◌-◌, ◌/◌, ◌+◌, ℕ, nat_lt, Bool, true, false, not, if◌then◌else◌, List, Option, None, Some, is_some, IfSome, refl, sym, ap, ◌∙◌}
+use Rattle.std.specs.Option.{is_none, option_map, option_map_or, option_and_then}
 use Rattle.smb_wire.specs.Commands.{code_of}
-use Rattle.smb_wire.specs.NtStatus.{is_success}
-use Rattle.smb_wire.proofs.Statuses.{success_yes}
 use Rattle.smb_wire.specs.declared.command.Command.{Command}
 use Rattle.smb_wire.specs.declared.command.Command.TheVariants.{Negotiate, SessionSetup, Logoff, TreeConnect, TreeDisconnect, Create, Close, Flush, Read, Write, Lock, Ioctl, Cancel, Echo, QueryDirectory, ChangeNotify, QueryInfo, SetInfo, OplockBreak}
 use Rattle.smb_wire.specs.declared.dialect.Dialect.{Dialect}
 use Rattle.smb_wire.specs.declared.nt_status.NtStatus.{NtStatus}
-use Rattle.smb_wire.specs.declared.nt_status.NtStatus.TheVariants.{Success, InvalidParameter, NotSupported, NetworkNameDeleted, FileClosed, UserSessionDeleted}
+use Rattle.smb_wire.specs.declared.nt_status.NtStatus.TheVariants.{Success}
+use Rattle.smb_refusals.specs.declared.refusal.Refusal.{Refusal}
+use Rattle.smb_refusals.specs.declared.request.RequestRefusal.{RequestRefusal}
+use Rattle.smb_refusals.specs.declared.request.RequestRefusal.TheVariants.{UnknownCommand, CommandNotPerformed, BodyUnreadable, ChargeTooSmall, UnknownTreeConnect, UnknownOpen}
+use Rattle.smb_refusals.specs.Refusals.{refusal_status}
+use Rattle.smb_refusals.proofs.Fails.{set_basic_fails, set_disposition_fails, set_size_fails, rename_fails}
 use Rattle.smb_body.specs.Requests.{RequestValue, request_of, payload_of, asks_negotiate, asks_session_setup, asks_logoff, asks_tree_connect, asks_tree_disconnect, asks_create, asks_close, asks_flush, asks_read, asks_write, asks_lock, asks_cancel, asks_echo, asks_query_directory, asks_query_info, asks_set_info}
 use Rattle.smb_session.specs.Authenticator.{Meaning}
 use Rattle.smb_session.specs.Table.{knows_session, knows_tree}
 use Rattle.smb_access.specs.declared.open_row.OpenRow.{OpenRow}
 use Rattle.smb_access.specs.declared.open_row.Owner.TheVariants.{Tree}
 use Rattle.smb_access.specs.Opens.{open_of, is_held_by}
+use Rattle.smb_info.specs.SetInformation.{SetAsked, asks_basic, asks_rename, asks_mark, asks_allocation, asks_end}
+use Rattle.smb_opens.specs.Renames.{rename_refusal}
+use Rattle.smb_opens.specs.SetInfo.{basic_refusal, delete_refusal, size_refusal}
+use Rattle.smb_opens.specs.State.{StoreState}
+use Rattle.smb_opens.specs.Views.{open_view}
 use Rattle.smb_request.specs.declared.context.Context.{Context}
 use Rattle.smb_request.specs.declared.context.HeaderIds.{HeaderIds}
 use Rattle.smb_request.specs.declared.context.ContextOpen.{ContextOpen}
@@ -23,11 +31,12 @@ use Rattle.smb_request.specs.Call.{body_of, call_of}
 use Rattle.smb_request.specs.Context.{named_on, open_named, open_for_next_related}
 use Rattle.smb_request.specs.Laws.{request_ids}
 use Rattle.smb_request.specs.Needs.{needs_of}
-use Rattle.smb_request.specs.Parts.{needs_session, needs_tree, is_unsupported, is_cancel_command, dialect_after, open_refusal, performed_by}
+use Rattle.smb_request.specs.Parts.{needs_session, needs_tree, is_unsupported, is_cancel_command, dialect_after, open_refusal, performed_by, set_refusal}
 use Rattle.smb_request.specs.Request.{check_request, acted, performed}
-use Rattle.smb_request.specs.Response.{CommandStep, Performed, ResponseState, refused, by_status}
+use Rattle.smb_request.specs.Response.{CommandStep, Performed, ResponseState, refused, through_open, unless_refused}
 use Rattle.smb_request.specs.State.{ServerState}
 use Rattle.smb_request_laws.specs.Acting.{command_in, IsNotRefusedBySuccess}
+use Rattle.smb_request_laws.proofs.Turned.{unread_fails}
 use Rattle.smb_request_laws.proofs.Under.{AreFair, named_fair}
 
 -- the command of what a request asks
@@ -80,41 +89,53 @@ pub says_command : (command : Option Command) (request : List ℕ) (asked : Requ
 says_command None request asked e = cc
 says_command (Some command) request asked e = ap (λ (c : Command). Some c) (sym (says_at command request asked e))
 
+-- no row of these refuses by SUCCESS
+abbrev pub NoneIsSuccess : Option Refusal → Type 0
+NoneIsSuccess refusal = IfSome refusal (λ row. refusal_status row ≢ Success)
+
+abbrev CheckFails : Option RequestRefusal → Type 0
+CheckFails refusal = NoneIsSuccess (option_map (λ row. Refusal.Request row) refusal)
+
 -- no check refuses by SUCCESS
-held_fails : (b : Bool) → (if b then None else Some FileClosed) ≢ Some Success
-held_fails true e = cc
-held_fails false e = cc
+held_fails : (b : Bool) → CheckFails (if b then None else Some UnknownOpen)
+held_fails true = tt
+held_fails false = λ e. cc
 
-refusal_fails : (opens : List OpenRow) (ids : HeaderIds) (named : ContextOpen) → named ≢ Refused Success → open_refusal opens ids named ≢ Some Success
-refusal_fails opens ids Nothing fair e = cc
-refusal_fails opens ids (Refused status) fair e = let is : status ≡ Success = cc in fair (ap (λ (s : NtStatus). Refused s) is)
-refusal_fails opens ids (Named id) fair e = held_fails (id.persistent == id.volatile && option_map_or (is_held_by (Tree ids.session_id ids.tree_id)) (open_of opens id.persistent) false) e
+open_fails : (opens : List OpenRow) (ids : HeaderIds) (named : ContextOpen) → named ≢ Refused Success → CheckFails (open_refusal opens ids named)
+open_fails opens ids Nothing fair = λ e. cc
+open_fails opens ids (Refused status) fair = λ e. fair (ap (λ (s : NtStatus). Refused s) e)
+open_fails opens ids (Named id) fair = held_fails (id.persistent == id.volatile && option_map_or (is_held_by (Tree ids.session_id ids.tree_id)) (open_of opens id.persistent) false)
 
-named_fails : (opens : List OpenRow) (ids : HeaderIds) (named : Option ContextOpen) → AreFair named → option_and_then (open_refusal opens ids) named ≢ Some Success
-named_fails opens ids None fair e = cc
-named_fails opens ids (Some it) fair e = refusal_fails opens ids it (fair it refl) e
+named_fails : (opens : List OpenRow) (ids : HeaderIds) (named : Option ContextOpen) → AreFair named → CheckFails (option_and_then (open_refusal opens ids) named)
+named_fails opens ids None fair = tt
+named_fails opens ids (Some it) fair = open_fails opens ids it (fair it refl)
 
-checks_fail : (charge session joined : Bool) (rest : Option NtStatus) → rest ≢ Some Success →
-    (if charge then Some InvalidParameter else if session then Some UserSessionDeleted else if joined then Some NetworkNameDeleted else rest) ≢ Some Success
-checks_fail true session joined rest h e = cc
-checks_fail false true joined rest h e = cc
-checks_fail false false true rest h e = cc
-checks_fail false false false rest h e = h e
+checks_fail : (charge session joined : Bool) (rest : Option RequestRefusal) → CheckFails rest →
+    CheckFails (if charge then Some ChargeTooSmall else if session then Some RequestRefusal.UnknownSession else if joined then Some UnknownTreeConnect else rest)
+checks_fail true session joined rest h = λ e. cc
+checks_fail false true joined rest h = λ e. cc
+checks_fail false false true rest h = λ e. cc
+checks_fail false false false rest h = h
+
+check_fails : (refusal : RequestRefusal) (check : Option RequestRefusal) → CheckFails check → check ≡ Some refusal → refusal_status (Refusal.Request refusal) ≢ Success
+check_fails refusal None h e = cc
+check_fails refusal (Some row) h e = let is : row ≡ refusal = cc in λ q. h (ap (λ (r : RequestRefusal). refusal_status (Refusal.Request r)) is ∙ q)
 
 -- a step: refused by a check, or by what its body asks
-module _ {S : Type 0} (server : ServerState S) (ids : HeaderIds) (check : RequestValue → Option NtStatus) (act : RequestValue → CommandStep S) (P : CommandStep S → Type 0) (fails : (status : NtStatus) → status ≢ Success → P (refused server ids status)) where
-  checked_by : (asked : RequestValue) (refusal : Option NtStatus) → check asked ≡ refusal → ((status : NtStatus) → check asked ≡ Some status → P (refused server ids status)) → (check asked ≡ None → P (act asked)) →
-      P (option_map_or (refused server ids) refusal (act asked))
+module _ {S : Type 0} (server : ServerState S) (ids : HeaderIds) (check : RequestValue → Option RequestRefusal) (act : RequestValue → CommandStep S) (P : CommandStep S → Type 0) (fails : (refusal : Refusal) → refusal_status refusal ≢ Success → P (refused server ids refusal)) where
+  checked_by : (asked : RequestValue) (refusal : Option RequestRefusal) → check asked ≡ refusal → ((row : RequestRefusal) → check asked ≡ Some row → P (refused server ids (Refusal.Request row))) → (check asked ≡ None → P (act asked)) →
+      P (unless_refused server ids (option_map (λ refusal. Refusal.Request refusal) refusal) (act asked))
   checked_by asked None e off on = on e
-  checked_by asked (Some status) e off on = off status e
+  checked_by asked (Some row) e off on = off row e
 
-  body_by : (unsupported : Bool) (body : Option RequestValue) → ((asked : RequestValue) → body ≡ Some asked → (status : NtStatus) → check asked ≡ Some status → P (refused server ids status)) →
+  body_by : (unsupported unknown : Bool) (body : Option RequestValue) → ((asked : RequestValue) → body ≡ Some asked → (row : RequestRefusal) → check asked ≡ Some row → P (refused server ids (Refusal.Request row))) →
       ((asked : RequestValue) → body ≡ Some asked → check asked ≡ None → P (act asked)) →
-      P (let x : CommandStep S = if unsupported then refused server ids NotSupported else
-      option_map_or (λ asked. option_map_or (refused server ids) (check asked) (act asked)) body (refused server ids InvalidParameter) in x)
-  body_by true body off on = fails NotSupported (λ e. cc)
-  body_by false None off on = fails InvalidParameter (λ e. cc)
-  body_by false (Some asked) off on = checked_by asked (check asked) refl (off asked refl) (on asked refl)
+      P (let x : CommandStep S = if unsupported then refused server ids (Refusal.Request CommandNotPerformed) else
+      option_map_or (λ asked. unless_refused server ids (option_map (λ refusal. Refusal.Request refusal) (check asked)) (act asked)) body
+      (refused server ids (Refusal.Request (if unknown then UnknownCommand else BodyUnreadable))) in x)
+  body_by true unknown body off on = fails (Refusal.Request CommandNotPerformed) (λ e. cc)
+  body_by false unknown None off on = fails (Refusal.Request (if unknown then UnknownCommand else BodyUnreadable)) (unread_fails unknown)
+  body_by false unknown (Some asked) off on = checked_by asked (check asked) refl (off asked refl) (on asked refl)
 
 module _ {S : Type 0} (m : Meaning S) (connection moment : ℕ) (server : ServerState S) (dialect : Option Dialect) (context : Context) (request : List ℕ) where
   -- what a request comes to: nothing, where it is a CANCEL, or its step
@@ -142,26 +163,41 @@ module _ {S : Type 0} (m : Meaning S) (connection moment : ℕ) (server : Server
       } in P x.server x.response) [ true ↦ cancelled | false ↦ done ]
 
   -- and the step: a refusal, or what its command does
-  pub step_by : (P : CommandStep S → Type 0) → ((status : NtStatus) → (IsNotRefusedBySuccess context → status ≢ Success) → P (refused server (request_ids context request) status)) →
+  pub step_by : (P : CommandStep S → Type 0) → ((refusal : Refusal) → (IsNotRefusedBySuccess context → refusal_status refusal ≢ Success) → P (refused server (request_ids context request) refusal)) →
       ((asked : RequestValue) → body_of (command_in request) request ≡ Some asked → check_request server (call_of connection moment dialect context request) asked ≡ None → P (acted m server (call_of connection moment dialect context request) asked)) →
       P step
   step_by P off on =
       let call = call_of connection moment dialect context request in
-      body_by server call.ids (check_request server call) (acted m server call) P (λ status not. off status (λ fair. not)) (option_map_or is_unsupported call.command false) (body_of call.command request)
-      (λ asked e status t. off status (λ fair is. checks_fail
+      body_by server call.ids (check_request server call) (acted m server call) P (λ refusal not. off refusal (λ fair. not)) (option_map_or is_unsupported call.command false) (is_none call.command) (body_of call.command request)
+      (λ asked e row t. off (Refusal.Request row) (λ fair. check_fails row (check_request server call asked) (checks_fail
       (nat_lt call.charge ((payload_of asked - 1) / 65536 + 1))
       (needs_session (needs_of asked) && not (knows_session server.sessions.table connection call.ids.session_id))
       (needs_tree (needs_of asked) && not (knows_tree server.sessions.table call.ids.session_id call.ids.tree_id))
       (option_and_then (open_refusal server.store.opens call.ids) (option_map (open_named call.inherited) call.file_id))
-      (named_fails server.store.opens call.ids (option_map (open_named call.inherited) call.file_id) (named_fair m connection moment server dialect context request fair))
-      (t ∙ ap (λ (s : NtStatus). Some s) is)))
+      (named_fails server.store.opens call.ids (option_map (open_named call.inherited) call.file_id) (named_fair m connection moment server dialect context request fair))) t))
       on
 
--- what is done where the store's status is SUCCESS
-done_by : {S : Type 0} (server : ServerState S) (ids : HeaderIds) (status : NtStatus) (done : CommandStep S) (b : Bool) → is_success status ≡ b →
-    (let x : CommandStep S = if b then done else refused server ids status in x).response.status ≡ Success → (let x : CommandStep S = if b then done else refused server ids status in x) ≡ done
-done_by server ids status done true t h = refl
-done_by server ids status done false t h = absurd (let is = success_yes status h in let both : true ≡ false = sym is ∙ t in cc)
+-- what is done where no row refuses
+pub row_done : {S : Type 0} (server : ServerState S) (ids : HeaderIds) (refusal : Option Refusal) (done : CommandStep S) → NoneIsSuccess refusal → (unless_refused server ids refusal done).response.status ≡ Success →
+    (refusal ≡ None) × (unless_refused server ids refusal done ≡ done)
+row_done server ids None done fails h = (refl, refl)
+row_done server ids (Some row) done fails h = absurd (fails h)
 
-pub status_done : {S : Type 0} (server : ServerState S) (ids : HeaderIds) (status : NtStatus) (done : CommandStep S) → (by_status server ids status done).response.status ≡ Success → by_status server ids status done ≡ done
-status_done server ids status done h = done_by server ids status done (is_success status) refl h
+-- a table whose rows are not answered by SUCCESS, also through an open
+pub table_fails : {R : Type 0} (name : R → Refusal) → ((row : R) → refusal_status (name row) ≢ Success) → (refusal : Option R) → NoneIsSuccess (option_map name refusal)
+table_fails name fails None = tt
+table_fails name fails (Some row) = fails row
+
+shown_fails : (refusal : Option Refusal) → NoneIsSuccess refusal → (b : Bool) → NoneIsSuccess (let x : Option Refusal = if b then refusal else Some (Refusal.Request UnknownOpen) in x)
+shown_fails refusal fails true = fails
+shown_fails refusal fails false = λ e. cc
+
+pub through_fails : (store : StoreState) (number : ℕ) (refusal : Option Refusal) → NoneIsSuccess refusal → NoneIsSuccess (through_open store number refusal)
+through_fails store number refusal fails = shown_fails refusal fails (is_some (open_view store number))
+
+pub set_fails : (store : StoreState) (number : ℕ) (ask : SetAsked) → NoneIsSuccess (set_refusal store number ask)
+set_fails store number (asks_basic ask) = table_fails (λ row. Refusal.SetBasic row) set_basic_fails (basic_refusal store number ask)
+set_fails store number (asks_rename replace name) = table_fails (λ row. Refusal.Rename row) rename_fails (rename_refusal store number name replace)
+set_fails store number (asks_mark mark) = table_fails (λ row. Refusal.SetDisposition row) set_disposition_fails (delete_refusal store number mark)
+set_fails store number (asks_allocation size) = table_fails (λ row. Refusal.SetSize row) set_size_fails (size_refusal store number size)
+set_fails store number (asks_end size) = table_fails (λ row. Refusal.SetSize row) set_size_fails (size_refusal store number size)

@@ -1,8 +1,11 @@
 -- What a LOCK, a SET_INFO and a question leave that are answered by SUCCESS.
-use Rattle.std.proofs.Common.{◌≡◌, ◌≢◌, ◌⊎◌, inl, inr, ℕ, Bool, true, false, not, nat_lt, if◌then◌else◌, List, length, Option, None, Some, refl, sym, ap, subst, ◌==◌, ◌||◌, ◌∙◌}
+use Rattle.std.proofs.Common.{◌≡◌, ◌⊎◌, inl, inr, ℕ, Bool, true, false, not, nat_lt, if◌then◌else◌, List, length, Option, None, Some, refl, sym, ap, subst, ◌∙◌}
 use Rattle.std.specs.Option.{option_map, option_map_or}
-use Rattle.smb_wire.specs.declared.nt_status.NtStatus.{NtStatus}
-use Rattle.smb_wire.specs.declared.nt_status.NtStatus.TheVariants.{Success, InvalidParameter, InvalidInfoClass, InfoLengthMismatch, NotSupported}
+use Rattle.smb_wire.specs.declared.nt_status.NtStatus.TheVariants.{Success}
+use Rattle.smb_refusals.specs.declared.refusal.Refusal.{Refusal}
+use Rattle.smb_refusals.specs.declared.set_info.SetInfoRefusal.{SetInfoRefusal}
+use Rattle.smb_refusals.specs.declared.set_info.SetInfoRefusal.TheVariants.{UnknownClass, BufferTooShort, RenameSaysNoName}
+use Rattle.smb_refusals.proofs.Fails.{lock_fails, set_info_fails}
 use Rattle.smb_body.specs.Lock.{LockAsked}
 use Rattle.smb_body.specs.QueryDirectory.{QueryDirectoryAsked}
 use Rattle.smb_body.specs.Replies.{answers_lock, answers_set_info}
@@ -16,20 +19,19 @@ use Rattle.smb_session.specs.Authenticator.{Meaning}
 use Rattle.smb_access.specs.declared.scan.Scan.{Scan}
 use Rattle.smb_info.specs.SetInformation.{SetAsked, asks_basic, asks_rename, asks_mark, asks_allocation, asks_end, set_class, set_length, is_readable, asked_of, set_of}
 use Rattle.smb_info.specs.declared.set_info.SetInformationClass.{SetInformationClass}
-use Rattle.smb_opens.specs.Locks.{lock_status, unlock_status, locked_through, unlocked_through}
+use Rattle.smb_opens.specs.Locks.{lock_refusal, unlock_refusal, locked_through, unlocked_through}
 use Rattle.smb_opens.specs.Scans.{scan_set}
 use Rattle.smb_opens.specs.State.{StoreState}
 use Rattle.smb_opens.specs.Steps.{stepped}
 use Rattle.smb_request.specs.Call.{call_of}
-use Rattle.smb_request.specs.InfoTypes.{FILE, FILESYSTEM, SECURITY, QUOTA}
-use Rattle.smb_request.specs.Parts.{class_set, file_locked, file_unlocked, set_as_asked, set_status, set_through, set_type_refusal, success, with_store}
-use Rattle.smb_request.specs.Response.{CommandStep, refused}
+use Rattle.smb_request.specs.Parts.{class_set, file_locked, file_unlocked, set_as_asked, set_refusal, set_through, set_type_refusal, success, with_store}
+use Rattle.smb_request.specs.Response.{CommandStep, refused, through_open}
 use Rattle.smb_request.specs.SetInfo.{information_set}
 use Rattle.smb_request.specs.State.{ServerState}
 use Rattle.smb_request.proofs.InfoApart.{queried_left}
 use Rattle.smb_request.proofs.Listings.{listed_left}
 use Rattle.smb_request_laws.specs.Doing.{Sent, Succeeds, answered, open_asked, elements_asked, is_unlock, set_step, ALockLocks, ASetInfoSets, AQuestionChangesNothing}
-use Rattle.smb_request_laws.proofs.Answered.{status_done}
+use Rattle.smb_request_laws.proofs.Answered.{row_done, table_fails, through_fails, set_fails}
 use Rattle.smb_request_laws.proofs.Done.{is_acted}
 
 -- the step of a SET_INFO is what sets it
@@ -40,24 +42,22 @@ set_stepped store number moment (asks_mark mark) = refl
 set_stepped store number moment (asks_allocation size) = refl
 set_stepped store number moment (asks_end size) = refl
 
--- no InfoType is refused by SUCCESS
-type_fails_by : (a b : Bool) → (let x : Option NtStatus = if a then Some NotSupported else if b then Some InvalidParameter else None in x) ≢ Some Success
-type_fails_by true b e = cc
-type_fails_by false true e = cc
-type_fails_by false false e = cc
-
 module _ {S : Type 0} (server : ServerState S) where
   -- LOCK
   unlocked_done : (call : _) (asks : List LockAsk) → (file_unlocked server call asks).response.status ≡ Success → (file_unlocked server call asks).server.store ≡ unlocked_through server.store call.open_number asks
   unlocked_done call asks h =
       let after = with_store server (unlocked_through server.store call.open_number asks) in
+      let refusal = option_map (λ refusal. Refusal.Lock refusal) (unlock_refusal server.store call.open_number asks) in
       ap (λ (s : CommandStep S). s.server.store)
-      (status_done after call.ids (unlock_status server.store call.open_number asks) (record { server = after; response = success call.ids answers_lock }) h)
+      (row_done after call.ids (through_open server.store call.open_number refusal) (record { server = after; response = success call.ids answers_lock })
+      (through_fails server.store call.open_number refusal (table_fails (λ refusal. Refusal.Lock refusal) lock_fails _)) h).1
 
   locked_done : (call : _) (asks : List LockAsk) → (file_locked server call asks).response.status ≡ Success → (file_locked server call asks).server.store ≡ locked_through server.store call.open_number asks
   locked_done call asks h =
+      let refusal = option_map (λ refusal. Refusal.Lock refusal) (lock_refusal server.store call.open_number asks) in
       ap (λ (s : CommandStep S). s.server.store)
-      (status_done server call.ids (lock_status server.store call.open_number asks) (record { server = with_store server (locked_through server.store call.open_number asks); response = success call.ids answers_lock }) h)
+      (row_done server call.ids (through_open server.store call.open_number refusal) (record { server = with_store server (locked_through server.store call.open_number asks); response = success call.ids answers_lock })
+      (through_fails server.store call.open_number refusal (table_fails (λ refusal. Refusal.Lock refusal) lock_fails _)) h).1
 
   lock_done : (call : _) (asks : List LockAsk) (b : Bool) →
       (let x : CommandStep S = if b then file_unlocked server call asks else file_locked server call asks in
@@ -74,33 +74,31 @@ module _ {S : Type 0} (server : ServerState S) where
       × (left ≡ stepped server.store (set_step number moment ask))
 
   set_by_class : (call : _) (asked : SetInfoAsked) (class : SetInformationClass) (b c : Bool) → set_class asked.file_info_class.0 ≡ Some class →
-      (let x : CommandStep S = if b then refused server call.ids InfoLengthMismatch else if c then refused server call.ids InvalidParameter else set_as_asked server call (asked_of asked.buffer class) in
+      (let x : CommandStep S = if b then refused server call.ids (Refusal.SetInfo BufferTooShort) else if c then refused server call.ids (Refusal.SetInfo RenameSaysNoName) else set_as_asked server call (asked_of asked.buffer class) in
       x.response.status ≡ Success → IsSet call.open_number call.moment asked x.server.store)
-  set_by_class call asked class true c is h = absurd (let f : InfoLengthMismatch ≡ Success = h in cc)
-  set_by_class call asked class false true is h = absurd (let f : InvalidParameter ≡ Success = h in cc)
+  set_by_class call asked class true c is h = absurd (set_info_fails BufferTooShort h)
+  set_by_class call asked class false true is h = absurd (set_info_fails RenameSaysNoName h)
   set_by_class call asked class false false is h =
       let ask : SetAsked = asked_of asked.buffer class in (
         ask,
         ap (option_map (asked_of asked.buffer)) is,
         ap (λ (s : CommandStep S). s.server.store)
-            (status_done server call.ids (set_status server.store call.open_number ask) (record { server = with_store server (set_through server.store call.open_number call.moment ask); response = success call.ids answers_set_info }) h)
+            (row_done server call.ids (through_open server.store call.open_number (set_refusal server.store call.open_number ask)) (record { server = with_store server (set_through server.store call.open_number call.moment ask); response = success call.ids answers_set_info })
+            (through_fails server.store call.open_number (set_refusal server.store call.open_number ask) (set_fails server.store call.open_number ask)) h).1
             ∙ set_stepped server.store call.open_number call.moment ask,
       )
 
-  set_by_type : (call : _) (asked : SetInfoAsked) (class : Option SetInformationClass) (refusal : Option NtStatus) → set_class asked.file_info_class.0 ≡ class → refusal ≢ Some Success →
-      (let x : CommandStep S = option_map_or (refused server call.ids) refusal (option_map_or (class_set server call asked.buffer) class (refused server call.ids InvalidInfoClass)) in
+  set_by_type : (call : _) (asked : SetInfoAsked) (class : Option SetInformationClass) (refusal : Option SetInfoRefusal) → set_class asked.file_info_class.0 ≡ class →
+      (let x : CommandStep S = option_map_or (λ refusal. refused server call.ids (Refusal.SetInfo refusal)) refusal (option_map_or (class_set server call asked.buffer) class (refused server call.ids (Refusal.SetInfo UnknownClass))) in
       x.response.status ≡ Success → IsSet call.open_number call.moment asked x.server.store)
-  set_by_type call asked class (Some status) is fails h = absurd (fails (ap (λ (s : NtStatus). Some s) h))
-  set_by_type call asked None None is fails h = absurd (let f : InvalidInfoClass ≡ Success = h in cc)
-  set_by_type call asked (Some class) None is fails h =
+  set_by_type call asked class (Some row) is h = absurd (set_info_fails row h)
+  set_by_type call asked None None is h = absurd (set_info_fails UnknownClass h)
+  set_by_type call asked (Some class) None is h =
       set_by_class call asked class (nat_lt (length asked.buffer) (set_length class)) (not (is_readable asked.buffer class)) is h
 
   set_done : (call : _) (asked : SetInfoAsked) → (information_set server call asked).response.status ≡ Success → IsSet call.open_number call.moment asked (information_set server call asked).server.store
   unfolding information_set
-  set_done call asked h =
-      let type = asked.info_type.0 in
-      set_by_type call asked (set_class asked.file_info_class.0) (set_type_refusal type) refl
-      (type_fails_by (type == FILESYSTEM || type == SECURITY || type == QUOTA) (not (type == FILE))) h
+  set_done call asked h = set_by_type call asked (set_class asked.file_info_class.0) (set_type_refusal asked.info_type.0) refl h
 
   -- QUERY_DIRECTORY
   abbrev IsScanned : ℕ → ServerState S → Type 0

@@ -1,18 +1,21 @@
 -- What a response says of a file or a folder is what is there.
-use Rattle.std.proofs.Common.{◌≡◌, ◌≢◌, ◌<◌, ◌≤◌, ◌^◌, ◌⊎◌, inl, inr, ℕ, Bool, true, false, not, nat_le, nat_lt, if◌then◌else◌, List, [], ◌∷◌, ◌++◌, length, take, All, Option, None, Some, refl, sym, ap, subst, arith, ◌==◌, ◌||◌, ◌∙◌, bit_and}
+use Rattle.std.proofs.Common.{◌≡◌, ◌≤◌, inl, inr, ℕ, Bool, true, false, nat_le, nat_lt, if◌then◌else◌, List, [], length, take, All, Option, None, Some, refl, sym, ap, subst, arith, ◌∙◌, bit_and}
 use Rattle.std.specs.Option.{option_map, option_map_or, option_and_then}
 use Rattle.std.proofs.lemmas.Bool.{leb-true, eqb-true}
 use Rattle.std.proofs.lemmas.List.{take_all}
-use Rattle.smb_wire.specs.Access.{has_any, FILE_READ_DATA}
 use Rattle.smb_wire.specs.Fields.{number_in}
 use Rattle.smb_wire.specs.Number.{number, spelling}
 use Rattle.smb_wire.proofs.Numbers.{number-spelling}
 use Rattle.smb_wire.specs.Limits.{most_at_once, most_file_bytes}
 use Rattle.smb_wire.specs.declared.access.Access.{Access}
-use Rattle.smb_wire.specs.declared.nt_status.NtStatus.{NtStatus}
-use Rattle.smb_wire.specs.declared.nt_status.NtStatus.TheVariants.{Success, BufferOverflow, InvalidParameter, AccessDenied, InvalidInfoClass, InfoLengthMismatch, NotSupported, FileClosed}
+use Rattle.smb_wire.specs.declared.nt_status.NtStatus.TheVariants.{Success, BufferOverflow}
+use Rattle.smb_refusals.specs.declared.refusal.Refusal.{Refusal}
+use Rattle.smb_refusals.specs.declared.file.CloseRefusal.{CloseRefusal}
+use Rattle.smb_refusals.specs.declared.query.QueryDirectoryRefusal.{QueryDirectoryRefusal}
+use Rattle.smb_refusals.specs.declared.query.QueryInfoRefusal.{QueryInfoRefusal}
+use Rattle.smb_refusals.proofs.Fails.{create_fails, close_fails, query_directory_fails, query_info_fails}
 use Rattle.smb_tree.specs.Content.{Row, numbered}
-use Rattle.smb_tree.specs.Entries.{Entry, is_folder_kind}
+use Rattle.smb_tree.specs.Entries.{Entry}
 use Rattle.smb_tree.specs.Good.{GoodContent}
 use Rattle.smb_tree.specs.Views.{Shown, row_shown, entry_shown}
 use Rattle.smb_wire.specs.Pairs.{unit_bytes}
@@ -39,15 +42,13 @@ use Rattle.smb_info.specs.Information.{Information, told, information_written}
 use Rattle.smb_info.specs.OpenQueries.{open_list_fault}
 use Rattle.smb_info.specs.Parts.{whole, fixed_length}
 use Rattle.smb_info.specs.Queries.{ListAsked, bytes_listed, entries_listed, scan_after}
-use Rattle.smb_info.specs.declared.fault.InfoFault.{InfoFault}
-use Rattle.smb_info.specs.declared.fault.InfoFault.TheVariants.{BadClass, BadPattern, TooSmall, NoMatch, NoMore, Unreadable, NoMemory}
 use Rattle.smb_info.specs.declared.file_class.FileInformationClass.{FileInformationClass}
 use Rattle.smb_info.specs.declared.file_class.FileInformationClass.TheVariants.{FileBasic, FileStandard, FileInternal, FileEa, FileAccess, FilePosition, FileMode, FileAlignment, FileAll, FileNetworkOpen, FileAttributeTag}
 use Rattle.smb_info.specs.declared.written.Truncation.TheVariants.{Whole, Cut}
 use Rattle.smb_tree.proofs.ChildLists.{own_number}
 use Rattle.smb_info.proofs.Listed.{only_matched}
 use Rattle.smb_info.proofs.Turns.{holds_numbered}
-use Rattle.smb_opens.specs.Create.{create_status}
+use Rattle.smb_opens.specs.Create.{create_refusal}
 use Rattle.smb_opens.specs.Effect.{created, create_result}
 use Rattle.smb_opens.specs.Good.{GoodStore}
 use Rattle.smb_opens.specs.Scans.{scan_set}
@@ -57,16 +58,16 @@ use Rattle.smb_opens.proofs.Returned.{returned_shown}
 use Rattle.smb_request.specs.declared.context.HeaderIds.{HeaderIds}
 use Rattle.smb_request.specs.Call.{call_of}
 use Rattle.smb_request.specs.Files.{file_created, file_closed}
-use Rattle.smb_request.specs.InfoTypes.{FILE, FILESYSTEM, SECURITY, QUOTA}
-use Rattle.smb_request.specs.Parts.{file_asked, close_response, success, failure, with_store, information_asked, request_refusal, room_refusal, written_status, directory_refusal, view_refusal, listed_as_asked, listing_refused, directory_listed}
-use Rattle.smb_request.specs.QueryDirectory.{directory_queried, listing_refusal}
+use Rattle.smb_request.specs.InfoTypes.{FILE}
+use Rattle.smb_request.specs.Parts.{file_asked, close_response, success, with_store, information_asked, request_refusal, room_refusal, written_status, directory_refusal, view_refusal, listed_as_asked, listing_refused, directory_listed}
+use Rattle.smb_request.specs.QueryDirectory.{directory_queried, has_room_for_fields, listing_refusal}
 use Rattle.smb_request.specs.QueryInfo.{information_queried}
-use Rattle.smb_request.specs.Response.{CommandStep, ResponseState, refused, with_body}
+use Rattle.smb_request.specs.Response.{CommandStep, ResponseState, failure, refused, with_body}
 use Rattle.smb_request.specs.Session.{may_only_read}
 use Rattle.smb_request.specs.State.{ServerState}
 use Rattle.smb_request_laws.specs.Doing.{Sent, answered, open_asked, response_body, Succeeds}
 use Rattle.smb_request_laws.specs.Responses.{entry_through, Describes, end_of_file_in, list_ask, ACreateDescribesItsEntry, ACloseDescribesItsEntry, AQueryInfoTellsTheSize, AListingShowsEntriesAsTheyAre}
-use Rattle.smb_request_laws.proofs.Answered.{status_done}
+use Rattle.smb_request_laws.proofs.Answered.{row_done, table_fails}
 use Rattle.smb_request_laws.proofs.Done.{is_acted}
 
 -- ---- the entry of an open, by what the open shows
@@ -106,7 +107,8 @@ module _ {S : Type 0} (server : ServerState S) where
   created_as call asked good h =
       let ask = file_asked call.ids asked (may_only_read server call) in
       let done = create_result server.store ask call.moment in
-      let is = status_done server call.ids (create_status server.store ask) _ h in
+      let is = (row_done server call.ids (option_map (λ refusal. Refusal.Create refusal) (create_refusal server.store ask)) _
+      (table_fails (λ refusal. Refusal.Create refusal) create_fails (create_refusal server.store ask)) h).1 in
       let seen = through (created server.store ask call.moment) done.number done.view (returned_shown server.store ask call.moment good) in (
         _,
         seen.0,
@@ -116,12 +118,12 @@ module _ {S : Type 0} (server : ServerState S) where
       )
 
   abbrev closed_by : HeaderIds → StoreState → CloseFlags → Option View → CommandStep S
-  closed_by ids left flags view = option_map_or (λ view. record { server = with_store server left; response = success ids (answers_close (close_response flags view)) }) view (refused server ids FileClosed)
+  closed_by ids left flags view = option_map_or (λ view. record { server = with_store server left; response = success ids (answers_close (close_response flags view)) }) view (refused server ids (Refusal.Close CloseRefusal.UnknownOpen))
 
   closed_at : (ids : _) (left : StoreState) (number : ℕ) (flags : CloseFlags) (view : Option View) → open_view server.store number ≡ view → bit_and flags.0 1 ≡ 1 → (closed_by ids left flags view).response.status ≡ Success →
       (r : CloseResponse) × (entry : Entry) × ((closed_by ids left flags view).response.body ≡ reply_spelling (answers_close r)) × (entry_through server.store number ≡ Some entry)
       × Describes r.end_of_file r.allocation_size r.creation_time r.last_access_time r.last_write_time r.change_time r.file_attributes.0 entry
-  closed_at ids left number flags None is set h = absurd (let f : FileClosed ≡ Success = h in cc)
+  closed_at ids left number flags None is set h = absurd (close_fails CloseRefusal.UnknownOpen h)
   closed_at ids left number flags (Some view) is set h =
       let seen = through server.store number view is in
       (close_response (record { 0 = 1 }) view, seen.0, rw set refl, seen.1, seen.2)
@@ -137,34 +139,28 @@ module _ {S : Type 0} (server : ServerState S) where
 -- where there is room for all of it, it is whole
 abbrev shaped : HeaderIds → Information → ℕ → Bool → Bool → ResponseState
 shaped ids info room narrow fits =
-    option_map_or (failure ids) (if narrow then Some InfoLengthMismatch else None)
+    option_map_or (λ refusal. failure ids (Refusal.QueryInfo refusal)) (if narrow then Some QueryInfoRefusal.NoRoomForFields else None)
     (with_body ids (written_status (if fits then Whole else Cut)) (answers_query_info (take room (whole info))))
 
 whole_by : (ids : HeaderIds) (info : Information) (room : ℕ) (narrow fits : Bool) → (fits ≡ true → length (whole info) ≤ room) → (shaped ids info room narrow fits).status ≡ Success →
     (shaped ids info room narrow fits).body ≡ reply_spelling (answers_query_info (whole info))
-whole_by ids info room true fits enough h = absurd (let f : InfoLengthMismatch ≡ Success = h in cc)
+whole_by ids info room true fits enough h = absurd (query_info_fails QueryInfoRefusal.NoRoomForFields h)
 whole_by ids info room false false enough h = absurd (let f : BufferOverflow ≡ Success = h in cc)
 whole_by ids info room false true enough h = ap (λ (bytes : List ℕ). reply_spelling (answers_query_info bytes)) (take_all room (whole info) (enough refl))
 
 abbrev queried : HeaderIds → Option Information → ℕ → ResponseState
-queried ids information room = option_map_or (failure ids) (room_refusal information room) (with_body ids (written_status (information_written information room)) (answers_query_info (told information room)))
+queried ids information room = option_map_or (λ refusal. failure ids (Refusal.QueryInfo refusal)) (room_refusal information room) (with_body ids (written_status (information_written information room)) (answers_query_info (told information room)))
 
 queried_whole : (ids : HeaderIds) (information : Option Information) (room : ℕ) → (queried ids information room).status ≡ Success →
     (info : Information) × (information ≡ Some info) × ((queried ids information room).body ≡ reply_spelling (answers_query_info (whole info)))
-queried_whole ids None room h = absurd (let f : InvalidInfoClass ≡ Success = h in cc)
+queried_whole ids None room h = absurd (query_info_fails QueryInfoRefusal.UnknownClass h)
 queried_whole ids (Some info) room h =
     (info, refl, whole_by ids info room (nat_lt room (fixed_length info)) (nat_le (length (whole info)) room) (λ e. leb-true (length (whole info)) room e) h)
 
-unless_refused : (ids : HeaderIds) (refusal : Option NtStatus) (done : ResponseState) → refusal ≢ Some Success → (option_map_or (failure ids) refusal done).status ≡ Success → option_map_or (failure ids) refusal done ≡ done
-unless_refused ids None done fails h = refl
-unless_refused ids (Some status) done fails h = absurd (fails (ap (λ (s : NtStatus). Some s) h))
-
--- no InfoType is refused by SUCCESS, and no size
-request_fails_by : (a b c : Bool) → (let x : Option NtStatus = if a then Some NotSupported else if b then Some InvalidParameter else if c then Some InvalidParameter else None in x) ≢ Some Success
-request_fails_by true b c e = cc
-request_fails_by false true c e = cc
-request_fails_by false false true e = cc
-request_fails_by false false false e = cc
+queried_done : (ids : HeaderIds) (refusal : Option QueryInfoRefusal) (done : ResponseState) → (option_map_or (λ refusal. failure ids (Refusal.QueryInfo refusal)) refusal done).status ≡ Success →
+    option_map_or (λ refusal. failure ids (Refusal.QueryInfo refusal)) refusal done ≡ done
+queried_done ids None done h = refl
+queried_done ids (Some row) done h = absurd (query_info_fails row h)
 
 -- EndOfFile is read where it is
 sized : (class : FileInformationClass) (offset : ℕ) (e : Copied) (access : ℕ) → end_of_file_in class ≡ Some offset → number_in 8 offset (whole (file_information_of class e access)) ≡ number (spelling 8 e.size)
@@ -230,8 +226,7 @@ module _ {S : Type 0} (server : ServerState S) where
   query_as call asked class offset good h type known at =
       let information = information_asked server call.open_number asked in
       let most = most_at_once call.dialect in
-      let is = unless_refused call.ids (request_refusal most asked) (queried call.ids information asked.output_buffer_length)
-      (request_fails_by (asked.info_type.0 == SECURITY || asked.info_type.0 == QUOTA) (not (asked.info_type.0 == FILE || asked.info_type.0 == FILESYSTEM)) (nat_lt most asked.output_buffer_length)) h in
+      let is = queried_done call.ids (request_refusal most asked) (queried call.ids information asked.output_buffer_length) h in
       let all = queried_whole call.ids information asked.output_buffer_length (ap (λ (r : ResponseState). r.status) (sym is) ∙ h) in
       let told_so : said_by server.store class (open_of server.store.opens call.open_number) ≡ Some all.0 = sym (rw (type, known) refl) ∙ all.1 in
       let said = said_of server.store class all.0 (open_of server.store.opens call.open_number) good told_so in
@@ -245,25 +240,6 @@ module _ {S : Type 0} (server : ServerState S) where
       )
 
 -- ---- QUERY_DIRECTORY
-
--- no listing is refused by SUCCESS
-listing_fails : (fault : InfoFault) (refusal : _) → listing_refusal fault ≡ Some refusal → refusal.status ≢ Success
-listing_fails BadClass refusal e = λ q. (let f : InvalidInfoClass ≡ Success = cc in absurd (cc))
-listing_fails BadPattern refusal e = λ q. cc
-listing_fails TooSmall refusal e = λ q. cc
-listing_fails (NoMatch scan) refusal e = λ q. cc
-listing_fails NoMore refusal e = λ q. cc
-listing_fails Unreadable refusal e = cc
-listing_fails NoMemory refusal e = cc
-
-fails_by : (fault : Option InfoFault) (refusal : _) → option_and_then listing_refusal fault ≡ Some refusal → refusal.status ≢ Success
-fails_by None refusal e = cc
-fails_by (Some fault) refusal e = listing_fails fault refusal e
-
-view_fails_by : (a b : Bool) → (let x : Option NtStatus = if a then Some InvalidParameter else if b then Some AccessDenied else None in x) ≢ Some Success
-view_fails_by true b e = cc
-view_fails_by false true e = cc
-view_fails_by false false e = cc
 
 -- the open and its folder, where an open is shown
 there : (store : StoreState) (view : View) (o : Option OpenRow) → option_and_then (λ (row : OpenRow). option_map (λ found. view_of row.access found.1) (numbered store.tree.rows row.entry)) o ≡ Some view →
@@ -304,12 +280,12 @@ module _ {S : Type 0} (server : ServerState S) (asked : QueryDirectoryAsked) (go
       × All (λ (c : Candidate). entry_shown server.store.tree.rows c.entry.number ≡ Some c.entry) (entries_listed server.store.tree.rows row.entry row.scan (list_ask asked))
       × (step.server.store ≡ scan_set server.store number (scan_after server.store.tree.rows row.entry row.scan (list_ask asked)))
 
-  lists_unless : (call : _) (row : OpenRow) (folder : Row) (fault : Option InfoFault) (refusal : Option _) →
+  lists_unless : (call : _) (row : OpenRow) (folder : Row) (refusal : Option _) →
       (option_map_or (listing_refused server call) refusal (directory_listed server call (list_ask asked))).response.status ≡ Success →
-      open_of server.store.opens call.open_number ≡ Some row → numbered server.store.tree.rows row.entry ≡ Some folder → option_and_then listing_refusal fault ≡ refusal →
+      open_of server.store.opens call.open_number ≡ Some row → numbered server.store.tree.rows row.entry ≡ Some folder →
       Lists call.open_number (option_map_or (listing_refused server call) refusal (directory_listed server call (list_ask asked)))
-  lists_unless call row folder fault (Some refusal) h own is from = absurd (fails_by fault refusal from h)
-  lists_unless call row folder fault None h own is from = (
+  lists_unless call row folder (Some refusal) h own is = absurd (query_directory_fails refusal.refusal h)
+  lists_unless call row folder None h own is = (
     row,
     own,
     ap (λ (o : Option OpenRow). reply_spelling (answers_query_directory (option_map_or (λ (row : OpenRow). bytes_listed server.store.tree.rows row.entry row.scan (list_ask asked)) o []))) own,
@@ -317,23 +293,25 @@ module _ {S : Type 0} (server : ServerState S) (asked : QueryDirectoryAsked) (go
     ap (λ (o : Option OpenRow). scan_set server.store call.open_number (option_map_or (λ (row : OpenRow). scan_after server.store.tree.rows row.entry row.scan (list_ask asked)) o (record { pattern = None; last = Start }))) own,
   )
 
-  lists_by : (call : _) (step : CommandStep S) (row : OpenRow) (folder : Row) (status : Option NtStatus) → step ≡ listed_as_asked server call (list_ask asked) →
-      open_of server.store.opens call.open_number ≡ Some row → numbered server.store.tree.rows row.entry ≡ Some folder → status ≢ Some Success →
-      (option_map_or (refused server call.ids) status step).response.status ≡ Success → Lists call.open_number (option_map_or (refused server call.ids) status step)
-  lists_by call step row folder None same own is fails h =
-      let fault = open_list_fault server.store call.open_number (list_ask asked) in
+  lists_by : (call : _) (step : CommandStep S) (row : OpenRow) (folder : Row) (refusal : Option QueryDirectoryRefusal) → step ≡ listed_as_asked server call (list_ask asked) →
+      open_of server.store.opens call.open_number ≡ Some row → numbered server.store.tree.rows row.entry ≡ Some folder →
+      (option_map_or (λ refusal. refused server call.ids (Refusal.QueryDirectory refusal)) refusal step).response.status ≡ Success →
+      Lists call.open_number (option_map_or (λ refusal. refused server call.ids (Refusal.QueryDirectory refusal)) refusal step)
+  lists_by call step row folder None same own is h =
+      let ask = list_ask asked in
       subst (λ (s : CommandStep S). Lists call.open_number s) (sym same)
-      (lists_unless call row folder fault (option_and_then listing_refusal fault) (ap (λ (s : CommandStep S). s.response.status) (sym same) ∙ h) own is refl)
-  lists_by call step row folder (Some status) same own is fails h = absurd (fails (ap (λ (s : NtStatus). Some s) h))
+      (lists_unless call row folder (option_and_then (listing_refusal (has_room_for_fields ask)) (open_list_fault server.store call.open_number ask)) (ap (λ (s : CommandStep S). s.response.status) (sym same) ∙ h) own is)
+  lists_by call step row folder (Some refusal) same own is h = absurd (query_directory_fails refusal h)
 
   lists_through : (call : _) (step : CommandStep S) (over : Bool) (view : Option View) → step ≡ listed_as_asked server call (list_ask asked) → open_view server.store call.open_number ≡ view →
-      (option_map_or (refused server call.ids) (if over then Some InvalidParameter else option_map_or view_refusal view (Some InvalidParameter)) step).response.status ≡ Success →
-      Lists call.open_number (option_map_or (refused server call.ids) (if over then Some InvalidParameter else option_map_or view_refusal view (Some InvalidParameter)) step)
-  lists_through call step true view same is h = absurd (let f : InvalidParameter ≡ Success = h in cc)
-  lists_through call step false None same is h = absurd (let f : InvalidParameter ≡ Success = h in cc)
+      (let refusal : Option QueryDirectoryRefusal = if over then Some QueryDirectoryRefusal.LengthTooGreat else option_map_or view_refusal view (Some QueryDirectoryRefusal.EntryIsFile) in
+      let x : CommandStep S = option_map_or (λ refusal. refused server call.ids (Refusal.QueryDirectory refusal)) refusal step in
+      x.response.status ≡ Success → Lists call.open_number x)
+  lists_through call step true view same is h = absurd (query_directory_fails QueryDirectoryRefusal.LengthTooGreat h)
+  lists_through call step false None same is h = absurd (query_directory_fails QueryDirectoryRefusal.EntryIsFile h)
   lists_through call step false (Some view) same is h =
       let it = there server.store view (open_of server.store.opens call.open_number) is in
-      lists_by call step it.0 it.1 (view_refusal view) same it.2 it.3 (view_fails_by (not (is_folder_kind view.kind)) (not (has_any view.access.0 FILE_READ_DATA))) h
+      lists_by call step it.0 it.1 (view_refusal view) same it.2 it.3 h
 
   lists : (call : _) → (directory_queried server call asked).response.status ≡ Success → Lists call.open_number (directory_queried server call asked)
   unfolding directory_queried

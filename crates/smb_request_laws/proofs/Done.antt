@@ -1,9 +1,11 @@
 -- What a request does that is answered by SUCCESS.
-use Rattle.std.proofs.Common.{◌≡◌, ◌≢◌, Bool, true, false, not, cond, List, [], ◌∷◌, length, filter, Option, None, Some, unwrap_or, refl, sym, ap, ◌∙◌}
-use Rattle.std.specs.Option.{option_map, option_map_or, option_and_then}
+use Rattle.std.proofs.Common.{◌≡◌, Bool, true, false, not, cond, List, [], ◌∷◌, length, filter, Option, None, Some, unwrap_or, refl, sym, ap, ◌∙◌}
+use Rattle.std.specs.Option.{option_map, option_map_or}
 use Rattle.smb_wire.specs.Limits.{most_at_once}
-use Rattle.smb_wire.specs.declared.nt_status.NtStatus.{NtStatus}
-use Rattle.smb_wire.specs.declared.nt_status.NtStatus.TheVariants.{Success, FileClosed}
+use Rattle.smb_wire.specs.declared.nt_status.NtStatus.TheVariants.{Success}
+use Rattle.smb_refusals.specs.declared.refusal.Refusal.{Refusal}
+use Rattle.smb_refusals.specs.declared.file.CloseRefusal.{CloseRefusal}
+use Rattle.smb_refusals.proofs.Fails.{logoff_fails, create_fails, close_fails, read_fails, write_fails}
 use Rattle.smb_body.specs.Create.{CreateAsked}
 use Rattle.smb_body.specs.Replies.{reply_spelling, answers_read, answers_write, answers_close, answers_logoff}
 use Rattle.smb_body.specs.Requests.{RequestValue, asks_logoff, asks_create, asks_close, asks_read, asks_write}
@@ -15,15 +17,13 @@ use Rattle.smb_body.specs.declared.reserved.ReservedRequest.{ReservedRequest}
 use Rattle.smb_session.specs.Authenticator.{Meaning}
 use Rattle.smb_session.specs.Parts.{logoff_refusal}
 use Rattle.smb_session.specs.Table.{read_only_of, session_ended}
-use Rattle.smb_session.specs.declared.fault.SessionFault.{SessionFault}
-use Rattle.smb_session.specs.declared.fault.SessionFault.TheVariants.{UnknownSession, UnknownTree, NoShare, NotAccepted, NoDialect, NoMemory}
 use Rattle.smb_access.specs.declared.open_row.OpenRow.{OpenRow}
 use Rattle.smb_access.specs.declared.open_row.Owner.TheVariants.{Session}
 use Rattle.smb_access.specs.declared.view.View.{View}
 use Rattle.smb_access.specs.Opens.{is_held_by}
-use Rattle.smb_opens.specs.Bytes.{read_status, file_bytes, write_status, written_to}
+use Rattle.smb_opens.specs.Bytes.{read_refusal, file_bytes, write_refusal, written_to}
 use Rattle.smb_opens.specs.Close.{closed, closed_all}
-use Rattle.smb_opens.specs.Create.{create_status}
+use Rattle.smb_opens.specs.Create.{create_refusal}
 use Rattle.smb_opens.specs.Effect.{created}
 use Rattle.smb_opens.specs.Views.{open_view}
 use Rattle.smb_request.specs.Bytes.{file_read, file_written}
@@ -31,15 +31,14 @@ use Rattle.smb_request.specs.Call.{call_of}
 use Rattle.smb_request.specs.Files.{file_created, file_closed}
 use Rattle.smb_request.specs.Laws.{IsInOrder, IsOver, request_ids}
 use Rattle.smb_request.specs.Parts.{close_response, file_asked, success}
-use Rattle.smb_request.specs.Refusals.{status_of_refusal}
 use Rattle.smb_request.specs.Request.{acted}
-use Rattle.smb_request.specs.Response.{CommandStep, ResponseState, refused, with_body}
+use Rattle.smb_request.specs.Response.{CommandStep, ResponseState, refused, through_open, with_body}
 use Rattle.smb_request.specs.Session.{may_only_read, session_logged_off}
 use Rattle.smb_request.specs.State.{ServerState}
 use Rattle.smb_request.proofs.Leaving.{gone}
 use Rattle.smb_request.proofs.Numbers.{others_left}
 use Rattle.smb_request_laws.specs.Doing.{Sent, answered, open_asked, response_body, create_ask, Succeeds}
-use Rattle.smb_request_laws.proofs.Answered.{step_by, comes_to, status_done}
+use Rattle.smb_request_laws.proofs.Answered.{step_by, comes_to, row_done, table_fails, through_fails}
 
 -- a request that succeeds does what its command does
 pub record IsActed {S : Type 0} (act : CommandStep S) (server : ServerState S) (response : Option ResponseState) : Type 0 where
@@ -61,7 +60,7 @@ module _ {S : Type 0} (m : Meaning S) (it : Sent S) where
       (λ e. cc)
       (λ e. step_by m it.connection it.moment it.server it.dialect it.context it.request
       (λ step. step.response.status ≡ Success → IsActed (acts asked) step.server (Some step.response))
-      (λ status fails is. absurd (fails h.context is))
+      (λ refusal fails is. absurd (fails h.context is))
       (λ other says t is. (
       let same : other ≡ asked = some_is other asked (sym says ∙ h.says) in
       rw same (record { server_is = refl; response_is = refl; succeeded = ap (λ a. (acts a).response.status) (sym same) ∙ is })))
@@ -74,10 +73,11 @@ module _ {S : Type 0} (server : ServerState S) where
       ((file_read server call asked).response.body ≡ reply_spelling (answers_read (file_bytes server.store call.open_number asked.offset asked.length))) × ((file_read server call asked).server ≡ server)
   unfolding file_read
   read_done call asked h =
-      let is = status_done server call.ids (read_status server.store (most_at_once call.dialect) call.open_number asked.offset asked.length asked.minimum_count) (record {
+      let refusal = option_map (λ refusal. Refusal.Read refusal) (read_refusal server.store (most_at_once call.dialect) call.open_number asked.offset asked.length asked.minimum_count) in
+      let is = (row_done server call.ids (through_open server.store call.open_number refusal) (record {
         server = server;
         response = with_body call.ids Success (answers_read (file_bytes server.store call.open_number asked.offset asked.length));
-      }) h in
+      }) (through_fails server.store call.open_number refusal (table_fails (λ refusal. Refusal.Read refusal) read_fails _)) h).1 in
       (ap (λ (s : CommandStep S). s.response.body) is, ap (λ (s : CommandStep S). s.server) is)
 
   written_done : (call : _) (asked : WriteAsked) → (file_written server call asked).response.status ≡ Success →
@@ -85,10 +85,11 @@ module _ {S : Type 0} (server : ServerState S) where
       × ((file_written server call asked).response.body ≡ reply_spelling (answers_write (record { count = length asked.buffer })))
   unfolding file_written
   written_done call asked h =
-      let is = status_done server call.ids (write_status server.store (most_at_once call.dialect) call.open_number asked.offset asked.buffer) (record {
+      let refusal = option_map (λ refusal. Refusal.Write refusal) (write_refusal server.store (most_at_once call.dialect) call.open_number asked.offset asked.buffer) in
+      let is = (row_done server call.ids (through_open server.store call.open_number refusal) (record {
         server = record server { store = written_to server.store call.open_number asked.offset asked.buffer call.moment };
         response = with_body call.ids Success (answers_write (record { count = length asked.buffer }));
-      }) h in
+      }) (through_fails server.store call.open_number refusal (table_fails (λ refusal. Refusal.Write refusal) write_fails _)) h).1 in
       (ap (λ (s : CommandStep S). s.server.store) is, ap (λ (s : CommandStep S). s.response.body) is)
 
   created_done : (call : _) (asked : CreateAsked) → (file_created server call asked).response.status ≡ Success →
@@ -96,34 +97,18 @@ module _ {S : Type 0} (server : ServerState S) where
   unfolding file_created
   created_done call asked h =
       let ask = file_asked call.ids asked (may_only_read server call) in
-      ap (λ (s : CommandStep S). s.server.store) (status_done server call.ids (create_status server.store ask) _ h)
+      ap (λ (s : CommandStep S). s.server.store) (row_done server call.ids (option_map (λ refusal. Refusal.Create refusal) (create_refusal server.store ask)) _
+      (table_fails (λ refusal. Refusal.Create refusal) create_fails (create_refusal server.store ask)) h).1
 
   closed_at : (ids : _) (store' : _) (answer : View → ResponseState) (view : Option View) →
-      (option_map_or (λ view. let x : CommandStep S = record { server = record server { store = store' }; response = answer view } in x) view (refused server ids FileClosed)).response.status ≡ Success →
-      (option_map_or (λ view. let x : CommandStep S = record { server = record server { store = store' }; response = answer view } in x) view (refused server ids FileClosed)).server.store ≡ store'
-  closed_at ids store' answer None h = cc
+      (option_map_or (λ view. let x : CommandStep S = record { server = record server { store = store' }; response = answer view } in x) view (refused server ids (Refusal.Close CloseRefusal.UnknownOpen))).response.status ≡ Success →
+      (option_map_or (λ view. let x : CommandStep S = record { server = record server { store = store' }; response = answer view } in x) view (refused server ids (Refusal.Close CloseRefusal.UnknownOpen))).server.store ≡ store'
+  closed_at ids store' answer None h = absurd (close_fails CloseRefusal.UnknownOpen h)
   closed_at ids store' answer (Some view) h = refl
 
   closed_done : (call : _) (flags : CloseFlags) → (file_closed server call flags).response.status ≡ Success → (file_closed server call flags).server.store ≡ closed server.store call.open_number
   unfolding file_closed
   closed_done call flags h = closed_at call.ids (closed server.store call.open_number) (λ view. success call.ids (answers_close (close_response flags view))) (open_view server.store call.open_number) h
-
-  -- a refusal of the sessions is no SUCCESS
-  status_fails : (fault : SessionFault) → status_of_refusal fault ≢ Some Success
-  status_fails UnknownSession e = cc
-  status_fails UnknownTree e = cc
-  status_fails NoShare e = cc
-  status_fails NotAccepted e = cc
-  status_fails NoDialect e = cc
-  status_fails NoMemory e = cc
-
-  pub and_then_fails : (refusal : Option SessionFault) → option_and_then status_of_refusal refusal ≢ Some Success
-  and_then_fails None e = cc
-  and_then_fails (Some fault) e = status_fails fault e
-
-  unless_at : (ids : _) (done : CommandStep S) (status : Option NtStatus) → status ≢ Some Success → (option_map_or (refused server ids) status done).response.status ≡ Success → option_map_or (refused server ids) status done ≡ done
-  unless_at ids done None fails h = refl
-  unless_at ids done (Some status) fails h = absurd (fails (ap (λ (s : NtStatus). Some s) h))
 
   logged_off_done : (call : _) → (session_logged_off server call).response.status ≡ Success →
       ((session_logged_off server call).server.sessions.table ≡ session_ended server.sessions.table call.ids.session_id)
@@ -131,13 +116,13 @@ module _ {S : Type 0} (server : ServerState S) where
   unfolding session_logged_off
   logged_off_done call h =
       let refusal = logoff_refusal server.sessions.table call.connection call.ids.session_id in
-      let is = unless_at call.ids (record {
+      let is = (row_done server call.ids (option_map (λ refusal. Refusal.Logoff refusal) refusal) (record {
         server = record server {
           sessions = record server.sessions { table = session_ended server.sessions.table call.ids.session_id };
           store = closed_all server.store (Session call.ids.session_id);
         };
         response = with_body call.ids Success answers_logoff;
-      }) (option_and_then status_of_refusal refusal) (and_then_fails refusal) h in
+      }) (table_fails (λ refusal. Refusal.Logoff refusal) logoff_fails refusal) h).1 in
       (ap (λ (s : CommandStep S). s.server.sessions.table) is, ap (λ (s : CommandStep S). s.server.store) is)
 
 none_left : (P : OpenRow → Bool) (rows : List OpenRow) → filter P (filter (λ row. not (P row)) rows) ≡ []

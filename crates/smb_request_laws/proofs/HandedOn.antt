@@ -5,6 +5,8 @@ use Rattle.std.proofs.lemmas.Bool.{ne_eqb}
 use Rattle.smb_wire.specs.declared.dialect.Dialect.{Dialect}
 use Rattle.smb_wire.specs.declared.file_id.FileId.{FileId}
 use Rattle.smb_wire.specs.declared.nt_status.NtStatus.TheVariants.{Success}
+use Rattle.smb_refusals.specs.declared.refusal.Refusal.{Refusal}
+use Rattle.smb_refusals.proofs.Fails.{create_fails}
 use Rattle.smb_tree.specs.Content.{numbered}
 use Rattle.smb_body.specs.Create.{CreateAsked}
 use Rattle.smb_body.specs.Replies.{reply_spelling, answers_create}
@@ -15,7 +17,7 @@ use Rattle.smb_access.specs.declared.open_row.OpenRow.{OpenRow}
 use Rattle.smb_access.specs.declared.view.View.{View}
 use Rattle.smb_access.specs.Opens.{AreAllBelow, open_of}
 use Rattle.smb_access.specs.Views.{view_of}
-use Rattle.smb_opens.specs.Create.{create_status}
+use Rattle.smb_opens.specs.Create.{create_refusal}
 use Rattle.smb_opens.specs.Effect.{created, create_result}
 use Rattle.smb_opens.specs.Good.{GoodStore}
 use Rattle.smb_opens.specs.State.{StoreState}
@@ -33,7 +35,7 @@ use Rattle.smb_request.specs.Session.{may_only_read}
 use Rattle.smb_request.specs.State.{ServerState}
 use Rattle.smb_request_laws.specs.Doing.{answered}
 use Rattle.smb_request_laws.specs.Responses.{ACreateGivesItsOpen}
-use Rattle.smb_request_laws.proofs.Answered.{status_done, step}
+use Rattle.smb_request_laws.proofs.Answered.{row_done, step, table_fails}
 use Rattle.smb_request_laws.proofs.Done.{is_acted}
 
 -- the next number is none's
@@ -63,7 +65,8 @@ module _ {S : Type 0} (server : ServerState S) where
   made_as call asked good h =
       let ask = file_asked call.ids asked (may_only_read server call) in
       let done = create_result server.store ask call.moment in
-      let is = status_done server call.ids (create_status server.store ask) _ h in (
+      let is = (row_done server call.ids (option_map (λ refusal. Refusal.Create refusal) (create_refusal server.store ask)) _
+      (table_fails (λ refusal. Refusal.Create refusal) create_fails (create_refusal server.store ask)) h).1 in (
         _,
         ap (λ (s : CommandStep S). s.response.body) is,
         refl,

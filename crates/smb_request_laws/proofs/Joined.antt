@@ -1,11 +1,10 @@
 -- TREE_CONNECT and TREE_DISCONNECT that succeed.
-use Rattle.std.proofs.Common.{◌≡◌, ◌≢◌, ◌==◌, ◌||◌, ◌∙◌, ℕ, Bool, true, false, not, nat_le, if◌then◌else◌, List, [], ◌∷◌, ◌++◌, length, filter, Option, None, Some, refl, sym, ap, arith}
+use Rattle.std.proofs.Common.{◌≡◌, ◌==◌, ◌||◌, ◌∙◌, ℕ, Bool, true, false, not, nat_le, if◌then◌else◌, List, [], ◌∷◌, ◌++◌, length, filter, Option, None, Some, refl, sym, ap, arith}
 use Rattle.std.proofs.lemmas.Bool.Decides.{nat_tests}
-use Rattle.std.specs.Option.{option_map, option_map_or, option_and_then}
+use Rattle.std.specs.Option.{option_map, option_map_or}
 use Rattle.smb_wire.specs.Counters.{is_spent}
 use Rattle.smb_wire.specs.Limits.{most_tree_connects}
 use Rattle.smb_wire.specs.Names.{is_same_name}
-use Rattle.smb_wire.specs.declared.nt_status.NtStatus.{NtStatus}
 use Rattle.smb_wire.specs.declared.nt_status.NtStatus.TheVariants.{Success}
 use Rattle.smb_body.specs.Requests.{asks_tree_connect, asks_tree_disconnect}
 use Rattle.smb_body.specs.TreeConnect.{TreeConnectAsked}
@@ -17,18 +16,20 @@ use Rattle.smb_session.specs.Path.{path_parts, share_in}
 use Rattle.smb_session.specs.Session.{SessionState}
 use Rattle.smb_session.specs.Sessions.{tree_connect_refusal}
 use Rattle.smb_session.specs.Table.{session_at, knows_session, knows_tree, tree_disconnect_refusal}
-use Rattle.smb_session.specs.declared.fault.SessionFault.TheVariants.{UnknownSession, NoShare, NotAccepted}
+use Rattle.smb_refusals.specs.declared.session.TreeConnectRefusal.{TreeConnectRefusal}
+use Rattle.smb_refusals.specs.declared.session.TreeConnectRefusal.TheVariants.{UnknownShare, NoTreeConnectLeft}
+use Rattle.smb_refusals.specs.declared.refusal.Refusal.{Refusal}
+use Rattle.smb_refusals.proofs.Fails.{tree_connect_fails, tree_disconnect_fails}
 use Rattle.smb_access.specs.declared.open_row.Owner.TheVariants.{Tree}
 use Rattle.smb_opens.specs.Close.{closed_all}
-use Rattle.smb_request.specs.declared.context.HeaderIds.{HeaderIds}
 use Rattle.smb_request.specs.Call.{call_of}
 use Rattle.smb_request.specs.Laws.{request_ids}
-use Rattle.smb_request.specs.Refusals.{status_of_refusal}
-use Rattle.smb_request.specs.Response.{CommandStep, ResponseState, refused}
+use Rattle.smb_request.specs.Response.{CommandStep, ResponseState}
 use Rattle.smb_request.specs.Session.{tree_joined, tree_left}
 use Rattle.smb_request.specs.State.{ServerState}
 use Rattle.smb_request_laws.specs.Doing.{Sent, answered, Succeeds}
-use Rattle.smb_request_laws.proofs.Done.{acts, is_acted, and_then_fails}
+use Rattle.smb_request_laws.proofs.Answered.{row_done, table_fails}
+use Rattle.smb_request_laws.proofs.Done.{acts, is_acted}
 use Rattle.smb_request_laws.proofs.LetIn.{changed_here}
 
 contains_last : (ns : List ℕ) (n : ℕ) → contains (ns ++ n ∷ []) n ≡ true
@@ -50,7 +51,7 @@ has_left None tree = refl
 has_left (Some state) tree = contains_not state.trees tree
 
 -- a TREE_CONNECT that is not refused
-join_passes : (known named full : Bool) → option_and_then status_of_refusal (if not known then Some UnknownSession else if not named then Some NoShare else if full then Some NotAccepted else None) ≡ None →
+join_passes : (known named full : Bool) → option_map (λ refusal. Refusal.TreeConnect refusal) (if not known then Some TreeConnectRefusal.UnknownSession else if not named then Some UnknownShare else if full then Some NoTreeConnectLeft else None) ≡ None →
     (named ≡ true) × (full ≡ false)
 join_passes false named full e = cc
 join_passes true false full e = cc
@@ -58,11 +59,6 @@ join_passes true true true e = cc
 join_passes true true false e = (refl, refl)
 
 module _ {S : Type 0} (server : ServerState S) where
-  passed_at : (ids : HeaderIds) (done : CommandStep S) (status : Option NtStatus) → status ≢ Some Success → (option_map_or (refused server ids) status done).response.status ≡ Success →
-      (status ≡ None) × (option_map_or (refused server ids) status done ≡ done)
-  passed_at ids done None fails h = (refl, refl)
-  passed_at ids done (Some status) fails h = absurd (fails (ap (λ (s : NtStatus). Some s) h))
-
   pub joined_done : (call : _) (path : List ℕ) → (tree_joined server call path).response.status ≡ Success →
       (option_map_or (λ named. is_same_name named server.sessions.share) (share_in (path_parts path)) false ≡ true)
       × (knows_tree (tree_joined server call path).server.sessions.table call.ids.session_id (tree_joined server call path).response.ids.tree_id ≡ true)
@@ -71,8 +67,8 @@ module _ {S : Type 0} (server : ServerState S) where
       let table = server.sessions.table in
       let s = call.ids.session_id in
       let full : SessionState → Bool = λ state. nat_le most_tree_connects (length state.trees) || is_spent 32 state.next_tree in
-      let refusal = tree_connect_refusal server.sessions call.connection s path in
-      let passed = passed_at call.ids _ (option_and_then status_of_refusal refusal) (and_then_fails server refusal) h in
+      let passed = row_done server call.ids (option_map (λ refusal. Refusal.TreeConnect refusal) (tree_connect_refusal server.sessions call.connection s path)) _
+      (table_fails (λ refusal. Refusal.TreeConnect refusal) tree_connect_fails (tree_connect_refusal server.sessions call.connection s path)) h in
       let facts = join_passes (knows_session table call.connection s) (option_map_or (λ named. is_same_name named server.sessions.share) (share_in (path_parts path)) false) (option_map_or full (session_at table s) true) passed.0 in (
         facts.0,
         ap (λ (step : CommandStep S). knows_tree step.server.sessions.table s step.response.ids.tree_id) passed.1
@@ -87,7 +83,7 @@ module _ {S : Type 0} (server : ServerState S) where
   left_done call h =
       let table = server.sessions.table in
       let refusal = tree_disconnect_refusal table call.connection call.ids.session_id call.ids.tree_id in
-      let passed = passed_at call.ids _ (option_and_then status_of_refusal refusal) (and_then_fails server refusal) h in (
+      let passed = row_done server call.ids (option_map (λ refusal. Refusal.TreeDisconnect refusal) refusal) _ (table_fails (λ refusal. Refusal.TreeDisconnect refusal) tree_disconnect_fails refusal) h in (
         ap (λ (step : CommandStep S). step.server.store) passed.1,
         ap (λ (step : CommandStep S). knows_tree step.server.sessions.table call.ids.session_id call.ids.tree_id) passed.1
             ∙ ap (λ (o : Option SessionState). option_map_or (λ (state : SessionState). contains state.trees call.ids.tree_id) o false) (changed_here (without_tree call.ids.tree_id) table call.ids.session_id)

@@ -3,8 +3,9 @@ use Rattle.std.proofs.Common.{◌≡◌, ◌≢◌, ◌-◌, ◌/◌, ◌+◌, �
 use Rattle.std.specs.Option.{option_map_or}
 use Rattle.smb_wire.specs.declared.command.Command.TheVariants.{SessionSetup}
 use Rattle.smb_wire.specs.declared.dialect.Dialect.{Dialect}
-use Rattle.smb_wire.specs.declared.nt_status.NtStatus.{NtStatus}
-use Rattle.smb_wire.specs.declared.nt_status.NtStatus.TheVariants.{NotSupported}
+use Rattle.smb_refusals.specs.declared.refusal.Refusal.{Refusal}
+use Rattle.smb_refusals.specs.declared.request.NegotiateRefusal.TheVariants.{NoDialect}
+use Rattle.smb_refusals.specs.declared.request.RequestRefusal.{RequestRefusal}
 use Rattle.smb_body.specs.Requests.{RequestValue, payload_of, asks_negotiate, asks_session_setup, asks_cancel, asks_echo}
 use Rattle.smb_session.specs.Authenticator.{Meaning}
 use Rattle.smb_session.specs.Negotiate.{best_of}
@@ -23,11 +24,11 @@ use Rattle.smb_request_laws.proofs.Turned.{no_session}
 use Rattle.smb_request_laws.proofs.Under.{and_not}
 use Rattle.smb_request_laws.proofs.Answered.{step_by, comes_to, command_for, says_command}
 
-none_some : (status : NtStatus) (o : Option NtStatus) → o ≡ None → o ≡ Some status → ⊥
-none_some status o e f = let both : None ≡ Some status = sym e ∙ f in cc
+none_some : (row : RequestRefusal) (o : Option RequestRefusal) → o ≡ None → o ≡ Some row → ⊥
+none_some row o e f = let both : None ≡ Some row = sym e ∙ f in cc
 
 negotiated_same : {S : Type 0} (server : ServerState S) (ids : HeaderIds) (answer : Dialect → ResponseState) (best : Option Dialect) →
-    (option_map_or (λ best. let x : CommandStep S = record { server = server; response = answer best } in x) best (refused server ids NotSupported)).server ≡ server
+    (option_map_or (λ best. let x : CommandStep S = record { server = server; response = answer best } in x) best (refused server ids (Refusal.Negotiate NoDialect))).server ≡ server
 negotiated_same server ids answer None = refl
 negotiated_same server ids answer (Some best) = refl
 
@@ -50,5 +51,5 @@ module _ {S : Type 0} (m : Meaning S) (connection moment : ℕ) (server : Server
   nobody_changes =
       comes_to m connection moment server dialect context request (λ after response. after ≡ server) refl
       (step_by m connection moment server dialect context request (λ step. step.server ≡ server)
-      (λ status fails. refl)
+      (λ refusal fails. refl)
       (λ asked says t. act_same asked (says_command (command_in request) request asked says) t))

@@ -1,13 +1,19 @@
 -- Whoever may is served.
-use Rattle.std.proofs.Common.{◌≡◌, ◌==◌, ◌&&◌, ◌-◌, ◌/◌, ◌+◌, ◌≤◌, ◌∙◌, ℕ, nat_lt, Bool, true, false, not, if◌then◌else◌, List, Option, None, Some, refl, ap, arith}
+use Rattle.std.proofs.Common.{◌≡◌, ◌≢◌, ◌==◌, ◌&&◌, ◌-◌, ◌/◌, ◌+◌, ◌≤◌, ◌∙◌, ℕ, nat_lt, Bool, true, false, not, if◌then◌else◌, List, Option, None, Some, is_some, refl, ap, arith}
 use Rattle.std.proofs.lemmas.Bool.{eq-eqb}
 use Rattle.std.proofs.lemmas.Bool.Decides.{nat_tests}
-use Rattle.std.specs.Option.{option_map, option_map_or, option_and_then}
+use Rattle.std.specs.Option.{is_none, option_map, option_map_or, option_and_then}
 use Rattle.smb_wire.specs.Limits.{most_at_once}
-use Rattle.smb_wire.proofs.Statuses.{success_yes}
 use Rattle.smb_wire.specs.declared.file_id.FileId.{FileId}
 use Rattle.smb_wire.specs.declared.nt_status.NtStatus.{NtStatus}
-use Rattle.smb_wire.specs.declared.nt_status.NtStatus.TheVariants.{Success, InvalidParameter, NotSupported, NetworkNameDeleted, UserSessionDeleted}
+use Rattle.smb_wire.specs.declared.nt_status.NtStatus.TheVariants.{Success, FileClosed}
+use Rattle.smb_refusals.specs.declared.refusal.Refusal.{Refusal}
+use Rattle.smb_refusals.specs.declared.request.RequestRefusal.{RequestRefusal}
+use Rattle.smb_refusals.specs.declared.request.RequestRefusal.TheVariants.{UnknownCommand, CommandNotPerformed, BodyUnreadable, ChargeTooSmall, UnknownTreeConnect, UnknownOpen}
+use Rattle.smb_refusals.specs.Refusals.{refusal_status}
+use Rattle.smb_refusals.specs.Rows.{RefusalRow, first_refusal, first_status, with_statuses}
+use Rattle.smb_refusals.proofs.Fails.{read_fails, write_fails}
+use Rattle.smb_refusals.proofs.RowLemmas.{unrefused}
 use Rattle.smb_head.specs.Headers.{header_of}
 use Rattle.smb_body.specs.Requests.{RequestValue, payload_of, file_id_of, asks_session_setup, asks_read, asks_write, asks_echo}
 use Rattle.smb_body.specs.SessionSetup.{SessionSetupAsked}
@@ -18,7 +24,10 @@ use Rattle.smb_session.specs.Authenticator.{Meaning, accepts}
 use Rattle.smb_session.specs.Laws.{setup_number}
 use Rattle.smb_session.specs.Setup.{setup_refusal}
 use Rattle.smb_session.specs.Table.{knows_session, knows_tree}
-use Rattle.smb_opens.specs.Bytes.{read_status, write_status}
+use Rattle.smb_access.specs.declared.view.View.{View}
+use Rattle.smb_opens.specs.Bytes.{read_refusals, read_status, write_refusals, write_status}
+use Rattle.smb_opens.specs.State.{StoreState}
+use Rattle.smb_opens.specs.Views.{open_view, refusal_through, status_through}
 use Rattle.smb_request.specs.declared.context.ContextOpen.{ContextOpen}
 use Rattle.smb_request.specs.declared.context.ContextOpen.TheVariants.{Named}
 use Rattle.smb_request.specs.declared.context.HeaderIds.{HeaderIds}
@@ -30,7 +39,7 @@ use Rattle.smb_request.specs.Laws.{request_ids}
 use Rattle.smb_request.specs.Needs.{needs_of}
 use Rattle.smb_request.specs.Parts.{needs_session, needs_tree, is_unsupported, is_cancel_command, open_refusal, number_named, performed_by}
 use Rattle.smb_request.specs.Request.{check_request, acted, performed}
-use Rattle.smb_request.specs.Response.{CommandStep, refused, by_status}
+use Rattle.smb_request.specs.Response.{CommandStep, refused, through_open, unless_refused}
 use Rattle.smb_request.specs.Session.{session_set_up}
 use Rattle.smb_request.specs.State.{ServerState}
 use Rattle.smb_request_laws.specs.Acting.{command_in}
@@ -40,20 +49,32 @@ use Rattle.smb_request_laws.proofs.Answered.{command_for, says_command}
 use Rattle.smb_request_laws.proofs.Done.{acts}
 
 -- a step that no check refuses
-acts_by : {S : Type 0} (server : ServerState S) (ids : HeaderIds) (check : RequestValue → Option NtStatus) (act : RequestValue → CommandStep S) (unsupported : Bool) (body : Option RequestValue) (asked : RequestValue) →
+acts_by : {S : Type 0} (server : ServerState S) (ids : HeaderIds) (check : RequestValue → Option RequestRefusal) (act : RequestValue → CommandStep S) (unsupported unknown : Bool) (body : Option RequestValue) (asked : RequestValue) →
     unsupported ≡ false → body ≡ Some asked → check asked ≡ None →
-    (let x : CommandStep S = if unsupported then refused server ids NotSupported else
-    option_map_or (λ asked. option_map_or (refused server ids) (check asked) (act asked)) body (refused server ids InvalidParameter) in x) ≡ act asked
-acts_by server ids check act true body asked u b c = cc
-acts_by server ids check act false None asked u b c = cc
-acts_by server ids check act false (Some other) asked u b c = let is : other ≡ asked = cc in rw is (rw c refl)
+    (let x : CommandStep S = if unsupported then refused server ids (Refusal.Request CommandNotPerformed) else
+    option_map_or (λ asked. unless_refused server ids (option_map (λ refusal. Refusal.Request refusal) (check asked)) (act asked)) body
+    (refused server ids (Refusal.Request (if unknown then UnknownCommand else BodyUnreadable))) in x) ≡ act asked
+acts_by server ids check act true unknown body asked u b c = cc
+acts_by server ids check act false unknown None asked u b c = cc
+acts_by server ids check act false unknown (Some other) asked u b c = let is : other ≡ asked = cc in rw is (rw c refl)
 
-checks_pass : (charge session joined : Bool) (rest : Option NtStatus) → charge ≡ false → session ≡ false → joined ≡ false → rest ≡ None →
-    (if charge then Some InvalidParameter else if session then Some UserSessionDeleted else if joined then Some NetworkNameDeleted else rest) ≡ None
+checks_pass : (charge session joined : Bool) (rest : Option RequestRefusal) → charge ≡ false → session ≡ false → joined ≡ false → rest ≡ None →
+    (if charge then Some ChargeTooSmall else if session then Some RequestRefusal.UnknownSession else if joined then Some UnknownTreeConnect else rest) ≡ None
 checks_pass true session joined rest c s j r = cc
 checks_pass false true joined rest c s j r = cc
 checks_pass false false true rest c s j r = cc
 checks_pass false false false rest c s j r = r
+
+-- what is asked through an open whose table has the status SUCCESS is not refused
+passes_at : {R : Type 0} (name : R → Refusal) → ((row : R) → refusal_status (name row) ≢ Success) → (rows : View → List (RefusalRow R)) (o : Option View) →
+    option_map_or (λ view. first_status (with_statuses name (rows view))) o FileClosed ≡ Success →
+    (let x : Option Refusal = if is_some o then option_map name (option_and_then (λ view. first_refusal (rows view)) o) else Some (Refusal.Request UnknownOpen) in x) ≡ None
+passes_at name fails rows None e = cc
+passes_at name fails rows (Some view) e = ap (option_map name) (unrefused name fails (rows view) e)
+
+table_passes : {R : Type 0} (name : R → Refusal) → ((row : R) → refusal_status (name row) ≢ Success) → (store : StoreState) (number : ℕ) (rows : View → List (RefusalRow R)) →
+    status_through store number (λ view. with_statuses name (rows view)) ≡ Success → through_open store number (option_map name (refusal_through store number rows)) ≡ None
+table_passes name fails store number rows e = passes_at name fails rows (open_view store number) e
 
 supported : (asked : RequestValue) → is_unsupported (command_for asked) ≡ false
 supported asked = grind (arith)
@@ -71,7 +92,7 @@ module _ {S : Type 0} (m : Meaning S) (it : Sent S) where
       let command = says_command (command_in it.request) it.request asked says in
       let cancel = ap is_cancel_command command ∙ other in
       let unsupported = ap (λ c. option_map_or is_unsupported c false) command ∙ supported asked in
-      let step = acts_by it.server call.ids (check_request it.server call) (acted m it.server call) (option_map_or is_unsupported (command_in it.request) false) (body_of (command_in it.request) it.request) asked unsupported says e in
+      let step = acts_by it.server call.ids (check_request it.server call) (acted m it.server call) (option_map_or is_unsupported (command_in it.request) false) (is_none (command_in it.request)) (body_of (command_in it.request) it.request) asked unsupported says e in
       step_told cancel ∙ ap (λ (s : CommandStep S). Some s.response.status) step ∙ ap (λ (s : NtStatus). Some s) h
 
   not_less : (a b : ℕ) → a ≤ b → nat_lt b a ≡ false
@@ -140,19 +161,27 @@ module _ {S : Type 0} (m : Meaning S) (it : Sent S) where
       (option_and_then (open_refusal it.server.store.opens ids) (option_map (open_named inherited) file_id))
       (charge_passes asked h) (rw (s, own.session) refl) (rw (t, own.tree) refl) (ap (option_and_then (open_refusal it.server.store.opens ids)) (named_is asked id h e own) ∙ held_passes id own)
 
-  status_served : (server : ServerState S) (status : NtStatus) (done : CommandStep S) → status ≡ Success → done.response.status ≡ Success → (by_status server ids status done).response.status ≡ Success
-  status_served server status done e h = rw (success_yes status e) h
+  row_served : (server : ServerState S) (refusal : Option Refusal) (done : CommandStep S) → refusal ≡ None → done.response.status ≡ Success → (unless_refused server ids refusal done).response.status ≡ Success
+  row_served server refusal done e h = rw e h
 
   pub read_succeeds : (asked : ReadRequest) → Asks it (asks_read asked) → IsOfItsOwn it asked.file_id →
       read_status it.server.store (most_at_once it.dialect) asked.file_id.persistent asked.offset asked.length asked.minimum_count ≡ Success → response_status (answered m it) ≡ Some Success
   unfolding file_read
   read_succeeds asked h own e =
+      let store = it.server.store in
+      let number = (call_of it.connection it.moment it.dialect it.context it.request).open_number in
+      let own_number = opened_is (asks_read asked) asked.file_id h refl own in
+      let status = ap (λ n. read_status store (most_at_once it.dialect) n asked.offset asked.length asked.minimum_count) own_number ∙ e in
       served (asks_read asked) h.says refl (own_passes (asks_read asked) asked.file_id h refl refl refl own)
-      (status_served it.server _ _ (ap (λ n. read_status it.server.store (most_at_once it.dialect) n asked.offset asked.length asked.minimum_count) (opened_is (asks_read asked) asked.file_id h refl own) ∙ e) refl)
+      (row_served it.server _ _ (table_passes (λ refusal. Refusal.Read refusal) read_fails store number (read_refusals store (most_at_once it.dialect) number asked.offset asked.length asked.minimum_count) status) refl)
 
   pub write_succeeds : (asked : WriteAsked) → Asks it (asks_write asked) → IsOfItsOwn it asked.file_id →
       write_status it.server.store (most_at_once it.dialect) asked.file_id.persistent asked.offset asked.buffer ≡ Success → response_status (answered m it) ≡ Some Success
   unfolding file_written
   write_succeeds asked h own e =
+      let store = it.server.store in
+      let number = (call_of it.connection it.moment it.dialect it.context it.request).open_number in
+      let own_number = opened_is (asks_write asked) asked.file_id h refl own in
+      let status = ap (λ n. write_status store (most_at_once it.dialect) n asked.offset asked.buffer) own_number ∙ e in
       served (asks_write asked) h.says refl (own_passes (asks_write asked) asked.file_id h refl refl refl own)
-      (status_served it.server _ _ (ap (λ n. write_status it.server.store (most_at_once it.dialect) n asked.offset asked.buffer) (opened_is (asks_write asked) asked.file_id h refl own) ∙ e) refl)
+      (row_served it.server _ _ (table_passes (λ refusal. Refusal.Write refusal) write_fails store number (write_refusals store (most_at_once it.dialect) number asked.offset asked.buffer) status) refl)

@@ -1,12 +1,15 @@
 -- A request that is refused before it is performed.
 use Rattle.std.proofs.Common.{◌≡◌, ◌≢◌, ℕ, Bool, true, false, not, if◌then◌else◌, List, Option, None, Some, is_some, refl, sym, ap, ◌∙◌}
-use Rattle.std.specs.Option.{option_map, option_map_or}
+use Rattle.std.specs.Option.{is_none, option_map, option_map_or}
 use Rattle.smb_wire.specs.Commands.{code_of}
 use Rattle.smb_wire.specs.declared.command.Command.{Command}
 use Rattle.smb_wire.specs.declared.command.Command.TheVariants.{Negotiate, SessionSetup, Logoff, TreeConnect, TreeDisconnect, Create, Close, Flush, Read, Write, Lock, Ioctl, Cancel, Echo, QueryDirectory, ChangeNotify, QueryInfo, SetInfo, OplockBreak}
 use Rattle.smb_wire.specs.declared.dialect.Dialect.{Dialect}
-use Rattle.smb_wire.specs.declared.nt_status.NtStatus.{NtStatus}
-use Rattle.smb_wire.specs.declared.nt_status.NtStatus.TheVariants.{Success, InvalidParameter, NotSupported, NetworkNameDeleted, UserSessionDeleted}
+use Rattle.smb_wire.specs.declared.nt_status.NtStatus.TheVariants.{Success}
+use Rattle.smb_refusals.specs.declared.refusal.Refusal.{Refusal}
+use Rattle.smb_refusals.specs.declared.request.RequestRefusal.{RequestRefusal}
+use Rattle.smb_refusals.specs.declared.request.RequestRefusal.TheVariants.{UnknownCommand, CommandNotPerformed, BodyUnreadable, ChargeTooSmall, UnknownTreeConnect}
+use Rattle.smb_refusals.specs.Refusals.{refusal_status}
 use Rattle.smb_body.specs.Replies.{reply_spelling, answers_error}
 use Rattle.smb_body.specs.Requests.{RequestValue, request_of, file_id_of, asks_negotiate, asks_session_setup, asks_logoff, asks_tree_connect, asks_tree_disconnect, asks_create, asks_close, asks_flush, asks_read, asks_write, asks_lock, asks_cancel, asks_echo, asks_query_directory, asks_query_info, asks_set_info}
 use Rattle.smb_session.specs.Authenticator.{Meaning}
@@ -17,7 +20,7 @@ use Rattle.smb_request.specs.Context.{named_on, open_for_next_related}
 use Rattle.smb_request.specs.Needs.{needs_of}
 use Rattle.smb_request.specs.Parts.{needs_session, needs_tree, is_unsupported, is_cancel_command, dialect_after, performed_by}
 use Rattle.smb_request.specs.Request.{check_request, acted, performed}
-use Rattle.smb_request.specs.Response.{CommandStep, Performed, refused}
+use Rattle.smb_request.specs.Response.{CommandStep, Performed, refused, unless_refused}
 use Rattle.smb_request.specs.State.{ServerState}
 use Rattle.smb_request_laws.specs.Acting.{IsTurnedAway}
 
@@ -74,48 +77,56 @@ pub needs_by : (P : Bool × Bool × Bool → Bool) (is_of : Command → Bool) �
 needs_by P is_of all None request asked other cancel unsupported e = cc
 needs_by P is_of all (Some command) request asked other cancel unsupported e = ap P (needs_as command request asked e) ∙ all command other cancel unsupported
 
--- a refusal by a status that is not SUCCESS
-abbrev pub IsFailure : Option NtStatus → Type 0
-IsFailure o = (status : NtStatus) × (o ≡ Some status) × (status ≢ Success)
+-- a refusal by a row whose status is not SUCCESS
+abbrev pub IsFailure : Option RequestRefusal → Type 0
+IsFailure o = (refusal : RequestRefusal) × (o ≡ Some refusal) × (refusal_status (Refusal.Request refusal) ≢ Success)
 
-pub no_session : (charge session : Bool) (rest : Option NtStatus) → session ≡ true → IsFailure (if charge then Some InvalidParameter else if session then Some UserSessionDeleted else rest)
-no_session true session rest e = (InvalidParameter, refl, λ h. cc)
-no_session false true rest e = (UserSessionDeleted, refl, λ h. cc)
+pub no_session : (charge session : Bool) (rest : Option RequestRefusal) → session ≡ true → IsFailure (if charge then Some ChargeTooSmall else if session then Some RequestRefusal.UnknownSession else rest)
+no_session true session rest e = (ChargeTooSmall, refl, λ h. cc)
+no_session false true rest e = (RequestRefusal.UnknownSession, refl, λ h. cc)
 no_session false false rest e = cc
 
-pub no_tree : (charge session joined : Bool) (rest : Option NtStatus) → joined ≡ true →
-    IsFailure (if charge then Some InvalidParameter else if session then Some UserSessionDeleted else if joined then Some NetworkNameDeleted else rest)
-no_tree true session joined rest e = (InvalidParameter, refl, λ h. cc)
-no_tree false true joined rest e = (UserSessionDeleted, refl, λ h. cc)
-no_tree false false true rest e = (NetworkNameDeleted, refl, λ h. cc)
+pub no_tree : (charge session joined : Bool) (rest : Option RequestRefusal) → joined ≡ true →
+    IsFailure (if charge then Some ChargeTooSmall else if session then Some RequestRefusal.UnknownSession else if joined then Some UnknownTreeConnect else rest)
+no_tree true session joined rest e = (ChargeTooSmall, refl, λ h. cc)
+no_tree false true joined rest e = (RequestRefusal.UnknownSession, refl, λ h. cc)
+no_tree false false true rest e = (UnknownTreeConnect, refl, λ h. cc)
 no_tree false false false rest e = cc
 
-pub no_open : (charge session joined : Bool) (rest : Option NtStatus) → IsFailure rest →
-    IsFailure (if charge then Some InvalidParameter else if session then Some UserSessionDeleted else if joined then Some NetworkNameDeleted else rest)
-no_open true session joined rest h = (InvalidParameter, refl, λ h. cc)
-no_open false true joined rest h = (UserSessionDeleted, refl, λ h. cc)
-no_open false false true rest h = (NetworkNameDeleted, refl, λ h. cc)
+pub no_open : (charge session joined : Bool) (rest : Option RequestRefusal) → IsFailure rest →
+    IsFailure (if charge then Some ChargeTooSmall else if session then Some RequestRefusal.UnknownSession else if joined then Some UnknownTreeConnect else rest)
+no_open true session joined rest h = (ChargeTooSmall, refl, λ h. cc)
+no_open false true joined rest h = (RequestRefusal.UnknownSession, refl, λ h. cc)
+no_open false false true rest h = (UnknownTreeConnect, refl, λ h. cc)
 no_open false false false rest h = h
+
+-- a request whose body is not read is not refused by SUCCESS
+pub unread_fails : (unknown : Bool) → refusal_status (Refusal.Request (if unknown then UnknownCommand else BodyUnreadable)) ≢ Success
+unread_fails true h = cc
+unread_fails false h = cc
 
 -- a step that does nothing and tells nothing
 abbrev pub IsTurnedStep : {S : Type 0} → ServerState S → CommandStep S → Type 0
 IsTurnedStep server step = (step.server ≡ server) × (step.response.status ≢ Success) × (step.response.body ≡ reply_spelling answers_error)
 
 module _ {S : Type 0} (server : ServerState S) (ids : HeaderIds) where
-  refused_turned : (status : NtStatus) → status ≢ Success → IsTurnedStep server (refused server ids status)
-  refused_turned status not = (refl, not, refl)
+  refused_turned : (refusal : Refusal) → refusal_status refusal ≢ Success → IsTurnedStep server (refused server ids refusal)
+  refused_turned refusal not = (refl, not, refl)
 
-  checked_turned : (refusal : Option NtStatus) (step : CommandStep S) → IsFailure refusal → IsTurnedStep server (option_map_or (refused server ids) refusal step)
+  checked_turned : (refusal : Option RequestRefusal) (step : CommandStep S) → IsFailure refusal → IsTurnedStep server (unless_refused server ids (option_map (λ refusal. Refusal.Request refusal) refusal) step)
   checked_turned None step h = let no = h.1 in cc
-  checked_turned (Some status) step h = let is : status ≡ h.0 = (let e = h.1 in cc) in refused_turned status (λ e. h.2 (sym is ∙ e))
+  checked_turned (Some refusal) step h =
+      let is : refusal ≡ h.0 = (let e = h.1 in cc) in
+      refused_turned (Refusal.Request refusal) (λ e. h.2 (ap (λ (r : RequestRefusal). refusal_status (Refusal.Request r)) (sym is) ∙ e))
 
-  body_turned : (check : RequestValue → Option NtStatus) (act : RequestValue → CommandStep S) (unsupported : Bool) (body : Option RequestValue) →
+  body_turned : (check : RequestValue → Option RequestRefusal) (act : RequestValue → CommandStep S) (unsupported unknown : Bool) (body : Option RequestValue) →
       (unsupported ≡ false → (asked : RequestValue) → body ≡ Some asked → IsFailure (check asked)) →
-      IsTurnedStep server (let x : CommandStep S = if unsupported then refused server ids NotSupported else
-      option_map_or (λ asked. option_map_or (refused server ids) (check asked) (act asked)) body (refused server ids InvalidParameter) in x)
-  body_turned check act true body h = refused_turned NotSupported (λ e. cc)
-  body_turned check act false None h = refused_turned InvalidParameter (λ e. cc)
-  body_turned check act false (Some asked) h = checked_turned (check asked) (act asked) (h refl asked refl)
+      IsTurnedStep server (let x : CommandStep S = if unsupported then refused server ids (Refusal.Request CommandNotPerformed) else
+      option_map_or (λ asked. unless_refused server ids (option_map (λ refusal. Refusal.Request refusal) (check asked)) (act asked)) body
+      (refused server ids (Refusal.Request (if unknown then UnknownCommand else BodyUnreadable))) in x)
+  body_turned check act true unknown body h = refused_turned (Refusal.Request CommandNotPerformed) (λ e. cc)
+  body_turned check act false unknown None h = refused_turned (Refusal.Request (if unknown then UnknownCommand else BodyUnreadable)) (unread_fails unknown)
+  body_turned check act false unknown (Some asked) h = checked_turned (check asked) (act asked) (h refl asked refl)
 
 pub turned : {S : Type 0} (m : Meaning S) (connection moment : ℕ) (server : ServerState S) (dialect : Option Dialect) (context : Context) (request : List ℕ) →
     (let call = call_of connection moment dialect context request in
@@ -140,6 +151,6 @@ turned {S} m connection moment server dialect context request h =
     } in x)) [
       | true ↦ λ t. record { unchanged = refl; response = tt }
       | false ↦ λ t. (
-          let step = body_turned server call.ids (check_request server call) (acted m server call) (option_map_or is_unsupported call.command false) (body_of call.command request) (λ u asked e. h t u asked e) in
+          let step = body_turned server call.ids (check_request server call) (acted m server call) (option_map_or is_unsupported call.command false) (is_none call.command) (body_of call.command request) (λ u asked e. h t u asked e) in
           record { unchanged = step.0; response = (step.1, step.2) })
     ] refl

@@ -6,7 +6,8 @@ use Rattle.smb_wire.specs.declared.command.Command.TheVariants.{Negotiate, Sessi
 use Rattle.smb_wire.specs.declared.dialect.Dialect.{Dialect}
 use Rattle.smb_wire.specs.declared.file_id.FileId.{FileId}
 use Rattle.smb_wire.specs.declared.nt_status.NtStatus.{NtStatus}
-use Rattle.smb_wire.specs.declared.nt_status.NtStatus.TheVariants.{Success, InvalidParameter, FileClosed}
+use Rattle.smb_wire.specs.declared.nt_status.NtStatus.TheVariants.{Success}
+use Rattle.smb_refusals.specs.declared.request.RequestRefusal.TheVariants.{NoOpenHandedOn, CreateBeforeRefused, UnknownOpen}
 use Rattle.smb_head.specs.Chains.{is_related}
 use Rattle.smb_body.specs.Requests.{RequestValue, payload_of, file_id_of}
 use Rattle.smb_session.specs.Authenticator.{Meaning}
@@ -82,14 +83,14 @@ and_not true true p q = cc
 and_not false b p q = cc
 
 -- an open that is not held is refused
-not_held : (b held : Bool) → held ≡ false → IsFailure (if b && held then None else Some FileClosed)
-not_held true held e = rw e (FileClosed, refl, λ h. cc)
-not_held false held e = (FileClosed, refl, λ h. cc)
+not_held : (b held : Bool) → held ≡ false → IsFailure (if b && held then None else Some UnknownOpen)
+not_held true held e = rw e (UnknownOpen, refl, λ h. cc)
+not_held false held e = (UnknownOpen, refl, λ h. cc)
 
 open_fails : (opens : List OpenRow) (ids : HeaderIds) (named : ContextOpen) → named ≢ Refused Success →
     option_map_or (is_held_by (TreeOf ids.session_id ids.tree_id)) (open_of opens (number_named (Some named))) false ≡ false → IsFailure (open_refusal opens ids named)
-open_fails opens ids NoOpen fair e = (InvalidParameter, refl, λ h. cc)
-open_fails opens ids (Refused status) fair e = (status, refl, λ h. fair (ap (λ (s : NtStatus). Refused s) h))
+open_fails opens ids NoOpen fair e = (NoOpenHandedOn, refl, λ h. cc)
+open_fails opens ids (Refused status) fair e = (CreateBeforeRefused status, refl, λ h. fair (ap (λ (s : NtStatus). Refused s) h))
 open_fails opens ids (Named id) fair e = not_held (id.persistent == id.volatile) (option_map_or (is_held_by (TreeOf ids.session_id ids.tree_id)) (open_of opens id.persistent) false) e
 
 named_fails : (opens : List OpenRow) (ids : HeaderIds) (named : Option ContextOpen) → is_some named ≡ true → ((it : ContextOpen) → named ≡ Some it → it ≢ Refused Success) →

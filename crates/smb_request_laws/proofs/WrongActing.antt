@@ -5,7 +5,6 @@
 use Rattle.std.proofs.Common.{◌≡◌, ◌≢◌, ℕ, true, false, List, [], ◌∷◌, Option, None, Some, refl, ap, arith}
 use Rattle.std.specs.Option.{option_map_or}
 use Rattle.smb_wire.specs.Commands.{known_command}
-use Rattle.smb_wire.specs.NtStatus.{is_success}
 use Rattle.smb_wire.specs.Number.{spelling}
 use Rattle.smb_wire.specs.declared.command.Command.TheVariants.{SessionSetup}
 use Rattle.smb_wire.specs.declared.dialect.Dialect.{Dialect}
@@ -55,7 +54,7 @@ reading_needs_nothing = record right {
 
 anyone_may_read : {S : Type 0} (m : Meaning S) (accounts : S) →
     NothingIsDoneWithoutASessionBy (performed_by_rules m reading_needs_nothing) → ⊥
-unfolding header_of known_command request_of spelling file_read is_success
+unfolding header_of known_command request_of spelling file_read
 anyone_may_read m accounts law =
     (law 2 0 (server accounts []) None first_context (read_request 1 1) refl refl).response.0 refl
 
@@ -78,7 +77,7 @@ nothing_needs_a_tree = record right { tree = λ asked. false }
 
 whoever_left_may_read : {S : Type 0} (m : Meaning S) (accounts : S) →
     NothingIsDoneWithoutATreeBy (performed_by_rules m nothing_needs_a_tree) → ⊥
-unfolding header_of known_command request_of spelling file_read is_success
+unfolding header_of known_command request_of spelling file_read
 whoever_left_may_read m accounts law =
     (law 1 0 (server accounts ((1, session 1 []) ∷ [])) None first_context (read_request 1 1) refl refl).response.0 refl
 
@@ -107,7 +106,7 @@ fair e = cc
 
 all_may_read : {S : Type 0} (m : Meaning S) (accounts : S) →
     NothingIsDoneWithoutAnOpenBy (performed_by_rules m all_hold) → ⊥
-unfolding header_of known_command request_of spelling file_read is_success
+unfolding header_of known_command request_of spelling file_read
 all_may_read m accounts law =
     (law 2 0 (server accounts ((1, session 1 (1 ∷ [])) ∷ (2, session 2 (1 ∷ [])) ∷ [])) None first_context
     (read_request 2 1) fair refl refl).response.0 refl
@@ -133,7 +132,7 @@ hands_on_its_status m connection moment server dialect context request =
 
 a_success_refuses : {S : Type 0} (m : Meaning S) (accounts : S) →
     NoCreateIsRefusedBySuccessBy (hands_on_its_status m) → ⊥
-unfolding performed header_of known_command request_of spelling file_read is_success
+unfolding performed header_of known_command request_of spelling file_read
 a_success_refuses m accounts law =
     law.1 1 0 (server accounts ((1, session 1 (1 ∷ [])) ∷ [])) None first_context (read_request 1 1) fair refl
 
@@ -156,7 +155,7 @@ writing_needs_nothing = record right {
 
 anyone_may_write : {S : Type 0} (m : Meaning S) (accounts : S) →
     NobodyChangesNothingBy (performed_by_rules m writing_needs_nothing) → ⊥
-unfolding header_of known_command request_of spelling file_written is_success
+unfolding header_of known_command request_of spelling file_written
 anyone_may_write {S} m accounts law =
     let same =
     byte_is 9 7 (ap (λ (s : ServerState S). bytes_of s.store.tree.rows 2) (law 2 0

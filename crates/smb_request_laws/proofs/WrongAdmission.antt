@@ -4,7 +4,6 @@
 -- right rules a request leaves what it does leave.
 use Rattle.std.proofs.Common.{◌≡◌, ◌==◌, ◌∙◌, ◌⊎◌, inl, inr, ℕ, Bool, true, false, ◌≢◌, List, [], ◌∷◌, length, map, None, Some, is_some, IfSome, refl, sym, ap, arith}
 use Rattle.smb_wire.specs.Commands.{known_command}
-use Rattle.smb_wire.specs.NtStatus.{is_success}
 use Rattle.smb_wire.specs.Number.{spelling}
 use Rattle.smb_wire.specs.declared.command.Command.TheVariants.{SessionSetup}
 use Rattle.smb_wire.specs.declared.nt_status.NtStatus.TheVariants.{Success}
@@ -180,7 +179,7 @@ module _ {S : Type 0} (accounts : S) where
   no_reader_writes m (inr into) = let says = into.says in cc
 
   readers_write_is_refused : (m : Meaning S) → NobodyGetsInUnaskedBy m (answered_by m readers_write) → ⊥
-  unfolding header_of known_command request_of spelling file_read is_success
+  unfolding header_of known_command request_of spelling file_read
   readers_write_is_refused m law =
       let order : IsInOrder reads.server = record {
         sessions = (tt, tt);
@@ -219,7 +218,7 @@ module _ {S : Type 0} (accounts : S) where
 
   each_set_up_succeeds_is_refused : ASetUpThatSucceedsLetsInBy never_done
       (answered_by never_done each_set_up_succeeds) → ⊥
-  unfolding header_of known_command request_of spelling session_set_up is_success
+  unfolding header_of known_command request_of spelling session_set_up
   each_set_up_succeeds_is_refused law =
       let it = sent [] (setup_request 0) in
       let order : IsInOrder it.server = record {

@@ -5,7 +5,6 @@
 use Rattle.std.proofs.Common.{◌≡◌, ◌≢◌, ◌⊎◌, ◌∙◌, ◌+◌, ◌-◌, ◌^◌, ◌++◌, ℕ, Bool, true, false, List, [], ◌∷◌, length, drop, None, Some, IfSome, refl, sym, ap, arith}
 use Rattle.smb_wire.specs.Names.{is_same_name}
 use Rattle.smb_wire.specs.Commands.{known_command}
-use Rattle.smb_wire.specs.NtStatus.{is_success}
 use Rattle.smb_wire.specs.Number.{spelling}
 use Rattle.smb_wire.specs.declared.nt_status.NtStatus.TheVariants.{Success}
 use Rattle.smb_wire.specs.declared.file_id.FileId.{FileId}
@@ -149,7 +148,7 @@ module _ {S : Type 0} (m : Meaning S) (accounts : S) where
   }
 
   zeros_are_refused : AReadTellsTheFileBy (answered_by zeros_read) → ⊥
-  unfolding header_of known_command request_of spelling file_read is_success
+  unfolding header_of known_command request_of spelling file_read
   zeros_are_refused law =
       let tells = (law (sent (read_request 1 1)) (read_asked 0) (record {
         says = refl;
@@ -177,7 +176,7 @@ module _ {S : Type 0} (m : Meaning S) (accounts : S) where
   }
 
   nothing_written_is_refused : AWriteIsInTheFileBy (answered_by nothing_written) → ⊥
-  unfolding header_of known_command request_of spelling file_written is_success
+  unfolding header_of known_command request_of spelling file_written
   nothing_written_is_refused law =
       let left = (law (sent (write_request 1 1)) write_asked (record {
         says = refl;
@@ -206,7 +205,7 @@ module _ {S : Type 0} (m : Meaning S) (accounts : S) where
   }
 
   nothing_opened_is_refused : ACreateOpensBy (answered_by nothing_opened) → ⊥
-  unfolding header_of known_command request_of spelling file_created is_success
+  unfolding header_of known_command request_of spelling file_created
   nothing_opened_is_refused law =
       let left = law (sent (create_request 1 1)) create_asked false (record {
         says = refl;
@@ -233,7 +232,7 @@ module _ {S : Type 0} (m : Meaning S) (accounts : S) where
   }
 
   nothing_closed_is_refused : ACloseClosesBy (answered_by nothing_closed) → ⊥
-  unfolding header_of known_command request_of spelling file_closed is_success
+  unfolding header_of known_command request_of spelling file_closed
   nothing_closed_is_refused law =
       let left = law (sent (close_request 1 1)) close_asked (record { says = refl; context = fair; status = refl }) in
       let same : 1 ≡ 0 = ap (λ (s : StoreState). length s.opens) left in
@@ -258,7 +257,7 @@ module _ {S : Type 0} (m : Meaning S) (accounts : S) where
   }
 
   nothing_locked_is_refused : ALockLocksBy (answered_by nothing_locked) → ⊥
-  unfolding header_of known_command request_of spelling is_success
+  unfolding header_of known_command request_of spelling
   nothing_locked_is_refused law =
       let left = (law (sent (lock_request 1 1)) locking_asked (record { says = refl; context = fair; status = refl })).0 refl in
       let same : 0 ≡ 1 = ap (λ (s : StoreState). length s.locks) left in
@@ -288,7 +287,7 @@ module _ {S : Type 0} (m : Meaning S) (accounts : S) where
   bytes_set ask = length (bytes_of (stepped (sent []).server.store (set_step 1 0 ask)).tree.rows 2)
 
   nothing_set_is_refused : ASetInfoSetsBy (answered_by nothing_set) → ⊥
-  unfolding header_of known_command request_of spelling information_set is_success
+  unfolding header_of known_command request_of spelling information_set
   nothing_set_is_refused law =
       let left = law (sent (end_request 1 1)) end_asked (record { says = refl; context = fair; status = refl }) in
       let asked : asks_end 0 ≡ left.0 = same_asked _ _ left.1 in
@@ -321,7 +320,7 @@ module _ {S : Type 0} (m : Meaning S) (accounts : S) where
   }
 
   a_flush_that_ends_is_refused : AQuestionChangesNothingBy (answered_by ended_by_flush) → ⊥
-  unfolding header_of known_command request_of spelling is_success
+  unfolding header_of known_command request_of spelling
   a_flush_that_ends_is_refused law =
       let left =
       (law (sent (flush_request 1 1))).0 flush_asked (record { says = refl; context = fair; status = refl }) in
@@ -351,7 +350,7 @@ module _ {S : Type 0} (m : Meaning S) (accounts : S) where
   }
 
   nothing_joined_is_refused : ATreeConnectJoinsBy (answered_by nothing_joined) → ⊥
-  unfolding header_of known_command request_of spelling tree_joined is_success
+  unfolding header_of known_command request_of spelling tree_joined
   nothing_joined_is_refused law =
       let joined = law
       (sent (connect_request 1))
@@ -385,7 +384,7 @@ module _ {S : Type 0} (m : Meaning S) (accounts : S) where
   }
 
   nothing_left_is_refused : ATreeDisconnectLeavesBy (answered_by nothing_left) → ⊥
-  unfolding header_of known_command request_of spelling tree_left is_success
+  unfolding header_of known_command request_of spelling tree_left
   nothing_left_is_refused law =
       let left =
       law (sent (disconnect_request 1 1)) nothing_asked (record { says = refl; context = fair; status = refl }) in
@@ -408,7 +407,7 @@ module _ {S : Type 0} (m : Meaning S) (accounts : S) where
   }
 
   nobody_logged_off_is_refused : ALogoffEndsItsSessionBy (answered_by nobody_logged_off) → ⊥
-  unfolding header_of known_command request_of spelling session_logged_off is_success
+  unfolding header_of known_command request_of spelling session_logged_off
   nobody_logged_off_is_refused law =
       let order : IsInOrder (sent (logoff_request 1)).server = record {
         sessions = (tt, tt);
@@ -446,7 +445,7 @@ module _ {S : Type 0} (m : Meaning S) (accounts : S) where
   }
 
   number_taken_is_refused : ARefusalChangesNothingBy (answered_by number_taken) → ⊥
-  unfolding header_of known_command request_of spelling file_read is_success
+  unfolding header_of known_command request_of spelling file_read
   number_taken_is_refused law =
       let same : 3 ≡ 2 = ap (λ (s : ServerState S). s.store.next) (law (sent (read_request_at 5 1 1)) refl (λ e. cc)) in
       omega (arith, same)

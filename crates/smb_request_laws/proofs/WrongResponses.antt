@@ -5,7 +5,6 @@ use Rattle.std.proofs.Common.{◌≡◌, ◌∙◌, ◌%◌, ◌==◌, ℕ, Bool
 use Rattle.std.specs.Option.{option_map, option_map_or, option_and_then}
 use Rattle.smb_wire.specs.Access.{FILE_READ_DATA}
 use Rattle.smb_wire.specs.Commands.{known_command}
-use Rattle.smb_wire.specs.NtStatus.{is_success}
 use Rattle.smb_wire.specs.Number.{spelling}
 use Rattle.smb_wire.specs.Fields.{joined, number_in}
 use Rattle.smb_wire.specs.declared.command.Command.TheVariants.{Create}
@@ -169,12 +168,12 @@ module _ {S : Type 0} (m : Meaning S) (accounts : S) where
 
   -- the one open that is there afterwards is of the file
   entry_is : (is_new : Bool) (number : ℕ) (entry : Entry) → (2 == number) ≡ is_new → entry_through left number ≡ Some entry → length entry.bytes ≡ 1
-  unfolding header_of known_command request_of spelling file_created is_success
+  unfolding header_of known_command request_of spelling file_created
   entry_is true number entry e h = file_is entry (sym (rw e refl) ∙ h)
   entry_is false number entry e h = absurd (let none : None ≡ Some entry = sym (rw e refl) ∙ h in cc)
 
   described_as_new_is_refused : ACreateDescribesItsEntryBy (answered_by m accounts described_as_new) → ⊥
-  unfolding header_of known_command request_of spelling file_created is_success
+  unfolding header_of known_command request_of spelling file_created
   described_as_new_is_refused law =
       let told = law opening_sent opening_asked unopened_is_good (record { says = refl; context = fair; status = refl }) in
       let bytes : 0 ∷ [] ≡ (told.0.end_of_file % 256) ∷ [] = ap (λ (body : List ℕ). take 1 (drop 48 body)) told.2 in
@@ -211,7 +210,7 @@ module _ {S : Type 0} (m : Meaning S) (accounts : S) where
   }
 
   zero_volatile_is_refused : ACreateGivesItsOpenBy (answered_by m accounts zero_volatile) → ⊥
-  unfolding header_of known_command request_of spelling file_created is_success
+  unfolding header_of known_command request_of spelling file_created
   zero_volatile_is_refused law =
       let told = law opening_sent opening_asked unopened_is_good refl (record { says = refl; context = fair; status = refl }) in
       let first : 2 ∷ [] ≡ (told.0.file_id.persistent % 256) ∷ [] = ap (λ (body : List ℕ). take 1 (drop 64 body)) told.1 in
@@ -228,7 +227,7 @@ module _ {S : Type 0} (m : Meaning S) (accounts : S) where
       record ran { context = record ran.context { last_open = Named open_one } }
 
   another_handed_on_is_refused : ACreateGivesItsOpenBy another_handed_on → ⊥
-  unfolding header_of known_command request_of spelling file_created is_success
+  unfolding header_of known_command request_of spelling file_created
   another_handed_on_is_refused law =
       let told = law opening_sent opening_asked unopened_is_good refl (record { says = refl; context = fair; status = refl }) in
       let first : 2 ∷ [] ≡ (told.0.file_id.persistent % 256) ∷ [] = ap (λ (body : List ℕ). take 1 (drop 64 body)) told.1 in
@@ -273,7 +272,7 @@ module _ {S : Type 0} (m : Meaning S) (accounts : S) where
   }
 
   closed_by_zeros_is_refused : ACloseDescribesItsEntryBy (answered_by m accounts closed_by_zeros) → ⊥
-  unfolding header_of known_command request_of spelling file_closed is_success
+  unfolding header_of known_command request_of spelling file_closed
   closed_by_zeros_is_refused law =
       let told = law (sent m accounts closing_request) closing_asked (record { says = refl; context = fair; status = refl }) refl in
       let bytes : 0 ∷ [] ≡ (told.0.end_of_file % 256) ∷ [] = ap (λ (body : List ℕ). take 1 (drop 48 body)) told.2 in
@@ -307,7 +306,7 @@ module _ {S : Type 0} (m : Meaning S) (accounts : S) where
   }
 
   zeros_told_is_refused : AQueryInfoTellsTheSizeBy (answered_by m accounts zeros_told) → ⊥
-  unfolding header_of known_command request_of spelling is_success
+  unfolding header_of known_command request_of spelling
   zeros_told_is_refused law =
       let told = law (sent m accounts query_request) query_asked FileStandard 8 is_good (record { says = refl; context = fair; status = refl }) refl refl refl in
       let bytes : replicate 24 0 ≡ told.0 = ap (λ (body : List ℕ). drop 8 body) told.2 in
@@ -354,7 +353,7 @@ module _ {S : Type 0} (m : Meaning S) (accounts : S) where
   is_begun it = option_map_or (λ (row : OpenRow). is_some row.scan.pattern) (open_of it.opens 1) false
 
   scan_stays_is_refused : AListingShowsEntriesAsTheyAreBy (answered_by m accounts scan_stays) → ⊥
-  unfolding header_of known_command request_of spelling is_success
+  unfolding header_of known_command request_of spelling
   scan_stays_is_refused law =
       let told = law listing_sent listing_asked listing_is_good (record { says = refl; context = fair; status = refl }) in
       let same : false ≡ true = ap is_begun told.4 in

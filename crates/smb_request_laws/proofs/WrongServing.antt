@@ -6,7 +6,9 @@ use Rattle.std.proofs.Common.{◌≡◌, ℕ, Bool, true, false, List, [], ◌�
 use Rattle.smb_wire.specs.Commands.{known_command}
 use Rattle.smb_wire.specs.Limits.{most_at_once}
 use Rattle.smb_wire.specs.Number.{spelling}
-use Rattle.smb_wire.specs.declared.nt_status.NtStatus.TheVariants.{Success, AccessDenied, MoreProcessingRequired}
+use Rattle.smb_wire.specs.declared.nt_status.NtStatus.TheVariants.{Success, MoreProcessingRequired}
+use Rattle.smb_refusals.specs.declared.refusal.Refusal.{Refusal}
+use Rattle.smb_refusals.specs.declared.file.WriteRefusal.{WriteRefusal}
 use Rattle.smb_head.specs.Headers.{header_of}
 use Rattle.smb_body.specs.Requests.{request_of, asks_session_setup, asks_read, asks_write, asks_echo}
 use Rattle.smb_body.specs.SessionSetup.{SessionSetupAsked}
@@ -148,7 +150,7 @@ module _ {S : Type 0} (accounts : S) where
   -- wrong: nobody may write
   abbrev nobody_writes : Rules S
   nobody_writes = record right {
-    done = λ server ids asked step. elim asked [ asks_write it ↦ refused server ids AccessDenied | _ ↦ step ];
+    done = λ server ids asked step. elim asked [ asks_write it ↦ refused server ids (Refusal.Write WriteRefusal.WriteNotGranted) | _ ↦ step ];
   }
 
   nobody_writes_is_refused : (m : Meaning S) → WhatIsOfItsOwnSucceedsBy (answered_by m nobody_writes) → ⊥

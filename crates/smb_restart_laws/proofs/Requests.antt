@@ -5,14 +5,17 @@ use Rattle.std.specs.Prelude.{unwrap_or, bit_and}
 use Rattle.std.specs.List.{AllByRecursion}
 use Rattle.std.specs.BTreeMap.{is_at}
 use Rattle.std.specs.Ordering.{nat_cmp}
-use Rattle.std.specs.Option.{option_map_or, option_and_then}
+use Rattle.std.specs.Option.{is_none, option_map, option_map_or}
 use Rattle.smb_wire.specs.Limits.{most_at_once}
-use Rattle.smb_wire.specs.NtStatus.{is_success}
 use Rattle.smb_wire.specs.Dialects.{revision_of}
 use Rattle.smb_wire.specs.Paths.{path_spelled}
 use Rattle.smb_wire.specs.declared.dialect.Dialect.{Dialect}
-use Rattle.smb_wire.specs.declared.nt_status.NtStatus.{NtStatus}
-use Rattle.smb_wire.specs.declared.nt_status.NtStatus.TheVariants.{Success, InvalidParameter, NotSupported, FileClosed}
+use Rattle.smb_wire.specs.declared.nt_status.NtStatus.TheVariants.{Success}
+use Rattle.smb_refusals.specs.declared.refusal.Refusal.{Refusal}
+use Rattle.smb_refusals.specs.declared.file.CloseRefusal.{CloseRefusal}
+use Rattle.smb_refusals.specs.declared.request.NegotiateRefusal.TheVariants.{NoDialect}
+use Rattle.smb_refusals.specs.declared.request.RequestRefusal.{RequestRefusal}
+use Rattle.smb_refusals.specs.declared.request.RequestRefusal.TheVariants.{UnknownCommand, CommandNotPerformed, BodyUnreadable}
 use Rattle.smb_tree.specs.Content.{Content, changed_in}
 use Rattle.smb_body.specs.Requests.{RequestValue, asks_negotiate, asks_session_setup, asks_logoff, asks_tree_connect, asks_tree_disconnect, asks_create, asks_close, asks_flush, asks_read, asks_write, asks_lock, asks_cancel, asks_echo, asks_query_directory, asks_query_info, asks_set_info}
 use Rattle.smb_body.specs.SessionSetup.{SessionSetupAsked}
@@ -29,7 +32,7 @@ use Rattle.smb_session.specs.Parts.{fresh_session, finished_by, with_tree, witho
 use Rattle.smb_session.specs.Sessions.{setup_step, tree_connect_refusal}
 use Rattle.smb_session.specs.Setup.{setup_refusal, previous_ended, table_answered}
 use Rattle.smb_session.specs.Laws.{setup_table, setup_number}
-use Rattle.smb_session.specs.declared.fault.SessionFault.TheVariants.{NotAccepted}
+use Rattle.smb_refusals.specs.declared.session.SetupRefusal.TheVariants.{BindingAsked, NoSessionLeft}
 use Rattle.smb_session.specs.Table.{TableState, knows_session, knows_tree, read_only_of, session_ended, session_changed, tree_disconnect_refusal}
 use Rattle.smb_session.proofs.Entries.{all-changed, all-removed}
 use Rattle.smb_access.specs.Asked.{FileAsked}
@@ -45,13 +48,14 @@ use Rattle.smb_locks.specs.declared.ask.LockAsk.{LockAsk}
 use Rattle.smb_locks.specs.Table.{locked, unlocked}
 use Rattle.smb_info.specs.SetInformation.{SetAsked, asks_basic, asks_rename, asks_mark, asks_allocation, asks_end}
 use Rattle.smb_entry.specs.Parts.{renamed_tree, delete_set, size_set, entry_set}
-use Rattle.smb_opens.specs.Bytes.{read_status, write_status}
+use Rattle.smb_opens.specs.Bytes.{read_refusal, write_refusal}
 use Rattle.smb_opens.specs.Close.{closed, closed_all}
-use Rattle.smb_opens.specs.Create.{access_granted, create_status}
+use Rattle.smb_opens.specs.Create.{access_granted, create_refusal, create_status}
+use Rattle.smb_request.proofs.Refused.{none_named, create_succeeds}
 use Rattle.smb_opens.specs.Effect.{created}
 use Rattle.smb_opens.specs.Found.{entry_asked}
 use Rattle.smb_opens.specs.Good.{GoodStore}
-use Rattle.smb_opens.specs.Locks.{lock_status, unlock_status, unlocked_through}
+use Rattle.smb_opens.specs.Locks.{lock_refusal, unlock_refusal, unlocked_through}
 use Rattle.smb_opens.specs.Scans.{scan_set}
 use Rattle.smb_opens.specs.State.{StoreState}
 use Rattle.smb_opens.specs.Views.{open_view}
@@ -63,19 +67,18 @@ use Rattle.smb_request.specs.Call.{body_of, call_of}
 use Rattle.smb_request.specs.Context.{named_on, open_for_next_related}
 use Rattle.smb_request.specs.Files.{file_created, file_closed}
 use Rattle.smb_request.specs.Parts.{file_asked, close_response, asks_unlock, is_unsupported, is_cancel_command, only_reads, check_session_tree_and_open, dialect_after, closed_for, setup_answered, lock_asks, hello_of, performed_by, success, set_status, set_through, with_store, file_locked, file_unlocked, negotiated}
-use Rattle.smb_request.specs.Refusals.{status_of_refusal}
 use Rattle.smb_request.specs.Held.{IsCallOf, opens_left}
 use Rattle.smb_request.specs.Laws.{NumbersInOrder}
 use Rattle.smb_request.specs.Negotiate.{negotiate_answer}
 use Rattle.smb_request.specs.Owners.{AreOwned}
 use Rattle.smb_request.specs.Request.{check_request, acted, performed}
-use Rattle.smb_request.specs.Response.{CommandStep, Performed, refused}
+use Rattle.smb_request.specs.Response.{CommandStep, Performed, refused, through_open, unless_refused}
 use Rattle.smb_request.specs.Session.{may_only_read, session_set_up, session_logged_off, tree_joined, tree_left}
 use Rattle.smb_request.specs.State.{ServerState}
 use Rattle.smb_request.proofs.Apart.{acts_known, id_held}
 use Rattle.smb_request.proofs.Configured.{created_kept, closed_kept, all_kept, ended_kept, locks_kept, locks_opens, written_kept}
 use Rattle.smb_request.proofs.Handed.{request_passed}
-use Rattle.smb_request.proofs.InfoApart.{yes_success, set_opens, queried_left, info_set_left}
+use Rattle.smb_request.proofs.InfoApart.{set_opens, queried_left, info_set_left}
 use Rattle.smb_request.proofs.Listings.{owned_scanned, listed_left}
 use Rattle.smb_request.proofs.Numbers.{others_left}
 use Rattle.smb_request.proofs.Owners.{owned_ended, owned_tree, owned_untree, owned_setup, owned_some, owned_new, owned_push, reader_only}
@@ -145,9 +148,9 @@ table_set_up table c n flags e h = at (n == 0) refl
   where
     at : (b : Bool) → n == 0 ≡ b → IsTableHeld (setup_table table c n)
     at true t =
-        let rest = (first_none (not (bit_and flags 1 == 0)) NotAccepted _ e).1 in
-        let rest' : (if has_all_sessions table c then Some NotAccepted else None) ≡ None = rw t at rest in
-        rw t (table_begun table c (first_none (has_all_sessions table c) NotAccepted None rest').0 h)
+        let rest = (first_none (not (bit_and flags 1 == 0)) BindingAsked _ e).1 in
+        let rest' : (if has_all_sessions table c then Some NoSessionLeft else None) ≡ None = rw t at rest in
+        rw t (table_begun table c (first_none (has_all_sessions table c) NoSessionLeft None rest').0 h)
     at false t = rw t h
 
 -- the connections that are known stay so
@@ -203,21 +206,17 @@ module _ {S : Type 0} (call : _) (body : Option RequestValue) (read : IsCallOf c
   stored : (store : StoreState) → store.tree.capacity ≡ server.store.tree.capacity → AreOwned table store.opens → Left (with_store server store)
   stored store room owned = record { settings = refl; share = refl; room = room; connections = refl; held = record { table = h.table; owned = owned } }
 
-  by_status : (step : CommandStep S) (status : Option NtStatus) → (status ≡ None → Left step.server) → Left (option_map_or (refused server call.ids) status step).server
-  by_status step (Some status) f = same
-  by_status step None f = f refl
-
-  where_done : (step : CommandStep S) (status : NtStatus) (b : Bool) → is_success status ≡ b → (status ≡ Success → Left step.server) → Left (let x : CommandStep S = if b then step else refused server call.ids status in x).server
-  where_done step status true t f = f (yes_success status t)
-  where_done step status false t f = same
+  by_row : (step : CommandStep S) (refusal : Option Refusal) → (refusal ≡ None → Left step.server) → Left (unless_refused server call.ids refusal step).server
+  by_row step (Some row) f = same
+  by_row step None f = f refl
 
   -- SESSION_SETUP
-  set_up_at : (m : Meaning S) (asked : SessionSetupAsked) (refusal : Option NtStatus) → option_and_then status_of_refusal (setup_refusal table c s asked.flags.0) ≡ refusal →
-      Left (option_map_or (refused server call.ids) refusal (setup_answered server call.ids (setup_step m server.sessions c s asked.previous_session_id asked.security_buffer))).server
-  set_up_at m asked (Some status) e = same
+  set_up_at : (m : Meaning S) (asked : SessionSetupAsked) (refusal : Option Refusal) → option_map (λ refusal. Refusal.SessionSetup refusal) (setup_refusal table c s asked.flags.0) ≡ refusal →
+      Left (unless_refused server call.ids refusal (setup_answered server call.ids (setup_step m server.sessions c s asked.previous_session_id asked.security_buffer))).server
+  set_up_at m asked (Some row) e = same
   set_up_at m asked None e =
       let step = setup_step m server.sessions c s asked.previous_session_id asked.security_buffer in
-      let unrefused : setup_refusal table c s asked.flags.0 ≡ None = grind (arith, e) in
+      let unrefused : setup_refusal table c s asked.flags.0 ≡ None = none_named (λ refusal. Refusal.SessionSetup refusal) (setup_refusal table c s asked.flags.0) e in
       let answer : Answered = m.answer server.sessions.authenticator (setup_number table s) asked.security_buffer in
       record {
         settings = refl;
@@ -232,12 +231,12 @@ module _ {S : Type 0} (call : _) (body : Option RequestValue) (read : IsCallOf c
 
   set_up_keeps : (m : Meaning S) (asked : SessionSetupAsked) → Left (session_set_up m server call asked).server
   unfolding session_set_up
-  set_up_keeps m asked = set_up_at m asked (option_and_then status_of_refusal (setup_refusal table c s asked.flags.0)) refl
+  set_up_keeps m asked = set_up_at m asked (option_map (λ refusal. Refusal.SessionSetup refusal) (setup_refusal table c s asked.flags.0)) refl
 
   -- LOGOFF
   logged_off_keeps : Left (session_logged_off server call).server
   unfolding session_logged_off
-  logged_off_keeps = by_status _ (option_and_then status_of_refusal (logoff_refusal table c s)) (λ e. record {
+  logged_off_keeps = by_row _ (option_map (λ refusal. Refusal.Logoff refusal) (logoff_refusal table c s)) (λ e. record {
     settings = refl;
     share = refl;
     room = all_kept server.store (Session s);
@@ -251,7 +250,7 @@ module _ {S : Type 0} (call : _) (body : Option RequestValue) (read : IsCallOf c
   -- TREE_CONNECT
   joined_keeps : (path : List ℕ) → Left (tree_joined server call path).server
   unfolding tree_joined
-  joined_keeps path = by_status _ (option_and_then status_of_refusal (tree_connect_refusal server.sessions c s path)) (λ e. record {
+  joined_keeps path = by_row _ (option_map (λ refusal. Refusal.TreeConnect refusal) (tree_connect_refusal server.sessions c s path)) (λ e. record {
     settings = refl;
     share = refl;
     room = refl;
@@ -262,7 +261,7 @@ module _ {S : Type 0} (call : _) (body : Option RequestValue) (read : IsCallOf c
   -- TREE_DISCONNECT
   left_keeps : Left (tree_left server call).server
   unfolding tree_left
-  left_keeps = by_status _ (option_and_then status_of_refusal (tree_disconnect_refusal table c s call.ids.tree_id)) (λ e. record {
+  left_keeps = by_row _ (option_map (λ refusal. Refusal.TreeDisconnect refusal) (tree_disconnect_refusal table c s call.ids.tree_id)) (λ e. record {
     settings = refl;
     share = refl;
     room = all_kept server.store (Tree s call.ids.tree_id);
@@ -289,7 +288,8 @@ module _ {S : Type 0} (call : _) (body : Option RequestValue) (read : IsCallOf c
   unfolding file_created
   created_keeps asked known tree =
       let ask = file_asked call.ids asked (may_only_read server call) in
-      where_done _ _ (is_success (create_status server.store ask)) refl (opened_keeps ask refl refl refl known tree)
+      by_row _ (option_map (λ refusal. Refusal.Create refusal) (create_refusal server.store ask))
+      (λ e. opened_keeps ask refl refl refl known tree (create_succeeds server.store ask (none_named (λ refusal. Refusal.Create refusal) (create_refusal server.store ask) e)))
 
   -- CLOSE
   closed_keeps : (row : Option OpenRow) → open_of server.store.opens k ≡ row → option_map_or (is_held_by (Tree s call.ids.tree_id)) row false ≡ true → Left (with_store server (closed server.store k))
@@ -299,7 +299,7 @@ module _ {S : Type 0} (call : _) (body : Option RequestValue) (read : IsCallOf c
       (rw (opens_closed server.store k (ap (λ (o : Option OpenRow). is_some o) e)) (owned_some table (λ row. not (has_number k row)) server.store.opens h.owned))
 
   closed_at : (flags : CloseFlags) (view : Option View) → Left (with_store server (closed server.store k)) →
-      Left (option_map_or (λ view. let x : CommandStep S = record { server = with_store server (closed server.store k); response = success call.ids (answers_close (close_response flags view)) } in x) view (refused server call.ids FileClosed)).server
+      Left (option_map_or (λ view. let x : CommandStep S = record { server = with_store server (closed server.store k); response = success call.ids (answers_close (close_response flags view)) } in x) view (refused server call.ids (Refusal.Close CloseRefusal.UnknownOpen))).server
   closed_at flags None f = same
   closed_at flags (Some view) f = f
 
@@ -313,17 +313,17 @@ module _ {S : Type 0} (call : _) (body : Option RequestValue) (read : IsCallOf c
 
   -- LOCK
   locked_keeps : (asks : List LockAsk) → Left (file_locked server call asks).server
-  locked_keeps asks = where_done _ _ (is_success (lock_status server.store k asks)) refl (λ done.
+  locked_keeps asks = by_row _ (through_open server.store k (option_map (λ refusal. Refusal.Lock refusal) (lock_refusal server.store k asks))) (λ done.
       stored _ (locks_kept (λ entry. locked server.store.locks entry k asks) server.store (open_view server.store k))
       (rw (locks_opens (λ entry. locked server.store.locks entry k asks) server.store (open_view server.store k)) h.owned))
 
-  unlocked_at : (after : ServerState S) (status : NtStatus) (b : Bool) → Left after → Left (let x : CommandStep S = if b then record { server = after; response = success call.ids answers_lock } else refused after call.ids status in x).server
-  unlocked_at after status true f = f
-  unlocked_at after status false f = f
+  unlocked_at : (after : ServerState S) (refusal : Option Refusal) → Left after → Left (unless_refused after call.ids refusal (record { server = after; response = success call.ids answers_lock })).server
+  unlocked_at after None f = f
+  unlocked_at after (Some row) f = f
 
   unlocked_keeps : (asks : List LockAsk) → Left (file_unlocked server call asks).server
   unlocked_keeps asks =
-      unlocked_at (with_store server (unlocked_through server.store k asks)) (unlock_status server.store k asks) (is_success (unlock_status server.store k asks))
+      unlocked_at (with_store server (unlocked_through server.store k asks)) (through_open server.store k (option_map (λ refusal. Refusal.Lock refusal) (unlock_refusal server.store k asks)))
       (stored _ (locks_kept (λ entry. unlocked server.store.locks entry k asks) server.store (open_view server.store k))
       (rw (locks_opens (λ entry. unlocked server.store.locks entry k asks) server.store (open_view server.store k)) h.owned))
 
@@ -334,12 +334,12 @@ module _ {S : Type 0} (call : _) (body : Option RequestValue) (read : IsCallOf c
   -- READ and WRITE
   read_keeps : (asked : ReadRequest) → Left (file_read server call asked).server
   unfolding file_read
-  read_keeps asked = where_done _ _ (is_success (read_status server.store (most_at_once call.dialect) k asked.offset asked.length asked.minimum_count)) refl (λ done. same)
+  read_keeps asked = by_row _ (through_open server.store k (option_map (λ refusal. Refusal.Read refusal) (read_refusal server.store (most_at_once call.dialect) k asked.offset asked.length asked.minimum_count))) (λ done. same)
 
   written_keeps : (asked : WriteAsked) → Left (file_written server call asked).server
   unfolding file_written
   written_keeps asked =
-      where_done _ _ (is_success (write_status server.store (most_at_once call.dialect) k asked.offset asked.buffer)) refl (λ done.
+      by_row _ (through_open server.store k (option_map (λ refusal. Refusal.Write refusal) (write_refusal server.store (most_at_once call.dialect) k asked.offset asked.buffer))) (λ done.
       stored _ (written_kept server.store k asked.offset asked.buffer call.moment)
       (rw (opens_written server.store k asked.offset asked.buffer call.moment) h.owned))
 
@@ -349,7 +349,7 @@ module _ {S : Type 0} (call : _) (body : Option RequestValue) (read : IsCallOf c
 
   -- NEGOTIATE
   negotiated_at : (m : Meaning S) (best : Option Dialect) →
-      Left (option_map_or (λ best. let x : CommandStep S = record { server = server; response = success call.ids (negotiate_answer server.settings.guid (hello_of m server) call.moment (Some best) (revision_of best)) } in x) best (refused server call.ids NotSupported)).server
+      Left (option_map_or (λ best. let x : CommandStep S = record { server = server; response = success call.ids (negotiate_answer server.settings.guid (hello_of m server) call.moment (Some best) (revision_of best)) } in x) best (refused server call.ids (Refusal.Negotiate NoDialect))).server
   negotiated_at m None = same
   negotiated_at m (Some best) = same
 
@@ -378,20 +378,21 @@ module _ {S : Type 0} (call : _) (body : Option RequestValue) (read : IsCallOf c
   acted_keeps m (asks_query_info x) read e = queried_left Left server same call x
   acted_keeps m (asks_set_info x) read e = info_set_left Left server same call set_keeps x
 
-  checked_keeps : (m : Meaning S) (asked : RequestValue) (refusal : Option NtStatus) → IsCallOf call (Some asked) → check_request server call asked ≡ refusal →
-      Left (option_map_or (refused server call.ids) refusal (acted m server call asked)).server
-  checked_keeps m asked (Some status) read e = same
+  checked_keeps : (m : Meaning S) (asked : RequestValue) (refusal : Option RequestRefusal) → IsCallOf call (Some asked) → check_request server call asked ≡ refusal →
+      Left (unless_refused server call.ids (option_map (λ refusal. Refusal.Request refusal) refusal) (acted m server call asked)).server
+  checked_keeps m asked (Some row) read e = same
   checked_keeps m asked None read e = acted_keeps m asked read (request_passed server call asked e)
 
-  body_keeps : (m : Meaning S) (unsupported : Bool) (body : Option RequestValue) → IsCallOf call body →
-      Left (let x : CommandStep S = if unsupported then refused server call.ids NotSupported else
-      option_map_or (λ asked. option_map_or (refused server call.ids) (check_request server call asked) (acted m server call asked)) body (refused server call.ids InvalidParameter) in x).server
-  body_keeps m true body read = same
-  body_keeps m false None read = same
-  body_keeps m false (Some asked) read = checked_keeps m asked (check_request server call asked) read refl
+  body_keeps : (m : Meaning S) (unsupported unknown : Bool) (body : Option RequestValue) → IsCallOf call body →
+      Left (let x : CommandStep S = if unsupported then refused server call.ids (Refusal.Request CommandNotPerformed) else
+      option_map_or (λ asked. unless_refused server call.ids (option_map (λ refusal. Refusal.Request refusal) (check_request server call asked)) (acted m server call asked)) body
+      (refused server call.ids (Refusal.Request (if unknown then UnknownCommand else BodyUnreadable))) in x).server
+  body_keeps m true unknown body read = same
+  body_keeps m false unknown None read = same
+  body_keeps m false unknown (Some asked) read = checked_keeps m asked (check_request server call asked) read refl
 
   performed_keeps : (m : Meaning S) → Left (performed_by m server call body).server
-  performed_keeps m = body_keeps m (option_map_or is_unsupported call.command false) body read
+  performed_keeps m = body_keeps m (option_map_or is_unsupported call.command false) (is_none call.command) body read
 
 pub request_keeps : {S : Type 0} (m : Meaning S) (c moment : ℕ) (server : ServerState S) (dialect : Option Dialect) (context : Context) (request : List ℕ) → NumbersInOrder server.sessions.table server.store →
     IsServerHeld server → Keeps server (performed m c moment server dialect context request).server

@@ -3,13 +3,15 @@
 //! that the program serves and over the plain ones, and else what is wrong with it; then the status is 1.
 //!
 //! docs/TESTING.md says how a row is written. With the word `plain` it replays a text of events over the plain pair, as smbshare
-//! does over its own. With the word `refusals` it plays events on a share that goes on where memory runs out (refusals.rt).
+//! does over its own, and with the word `reasons` it prints of each row why requests are refused (reasons.rt). With the word `refusals`
+//! it plays events on a share that goes on where memory runs out (refusals.rt).
 #![tactic(auto)]
 
 mod book;
 mod differ;
 mod fault;
 mod one_by_one;
+mod reasons;
 mod refusals;
 mod row;
 mod served;
@@ -20,6 +22,7 @@ mod words;
 use book::Book;
 use differ::tell;
 use fault::PlayFault;
+use reasons::print_reasons;
 use refusals::play_events;
 use row::{Kind, Row};
 use smb_config::BUILT_IN;
@@ -113,8 +116,17 @@ fn is_well(rt: &HostRuntime, row: &Row) -> bool {
     true
 }
 
+/// What is printed of rows.
+#[derive(Clone, Copy, PartialEq, Eq)]
+enum Printing {
+    /// Whether they are as they say.
+    Results,
+    /// Why their requests are refused.
+    Reasons,
+}
+
 /// Plays the rows of a text, and tells whether all are well.
-fn play_rows(rt: &HostRuntime, text: &str) -> Result<bool, AllocError> {
+fn play_rows(rt: &HostRuntime, text: &str, printing: Printing) -> Result<bool, AllocError> {
     let book = Book::read(rt.alloc(), text)?;
     if let Some((line, fault)) = book.fault {
         let _ = println!(rt; "line {line}: {fault}");
@@ -126,20 +138,25 @@ fn play_rows(rt: &HostRuntime, text: &str) -> Result<bool, AllocError> {
     }
     let mut all = true;
     for row in &book.rows {
-        let well = is_well(rt, row);
-        all = all && well;
+        match printing {
+            Printing::Results => {
+                let well = is_well(rt, row);
+                all = all && well;
+            }
+            Printing::Reasons => print_reasons(rt, row),
+        }
     }
     Ok(all)
 }
 
 /// Plays the rows of standard input, and gives the exit status.
-fn play_input(rt: &HostRuntime) -> Result<ExitCode, AllocError> {
+fn play_input(rt: &HostRuntime, printing: Printing) -> Result<ExitCode, AllocError> {
     let mut input = Vec::new(rt.alloc());
     if rt.stdin().read_to_end(&mut input).is_err() {
         return Err(AllocError);
     }
     match std::str::from_utf8(&input) {
-        Ok(text) => Ok(ExitCode::from(u8::from(!play_rows(rt, text)?))),
+        Ok(text) => Ok(ExitCode::from(u8::from(!play_rows(rt, text, printing)?))),
         Err(_) => {
             let _ = println!(rt; "not text");
             Ok(ExitCode::FAILURE)
@@ -180,7 +197,8 @@ fn run(rt: &HostRuntime) -> Result<ExitCode, AllocError> {
     match words.as_slice() {
         [_, word, ways @ ..] if word.as_str() == "refusals" => Ok(refuse(rt, ways)),
         [_, word] if word.as_str() == "plain" => replay_input(rt),
-        _ => play_input(rt),
+        [_, word] if word.as_str() == "reasons" => play_input(rt, Printing::Reasons),
+        _ => play_input(rt, Printing::Results),
     }
 }
 

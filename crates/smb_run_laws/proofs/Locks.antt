@@ -6,12 +6,12 @@ use Rattle.smb_locks.specs.declared.ask.LockAsk.{LockAsk}
 use Rattle.smb_locks.specs.Asks.{locks_asked}
 use Rattle.smb_locks.specs.Table.{locked}
 use Rattle.smb_locks.proofs.Tables.{on_with}
-use Rattle.smb_opens.specs.Locks.{lock_status, locked_through}
+use Rattle.smb_opens.specs.Locks.{lock_refusal, lock_status, locked_through}
 use Rattle.smb_opens.proofs.Shows.{shown_by, entry_of}
 use Rattle.smb_request.specs.Held.{IsCallOf}
 use Rattle.smb_request.specs.Parts.{lock_asks, asks_unlock, file_locked, file_unlocked, with_store, success}
 use Rattle.smb_request.proofs.Performed.{call_read}
-use Rattle.smb_request_laws.proofs.Answered.{status_done}
+use Rattle.smb_request_laws.proofs.Answered.{row_done, table_fails, through_fails}
 use Rattle.smb_content_laws.proofs.Granted.{own}
 use Rattle.smb_content_laws.proofs.ThroughOpens.{is_locked}
 use Rattle.smb_run_laws.specs.MemoryRuns.{HoldsOfRuns}
@@ -19,9 +19,9 @@ use Rattle.smb_run_laws.proofs.Served.{of_runs}
 use Rattle.std.specs.List.{AllByRecursion}
 use Rattle.std.specs.Option.{option_map}
 use Rattle.smb_wire.specs.Limits.{most_at_once}
-use Rattle.smb_wire.specs.NtStatus.{is_success}
-use Rattle.smb_wire.specs.declared.nt_status.NtStatus.{NtStatus}
 use Rattle.smb_wire.specs.declared.nt_status.NtStatus.TheVariants.{Success}
+use Rattle.smb_refusals.specs.declared.refusal.Refusal.{Refusal}
+use Rattle.smb_refusals.proofs.Fails.{read_fails, write_fails, lock_fails}
 use Rattle.smb_body.specs.Requests.{RequestValue, asks_lock, asks_read, asks_write}
 use Rattle.smb_body.specs.Write.{WriteAsked}
 use Rattle.smb_body.specs.declared.read.ReadRequest.{ReadRequest}
@@ -30,18 +30,17 @@ use Rattle.smb_locks.specs.declared.lock.Lock.{Lock}
 use Rattle.smb_locks.specs.Table.{locks_on}
 use Rattle.smb_access.specs.declared.open_row.OpenRow.{OpenRow}
 use Rattle.smb_access.specs.Opens.{open_of}
-use Rattle.smb_opens.specs.Bytes.{read_status, write_status}
+use Rattle.smb_opens.specs.Bytes.{read_refusal, read_status, write_refusal, write_status}
 use Rattle.smb_opens.specs.Good.{GoodStore}
 use Rattle.smb_opens.specs.State.{StoreState}
 use Rattle.smb_opens.specs.Steps.{StoreStep, stepped, stepped_all}
 use Rattle.smb_opens.proofs.Barred.{keeps_out}
 use Rattle.smb_opens.proofs.Closing.{number_found}
-use Rattle.smb_request.specs.declared.context.HeaderIds.{HeaderIds}
 use Rattle.smb_request.specs.Bytes.{file_read, file_written}
 use Rattle.smb_request.specs.Call.{body_of, call_of}
-use Rattle.smb_request.specs.Response.{CommandStep, refused}
+use Rattle.smb_request.specs.Response.{CommandStep, through_open}
 use Rattle.smb_request.specs.State.{ServerState}
-use Rattle.smb_request.proofs.InfoApart.{yes_success}
+use Rattle.smb_request.proofs.Refused.{read_succeeds, write_succeeds, lock_succeeds}
 use Rattle.smb_request_laws.specs.Doing.{open_asked}
 use Rattle.smb_request_laws.proofs.Done.{is_acted}
 use Rattle.smb_run_laws.specs.Actions.{Action, serves, Lead}
@@ -77,23 +76,20 @@ held_over lock file one two good steps held there =
     (steps_hold lock file steps.all.steps one good given steps.all.succeed (none_unlocks lock one steps.all.steps steps.each) held there')
 
 -- a READ or WRITE that is answered by SUCCESS was given this status by the store
-passed_at : {S : Type 0} (server : ServerState S) (ids : HeaderIds) (status : NtStatus) (done : CommandStep S) (b : Bool) → is_success status ≡ b →
-    (let x : CommandStep S = if b then done else refused server ids status in x.response.status ≡ Success) → status ≡ Success
-passed_at server ids status done true t h = yes_success status t
-passed_at server ids status done false t h = h
-
 module _ {S : Type 0} (server : ServerState S) where
   read_passed : (call : _) (read : ReadRequest) → (file_read server call read).response.status ≡ Success → read_status server.store (most_at_once call.dialect) call.open_number read.offset read.length read.minimum_count ≡ Success
   unfolding file_read
   read_passed call read h =
-      let status = read_status server.store (most_at_once call.dialect) call.open_number read.offset read.length read.minimum_count in
-      passed_at server call.ids status _ (is_success status) refl h
+      let refusal = option_map (λ refusal. Refusal.Read refusal) (read_refusal server.store (most_at_once call.dialect) call.open_number read.offset read.length read.minimum_count) in
+      read_succeeds server.store (most_at_once call.dialect) call.open_number read.offset read.length read.minimum_count
+      (row_done server call.ids (through_open server.store call.open_number refusal) _ (through_fails server.store call.open_number refusal (table_fails (λ refusal. Refusal.Read refusal) read_fails _)) h).0
 
   write_passed : (call : _) (write : WriteAsked) → (file_written server call write).response.status ≡ Success → write_status server.store (most_at_once call.dialect) call.open_number write.offset write.buffer ≡ Success
   unfolding file_written
   write_passed call write h =
-      let status = write_status server.store (most_at_once call.dialect) call.open_number write.offset write.buffer in
-      passed_at server call.ids status _ (is_success status) refl h
+      let refusal = option_map (λ refusal. Refusal.Write refusal) (write_refusal server.store (most_at_once call.dialect) call.open_number write.offset write.buffer) in
+      write_succeeds server.store (most_at_once call.dialect) call.open_number write.offset write.buffer
+      (row_done server call.ids (through_open server.store call.open_number refusal) _ (through_fails server.store call.open_number refusal (table_fails (λ refusal. Refusal.Write refusal) write_fails _)) h).0
 
 by_either : (lock : Lock) (own other number : ℕ) → own ≡ number → lock.holder ≡ other → (lock.exclusive ≡ false) ⊎ (own ≢ other) → (lock.exclusive ≡ false) ⊎ (lock.holder ≢ number)
 by_either lock own other number same holder (inl shared) = inl shared
@@ -106,9 +102,10 @@ module _ {S : Type 0} (server : ServerState S) (call : _) (body : Option Request
       x.response.status ≡ Success → (lock_status server.store call.open_number asks ≡ Success) × (x.server.store ≡ locked_through server.store call.open_number asks))
   locks_done asks true e h = absurd (let f : true ≡ false = e in cc)
   locks_done asks false e h =
-      let status = lock_status server.store call.open_number asks in
+      let refusal = option_map (λ refusal. Refusal.Lock refusal) (lock_refusal server.store call.open_number asks) in
       let done : CommandStep S = record { server = with_store server (locked_through server.store call.open_number asks); response = success call.ids answers_lock } in
-      (passed_at server call.ids status done (is_success status) refl h, ap (λ (s : CommandStep S). s.server.store) (status_done server call.ids status done h))
+      let passed = row_done server call.ids (through_open server.store call.open_number refusal) done (through_fails server.store call.open_number refusal (table_fails (λ refusal. Refusal.Lock refusal) lock_fails _)) h in
+      (lock_succeeds server.store call.open_number asks passed.0, ap (λ (s : CommandStep S). s.server.store) passed.1)
 
 same_row : (one other : OpenRow) → Some one ≡ Some other → one ≡ other
 same_row one other e = cc

@@ -2,14 +2,20 @@
 use Rattle.std.proofs.Common.{◌≡◌, ◌⊎◌, inl, inr, ℕ, ◌≤◌, ◌+◌, ◌||◌, ◌&&◌, Bool, true, false, not, nat_lt, if◌then◌else◌, List, [], ◌∷◌, length, Option, None, Some, refl, ap, arith, ◌∙◌}
 use Rattle.std.proofs.lemmas.Bool.{ltb-false, le-ltb}
 use Rattle.std.specs.Prelude.{MatchOption}
-use Rattle.std.specs.Option.{option_map_or, option_and_then}
+use Rattle.std.specs.Option.{is_none, option_map, option_map_or}
 use Rattle.smb_wire.specs.Limits.{most_at_once, most_in_any_dialect}
-use Rattle.smb_wire.specs.NtStatus.{is_success}
 use Rattle.smb_wire.specs.Dialects.{revision_of}
 use Rattle.smb_wire.specs.declared.dialect.Dialect.{Dialect}
 use Rattle.smb_wire.specs.declared.dialect.Dialect.TheVariants.{Smb202, Smb210}
 use Rattle.smb_wire.specs.declared.nt_status.NtStatus.{NtStatus}
-use Rattle.smb_wire.specs.declared.nt_status.NtStatus.TheVariants.{Success, InvalidParameter, InvalidInfoClass, InfoLengthMismatch, NotSupported, FileClosed, AccessDenied, DiskFull, InvalidDeviceRequest, FileLockConflict}
+use Rattle.smb_wire.specs.declared.nt_status.NtStatus.TheVariants.{Success, InvalidParameter, FileClosed, AccessDenied, DiskFull, InvalidDeviceRequest, FileLockConflict}
+use Rattle.smb_refusals.specs.declared.refusal.Refusal.{Refusal}
+use Rattle.smb_refusals.specs.declared.file.CloseRefusal.{CloseRefusal}
+use Rattle.smb_refusals.specs.declared.request.NegotiateRefusal.TheVariants.{NoDialect}
+use Rattle.smb_refusals.specs.declared.request.RequestRefusal.{RequestRefusal}
+use Rattle.smb_refusals.specs.declared.request.RequestRefusal.TheVariants.{UnknownCommand, CommandNotPerformed, BodyUnreadable}
+use Rattle.smb_refusals.specs.declared.set_info.SetInfoRefusal.{SetInfoRefusal}
+use Rattle.smb_refusals.specs.declared.set_info.SetInfoRefusal.TheVariants.{UnknownClass, BufferTooShort, RenameSaysNoName}
 use Rattle.smb_body.specs.Requests.{RequestValue, asks_negotiate, asks_session_setup, asks_logoff, asks_tree_connect, asks_tree_disconnect, asks_create, asks_close, asks_flush, asks_read, asks_write, asks_lock, asks_cancel, asks_echo, asks_query_directory, asks_query_info, asks_set_info}
 use Rattle.smb_body.specs.SessionSetup.{SessionSetupAsked}
 use Rattle.smb_body.specs.Create.{CreateAsked}
@@ -29,7 +35,7 @@ use Rattle.smb_request.specs.declared.context.HeaderIds.{HeaderIds}
 use Rattle.smb_session.specs.Laws.{setup_table, setup_number}
 use Rattle.smb_session.specs.Table.{TableState, tree_disconnect_refusal}
 use Rattle.smb_access.specs.Asked.{FileAsked}
-use Rattle.smb_access.specs.StatusRows.{StatusRow, first_status}
+use Rattle.smb_refusals.specs.Rows.{StatusRow, first_status}
 use Rattle.smb_access.specs.declared.open_row.Owner.TheVariants.{Session, Tree}
 use Rattle.smb_access.specs.declared.view.View.{View}
 use Rattle.smb_tree.specs.Content.{used_space, written, changed_in}
@@ -42,10 +48,10 @@ use Rattle.smb_locks.specs.Conflicts.{is_write_barred}
 use Rattle.smb_locks.specs.declared.ask.LockAsk.{LockAsk}
 use Rattle.smb_info.specs.declared.set_info.SetInformationClass.{SetInformationClass}
 use Rattle.smb_info.specs.SetInformation.{SetAsked, asks_basic, asks_rename, asks_mark, asks_allocation, asks_end, set_class, set_length, is_readable, asked_of}
-use Rattle.smb_opens.specs.Bytes.{read_status, write_status}
+use Rattle.smb_opens.specs.Bytes.{read_refusal, write_refusal, write_status}
 use Rattle.smb_opens.specs.Close.{closed}
-use Rattle.smb_opens.specs.Create.{create_status}
-use Rattle.smb_opens.specs.Locks.{lock_status, unlock_status, locked_through, unlocked_through}
+use Rattle.smb_opens.specs.Create.{create_refusal}
+use Rattle.smb_opens.specs.Locks.{lock_refusal, unlock_refusal, locked_through, unlocked_through}
 use Rattle.smb_opens.specs.State.{StoreState}
 use Rattle.smb_opens.specs.Steps.{StoreStep, creates, writes, locks, unlocks, sets_scan, closes, closes_all, stepped}
 use Rattle.smb_opens.specs.Views.{open_view}
@@ -57,15 +63,15 @@ use Rattle.smb_request.proofs.Performed.{call_read}
 use Rattle.smb_request.specs.Context.{named_on, open_for_next_related}
 use Rattle.smb_request.specs.Files.{file_created, file_closed}
 use Rattle.smb_request.specs.Negotiate.{negotiate_answer}
-use Rattle.smb_request.specs.Parts.{file_asked, close_response, asks_unlock, is_unsupported, is_cancel_command, dialect_after, closed_for, setup_answered, setup_response, lock_asks, hello_of, performed_by, success, set_status, set_through, set_as_asked, class_set, set_type_refusal, with_store, file_locked, file_unlocked, negotiated}
-use Rattle.smb_request.specs.Refusals.{status_of_refusal}
+use Rattle.smb_request.specs.Parts.{file_asked, close_response, asks_unlock, is_unsupported, is_cancel_command, dialect_after, closed_for, setup_answered, setup_response, lock_asks, hello_of, performed_by, success, set_refusal, set_status, set_through, set_as_asked, class_set, set_type_refusal, with_store, file_locked, file_unlocked, negotiated}
 use Rattle.smb_request.specs.Request.{check_request, acted, performed}
-use Rattle.smb_request.specs.Response.{ResponseState, CommandStep, Performed, refused}
+use Rattle.smb_request.specs.Response.{ResponseState, CommandStep, Performed, refused, through_open, unless_refused}
 use Rattle.smb_request.specs.Session.{may_only_read, session_set_up, session_logged_off, tree_joined, tree_left}
 use Rattle.smb_request.specs.SetInfo.{information_set}
 use Rattle.smb_request.specs.State.{ServerState}
-use Rattle.smb_request.proofs.InfoApart.{yes_success, queried_left}
+use Rattle.smb_request.proofs.InfoApart.{queried_left}
 use Rattle.smb_request.proofs.Listings.{listed_left}
+use Rattle.smb_request.proofs.Refused.{none_named, create_succeeds, write_succeeds, lock_succeeds, set_succeeds as setting_passes}
 use Rattle.smb_content_laws.specs.GoodStores.{Succeeds}
 use Rattle.smb_request_laws.specs.Doing.{set_step}
 use Rattle.smb_run_laws.specs.Actions.{IsAskedFor, IsLeftBy}
@@ -159,13 +165,9 @@ module _ {S : Type 0} (call : _) (body : Option RequestValue) (reading : IsCallO
   abbrev LeftAnyhow : RequestValue → ServerState S → Type 0
   LeftAnyhow serves after = (status : NtStatus) → LeftAt serves status after.store
 
-  by_status : (serves : RequestValue) (step : CommandStep S) (status : Option NtStatus) → Left serves step → Left serves (option_map_or (refused server call.ids) status step)
-  by_status serves step (Some status) f = inl refl
-  by_status serves step None f = f
-
-  where_done : (serves : RequestValue) (step : CommandStep S) (status : NtStatus) (b : Bool) → is_success status ≡ b → (status ≡ Success → Left serves step) → Left serves (let x : CommandStep S = if b then step else refused server call.ids status in x)
-  where_done serves step status true t f = f (yes_success status t)
-  where_done serves step status false t f = inl refl
+  by_row : (serves : RequestValue) (step : CommandStep S) (refusal : Option Refusal) → (refusal ≡ None → Left serves step) → Left serves (unless_refused server call.ids refusal step)
+  by_row serves step (Some row) f = inl refl
+  by_row serves step None f = f refl
 
   -- SESSION_SETUP
   closed_at : (serves : SessionSetupAsked) (status : NtStatus) (disconnects : Option ℕ) → (disconnects ≡ None) ⊎ ((disconnects ≡ Some serves.previous_session_id) × (status ≡ Success)) →
@@ -187,40 +189,42 @@ module _ {S : Type 0} (call : _) (body : Option RequestValue) (reading : IsCallO
       let answer : Answered = m.answer sessions.authenticator number serves.security_buffer in
       let told : SetupResult = setup_result table number serves.previous_session_id answer in
       let ids : HeaderIds = record call.ids { session_id = told.session } in
-      by_status (asks_session_setup serves)
+      by_row (asks_session_setup serves)
       (setup_answered server call.ids (setup_step m sessions call.connection call.ids.session_id serves.previous_session_id serves.security_buffer))
-      (option_and_then status_of_refusal (setup_refusal sessions.table call.connection call.ids.session_id serves.flags.0))
-      (closed_at serves (setup_response ids told told.status).status told.ended (answered_so ids told serves.previous_session_id (ended_is table number serves.previous_session_id answer)))
+      (option_map (λ refusal. Refusal.SessionSetup refusal) (setup_refusal sessions.table call.connection call.ids.session_id serves.flags.0))
+      (λ e. closed_at serves (setup_response ids told told.status).status told.ended (answered_so ids told serves.previous_session_id (ended_is table number serves.previous_session_id answer)))
 
   -- LOGOFF
   logged_off_left : (serves : _) → Left (asks_logoff serves) (session_logged_off server call)
   unfolding session_logged_off
   logged_off_left serves =
-      by_status (asks_logoff serves) _ (option_and_then status_of_refusal (logoff_refusal server.sessions.table call.connection call.ids.session_id))
-      (inr (closes_all (Session call.ids.session_id), refl, tt, refl, inl refl))
+      by_row (asks_logoff serves) _ (option_map (λ refusal. Refusal.Logoff refusal) (logoff_refusal server.sessions.table call.connection call.ids.session_id))
+      (λ e. inr (closes_all (Session call.ids.session_id), refl, tt, refl, inl refl))
 
   -- TREE_CONNECT
   joined_left : (serves : _) (path : List ℕ) → Left (asks_tree_connect serves) (tree_joined server call path)
   unfolding tree_joined
-  joined_left serves path = by_status (asks_tree_connect serves) _ (option_and_then status_of_refusal (tree_connect_refusal server.sessions call.connection call.ids.session_id path)) (inl refl)
+  joined_left serves path = by_row (asks_tree_connect serves) _ (option_map (λ refusal. Refusal.TreeConnect refusal) (tree_connect_refusal server.sessions call.connection call.ids.session_id path)) (λ e. inl refl)
 
   -- TREE_DISCONNECT
   tree_left_left : (serves : _) → Left (asks_tree_disconnect serves) (tree_left server call)
   unfolding tree_left
   tree_left_left serves =
-      by_status (asks_tree_disconnect serves) _ (option_and_then status_of_refusal (tree_disconnect_refusal server.sessions.table call.connection call.ids.session_id call.ids.tree_id))
-      (inr (closes_all (Tree call.ids.session_id call.ids.tree_id), refl, tt, refl, inl refl))
+      by_row (asks_tree_disconnect serves) _ (option_map (λ refusal. Refusal.TreeDisconnect refusal) (tree_disconnect_refusal server.sessions.table call.connection call.ids.session_id call.ids.tree_id))
+      (λ e. inr (closes_all (Tree call.ids.session_id call.ids.tree_id), refl, tt, refl, inl refl))
 
   -- CREATE
   created_left : (serves : CreateAsked) → Left (asks_create serves) (file_created server call serves)
   unfolding file_created
   created_left serves =
       let ask : FileAsked = file_asked call.ids serves (may_only_read server call) in
-      where_done (asks_create serves) _ _ (is_success (create_status server.store ask)) refl (λ done. inr (creates ask call.moment, (may_only_read server call, refl), done, refl, inl refl))
+      by_row (asks_create serves) _ (option_map (λ refusal. Refusal.Create refusal) (create_refusal server.store ask)) (λ e.
+      let done = create_succeeds server.store ask (none_named (λ refusal. Refusal.Create refusal) (create_refusal server.store ask) e) in
+      inr (creates ask call.moment, (may_only_read server call, refl), done, refl, inl refl))
 
   -- CLOSE
   closed_left_at : (serves : _) (flags : CloseFlags) (view : Option View) →
-      Left (asks_close serves) (option_map_or (λ view. let x : CommandStep S = record { server = with_store server (closed server.store k); response = success call.ids (answers_close (close_response flags view)) } in x) view (refused server call.ids FileClosed))
+      Left (asks_close serves) (option_map_or (λ view. let x : CommandStep S = record { server = with_store server (closed server.store k); response = success call.ids (answers_close (close_response flags view)) } in x) view (refused server call.ids (Refusal.Close CloseRefusal.UnknownOpen)))
   closed_left_at serves flags None = inl refl
   closed_left_at serves flags (Some view) = inr (closes k, refl, tt, refl, inl refl)
 
@@ -231,50 +235,57 @@ module _ {S : Type 0} (call : _) (body : Option RequestValue) (reading : IsCallO
   -- READ and WRITE
   read_left : (serves : ReadRequest) → Left (asks_read serves) (file_read server call serves)
   unfolding file_read
-  read_left serves = where_done (asks_read serves) _ _ (is_success (read_status server.store (most_at_once call.dialect) k serves.offset serves.length serves.minimum_count)) refl (λ done. inl refl)
+  read_left serves = by_row (asks_read serves) _ (through_open server.store k (option_map (λ refusal. Refusal.Read refusal) (read_refusal server.store (most_at_once call.dialect) k serves.offset serves.length serves.minimum_count))) (λ e. inl refl)
 
   written_left : (serves : WriteAsked) → Left (asks_write serves) (file_written server call serves)
   unfolding file_written
   written_left serves =
-      where_done (asks_write serves) _ _ (is_success (write_status server.store (most_at_once call.dialect) k serves.offset serves.buffer)) refl
-      (λ done. inr (writes k serves.offset serves.buffer call.moment, refl, in_any server.store call.dialect k serves.offset serves.buffer done, refl, inl refl))
+      by_row (asks_write serves) _ (through_open server.store k (option_map (λ refusal. Refusal.Write refusal) (write_refusal server.store (most_at_once call.dialect) k serves.offset serves.buffer))) (λ e.
+      let done = write_succeeds server.store (most_at_once call.dialect) k serves.offset serves.buffer e in
+      inr (writes k serves.offset serves.buffer call.moment, refl, in_any server.store call.dialect k serves.offset serves.buffer done, refl, inl refl))
 
   -- LOCK
   abbrev lock_step : List LockAsk → Bool → StoreStep
   lock_step asks b = if b then unlocks k asks else locks k asks
 
-  unlocked_at : {A : StoreStep → Type 0} (asks : List LockAsk) (status : NtStatus) (b : Bool) → A (unlocks k asks) →
-      (let x : CommandStep S = if b then record { server = with_store server (unlocked_through server.store k asks); response = success call.ids answers_lock } else refused (with_store server (unlocked_through server.store k asks)) call.ids status in IsLeftBy A (x.response.status ≡ Success) server.store x.server.store)
-  unlocked_at asks status true a = inr (unlocks k asks, a, tt, refl, inl refl)
-  unlocked_at asks status false a = inr (unlocks k asks, a, tt, refl, inr refl)
+  unlocked_at : {A : StoreStep → Type 0} (asks : List LockAsk) (refusal : Option Refusal) → A (unlocks k asks) →
+      (let after = with_store server (unlocked_through server.store k asks) in
+      let x : CommandStep S = unless_refused after call.ids refusal (record { server = after; response = success call.ids answers_lock }) in
+      IsLeftBy A (x.response.status ≡ Success) server.store x.server.store)
+  unlocked_at asks None a = inr (unlocks k asks, a, tt, refl, inl refl)
+  unlocked_at asks (Some row) a = inr (unlocks k asks, a, tt, refl, inr refl)
 
-  locked_at : {A : StoreStep → Type 0} (asks : List LockAsk) (b : Bool) → is_success (lock_status server.store k asks) ≡ b → A (locks k asks) →
-      (let x : CommandStep S = if b then record { server = with_store server (locked_through server.store k asks); response = success call.ids answers_lock } else refused server call.ids (lock_status server.store k asks) in IsLeftBy A (x.response.status ≡ Success) server.store x.server.store)
-  locked_at asks true t a = inr (locks k asks, a, yes_success (lock_status server.store k asks) t, refl, inl refl)
-  locked_at asks false t a = inl refl
+  abbrev locks_refused : List LockAsk → Option Refusal
+  locks_refused asks = through_open server.store k (option_map (λ refusal. Refusal.Lock refusal) (lock_refusal server.store k asks))
+
+  locked_at : {A : StoreStep → Type 0} (asks : List LockAsk) (refusal : Option Refusal) → locks_refused asks ≡ refusal → A (locks k asks) →
+      (let x : CommandStep S = unless_refused server call.ids refusal (record { server = with_store server (locked_through server.store k asks); response = success call.ids answers_lock }) in
+      IsLeftBy A (x.response.status ≡ Success) server.store x.server.store)
+  locked_at asks None e a = inr (locks k asks, a, lock_succeeds server.store k asks e, refl, inl refl)
+  locked_at asks (Some row) e a = inl refl
 
   locks_left_at : (asks : List LockAsk) (b : Bool) → (let x : CommandStep S = if b then file_unlocked server call asks else file_locked server call asks in IsLeftBy (λ step. step ≡ lock_step asks b) (x.response.status ≡ Success) server.store x.server.store)
-  locks_left_at asks true = unlocked_at asks (unlock_status server.store k asks) (is_success (unlock_status server.store k asks)) refl
-  locks_left_at asks false = locked_at asks (is_success (lock_status server.store k asks)) refl refl
+  locks_left_at asks true = unlocked_at asks (through_open server.store k (option_map (λ refusal. Refusal.Lock refusal) (unlock_refusal server.store k asks))) refl
+  locks_left_at asks false = locked_at asks (locks_refused asks) refl refl
 
   -- SET_INFO
   module _ (serves : SetInfoAsked) (class : SetInformationClass) (is : set_class serves.file_info_class.0 ≡ Some class) where
-    set_by_status : (status : NtStatus) (b : Bool) → set_status server.store k (asked_of serves.buffer class) ≡ status → is_success status ≡ b →
-        Left (asks_set_info serves) (let x : CommandStep S = if b then record { server = with_store server (set_through server.store k call.moment (asked_of serves.buffer class)); response = success call.ids answers_set_info } else refused server call.ids status in x)
-    set_by_status status true e t =
+    set_by_row : (refusal : Option Refusal) → through_open server.store k (set_refusal server.store k (asked_of serves.buffer class)) ≡ refusal →
+        Left (asks_set_info serves) (unless_refused server call.ids refusal (record { server = with_store server (set_through server.store k call.moment (asked_of serves.buffer class)); response = success call.ids answers_set_info }))
+    set_by_row None e =
         let ask : SetAsked = asked_of serves.buffer class in
-        inr (set_step k call.moment ask, (class, is, refl), set_succeeds server.store k call.moment ask (e ∙ yes_success status t), set_stepped server.store k call.moment ask, inl refl)
-    set_by_status status false e t = inl refl
+        inr (set_step k call.moment ask, (class, is, refl), set_succeeds server.store k call.moment ask (setting_passes server.store k ask e), set_stepped server.store k call.moment ask, inl refl)
+    set_by_row (Some row) e = inl refl
 
     set_by_class : (b c : Bool) →
-        Left (asks_set_info serves) (let x : CommandStep S = if b then refused server call.ids InfoLengthMismatch else if c then refused server call.ids InvalidParameter else set_as_asked server call (asked_of serves.buffer class) in x)
+        Left (asks_set_info serves) (let x : CommandStep S = if b then refused server call.ids (Refusal.SetInfo BufferTooShort) else if c then refused server call.ids (Refusal.SetInfo RenameSaysNoName) else set_as_asked server call (asked_of serves.buffer class) in x)
     set_by_class true c = inl refl
     set_by_class false true = inl refl
-    set_by_class false false = set_by_status (set_status server.store k (asked_of serves.buffer class)) (is_success (set_status server.store k (asked_of serves.buffer class))) refl refl
+    set_by_class false false = set_by_row (through_open server.store k (set_refusal server.store k (asked_of serves.buffer class))) refl
 
-  set_by_type : (serves : SetInfoAsked) (class : Option SetInformationClass) (refusal : Option NtStatus) → set_class serves.file_info_class.0 ≡ class →
-      Left (asks_set_info serves) (option_map_or (refused server call.ids) refusal (option_map_or (class_set server call serves.buffer) class (refused server call.ids InvalidInfoClass)))
-  set_by_type serves class (Some status) is = inl refl
+  set_by_type : (serves : SetInfoAsked) (class : Option SetInformationClass) (refusal : Option SetInfoRefusal) → set_class serves.file_info_class.0 ≡ class →
+      Left (asks_set_info serves) (option_map_or (λ refusal. refused server call.ids (Refusal.SetInfo refusal)) refusal (option_map_or (class_set server call serves.buffer) class (refused server call.ids (Refusal.SetInfo UnknownClass))))
+  set_by_type serves class (Some row) is = inl refl
   set_by_type serves None None is = inl refl
   set_by_type serves (Some class) None is = set_by_class serves class is (nat_lt (length serves.buffer) (set_length class)) (not (is_readable serves.buffer class))
 
@@ -284,7 +295,7 @@ module _ {S : Type 0} (call : _) (body : Option RequestValue) (reading : IsCallO
 
   -- NEGOTIATE
   negotiated_at : (serves : _) (m : Meaning S) (best : Option Dialect) →
-      Left (asks_negotiate serves) (option_map_or (λ best. let x : CommandStep S = record { server = server; response = success call.ids (negotiate_answer server.settings.guid (hello_of m server) call.moment (Some best) (revision_of best)) } in x) best (refused server call.ids NotSupported))
+      Left (asks_negotiate serves) (option_map_or (λ best. let x : CommandStep S = record { server = server; response = success call.ids (negotiate_answer server.settings.guid (hello_of m server) call.moment (Some best) (revision_of best)) } in x) best (refused server call.ids (Refusal.Negotiate NoDialect)))
   negotiated_at serves m None = inl refl
   negotiated_at serves m (Some best) = inl refl
 
@@ -312,17 +323,18 @@ module _ {S : Type 0} (call : _) (body : Option RequestValue) (reading : IsCallO
   acted_left m (asks_set_info x) = set_left x
 
   -- a request
-  checked_left : (m : Meaning S) (serves : RequestValue) (refusal : Option NtStatus) → Left serves (option_map_or (refused server call.ids) refusal (acted m server call serves))
-  checked_left m serves (Some status) = inl refl
+  checked_left : (m : Meaning S) (serves : RequestValue) (refusal : Option RequestRefusal) → Left serves (unless_refused server call.ids (option_map (λ refusal. Refusal.Request refusal) refusal) (acted m server call serves))
+  checked_left m serves (Some row) = inl refl
   checked_left m serves None = acted_left m serves
 
-  body_left : (m : Meaning S) (unsupported : Bool) (body : Option RequestValue) →
-      (let x : CommandStep S = if unsupported then refused server call.ids NotSupported else
-      option_map_or (λ serves. option_map_or (refused server call.ids) (check_request server call serves) (acted m server call serves)) body (refused server call.ids InvalidParameter) in
+  body_left : (m : Meaning S) (unsupported unknown : Bool) (body : Option RequestValue) →
+      (let x : CommandStep S = if unsupported then refused server call.ids (Refusal.Request CommandNotPerformed) else
+      option_map_or (λ serves. unless_refused server call.ids (option_map (λ refusal. Refusal.Request refusal) (check_request server call serves)) (acted m server call serves)) body
+      (refused server call.ids (Refusal.Request (if unknown then UnknownCommand else BodyUnreadable))) in
       IsLeftBy (λ step. MatchOption body ⊥ (λ serves. IsBy serves step)) (x.response.status ≡ Success) server.store x.server.store)
-  body_left m true body = inl refl
-  body_left m false None = inl refl
-  body_left m false (Some serves) = checked_left m serves (check_request server call serves)
+  body_left m true unknown body = inl refl
+  body_left m false unknown None = inl refl
+  body_left m false unknown (Some serves) = checked_left m serves (check_request server call serves)
 
 -- a request, by its answer
 abbrev Answered_so : Option ResponseState → Type 0
@@ -334,7 +346,7 @@ pub request_left : {S : Type 0} (m : Meaning S) (c moment : ℕ) (server : Serve
 unfolding performed
 request_left {S} m c moment server dialect context request =
     let call = call_of c moment dialect context request in
-    let left = body_left call (body_of call.command request) (call_read c moment dialect context request) server m (option_map_or is_unsupported call.command false) (body_of call.command request) in
+    let left = body_left call (body_of call.command request) (call_read c moment dialect context request) server m (option_map_or is_unsupported call.command false) (is_none call.command) (body_of call.command request) in
     elim (is_cancel_command call.command) as (λ b. let p : Performed S = if b then record {
       server = server;
       dialect = dialect;

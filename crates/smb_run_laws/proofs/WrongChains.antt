@@ -1,7 +1,7 @@
 -- Wrong definitions of chains, which the laws refuse: with each the law is false.
 -- A law whose name ends in By says of any step what that of specs/ says of the right one, as the line below it shows;
 -- then come the wrong steps, and the proofs that the law is false of them.
-use Rattle.std.proofs.Common.{◌≡◌, ℕ, ◌+◌, ◌%◌, ◌==◌, not, true, false, List, [], ◌∷◌, ◌++◌, length, map, filter, take, drop, replicate, Some, refl, sym, ap, arith, ◌∙◌}
+use Rattle.std.proofs.Common.{◌≡◌, ℕ, ◌+◌, ◌%◌, ◌==◌, not, true, false, List, [], ◌∷◌, ◌++◌, length, map, filter, take, drop, replicate, None, Some, refl, sym, ap, arith, ◌∙◌}
 use Rattle.std.specs.Option.{option_map_or}
 use Rattle.smb_wire.specs.Commands.{code_of, known_command}
 use Rattle.smb_wire.specs.Fields.{joined}
@@ -97,7 +97,7 @@ module _ {S : Type 0} (m : Meaning S) (accounts : S) where
 
   -- how an ECHO is answered
   abbrev answer : ResponseState
-  answer = record { status = Success; ids = record { session_id = 0; tree_id = 0 }; body = reply_spelling answers_echo }
+  answer = record { status = Success; refusal = None; ids = record { session_id = 0; tree_id = 0 }; body = reply_spelling answers_echo }
 
   -- a chain is performed whole
   abbrev AChainIsPerformedWholeBy : Plays S → Type 0

@@ -68,7 +68,7 @@ module _ {S : Type 0} (accounts : S) where
   now = server accounts ((1, session 1 (1 ∷ [])) ∷ [])
 
   abbrev answer : List ℕ → ResponseState
-  answer body = record { status = Success; ids = record { session_id = 1; tree_id = 1 }; body = body }
+  answer body = record { status = Success; refusal = None; ids = record { session_id = 1; tree_id = 1 }; body = body }
 
   abbrev served : ServerState S → List ℕ → ServerState S → List ℕ → PerformedRequest S
   served before request after body = record {

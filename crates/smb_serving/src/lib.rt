@@ -21,6 +21,6 @@ mod taken;
 
 pub use laws::laws_of_serving;
 pub use memory_peers::{MemoryPeers, PeerStep, SendStep};
-pub use serving::{serve, serve_until};
-pub use smb_peers::{Clock, ListClock, PeerEvent, Peers, SendFault, Stopping, Usage};
+pub use serving::{serve, serve_until, serve_until_observed};
+pub use smb_peers::{Clock, ListClock, Observer, PeerEvent, Peers, SendFault, Stopping, Usage};
 pub use taken::taken_from;

@@ -8,6 +8,7 @@ ghost use Rattle.smb_engine.specs.Output.{AreShort};
 
 use smb_engine::{ServeFault, Share};
 use smb_opens::Opens;
+use smb_peers::Observer;
 use smb_session::Authenticator;
 use smb_tree::Tree;
 use std::alloc::Global;
@@ -109,11 +110,12 @@ impl ServedPeer {
     }
 
     /// Takes a piece of its stream at a moment; the replies are owed to it.
-    fn feed<A: Authenticator + Drop, T: Tree + Drop, O: Opens + Drop>(
+    fn feed<A: Authenticator + Drop, T: Tree + Drop, O: Opens + Drop, W: Observer>(
         &mut self,
         share: &mut Share<A, T, O>,
         moment: u64,
         piece: &[u8],
+        observer: &mut W,
     ) -> Result<(), OutOfMemory>
         ensures share { OnOk result (share.new ≡ unread
             (bytes_step A.meaning share.old self.old.connection moment piece.now).state) }
@@ -121,7 +123,7 @@ impl ServedPeer {
         ensures short { OnOk result (AreShort (bytes_step A.meaning share.old self.old.connection moment piece.now).outputs) }
         ensures err { IfErr result (λ ran_out. PieceEnds A.meaning share.old self.old moment piece.now ran_out.done share.new self.new) }
     {
-        match share.feed(self.connection, moment, piece, &mut self.owed) {
+        match share.feed_observed(self.connection, moment, piece, &mut self.owed, observer) {
             Ok(_) => Ok(()),
             Err(ServeFault::NoMemory { done }) => {
                 self.drop_owed();
@@ -133,18 +135,19 @@ impl ServedPeer {
 
     /// Takes a piece of its stream at a moment; the replies are owed to it. Where that is too much, its connection ends and
     /// they are dropped.
-    pub(crate) fn take_piece<A: Authenticator + Drop, T: Tree + Drop, O: Opens + Drop>(
+    pub(crate) fn take_piece<A: Authenticator + Drop, T: Tree + Drop, O: Opens + Drop, W: Observer>(
         &mut self,
         share: &mut Share<A, T, O>,
         moment: u64,
         piece: &[u8],
+        observer: &mut W,
     ) -> Result<(), OutOfMemory>
         ensures ok { OnOk result (record { share = share.new; peer = self.new }
             ≡ piece_taken A.meaning share.old self.old moment piece.now) }
         ensures short { OnOk result (AreShort (bytes_step A.meaning share.old self.old.connection moment piece.now).outputs) }
         ensures err { IfErr result (λ ran_out. PieceEnds A.meaning share.old self.old moment piece.now ran_out.done share.new self.new) }
     {
-        self.feed(share, moment, piece)?;
+        self.feed(share, moment, piece, observer)?;
         if self.owed().len() > MOST_OWED {
             share.ended(self.connection);
             self.drop_owed();

@@ -13,7 +13,7 @@ ghost use Rattle.smb_serving.specs.ServingLaws.{OpensEachOnce};
 use super::served_peer::ServedPeer;
 use smb_engine::Share;
 use smb_opens::Opens;
-use smb_peers::{Clock, PeerEvent, Peers, Stopping};
+use smb_peers::{Clock, Observer, PeerEvent, Peers, Stopping};
 use smb_session::Authenticator;
 use smb_tree::Tree;
 
@@ -114,11 +114,12 @@ fn open_peer<A: Authenticator + Drop, T: Tree + Drop, O: Opens + Drop, P: Peers>
 }
 
 /// Takes a piece of a peer's stream, and tells after how many requests memory ran out, where it did.
-fn feed_peer<A: Authenticator + Drop, T: Tree + Drop, O: Opens + Drop, C: Clock>(
+fn feed_peer<A: Authenticator + Drop, T: Tree + Drop, O: Opens + Drop, C: Clock, W: Observer>(
     share: &mut Share<A, T, O>,
     clock: &mut C,
     peer: &mut ServedPeer,
     piece: &[u8],
+    observer: &mut W,
 ) -> Option<usize>
     ensures { Keeping (C.keeps clock.old) (C.keeps clock.new)
         (PieceTaken A.meaning piece.now share.old peer.old (C.moments clock.old) (record { share = share.new; peer = peer.new; moments = C.moments clock.new; ran_out = is_some result })) }
@@ -127,26 +128,27 @@ fn feed_peer<A: Authenticator + Drop, T: Tree + Drop, O: Opens + Drop, C: Clock>
         return None;
     }
     let moment = clock.moment();
-    match peer.take_piece(share, moment, piece) {
+    match peer.take_piece(share, moment, piece, observer) {
         Ok(()) => None,
         Err(cut) => Some(cut.done),
     }
 }
 
 /// Takes a piece of a number's stream, and tells after how many requests memory ran out, where it did.
-fn take_bytes<A: Authenticator + Drop, T: Tree + Drop, O: Opens + Drop, C: Clock>(
+fn take_bytes<A: Authenticator + Drop, T: Tree + Drop, O: Opens + Drop, C: Clock, W: Observer>(
     share: &mut Share<A, T, O>,
     clock: &mut C,
     served_peers: &mut Vec<ServedPeer>,
     number: u64,
     piece: &[u8],
+    observer: &mut W,
 ) -> Option<usize>
     ensures { Keeping (C.keeps clock.old) (C.keeps clock.new) ((calls : List PeerCall) (n : ℕ) →
         PieceFollows A.meaning number piece.now (serving share.old served_peers.old.items calls (C.moments clock.old) n)
         (serving share.new served_peers.new.items calls (C.moments clock.new) (if is_some result then n + 1 else n))) }
 {
     match find_peer(served_peers, number) {
-        Some(place) => feed_peer(share, clock, &mut served_peers[place], piece),
+        Some(place) => feed_peer(share, clock, &mut served_peers[place], piece, observer),
         None => None,
     }
 }
@@ -181,11 +183,19 @@ fn next_event<A: Authenticator + Drop, T: Tree + Drop, O: Opens + Drop, P: Peers
 }
 
 /// Takes the next event, and tells whether memory ran out.
-fn take_event<A: Authenticator + Drop, T: Tree + Drop, O: Opens + Drop, P: Peers, C: Clock>(
+fn take_event<
+    A: Authenticator + Drop,
+    T: Tree + Drop,
+    O: Opens + Drop,
+    P: Peers,
+    C: Clock,
+    W: Observer,
+>(
     share: &mut Share<A, T, O>,
     peers: &mut P,
     clock: &mut C,
     served_peers: &mut Vec<ServedPeer>,
+    observer: &mut W,
 ) -> bool
     ensures { Keeping (P.keeps peers.old && C.keeps clock.old) (P.keeps peers.new && C.keeps clock.new)
         ((call : PeerCall) × OpensIn call (P.opened peers.old) (P.opened peers.new) × ((n : ℕ) →
@@ -195,7 +205,7 @@ fn take_event<A: Authenticator + Drop, T: Tree + Drop, O: Opens + Drop, P: Peers
     match next_event(share, peers) {
         PeerEvent::Opened(number) => open_peer(share, peers, served_peers, number),
         PeerEvent::Bytes(number) => {
-            match take_bytes(share, clock, served_peers, number, peers.piece()) {
+            match take_bytes(share, clock, served_peers, number, peers.piece(), observer) {
                 Some(done) => {
                     peers.ran_out(number, done);
                     true
@@ -273,18 +283,19 @@ fn send_all<A: Authenticator + Drop, T: Tree + Drop, O: Opens + Drop, P: Peers>(
 }
 
 /// One turn: the next event, and then what is to be sent. Tells whether memory ran out.
-fn turn<A: Authenticator + Drop, T: Tree + Drop, O: Opens + Drop, P: Peers, C: Clock>(
+fn turn<A: Authenticator + Drop, T: Tree + Drop, O: Opens + Drop, P: Peers, C: Clock, W: Observer>(
     share: &mut Share<A, T, O>,
     peers: &mut P,
     clock: &mut C,
     served_peers: &mut Vec<ServedPeer>,
+    observer: &mut W,
 ) -> bool
     ensures { Keeping (P.keeps peers.old && C.keeps clock.old) (P.keeps peers.new && C.keeps clock.new)
         ((call : PeerCall) × OpensIn call (P.opened peers.old) (P.opened peers.new) × ((n : ℕ) →
         TurnOf A.meaning call (serving share.old served_peers.old.items (P.calls peers.old) (C.moments clock.old) n)
         (serving share.new served_peers.new.items (P.calls peers.new) (C.moments clock.new) (if result then n + 1 else n)))) }
 {
-    let ran_out = take_event(share, peers, clock, served_peers);
+    let ran_out = take_event(share, peers, clock, served_peers, observer);
     send_all(share, peers, served_peers);
     ran_out
 }
@@ -307,7 +318,7 @@ pub fn serve<A: Authenticator + Drop, T: Tree + Drop, O: Opens + Drop, P: Peers,
     let mut served_peers = Vec::new(share.allocator());
     let mut count = 0;
     for _turn in 0..turns {
-        if turn(share, peers, clock, &mut served_peers) {
+        if turn(share, peers, clock, &mut served_peers, &mut ()) {
             count += 1;
         }
     }
@@ -330,10 +341,30 @@ pub fn serve_until<
     ensures once { Keeping (P.keeps peers.old && C.keeps clock.old) (P.keeps peers.new && C.keeps clock.new)
         ((more : List PeerCall) → P.calls peers.new ≡ P.calls peers.old ++ more → OpensEachOnce more) }
 {
+    serve_until_observed(share, peers, clock, turns, &mut ())
+}
+
+/// The same as [`serve_until`], and an observer hears what is refused, and which rules end connections.
+pub fn serve_until_observed<
+    A: Authenticator + Drop,
+    T: Tree + Drop,
+    O: Opens + Drop,
+    P: Peers + Stopping,
+    C: Clock,
+    W: Observer,
+>(share: &mut Share<A, T, O>, peers: &mut P, clock: &mut C, turns: u64, observer: &mut W) -> u64
+    ensures served { Keeping (P.keeps peers.old && C.keeps clock.old) (P.keeps peers.new && C.keeps clock.new)
+        ((performed : ℕ) × (performed ≤ turns) × (performed < turns → P.stopped peers.new ≡ true)
+        × Served A.meaning performed share.old (P.calls peers.old) (C.moments clock.old) share.new (P.calls peers.new) (C.moments clock.new) result) }
+    ensures stops { Keeping (P.keeps peers.old && C.keeps clock.old) (P.keeps peers.new && C.keeps clock.new)
+        (ServedUntilStopped A.meaning P.calls P.stopped turns share.old peers.old (C.moments clock.old) share.new peers.new (C.moments clock.new) result) }
+    ensures once { Keeping (P.keeps peers.old && C.keeps clock.old) (P.keeps peers.new && C.keeps clock.new)
+        ((more : List PeerCall) → P.calls peers.new ≡ P.calls peers.old ++ more → OpensEachOnce more) }
+{
     let mut served_peers = Vec::new(share.allocator());
     let mut count = 0;
     for _turn in 0..turns {
-        if turn(share, peers, clock, &mut served_peers) {
+        if turn(share, peers, clock, &mut served_peers, observer) {
             count += 1;
         }
         if peers.is_stopped() {

@@ -10,3 +10,4 @@ pub mod Steps
 pub mod Paths
 pub mod Gone
 pub mod Taken
+pub mod Refusals

@@ -15,3 +15,4 @@ pub mod Done
 pub mod Sessions
 pub mod Laws
 pub mod Parts
+pub mod Refusals

@@ -6,9 +6,10 @@ use Rattle.smb_wire.specs.Counters.{is_spent}
 use Rattle.smb_session.specs.Numbers.{without_number, contains}
 use Rattle.smb_session.specs.Session.{SessionState}
 use Rattle.std.specs.Option.{option_map_or, option_eq}
-use Rattle.smb_session.specs.declared.fault.SessionFault.{SessionFault}
-use Rattle.smb_session.specs.declared.fault.SessionFault.TheVariants.{UnknownSession, NotAccepted}
-use Rattle.smb_session.specs.Table.{TableState, knows_session, session_at, numbers_on, session_ended, session_changed}
+use Rattle.smb_refusals.specs.declared.session.SetupRefusal.{SetupRefusal}
+use Rattle.smb_refusals.specs.declared.session.SetupRefusal.TheVariants.{SessionFinished}
+use Rattle.smb_session.specs.Table.{TableState, session_at, numbers_on, session_ended, session_changed}
+pub use Rattle.smb_session.specs.Table.{logoff_refusal}
 use Rattle.smb_wire.specs.Names.{is_same_name}
 use Rattle.smb_session.specs.Path.{path_parts, share_in}
 use Rattle.std.specs.Str.{bytes_eq}
@@ -41,10 +42,6 @@ abbrev pub begun : TableState → ℕ → TableState
 begun table connection =
     record table { sessions = table.sessions ++ (table.next, fresh_session connection) ∷ []; next = table.next + 1 }
 
--- LOGOFF: only a finished session of the connection is logged off (3.3.5.6)
-abbrev pub logoff_refusal : TableState → ℕ → ℕ → Option SessionFault
-logoff_refusal table connection session = if knows_session table connection session then None else Some UnknownSession
-
 -- TREE_CONNECT: the tree that a session is given, which is its next one (3.3.5.7)
 abbrev pub next_tree_of : TableState → ℕ → ℕ
 next_tree_of table session = option_map_or (λ state. state.next_tree) (session_at table session) 0
@@ -62,10 +59,10 @@ has_all_sessions table connection =
     || is_spent 64 table.next
 
 -- why a session that stands is not set up further: it is another connection's, or finished
-abbrev pub known_session_refusal : ℕ → SessionState → Option SessionFault
+abbrev pub known_session_refusal : ℕ → SessionState → Option SetupRefusal
 known_session_refusal connection state =
-    if not (state.connection == connection) then Some UnknownSession else
-    if is_some state.user then Some NotAccepted else None
+    if not (state.connection == connection) then Some SetupRefusal.UnknownSession else
+    if is_some state.user then Some SessionFinished else None
 
 -- a session that is finished, by this user
 abbrev pub is_of_user : List ℕ → SessionState → Bool

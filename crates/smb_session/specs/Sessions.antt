@@ -6,6 +6,8 @@ use Rattle.smb_wire.specs.Counters.{is_spent}
 use Rattle.smb_wire.specs.Names.{is_same_name}
 use Rattle.smb_session.specs.declared.fault.SessionFault.{SessionFault}
 use Rattle.smb_session.specs.declared.fault.SessionFault.TheVariants.{UnknownSession, UnknownTree, NoShare, NotAccepted, NoDialect, NoMemory}
+use Rattle.smb_refusals.specs.declared.session.TreeConnectRefusal.{TreeConnectRefusal}
+use Rattle.smb_refusals.specs.declared.session.TreeConnectRefusal.TheVariants.{UnknownShare, NoTreeConnectLeft}
 use Rattle.smb_session.specs.Authenticator.{Meaning}
 use Rattle.smb_session.specs.Table.{TableState, session_at, knows_session, no_sessions}
 use Rattle.smb_session.specs.Session.{SessionState}
@@ -54,17 +56,19 @@ module _ {S : Type 0} (authenticator : Meaning S) where
         told = setup_result table number previous answer;
       }
 
--- TREE_CONNECT: the session, the share that the path names, and then room for a tree: a session has at most 16, and
--- numbers that are not spent (3.3.5.7)
-abbrev pub tree_connect_refusal : {S : Type 0} → SessionsState S → ℕ → ℕ → List ℕ → Option SessionFault
+-- why a TREE_CONNECT is refused: the first row that holds (3.3.5.7)
+abbrev pub tree_connect_refusal : {S : Type 0} → SessionsState S → ℕ → ℕ → List ℕ → Option TreeConnectRefusal
 tree_connect_refusal s connection session path =
-    if not (knows_session s.table connection session) then Some UnknownSession else
-    if not (option_map_or (λ named. is_same_name named s.share) (share_in (path_parts path)) false) then Some NoShare else
+    -- TC1. the session is no finished one of the connection
+    if not (knows_session s.table connection session) then Some TreeConnectRefusal.UnknownSession else
+    -- TC2. the path is not `\\server\share`, or names another share
+    if not (option_map_or (λ named. is_same_name named s.share) (share_in (path_parts path)) false) then Some UnknownShare else
+    -- TC3. the session has 16 trees, or their numbers are spent
     if option_map_or
     (λ (state : SessionState). nat_le most_tree_connects (length state.trees) || is_spent 32 state.next_tree)
     (session_at s.table session)
     true
-    then Some NotAccepted else None
+    then Some NoTreeConnectLeft else None
 
 -- a refusal is the one that the definition gives; want of memory comes only where it gives none
 abbrev pub IsRefused : Option SessionFault → SessionFault → Type 0

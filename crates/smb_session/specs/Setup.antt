@@ -4,8 +4,8 @@ use Rattle.std.specs.Option.{option_map_or, option_eq}
 use Rattle.std.specs.Str.{bytes_eq}
 use Rattle.smb_wire.specs.Limits.{most_sessions}
 use Rattle.smb_wire.specs.Counters.{is_spent}
-use Rattle.smb_session.specs.declared.fault.SessionFault.{SessionFault}
-use Rattle.smb_session.specs.declared.fault.SessionFault.TheVariants.{UnknownSession, NotAccepted}
+use Rattle.smb_refusals.specs.declared.session.SetupRefusal.{SetupRefusal}
+use Rattle.smb_refusals.specs.declared.session.SetupRefusal.TheVariants.{BindingAsked, NoSessionLeft, UnknownSession, SessionFinished}
 use Rattle.smb_session.specs.declared.setup.SetupStatus.{SetupStatus}
 use Rattle.smb_session.specs.declared.setup.SetupStatus.TheVariants.{Success, MoreProcessingRequired, LogonFailure}
 use Rattle.smb_session.specs.Numbers.{contains}
@@ -13,23 +13,23 @@ use Rattle.smb_session.specs.Session.{SessionState}
 use Rattle.smb_session.specs.Table.{TableState, session_at, numbers_on, session_ended, session_changed}
 use Rattle.smb_session.specs.Authenticator.{Answered, continues, accepts, denies}
 
--- why the authenticator is not asked, the first that holds
-abbrev pub setup_refusal : TableState → ℕ → ℕ → ℕ → Option SessionFault
+-- why a SESSION_SETUP is refused, so that the authenticator is not asked: the first row that holds
+abbrev pub setup_refusal : TableState → ℕ → ℕ → ℕ → Option SetupRefusal
 setup_refusal table connection session flags =
-    -- BINDING (0x01) is set
-    if not (bit_and flags 1 == 0) then Some NotAccepted else
-    -- SessionId 0 asks for a new session, and the connection is not known, has 16 (unfinished ones count), or the
+    -- SS1. BINDING (0x01) is set
+    if not (bit_and flags 1 == 0) then Some BindingAsked else
+    -- SS2. SessionId 0 asks for a new session, and the connection is not known, has 16 (unfinished ones count), or the
     -- numbers are spent
     if session == 0 then
     (if not (contains table.connections connection)
     || nat_le most_sessions (length (numbers_on table.sessions connection))
     || is_spent 64 table.next
-    then Some NotAccepted else None) else
-    -- SessionId names none of this connection, or a finished one
+    then Some NoSessionLeft else None) else
+    -- SS3, SS4. SessionId names none of this connection, or a finished one
     option_map_or
     (λ (state : SessionState).
     if not (state.connection == connection) then Some UnknownSession else
-    if is_some state.user then Some NotAccepted else None)
+    if is_some state.user then Some SessionFinished else None)
     (session_at table session)
     (Some UnknownSession)
 

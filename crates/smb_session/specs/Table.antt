@@ -4,8 +4,9 @@ use Rattle.std.specs.Option.{option_map, option_map_or}
 use Rattle.std.specs.Map.{lookup, remove_entry}
 use Rattle.std.specs.BTreeMap.{is_at}
 use Rattle.std.specs.Ordering.{nat_cmp}
-use Rattle.smb_session.specs.declared.fault.SessionFault.{SessionFault}
-use Rattle.smb_session.specs.declared.fault.SessionFault.TheVariants.{UnknownSession, UnknownTree}
+use Rattle.smb_refusals.specs.declared.session.LogoffRefusal.{LogoffRefusal}
+use Rattle.smb_refusals.specs.declared.session.TreeDisconnectRefusal.{TreeDisconnectRefusal}
+use Rattle.smb_refusals.specs.declared.session.TreeDisconnectRefusal.TheVariants.{UnknownTreeConnect}
 use Rattle.smb_session.specs.Numbers.{contains, with_number, without_number}
 use Rattle.smb_session.specs.Session.{SessionState}
 
@@ -67,11 +68,19 @@ abbrev pub knows : TableState → ℕ → ℕ → Option ℕ → Bool
 knows table connection session None = knows_session table connection session
 knows table connection session (Some tree) = knows_session table connection session && knows_tree table session tree
 
--- TREE_DISCONNECT: the session, then the tree (3.3.5.8)
-abbrev pub tree_disconnect_refusal : TableState → ℕ → ℕ → ℕ → Option SessionFault
+-- why a LOGOFF is refused (3.3.5.6)
+abbrev pub logoff_refusal : TableState → ℕ → ℕ → Option LogoffRefusal
+logoff_refusal table connection session =
+    -- LO1. the session is no finished one of the connection
+    if knows_session table connection session then None else Some LogoffRefusal.UnknownSession
+
+-- why a TREE_DISCONNECT is refused: the first row that holds (3.3.5.8)
+abbrev pub tree_disconnect_refusal : TableState → ℕ → ℕ → ℕ → Option TreeDisconnectRefusal
 tree_disconnect_refusal table connection session tree =
-    if not (knows_session table connection session) then Some UnknownSession else
-    if knows_tree table session tree then None else Some UnknownTree
+    -- TD1. the session is no finished one of the connection
+    if not (knows_session table connection session) then Some TreeDisconnectRefusal.UnknownSession else
+    -- TD2. the session has no such tree
+    if knows_tree table session tree then None else Some UnknownTreeConnect
 
 -- what an end of a connection leaves, and the session that it reports
 pub record EndStep : Type 0 where

@@ -5,6 +5,7 @@ ghost use Rattle.smb_wire.specs.Limits.{longest_token};
 ghost use Rattle.smb_session.specs.Authenticator.{IsLawful};
 ghost use Rattle.smb_session.specs.Answers.{answered_by};
 
+use smb_refusals::LoginRefusal;
 use std::alloc::AllocError;
 
 /// What an authenticator answers to a client's token.
@@ -27,6 +28,14 @@ pub enum Answer {
     Deny,
 }
 
+/// Why a client was denied.
+#[derive(Clone, Copy)]
+pub struct Denial<'a> {
+    pub reason: LoginRefusal,
+    /// The account's name as the client typed it: the bytes as they came, in UTF-16LE. Empty where none was read.
+    pub name: &'a [u8],
+}
+
 /// Finds out who a client is, by an exchange of tokens.
 ///
 /// What it does is `meaning`: functions of its state. Tokens have at most 4,096 bytes and users at most 256;
@@ -47,4 +56,9 @@ pub trait Authenticator {
         ensures next { OnOk result (self.new ≡ meaning.next self.old session token.now) }
         ensures lawful { IfOk result (λ answer. IsLawful (answered_by answer)) }
         ensures err { OnErr result (self.new ≡ self.old) };
+
+    /// Why the last step denied, where the authenticator keeps it. This takes no part in its meaning.
+    fn denial(&self) -> Option<Denial<'_>> {
+        None
+    }
 }

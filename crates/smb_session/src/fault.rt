@@ -1,8 +1,12 @@
 //! Why a call of the sessions is refused.
 
 ghost use Rattle.std.specs.Prelude.{◌≡◌};
+ghost use Rattle.smb_session.specs.Refusals.{setup_fault, logoff_fault, tree_connect_fault, tree_disconnect_fault};
 ghost use Rattle.smb_session.specs.declared.fault.SessionFault.TheVariants.{NoMemory};
 
+use smb_refusals::{
+    LogoffRefusal, RefusedBy, SetupRefusal, TreeConnectRefusal, TreeDisconnectRefusal,
+};
 use std::alloc::AllocError;
 use thiserror::Error;
 
@@ -36,5 +40,56 @@ impl From<AllocError> for SessionFault {
 
     fn from(_error: AllocError) -> SessionFault {
         SessionFault::NoMemory
+    }
+}
+
+impl From<RefusedBy<SetupRefusal>> for SessionFault {
+    ghost from_gives = { λ refused fault. fault ≡ setup_fault refused };
+
+    fn from(refused: RefusedBy<SetupRefusal>) -> SessionFault {
+        match refused {
+            RefusedBy::Row(SetupRefusal::UnknownSession) => SessionFault::UnknownSession,
+            // A denial is no row of the table.
+            RefusedBy::Row(
+                SetupRefusal::BindingAsked
+                | SetupRefusal::NoSessionLeft
+                | SetupRefusal::SessionFinished
+                | SetupRefusal::Denied,
+            ) => SessionFault::NotAccepted,
+            RefusedBy::NoMemory => SessionFault::NoMemory,
+        }
+    }
+}
+
+impl From<LogoffRefusal> for SessionFault {
+    ghost from_gives = { λ refusal fault. fault ≡ logoff_fault refusal };
+
+    fn from(refusal: LogoffRefusal) -> SessionFault {
+        match refusal {
+            LogoffRefusal::UnknownSession => SessionFault::UnknownSession,
+        }
+    }
+}
+
+impl From<TreeConnectRefusal> for SessionFault {
+    ghost from_gives = { λ refusal fault. fault ≡ tree_connect_fault refusal };
+
+    fn from(refusal: TreeConnectRefusal) -> SessionFault {
+        match refusal {
+            TreeConnectRefusal::UnknownSession => SessionFault::UnknownSession,
+            TreeConnectRefusal::UnknownShare => SessionFault::NoShare,
+            TreeConnectRefusal::NoTreeConnectLeft => SessionFault::NotAccepted,
+        }
+    }
+}
+
+impl From<TreeDisconnectRefusal> for SessionFault {
+    ghost from_gives = { λ refusal fault. fault ≡ tree_disconnect_fault refusal };
+
+    fn from(refusal: TreeDisconnectRefusal) -> SessionFault {
+        match refusal {
+            TreeDisconnectRefusal::UnknownSession => SessionFault::UnknownSession,
+            TreeDisconnectRefusal::UnknownTreeConnect => SessionFault::UnknownTree,
+        }
     }
 }

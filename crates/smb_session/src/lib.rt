@@ -3,8 +3,9 @@
 //! [`Sessions`] are made over an [`Authenticator`], which is asked once for each SESSION_SETUP that is not refused, and
 //! never else. What each call gives and leaves is one definition: a table of connections and sessions
 //! (`specs/Table.antt`, `Session.antt`), a SESSION_SETUP over it (`Setup.antt`), and both over the authenticator's
-//! state (`Sessions.antt`). A refusal, a [`SessionFault`], leaves everything as it was. A denial is none:
-//! [`Sessions::setup`] is then Ok, and reports it. What holds of every table between calls is `Good.antt`, which
+//! state (`Sessions.antt`). A refusal, the row of a table or a [`SessionFault`], leaves everything as it was. A denial
+//! is none: [`Sessions::setup`] is then Ok, and reports it; why, [`Sessions::denial`] has of the authenticator, where
+//! that keeps it. What holds of every table between calls is `Good.antt`, which
 //! [`Sessions::good`] tells; that a session that ended is gone for good, and no session's number is given twice, is the
 //! contract of [`laws_of_sessions`].
 //!
@@ -31,7 +32,7 @@ mod table;
 mod tokens;
 mod window;
 
-pub use authenticator::{Answer, Authenticator};
+pub use authenticator::{Answer, Authenticator, Denial};
 pub use fault::SessionFault;
 pub use laws::{laws_of_sessions, laws_of_windows};
 pub use scripted::Scripted;

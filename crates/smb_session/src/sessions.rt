@@ -1,25 +1,30 @@
 //! The sessions over an authenticator.
 
 ghost use Rattle.std.specs.Prelude.{◌≡◌, ◌≤◌, ◌+◌, ◌++◌, ◌∷◌, [], true, false, Some, None, OnOk, OnErr, IfOk, IfErr, length, if◌then◌else◌};
-ghost use Rattle.std.specs.Option.{option_map_or};
+ghost use Rattle.std.specs.Option.{option_map, option_map_or};
 ghost use Rattle.smb_wire.specs.Limits.{longest_token};
 ghost use Rattle.smb_wire.specs.Pairs.{units_in};
 ghost use Rattle.smb_wire.specs.Units.{units_of};
+ghost use Rattle.smb_refusals.specs.Refused.{IsRefusedBy};
 ghost use Rattle.smb_session.specs.Negotiate.{best_of};
 ghost use Rattle.smb_session.specs.Parts.{has_all_trees, begun, has_all_sessions, asked_step};
 ghost use Rattle.smb_session.specs.Numbers.{without_number};
-ghost use Rattle.smb_session.specs.Table.{session_changed, knows_session, session_at, connected, session_ended, knows, read_only_of, tree_disconnect_refusal, end_connection_step};
+ghost use Rattle.smb_session.specs.Table.{session_changed, session_at, connected, session_ended, knows, read_only_of, logoff_refusal, tree_disconnect_refusal, end_connection_step};
 ghost use Rattle.smb_session.specs.Setup.{setup_refusal};
 ghost use Rattle.smb_session.specs.Sessions.{new_sessions, setup_step, tree_connect_refusal, IsRefused};
+ghost use Rattle.smb_session.specs.Refusals.{setup_refusal_fault, logoff_fault, tree_connect_fault, tree_disconnect_fault};
 ghost use Rattle.smb_session.specs.Done.{setup_result_of};
 ghost use Rattle.smb_session.specs.Good.{GoodTable};
 
-use super::authenticator::{Answer, Authenticator};
+use super::authenticator::{Answer, Authenticator, Denial};
 use super::dialect::best_dialect;
 use super::fault::SessionFault;
 use super::path::leads_to;
 use super::setup::{SetupAsk, SetupDone, SetupStatus};
 use super::table::Table;
+use smb_refusals::{
+    LogoffRefusal, RefusedBy, SetupRefusal, TreeConnectRefusal, TreeDisconnectRefusal,
+};
 use smb_wire::{Dialect, Units};
 use std::alloc::{AllocError, Global};
 use std::marker::Model;
@@ -93,6 +98,11 @@ impl<A: Authenticator + Drop> Sessions<A> {
         ensures short { length result.now ≤ longest_token }
     {
         self.authenticator.hello()
+    }
+
+    /// Why the authenticator denied the client whom it was asked about last, where it keeps that.
+    pub fn denial(&self) -> Option<Denial<'_>> {
+        self.authenticator.denial()
     }
 
     /// Whether this is a finished session of the connection ([MS-SMB2] 3.3.5.2.9), and where a tree is named
@@ -179,11 +189,38 @@ impl<A: Authenticator + Drop> Sessions<A> {
     /// authenticator is asked once, where nothing is refused. A denial is no refusal: it is told, and the
     /// session is gone.
     ///
-    /// Refused are, in this order: BINDING, [`SessionFault::NotAccepted`]; with SessionId 0 a 17th session
-    /// of the connection, one past the last number, or one of a connection that is not known,
-    /// [`SessionFault::NotAccepted`]; a number of no session of this connection,
-    /// [`SessionFault::UnknownSession`], and of a finished one, [`SessionFault::NotAccepted`]. Each, and
-    /// [`SessionFault::NoMemory`], changes nothing.
+    /// [`Row`](RefusedBy::Row) tells the first row of the table that holds. It, and
+    /// [`NoMemory`](RefusedBy::NoMemory), change nothing.
+    pub fn setup_by_row(
+        &mut self,
+        connection: u64,
+        session: u64,
+        ask: &SetupAsk<'_>,
+    ) -> Result<SetupDone, RefusedBy<SetupRefusal>>
+        ensures unrefused { OnOk result (setup_refusal self.old.table connection session ask.now.flags ≡ None) }
+        ensures step { IfOk result (λ done. record { state = self.new; told = setup_result_of done }
+            ≡ setup_step A.meaning self.old connection session ask.now.previous_session ask.now.token.now) }
+        ensures flags { IfOk result (λ done. done.flags ≤ 3) }
+        ensures token { IfOk result (λ done. length done.token.items ≤ longest_token) }
+        ensures err { IfErr result (IsRefusedBy (setup_refusal self.old.table connection session ask.now.flags)) }
+        ensures kept { OnErr result (self.new ≡ self.old) }
+    {
+        if let Some(refusal) = self.table.setup_refusal(connection, session, ask.flags) {
+            return Err(RefusedBy::Row(refusal));
+        }
+        let done = if session == 0 {
+            self.begin(connection, ask)
+        } else {
+            self.ask(session, ask)
+        };
+        match done {
+            Ok(done) => Ok(done),
+            Err(_) => Err(RefusedBy::NoMemory),
+        }
+    }
+
+    /// [`setup_by_row`](Sessions::setup_by_row), with a fault of the sessions in place of a row.
+    #[tactic(auto, using(crate::proofs::Refusals::setup_refused))]
     pub fn setup(
         &mut self,
         connection: u64,
@@ -195,48 +232,78 @@ impl<A: Authenticator + Drop> Sessions<A> {
             ≡ setup_step A.meaning self.old connection session ask.now.previous_session ask.now.token.now) }
         ensures flags { IfOk result (λ done. done.flags ≤ 3) }
         ensures token { IfOk result (λ done. length done.token.items ≤ longest_token) }
-        ensures err { IfErr result (IsRefused (setup_refusal self.old.table connection session ask.now.flags)) }
+        ensures err { IfErr result (IsRefused (option_map setup_refusal_fault (setup_refusal self.old.table connection session ask.now.flags))) }
         ensures kept { OnErr result (self.new ≡ self.old) }
     {
-        if let Some(fault) = self.table.setup_refusal(connection, session, ask.flags) {
-            return Err(fault);
-        }
-        let done = if session == 0 {
-            self.begin(connection, ask)
-        } else {
-            self.ask(session, ask)
-        };
-        match done {
+        match self.setup_by_row(connection, session, ask) {
             Ok(done) => Ok(done),
-            Err(_) => Err(SessionFault::NoMemory),
+            Err(refused) => Err(SessionFault::from(refused)),
         }
     }
 
     /// Ends a session of a connection, with its trees ([MS-SMB2] 3.3.5.6).
     ///
-    /// [`SessionFault::UnknownSession`], which changes nothing, where it is not a finished session of the
-    /// connection.
-    pub fn logoff(&mut self, connection: u64, session: u64) -> Result<(), SessionFault>
-        ensures unrefused { OnOk result ((if knows_session self.old.table connection session then None else Some SessionFault.UnknownSession) ≡ None) }
+    /// A refusal is the first row of the table that holds, and changes nothing.
+    pub fn logoff_by_row(&mut self, connection: u64, session: u64) -> Result<(), LogoffRefusal>
+        ensures unrefused { OnOk result (logoff_refusal self.old.table connection session ≡ None) }
         ensures state { OnOk result (self.new ≡ record self.old { table = session_ended self.old.table session }) }
-        ensures err { IfErr result (λ fault. (if knows_session self.old.table connection session then None else Some SessionFault.UnknownSession) ≡ Some fault) }
+        ensures err { IfErr result (λ refusal. logoff_refusal self.old.table connection session ≡ Some refusal) }
         ensures kept { OnErr result (self.new ≡ self.old) }
     {
         let known = self.table.knows(connection, session, None);
         if !known {
-            return Err(SessionFault::UnknownSession);
+            return Err(LogoffRefusal::UnknownSession);
         }
         self.table.end(session);
         Ok(())
     }
 
+    /// [`logoff_by_row`](Sessions::logoff_by_row), with a fault of the sessions in place of a row.
+    pub fn logoff(&mut self, connection: u64, session: u64) -> Result<(), SessionFault>
+        ensures unrefused { OnOk result (logoff_refusal self.old.table connection session ≡ None) }
+        ensures state { OnOk result (self.new ≡ record self.old { table = session_ended self.old.table session }) }
+        ensures err { IfErr result (λ fault. option_map logoff_fault (logoff_refusal self.old.table connection session) ≡ Some fault) }
+        ensures kept { OnErr result (self.new ≡ self.old) }
+    {
+        match self.logoff_by_row(connection, session) {
+            Ok(()) => Ok(()),
+            Err(refusal) => Err(SessionFault::from(refusal)),
+        }
+    }
+
     /// Connects a session to the share that a path names, `\\server\share`, and gives the tree's number: 1, 2,
     /// 3 and so on in each session, none twice ([MS-SMB2] 3.3.5.7).
     ///
-    /// Refused are, in this order: what is not a finished session of the connection,
-    /// [`SessionFault::UnknownSession`]; another path, [`SessionFault::NoShare`]; a 17th tree, or one past
-    /// the last number, [`SessionFault::NotAccepted`]. Each changes nothing.
+    /// A refusal is the first row of the table that holds, and changes nothing.
     #[tactic(auto, using(crate::proofs::Steps::finished_known))]
+    pub fn tree_connect_by_row(
+        &mut self,
+        connection: u64,
+        session: u64,
+        path: Units<'_>,
+    ) -> Result<u32, TreeConnectRefusal>
+        ensures unrefused { OnOk result (tree_connect_refusal self.old connection session (units_of path.entry) ≡ None) }
+        ensures number { IfOk result (λ tree. tree ≡ option_map_or (λ state. state.next_tree) (session_at self.old.table session) 0) }
+        ensures state { OnOk result (self.new ≡ record self.old {
+          table = session_changed
+              (λ state. record state { trees = state.trees ++ state.next_tree ∷ []; next_tree = state.next_tree + 1 }) self.old.table session;
+        }) }
+        ensures err { IfErr result (λ refusal. tree_connect_refusal self.old connection session (units_of path.entry) ≡ Some refusal) }
+        ensures kept { OnErr result (self.new ≡ self.old) }
+    {
+        if !self.table.knows(connection, session, None) {
+            return Err(TreeConnectRefusal::UnknownSession);
+        }
+        if !leads_to(&self.share, path) {
+            return Err(TreeConnectRefusal::UnknownShare);
+        }
+        if self.table.has_all_trees(session) {
+            return Err(TreeConnectRefusal::NoTreeConnectLeft);
+        }
+        Ok(self.table.add_tree(session))
+    }
+
+    /// [`tree_connect_by_row`](Sessions::tree_connect_by_row), with a fault of the sessions in place of a row.
     pub fn tree_connect(
         &mut self,
         connection: u64,
@@ -249,26 +316,43 @@ impl<A: Authenticator + Drop> Sessions<A> {
           table = session_changed
               (λ state. record state { trees = state.trees ++ state.next_tree ∷ []; next_tree = state.next_tree + 1 }) self.old.table session;
         }) }
-        ensures err { IfErr result (λ fault. tree_connect_refusal self.old connection session (units_of path.entry) ≡ Some fault) }
+        ensures err { IfErr result (λ fault. option_map tree_connect_fault (tree_connect_refusal self.old connection session (units_of path.entry)) ≡ Some fault) }
         ensures kept { OnErr result (self.new ≡ self.old) }
     {
-        if !self.table.knows(connection, session, None) {
-            return Err(SessionFault::UnknownSession);
+        match self.tree_connect_by_row(connection, session, path) {
+            Ok(tree) => Ok(tree),
+            Err(refusal) => Err(SessionFault::from(refusal)),
         }
-        if !leads_to(&self.share, path) {
-            return Err(SessionFault::NoShare);
-        }
-        if self.table.has_all_trees(session) {
-            return Err(SessionFault::NotAccepted);
-        }
-        Ok(self.table.add_tree(session))
     }
 
     /// Disconnects a session from a tree ([MS-SMB2] 3.3.5.8).
     ///
-    /// Refused are, in this order: what is not a finished session of the connection,
-    /// [`SessionFault::UnknownSession`]; a tree that the session is not connected to,
-    /// [`SessionFault::UnknownTree`]. Each changes nothing.
+    /// A refusal is the first row of the table that holds, and changes nothing.
+    pub fn tree_disconnect_by_row(
+        &mut self,
+        connection: u64,
+        session: u64,
+        tree: u32,
+    ) -> Result<(), TreeDisconnectRefusal>
+        ensures unrefused { OnOk result (tree_disconnect_refusal self.old.table connection session tree ≡ None) }
+        ensures state { OnOk result (self.new ≡ record self.old {
+          table = session_changed
+              (λ state. record state { trees = without_number state.trees tree }) self.old.table session;
+        }) }
+        ensures err { IfErr result (λ refusal. tree_disconnect_refusal self.old.table connection session tree ≡ Some refusal) }
+        ensures kept { OnErr result (self.new ≡ self.old) }
+    {
+        if !self.table.knows(connection, session, None) {
+            return Err(TreeDisconnectRefusal::UnknownSession);
+        }
+        if !self.table.knows(connection, session, Some(tree)) {
+            return Err(TreeDisconnectRefusal::UnknownTreeConnect);
+        }
+        self.table.drop_tree(session, tree);
+        Ok(())
+    }
+
+    /// [`tree_disconnect_by_row`](Sessions::tree_disconnect_by_row), with a fault of the sessions in place of a row.
     pub fn tree_disconnect(
         &mut self,
         connection: u64,
@@ -280,17 +364,13 @@ impl<A: Authenticator + Drop> Sessions<A> {
           table = session_changed
               (λ state. record state { trees = without_number state.trees tree }) self.old.table session;
         }) }
-        ensures err { IfErr result (λ fault. tree_disconnect_refusal self.old.table connection session tree ≡ Some fault) }
+        ensures err { IfErr result (λ fault. option_map tree_disconnect_fault (tree_disconnect_refusal self.old.table connection session tree) ≡ Some fault) }
         ensures kept { OnErr result (self.new ≡ self.old) }
     {
-        if !self.table.knows(connection, session, None) {
-            return Err(SessionFault::UnknownSession);
+        match self.tree_disconnect_by_row(connection, session, tree) {
+            Ok(()) => Ok(()),
+            Err(refusal) => Err(SessionFault::from(refusal)),
         }
-        if !self.table.knows(connection, session, Some(tree)) {
-            return Err(SessionFault::UnknownTree);
-        }
-        self.table.drop_tree(session, tree);
-        Ok(())
     }
 
     /// Ends a connection's least session, finished or not, and tells its number. With none left the

@@ -12,9 +12,9 @@ ghost use Rattle.smb_session.specs.Setup.{setup_refusal, previous_ended};
 ghost use Rattle.smb_session.specs.Good.{GoodTable};
 ghost use Rattle.smb_session.specs.Held.{index_without, withdrawn};
 
-use super::fault::SessionFault;
 use super::index::SessionNumbers;
 use super::session::Session;
+use smb_refusals::SetupRefusal;
 use smb_wire::limits::{LONGEST_USER_NAME, MOST_SESSIONS};
 use std::alloc::{AllocError, Global};
 use std::collections::BTreeMap;
@@ -169,26 +169,26 @@ impl Table {
         connection: u64,
         number: u64,
         flags: u8,
-    ) -> Option<SessionFault>
+    ) -> Option<SetupRefusal>
         ensures { result ≡ setup_refusal self.now connection number flags }
     {
         if flags & 1 != 0 {
-            return Some(SessionFault::NotAccepted);
+            return Some(SetupRefusal::BindingAsked);
         }
         if number == 0 {
             return if self.has_all_sessions(connection) {
-                Some(SessionFault::NotAccepted)
+                Some(SetupRefusal::NoSessionLeft)
             } else {
                 None
             };
         }
         match self.sessions.get(&number) {
             Some(session) if session.connection() != connection => {
-                Some(SessionFault::UnknownSession)
+                Some(SetupRefusal::UnknownSession)
             }
-            Some(session) if session.is_finished() => Some(SessionFault::NotAccepted),
+            Some(session) if session.is_finished() => Some(SetupRefusal::SessionFinished),
             Some(_) => None,
-            None => Some(SessionFault::UnknownSession),
+            None => Some(SetupRefusal::UnknownSession),
         }
     }
 

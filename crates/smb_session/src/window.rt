@@ -1,6 +1,6 @@
 //! The message window of a connection ([MS-SMB2] 3.3.1.1, 3.3.5.2.3).
 
-ghost use Rattle.std.specs.Prelude.{◌≡◌, ◌<◌, ◌≤◌, ◌+◌, ◌++◌, ◌==◌, Some, drop, slice_get, filter, not, length, position};
+ghost use Rattle.std.specs.Prelude.{◌≡◌, ◌<◌, ◌≤◌, ◌+◌, ◌^◌, ◌++◌, ◌==◌, Some, drop, slice_get, filter, not, length, position};
 ghost use Rattle.std.specs.Bool.{OnTrue, OnFalse};
 ghost use Rattle.std.specs.List.{list_all};
 ghost use Rattle.arrayvec.specs.ArrayVec.{array_vec_len};
@@ -287,8 +287,9 @@ impl Window {
 
     /// What holds of every window between calls. (The body does nothing.)
     pub fn good(&self)
-        ensures { GoodWindow self.now }
+        ensures good { GoodWindow self.now }
+        ensures next { self.now.next < 2 ^ 64 }
     {
-        let _ = &self.next;
+        let _next = self.next;
     }
 }

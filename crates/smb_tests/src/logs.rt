@@ -1,10 +1,12 @@
 //! What a log says that no replay brings about: ends of all kinds, users of all names, moments, a write that fails, and peers.
 
 use smb_engine::{Config, HandleTable, NodeTree, Share, Tokens, User};
-use smb_log::{Ending, Level, Log, LoggedLogin, LoggedPeers, NoFacts, Refusal, Visitors};
+use smb_log::{
+    Ending, Level, Log, LogObserver, LoggedLogin, LoggedPeers, NoFacts, Reasons, Refusal, Visitors,
+};
 use smb_log_text::{put_moment, put_user};
 use smb_peers::ListClock;
-use smb_serving::{MemoryPeers, PeerStep, SendStep, serve};
+use smb_serving::{MemoryPeers, PeerStep, SendStep, serve_until_observed};
 use std::alloc::{AllocError, Global};
 use std::io;
 use std::io::{Error, ErrorKind, Write};
@@ -186,7 +188,11 @@ fn client(alloc: Global) -> Result<MemoryPeers, AllocError> {
 type Logged<'a> = LoggedPeers<'a, MemoryPeers, NoFacts, ListClock, Vec<u8>>;
 
 /// A client whose events and answers are logged.
-fn logged_client<'a>(alloc: Global, visitors: &'a Visitors) -> Option<Logged<'a>> {
+fn logged_client<'a>(
+    alloc: Global,
+    visitors: &'a Visitors,
+    reasons: &'a Reasons,
+) -> Option<Logged<'a>> {
     let client = client(alloc).ok()?;
     let clock = ListClock::new(alloc, &[NOW]).ok()?;
     let log = Log::new(alloc, Vec::new(alloc), Level::Requests);
@@ -196,6 +202,7 @@ fn logged_client<'a>(alloc: Global, visitors: &'a Visitors) -> Option<Logged<'a>
         &NoFacts,
         clock,
         visitors,
+        reasons,
         Some(log),
         false,
         1,
@@ -206,11 +213,13 @@ fn logged_client<'a>(alloc: Global, visitors: &'a Visitors) -> Option<Logged<'a>
 fn served_to<'a>(
     alloc: Global,
     visitors: &'a Visitors,
+    reasons: &'a Reasons,
     mut peers: Logged<'a>,
     mut clock: ListClock,
 ) -> Option<Logged<'a>> {
     let mut share = new_share(alloc, visitors)?;
-    serve(&mut share, &mut peers, &mut clock, 5);
+    let mut observer = LogObserver::new(reasons);
+    serve_until_observed(&mut share, &mut peers, &mut clock, 5, &mut observer);
     Some(peers)
 }
 
@@ -218,8 +227,9 @@ fn served_to<'a>(
 fn served(alloc: Global) -> Option<String> {
     let visitors = Visitors::new(alloc);
     let clock = ListClock::new(alloc, &[NOW]).ok()?;
-    let peers = logged_client(alloc, &visitors)?;
-    text_of(served_to(alloc, &visitors, peers, clock)?.into_log()?)
+    let reasons = Reasons::new(alloc);
+    let peers = logged_client(alloc, &visitors, &reasons)?;
+    text_of(served_to(alloc, &visitors, &reasons, peers, clock)?.into_log()?)
 }
 
 /// What a share does is what its log says.

@@ -9,7 +9,7 @@ use smb_commands::{
     replay_input, serve_share,
 };
 use smb_config::BUILT_IN;
-use smb_replay::{CommandFault, Detail, Given, hash_password, show_fields, show_text};
+use smb_replay::{CommandFault, Detail, Given, ReplayWords, hash_password, show_fields, show_text};
 use std::io::{BufWriter, ErrorKind, IsTerminal};
 use std::process::ExitCode;
 
@@ -83,11 +83,11 @@ fn replay_texts(
     texts: &Texts,
     login: Login,
     log: Option<LogWords<'_>>,
-    detail: Detail<'_>,
+    words: ReplayWords<'_>,
 ) -> ExitCode {
-    match replay_input(rt, texts, login, log, detail) {
+    match replay_input(rt, texts, login, log, words) {
         Ok(status) => ExitCode::from(status),
-        Err(fault) => status_of(rt, Err(fault), detail),
+        Err(fault) => status_of(rt, Err(fault), words.detail),
     }
 }
 
@@ -95,7 +95,7 @@ fn replay_texts(
 fn replay_without_words(rt: &HostRuntime) -> ExitCode {
     let detail = detail_without_words(rt);
     match Texts::built_in(rt.alloc()) {
-        Ok(texts) => replay_texts(rt, &texts, Login::Token, None, detail),
+        Ok(texts) => replay_texts(rt, &texts, Login::Token, None, ReplayWords::of(detail)),
         Err(_) => report(rt, CommandFault::NoMemory, detail),
     }
 }
@@ -164,6 +164,7 @@ fn serve_clients(
     let log = log_words_of(words, words.get_flag("log-must"));
     if log.is_none() {
         heard.visitors.close();
+        heard.reasons.close();
     }
     let serve_words = ServeWords {
         texts,
@@ -204,8 +205,12 @@ fn run_with_share(
     if name == "serve" {
         return serve_clients(rt, &texts, login, words);
     }
-    let detail = detail_of(rt, words, Some(&texts));
-    replay_texts(rt, &texts, login, log_words_of(words, false), detail)
+    let replay_words = ReplayWords {
+        detail: detail_of(rt, words, Some(&texts)),
+        with_reasons: words.get_flag("reasons"),
+    };
+    let log = log_words_of(words, false);
+    replay_texts(rt, &texts, login, log, replay_words)
 }
 
 /// Runs the command that was asked for.

@@ -15,33 +15,33 @@ loop-i-init g c = record {
   room = omega arith;
 }
 
-pub returns-in-Err-clause-kept : goal.returns-in-Err-clause-kept
-returns-in-Err-clause-kept g c =
-    c.truncate-in-Err.ensures.items ∙ ap (λ n. take n c.perform_one.new.out.items) c.in-Ok.ensures.start
-    ∙ kept_more _ _ _ (front_kept _ _ _ c.in-Ok.ensures.ok) (kept_on _ _ _ _ _ c.loop-i.invariant.base c.perform_one.ensures.kept c.loop-i.invariant.kept)
+pub returns-in-Err-perform_one-clause-kept : goal.returns-in-Err-perform_one-clause-kept
+returns-in-Err-perform_one-clause-kept g c =
+    c.truncate-in-Err-perform_one.ensures.items ∙ ap (λ n. take n c.perform_one.new.out.items) c.in-Ok-open_frame.ensures.start
+    ∙ kept_more _ _ _ (front_kept _ _ _ c.in-Ok-open_frame.ensures.ok) (kept_on _ _ _ _ _ c.loop-i.invariant.base c.perform_one.ensures.kept c.loop-i.invariant.kept)
 
-pub returns-in-Err-clause-err : goal.returns-in-Err-clause-err
-returns-in-Err-clause-err g c = record {
+pub returns-in-Err-perform_one-clause-err : goal.returns-in-Err-perform_one-clause-err
+returns-in-Err-perform_one-clause-err g c = record {
   within =
-      let count = chain_count g.A.Authenticator.meaning c.args.arrival c.args.server.now c.args.connection.now c.args.payload.now _ (sym c.in-Some.ensures.chain) in
-      omega (arith, count, c.len-i-end.ensures.len, done_least c.in-Err.no_reply c.loop-i.i c.done_behind-done.result c.done_behind-done.ensures, c.loop-i-test.true);
+      let count = chain_count g.A.Authenticator.meaning c.args.arrival c.args.server.now c.args.connection.now c.args.payload.now _ (sym c.in-Ok.ensures.chain) in
+      omega (arith, count, c.len-i-end.ensures.len, done_least c.in-Err-perform_one.no_reply c.loop-i.i c.done_behind-done.result c.done_behind-done.ensures, c.loop-i-test.true);
   state =
-      chain_left g.A.Authenticator.meaning c.args.arrival c.args.server.now c.args.connection.now c.args.payload.now _ c.admit.new.connection _ _ (sym c.in-Some.ensures.chain) c.in-Some.ensures.taken
+      chain_left g.A.Authenticator.meaning c.args.arrival c.args.server.now c.args.connection.now c.args.payload.now _ c.admit.new.connection _ _ (sym c.in-Ok.ensures.chain) c.in-Ok.ensures.taken
       (rw c.done_behind-done.ensures
-      (chain_stopped g.A.Authenticator.meaning _ _ _ _ _ _ _ _ c.in-Err.no_reply c.loop-i.invariant.so_far c.request_at.ensures.request c.in-Err.ensures.err));
+      (chain_stopped g.A.Authenticator.meaning _ _ _ _ _ _ _ _ c.in-Err-perform_one.no_reply c.loop-i.invariant.so_far c.request_at.ensures.request c.in-Err-perform_one.ensures.err));
 }
 
 pub returns-then-i-most-clause-kept : goal.returns-then-i-most-clause-kept
 returns-then-i-most-clause-kept g c =
-    c.truncate.ensures.items ∙ ap (λ n. take n c.loop-i.out.items) c.in-Ok.ensures.start ∙ kept_more _ _ _ (front_kept _ _ _ c.in-Ok.ensures.ok) c.loop-i.invariant.kept
+    c.truncate.ensures.items ∙ ap (λ n. take n c.loop-i.out.items) c.in-Ok-open_frame.ensures.start ∙ kept_more _ _ _ (front_kept _ _ _ c.in-Ok-open_frame.ensures.ok) c.loop-i.invariant.kept
 
 pub returns-then-i-most-clause-err : goal.returns-then-i-most-clause-err
 returns-then-i-most-clause-err g c = record {
   within =
-      let count = chain_count g.A.Authenticator.meaning c.args.arrival c.args.server.now c.args.connection.now c.args.payload.now _ (sym c.in-Some.ensures.chain) in
+      let count = chain_count g.A.Authenticator.meaning c.args.arrival c.args.server.now c.args.connection.now c.args.payload.now _ (sym c.in-Ok.ensures.chain) in
       omega (arith, count, c.len-i-end.ensures.len, c.loop-i-test.true);
   state =
-      chain_left g.A.Authenticator.meaning c.args.arrival c.args.server.now c.args.connection.now c.args.payload.now _ c.admit.new.connection _ _ (sym c.in-Some.ensures.chain) c.in-Some.ensures.taken
+      chain_left g.A.Authenticator.meaning c.args.arrival c.args.server.now c.args.connection.now c.args.payload.now _ c.admit.new.connection _ _ (sym c.in-Ok.ensures.chain) c.in-Ok.ensures.taken
       (chain_so_far g.A.Authenticator.meaning _ _ _ _ _ _ c.loop-i.invariant.so_far);
 }
 
@@ -60,4 +60,4 @@ loop-i-preserved g c = record {
 pub returns-clause-count : goal.returns-clause-count
 returns-clause-count g c =
     c.len-count.ensures.len
-    ∙ sym (chain_count g.A.Authenticator.meaning c.args.arrival c.args.server.now c.args.connection.now c.args.payload.now _ (sym c.in-Some.ensures.chain))
+    ∙ sym (chain_count g.A.Authenticator.meaning c.args.arrival c.args.server.now c.args.connection.now c.args.payload.now _ (sym c.in-Ok.ensures.chain))

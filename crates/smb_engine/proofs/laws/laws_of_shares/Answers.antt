@@ -1,3 +1,4 @@
+use Rattle.smb_engine.proofs.Endings.{admitted_or_ends}
 use Rattle.smb_engine.proofs.Ends.{an_end_is_the_last}
 use Rattle.smb_engine.proofs.Order.{good_in_order, run_in_order, others_left}
 use Rattle.smb_engine.proofs.Readers.{reader_changes_no_file}
@@ -34,6 +35,9 @@ returns-clause-over g c = over_stays g.A.Authenticator.meaning
 
 pub returns-clause-last : goal.returns-clause-last
 returns-clause-last g c = λ s o events connection before after e. an_end_is_the_last g.A.Authenticator.meaning connection s events o before after e
+
+pub returns-clause-endings : goal.returns-clause-endings
+returns-clause-endings g c = admitted_or_ends
 
 pub returns-clause-readers : goal.returns-clause-readers
 returns-clause-readers g c = reader_changes_no_file g.A.Authenticator.meaning

@@ -19,7 +19,7 @@ returns-then-stays_open-clause-ok g c =
     let taken = c.in-Ok.ensures.taken in
     rw (← c.stream.view_is) (stays_as g.A.Authenticator.meaning c.args.arrival g.K.Sink.hears c.args.server.now _ c.args.piece.now _ _ _ _ _ _ _ w refl
     (taken_says g.A.Authenticator.meaning g.K.Sink.hears c.args.arrival _ _ _ _ _ _ _ _ _ _ taken)
-    (taken_rest g.A.Authenticator.meaning g.K.Sink.hears c.args.arrival _ _ _ _ _ _ _ _ _ _ taken) c.if-stays_open.ensures c.good.ensures).0
+    (taken_rest g.A.Authenticator.meaning g.K.Sink.hears c.args.arrival _ _ _ _ _ _ _ _ _ _ taken) c.if-stays_open.ensures c.good.ensures.good).0
 
 pub returns-then-stays_open-clause-outputs : goal.returns-then-stays_open-clause-outputs
 returns-then-stays_open-clause-outputs g c =
@@ -27,7 +27,7 @@ returns-then-stays_open-clause-outputs g c =
     let taken = c.in-Ok.ensures.taken in
     rw (← c.stream.view_is) (stays_as g.A.Authenticator.meaning c.args.arrival g.K.Sink.hears c.args.server.now _ c.args.piece.now _ _ _ _ _ _ _ w refl
     (taken_says g.A.Authenticator.meaning g.K.Sink.hears c.args.arrival _ _ _ _ _ _ _ _ _ _ taken)
-    (taken_rest g.A.Authenticator.meaning g.K.Sink.hears c.args.arrival _ _ _ _ _ _ _ _ _ _ taken) c.if-stays_open.ensures c.good.ensures).1
+    (taken_rest g.A.Authenticator.meaning g.K.Sink.hears c.args.arrival _ _ _ _ _ _ _ _ _ _ taken) c.if-stays_open.ensures c.good.ensures.good).1
 
 pub returns-clause-ok : goal.returns-clause-ok
 returns-clause-ok g c =

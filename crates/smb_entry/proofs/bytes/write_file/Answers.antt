@@ -1,13 +1,14 @@
-use Rattle.std.proofs.Common.{if◌then◌else◌, is_some, length, ap, subst, sym, ◌∙◌}
+use Rattle.std.proofs.Common.{if◌then◌else◌, Some, None, is_some, length, ap, subst, sym, ◌∙◌}
 use Rattle.smb_tree.specs.Content.{Content}
 use Rattle.smb_tree.specs.Parts.{with_basic}
 use Rattle.smb_tree.specs.Faults.{basic_fault, write_fault}
 use Rattle.smb_tree.specs.Views.{Shown, shown}
 use Rattle.smb_entry.specs.Parts.{written_basic}
 use Rattle.smb_access.proofs.Trees.{row_of_shown}
-use Rattle.smb_access.specs.Faults.{IsRefusal}
-use Rattle.smb_access.specs.declared.fault.StoreFault.{StoreFault}
-use Rattle.smb_wire.specs.declared.nt_status.NtStatus.TheVariants.{Success, DiskFull}
+use Rattle.smb_refusals.specs.Refused.{IsRefusedBy}
+use Rattle.smb_refusals.specs.declared.refused_by.RefusedBy.{RefusedBy}
+use Rattle.smb_refusals.specs.declared.file.WriteRefusal.{WriteRefusal}
+use Rattle.smb_refusals.specs.declared.file.WriteRefusal.TheVariants.{NoSpaceLeft}
 use Rattle.smb_entry.proofs.Writes.{write_done, basic_there, write_refusal}
 use Rattle.smb_entry.proofs.bytes.write_file.Goals as goal
 
@@ -19,7 +20,7 @@ unreachable-requires-in-Err-set_basic g c =
 
 pub returns-in-Err-clause-why : goal.returns-in-Err-clause-why
 returns-in-Err-clause-why g c =
-    subst (λ (told : StoreFault). IsRefusal (if is_some (write_fault (g.T.Tree.content c.args.tree.now) c.args.entry c.args.offset (length c.args.buffer.now)) then DiskFull else Success) told) (sym c.refusal_of.ensures)
+    subst (λ (told : RefusedBy WriteRefusal). IsRefusedBy (if is_some (write_fault (g.T.Tree.content c.args.tree.now) c.args.entry c.args.offset (length c.args.buffer.now)) then Some NoSpaceLeft else None) told) (sym c.refused_by_tree.ensures)
     (write_refusal (g.T.Tree.content c.args.tree.now) c.args.entry c.args.offset (length c.args.buffer.now) c.in-Err.fault c.requires.file c.in-Err.ensures.why c.in-Err.ensures.memory)
 
 pub returns-clause-ok : goal.returns-clause-ok

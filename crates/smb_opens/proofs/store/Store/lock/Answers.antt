@@ -1,23 +1,18 @@
-use Rattle.std.proofs.Common.{◌≡◌, Some, sym, ap, ◌∙◌}
-use Rattle.smb_opens.specs.State.{StoreState}
+use Rattle.std.proofs.Common.{ap, ◌∙◌}
+use Rattle.smb_refusals.specs.declared.refusal.Refusal.{Refusal}
+use Rattle.smb_refusals.proofs.Fails.{lock_fails}
+use Rattle.smb_access.specs.Faults.{store_fault}
 use Rattle.smb_opens.specs.Views.{open_view}
-use Rattle.smb_opens.proofs.Locking.{kept_lock, why_lock}
-use Rattle.smb_opens.proofs.Shows.{shown_by}
+use Rattle.smb_opens.proofs.ByRow.{lock_is, passes, refused_fault}
 use Rattle.smb_opens.proofs.store.Store.lock.Goals as goal
-use Rattle.smb_opens.proofs.store.Store.lock.Goals.{in-Ok, in-Err}
 
-pub invariant_of-self : goal.invariant_of-self
-invariant_of-self g c =
-    let state : StoreState = record { tree = g.T.Tree.content c.self.inside.tree; opens = g.O.Opens.content c.self.inside.opens; locks = c.self.inside.locks; next = c.self.inside.next } in
-    let shown = shown_by state c.args.number c.in-Some.view (c.in-Some.ensures.value ∙ sym (ap (λ (s : StoreState). open_view s c.args.number) c.self.view_is)) in
-    kept_lock c.lock_all.result state c.args.number c.in-Some.view c.args.asks.now _ _ _ shown c.lock_all.ensures.ok c.lock_all.ensures.lawful c.lock_all.ensures.err c.self.invariant
+pub returns-in-Ok-clause-lawful : goal.returns-in-Ok-clause-lawful
+returns-in-Ok-clause-lawful g c =
+    passes (λ refusal. Refusal.Lock refusal) _ _
+    (lock_is (open_view c.args.self.now c.args.number) _ _ c.in-Some.ensures.value) c.in-Ok.ensures.lawful
 
-pub returns-clause-why : goal.returns-clause-why
-returns-clause-why g c =
-    let state : StoreState = record { tree = g.T.Tree.content c.self.inside.tree; opens = g.O.Opens.content c.self.inside.opens; locks = c.self.inside.locks; next = c.self.inside.next } in
-    let view : open_view state c.args.number ≡ Some c.in-Some.view = ap (λ (s : StoreState). open_view s c.args.number) c.self.view_is ∙ sym c.in-Some.ensures.value in
-    elim c.match-lock_all.branch [
-      | in-Ok w ↦ rw w.result-is tt
-      | in-Err w ↦ rw (w.result-is, ← c.self.view_is)
-          (why_lock state c.args.number c.in-Some.view c.args.asks.now w.in-Err.fault w.lock_refusal.result view (sym c.is_folder.ensures ∙ c.if-is_folder.false) w.in-Err.ensures.why w.in-Err.ensures.memory w.lock_refusal.ensures)
-    ]
+pub returns-in-Err-clause-why : goal.returns-in-Err-clause-why
+returns-in-Err-clause-why g c =
+    refused_fault (λ refusal. Refusal.Lock refusal) lock_fails _ _ c.in-Err.refused c.from-in-Err-2.result
+    (lock_is (open_view c.args.self.now c.args.number) _ _ c.in-Some.ensures.value) c.in-Err.ensures.why
+    (c.from-in-Err-2.ensures ∙ ap store_fault c.from-in-Err.ensures)

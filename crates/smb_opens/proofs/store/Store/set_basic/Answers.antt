@@ -1,24 +1,14 @@
-use Rattle.std.proofs.Common.{sym, ap, ◌∙◌}
-use Rattle.smb_entry.specs.Parts.{entry_set}
-use Rattle.smb_opens.specs.State.{StoreState}
-use Rattle.smb_opens.specs.Views.{open_view}
-use Rattle.smb_opens.proofs.Shows.{shown_by}
-use Rattle.smb_opens.proofs.StoreSettings.{there_shown, set_through, kept_based}
+use Rattle.smb_refusals.specs.declared.refusal.Refusal.{Refusal}
+use Rattle.smb_opens.specs.SetInfo.{basic_refusals}
+use Rattle.smb_opens.proofs.ByRow.{through_is, passes, refused_status}
 use Rattle.smb_opens.proofs.store.Store.set_basic.Goals as goal
 
-pub set_entry-requires : goal.set_entry-requires
-set_entry-requires g c =
-    let state : StoreState = record { tree = g.T.Tree.content c.self.inside.tree; opens = g.O.Opens.content c.self.inside.opens; locks = c.self.inside.locks; next = c.self.inside.next } in
-    there_shown state c.args.number c.in-Some.view (shown_by state c.args.number c.in-Some.view (c.in-Some.ensures.value ∙ sym (ap (λ (s : StoreState). open_view s c.args.number) c.self.view_is)))
+pub returns-in-Ok-clause-lawful : goal.returns-in-Ok-clause-lawful
+returns-in-Ok-clause-lawful g c =
+    passes (λ refusal. Refusal.SetBasic refusal) _ _
+    (through_is (λ refusal. Refusal.SetBasic refusal) c.args.self.now c.args.number _ (basic_refusals c.args.ask.now) c.in-Some.ensures.value) c.in-Ok.ensures.lawful
 
-pub invariant_of-self : goal.invariant_of-self
-invariant_of-self g c =
-    let state : StoreState = record { tree = g.T.Tree.content c.self.inside.tree; opens = g.O.Opens.content c.self.inside.opens; locks = c.self.inside.locks; next = c.self.inside.next } in
-    let shown = shown_by state c.args.number c.in-Some.view (c.in-Some.ensures.value ∙ sym (ap (λ (s : StoreState). open_view s c.args.number) c.self.view_is)) in
-    kept_based state c.args.number c.in-Some.view c.args.ask.now c.args.moment _ _ _ shown c.set_entry.ensures c.self.invariant
-
-pub returns-clause-store : goal.returns-clause-store
-returns-clause-store g c =
-    let state : StoreState = record { tree = g.T.Tree.content c.self.inside.tree; opens = g.O.Opens.content c.self.inside.opens; locks = c.self.inside.locks; next = c.self.inside.next } in
-    let shown = shown_by state c.args.number c.in-Some.view (c.in-Some.ensures.value ∙ sym (ap (λ (s : StoreState). open_view s c.args.number) c.self.view_is)) in
-    rw (← c.self.view_is) (set_through (entry_set c.args.ask.now c.args.moment) state c.args.number c.in-Some.view _ shown c.set_entry.ensures)
+pub returns-in-Err-clause-why : goal.returns-in-Err-clause-why
+returns-in-Err-clause-why g c =
+    refused_status (λ refusal. Refusal.SetBasic refusal) _ _ c.in-Err.refusal c.status.result
+    (through_is (λ refusal. Refusal.SetBasic refusal) c.args.self.now c.args.number _ (basic_refusals c.args.ask.now) c.in-Some.ensures.value) c.in-Err.ensures.why c.status.ensures

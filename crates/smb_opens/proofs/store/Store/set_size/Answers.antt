@@ -1,35 +1,18 @@
-use Rattle.std.proofs.Common.{sym, ap, ◌∙◌}
-use Rattle.smb_opens.specs.State.{StoreState}
-use Rattle.smb_opens.specs.Views.{open_view}
-use Rattle.smb_opens.proofs.Shows.{shown_by}
-use Rattle.smb_opens.proofs.StoreSettings.{there_shown, kept_sized, sized_done, nothing_set}
-use Rattle.smb_opens.proofs.Through.{file_shown}
+use Rattle.std.proofs.Common.{ap, ◌∙◌}
+use Rattle.smb_refusals.specs.declared.refusal.Refusal.{Refusal}
+use Rattle.smb_refusals.proofs.Fails.{set_size_fails}
+use Rattle.smb_access.specs.Faults.{store_fault}
+use Rattle.smb_opens.specs.SetInfo.{size_refusals}
+use Rattle.smb_opens.proofs.ByRow.{through_is, passes, refused_fault}
 use Rattle.smb_opens.proofs.store.Store.set_size.Goals as goal
 
-pub has_no_space-is_full-requires-clause-there : goal.has_no_space-is_full-requires-clause-there
-has_no_space-is_full-requires-clause-there g c =
-    let state : StoreState = record { tree = g.T.Tree.content c.self.inside.tree; opens = g.O.Opens.content c.self.inside.opens; locks = c.self.inside.locks; next = c.self.inside.next } in
-    there_shown state c.args.number c.in-Some.view (shown_by state c.args.number c.in-Some.view (c.in-Some.ensures.value ∙ sym (ap (λ (s : StoreState). open_view s c.args.number) c.self.view_is)))
+pub returns-in-Ok-clause-lawful : goal.returns-in-Ok-clause-lawful
+returns-in-Ok-clause-lawful g c =
+    passes (λ refusal. Refusal.SetSize refusal) _ _
+    (through_is (λ refusal. Refusal.SetSize refusal) c.args.self.now c.args.number _ (size_refusals c.args.self.now c.args.size) c.in-Some.ensures.value) c.in-Ok.ensures.lawful
 
-pub returns-then-leaves_size-clause-store : goal.returns-then-leaves_size-clause-store
-returns-then-leaves_size-clause-store g c =
-    let shown = shown_by c.args.self.now c.args.number c.in-Some.view c.in-Some.ensures.value in
-    nothing_set c.args.self.now c.args.number c.in-Some.view c.args.size c.args.is_allocation c.args.moment shown (sym c.leaves_size.ensures ∙ c.if-leaves_size.true)
-
-pub size_file-requires-clause-file : goal.size_file-requires-clause-file
-size_file-requires-clause-file g c =
-    let state : StoreState = record { tree = g.T.Tree.content c.self.inside.tree; opens = g.O.Opens.content c.self.inside.opens; locks = c.self.inside.locks; next = c.self.inside.next } in
-    let shown = shown_by state c.args.number c.in-Some.view (c.in-Some.ensures.value ∙ sym (ap (λ (s : StoreState). open_view s c.args.number) c.self.view_is)) in
-    file_shown state c.args.number c.in-Some.view shown c.in_ok-may_size.ensures.file
-
-pub invariant_of-self : goal.invariant_of-self
-invariant_of-self g c =
-    let state : StoreState = record { tree = g.T.Tree.content c.self.inside.tree; opens = g.O.Opens.content c.self.inside.opens; locks = c.self.inside.locks; next = c.self.inside.next } in
-    let shown = shown_by state c.args.number c.in-Some.view (c.in-Some.ensures.value ∙ sym (ap (λ (s : StoreState). open_view s c.args.number) c.self.view_is)) in
-    kept_sized c.size_file.result state c.args.number c.in-Some.view c.args.size c.args.moment _ _ _ shown c.in_ok-may_size.ensures.file (sym c.has_no_space-is_full.ensures ∙ c.in_ok-may_size.ensures.room) c.size_file.ensures.ok c.size_file.ensures.err c.self.invariant
-
-pub returns-clause-store : goal.returns-clause-store
-returns-clause-store g c =
-    let state : StoreState = record { tree = g.T.Tree.content c.self.inside.tree; opens = g.O.Opens.content c.self.inside.opens; locks = c.self.inside.locks; next = c.self.inside.next } in
-    let shown = shown_by state c.args.number c.in-Some.view (c.in-Some.ensures.value ∙ sym (ap (λ (s : StoreState). open_view s c.args.number) c.self.view_is)) in
-    rw (← c.self.view_is) (sized_done c.size_file.result state c.args.number c.in-Some.view c.args.size c.args.is_allocation c.args.moment _ shown (sym c.leaves_size.ensures ∙ c.if-leaves_size.false) c.size_file.ensures.ok)
+pub returns-in-Err-clause-why : goal.returns-in-Err-clause-why
+returns-in-Err-clause-why g c =
+    refused_fault (λ refusal. Refusal.SetSize refusal) set_size_fails _ _ c.in-Err.refused c.from-in-Err-2.result
+    (through_is (λ refusal. Refusal.SetSize refusal) c.args.self.now c.args.number _ (size_refusals c.args.self.now c.args.size) c.in-Some.ensures.value) c.in-Err.ensures.why
+    (c.from-in-Err-2.ensures ∙ ap store_fault c.from-in-Err.ensures)

@@ -1,20 +1,14 @@
-use Rattle.std.proofs.Common.{◌≡◌, true, false, is_some, sym, ap, subst, ◌∙◌}
-use Rattle.smb_locks.specs.Table.{Table, locks_on}
-use Rattle.smb_opens.specs.Good.{IsKept}
-use Rattle.smb_opens.specs.State.{StoreState}
-use Rattle.smb_opens.proofs.Held.{kept_unlocked}
-use Rattle.smb_opens.proofs.Locking.{has_status}
+use Rattle.smb_refusals.specs.declared.refusal.Refusal.{Refusal}
+use Rattle.smb_opens.specs.Views.{open_view}
+use Rattle.smb_opens.proofs.ByRow.{lock_is, passes, refused_status}
 use Rattle.smb_opens.proofs.store.Store.unlock.Goals as goal
 
-pub invariant_of-self : goal.invariant_of-self
-invariant_of-self g c =
-    let state : StoreState = record { tree = g.T.Tree.content c.self.inside.tree; opens = g.O.Opens.content c.self.inside.opens; locks = c.self.inside.locks; next = c.self.inside.next } in
-    subst (λ (locks : Table). IsKept state.tree state.opens locks state.next c.self.inside.opens_count c.self.inside.entries_count) (sym c.unlock_all.ensures.table)
-    (kept_unlocked state c.args.number c.in-Some.view.entry c.args.asks.now _ _ c.self.invariant)
+pub returns-in-Ok-clause-lawful : goal.returns-in-Ok-clause-lawful
+returns-in-Ok-clause-lawful g c =
+    passes (λ refusal. Refusal.Lock refusal) _ _
+    (lock_is (open_view c.args.self.now c.args.number) _ _ c.in-Some.ensures.value) c.in-Ok.ensures.lawful
 
-pub unreachable-requires : goal.unreachable-requires
-unreachable-requires g c =
-    let some = has_status (locks_on c.self.inside.locks c.in-Some.view.entry) c.args.number c.args.asks.now c.in-Err.error c.in-Err.ensures.why in
-    let none = sym c.lock_fault_status.ensures.status ∙ c.in_default-lock_fault_status.is in
-    let no : false ≡ true = ap is_some (sym none) ∙ some in
-    cc
+pub returns-in-Err-clause-why : goal.returns-in-Err-clause-why
+returns-in-Err-clause-why g c =
+    refused_status (λ refusal. Refusal.Lock refusal) _ _ c.in-Err.refusal c.status.result
+    (lock_is (open_view c.args.self.now c.args.number) _ _ c.in-Some.ensures.value) c.in-Err.ensures.why c.status.ensures

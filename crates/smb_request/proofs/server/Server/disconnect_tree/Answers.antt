@@ -7,7 +7,7 @@ use Rattle.smb_request.proofs.server.Server.disconnect_tree.Goals as goal
 
 pub invariant_of-self-2 : goal.invariant_of-self-2
 invariant_of-self-2 g c =
-    rw (c.close_all.ensures.left, c.in_ok-tree_disconnect.ensures.state)
+    rw (c.close_all.ensures.left, c.in_ok-tree_disconnect_by_row.ensures.state)
     (record {
       lawful = c.self.invariant.lawful;
       named = c.self.invariant.named;

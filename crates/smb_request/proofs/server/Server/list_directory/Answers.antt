@@ -31,11 +31,11 @@ returns-in-Ok-clause-len g c =
 pub unreachable-requires : goal.unreachable-requires
 unreachable-requires g c =
     refusal_comes c.self.inside.store c.args.call.open_number (list_asked c.list_ask-ask.result) c.in-Err.fault
-    c.in_default.not-NoMemory c.in-Err.ensures.why (sym c.listing_refusal.ensures ∙ c.in_default-listing_refusal.is)
+    c.in_default.not-NoMemory c.in-Err.ensures.why _ (sym c.listing_refusal.ensures ∙ c.in_default-listing_refusal.is)
 
 pub returns-in_ok-answered-in_default : goal.returns-in_ok-answered-in_default
 returns-in_ok-answered-in_default g c =
     let listed = refusal_listed c.self.inside.store c.args.call.open_number (list_asked c.list_ask-ask.result) c.in-Err.fault c.in-Some.refusal
-    c.in-Err.ensures.why (sym c.listing_refusal.ensures ∙ c.in-Some.is) in
+    c.in-Err.ensures.why _ (sym c.listing_refusal.ensures ∙ c.in-Some.is) in
     let front : c.truncate.new.self.items ≡ c.args.out.now.items = cut_off c.args.out.now.items _ _ _ _ _ c.in_ok-start.ensures.ok c.in-Err.ensures.err c.in_ok-start.ensures.start c.truncate.ensures.items in
     record { server = search rules; ok = search rules; len = search rules; err = search rules; out = search rules; kept = search rules; known = search rules }

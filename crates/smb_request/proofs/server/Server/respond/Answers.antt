@@ -3,8 +3,8 @@ use Rattle.std.specs.Option.{option_map, option_map_or, option_and_then}
 use Rattle.smb_access.specs.Opens.{open_of}
 use Rattle.smb_body.specs.Requests.{RequestValue, request_value, file_id_of}
 use Rattle.smb_session.specs.Table.{knows_session, knows_tree}
-use Rattle.smb_wire.specs.declared.nt_status.NtStatus.{NtStatus}
-use Rattle.smb_wire.specs.declared.nt_status.NtStatus.TheVariants.{UserSessionDeleted, NetworkNameDeleted}
+use Rattle.smb_refusals.specs.declared.request.RequestRefusal.{RequestRefusal}
+use Rattle.smb_refusals.specs.declared.request.RequestRefusal.TheVariants.{UnknownTreeConnect}
 use Rattle.smb_request.specs.Parts.{named_open, needs_session, needs_tree, is_unsupported, dialect_after, open_refusal}
 use Rattle.smb_request.specs.Context.{open_named}
 use Rattle.smb_request.specs.Needs.{needs_of}
@@ -12,7 +12,7 @@ use Rattle.smb_request.proofs.Handed.{named_there, mapped_there, request_passed}
 use Rattle.smb_request.proofs.server.Server.respond.Goals as goal
 
 -- what passes three checks passes the last
-last_passed : (a b : Bool) (x y : NtStatus) (z : Option NtStatus) → (if a then Some x else if b then Some y else z) ≡ None → z ≡ None
+last_passed : (a b : Bool) (x y : RequestRefusal) (z : Option RequestRefusal) → (if a then Some x else if b then Some y else z) ≡ None → z ≡ None
 last_passed true b x y z e = absurd (cc)
 last_passed false true x y z e = absurd (cc)
 last_passed false false x y z e = e
@@ -27,7 +27,7 @@ act-requires-clause-open g c f =
     last_passed
     (needs_session (needs_of asked) && not (knows_session table c.args.call.connection c.args.call.ids.session_id))
     (needs_tree (needs_of asked) && not (knows_tree table c.args.call.ids.session_id c.args.call.ids.tree_id))
-    UserSessionDeleted NetworkNameDeleted
+    RequestRefusal.UnknownSession UnknownTreeConnect
     (option_and_then (open_refusal opens c.args.call.ids) (named_open c.args.call))
     (request_passed c.args.self.now c.args.call asked c.in_ok-check_request.ensures.ok) in
     let body : option_map request_value c.args.body.now ≡ Some (request_value c.in-Some-body.request) = ap (option_map request_value) c.in-Some-body.is in

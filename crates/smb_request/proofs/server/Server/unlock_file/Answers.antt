@@ -1,11 +1,14 @@
 use Rattle.std.proofs.Common.{List, sym, subst, ◌∙◌}
 use Rattle.smb_locks.specs.Table.{unlocked}
 use Rattle.smb_access.specs.declared.open_row.OpenRow.{OpenRow}
-use Rattle.smb_opens.specs.Locks.{unlock_status}
+use Rattle.std.specs.Option.{option_map}
+use Rattle.smb_refusals.specs.declared.refusal.Refusal.{Refusal}
+use Rattle.smb_opens.specs.Locks.{unlock_refusal}
+use Rattle.smb_request.specs.Response.{through_open}
 use Rattle.smb_opens.specs.Views.{open_view}
 use Rattle.smb_request.specs.Owners.{AreOwned}
 use Rattle.smb_request.proofs.Configured.{locks_kept, locks_opens}
-use Rattle.smb_request.proofs.Refused.{code_failed}
+use Rattle.smb_request.proofs.Refused.{failed, through_row}
 use Rattle.smb_request.proofs.server.Server.unlock_file.Goals as goal
 
 pub invariant_of-self : goal.invariant_of-self
@@ -13,7 +16,7 @@ invariant_of-self g c =
     let store = c.self.inside.store in
     let k = c.args.call.open_number in
     let opens = locks_opens (λ entry. unlocked store.locks entry k c.args.asks.now) store (open_view store k) in
-    rw c.unlock.ensures.store
+    rw c.unlock_by_row.ensures.store
     (record {
       lawful = c.self.invariant.lawful;
       named = c.self.invariant.named;
@@ -22,7 +25,11 @@ invariant_of-self g c =
     })
 
 -- a refusal of the store
-pub returns-in_err-unlock-clause-ok : goal.returns-in_err-unlock-clause-ok
-returns-in_err-unlock-clause-ok g c =
-    rw (c.unlock.ensures.store, ← c.self.view_is)
-    (code_failed g.A.Authenticator.meaning _ c.args.call _ (unlock_status c.self.inside.store c.args.call.open_number c.args.asks.now) c.in_err-unlock.field-0.0 c.from_residual.result c.in_err-unlock.ensures.why c.in_err-unlock.ensures.refused c.from_residual.ensures.1)
+pub returns-in_err-unlock_by_row-clause-ok : goal.returns-in_err-unlock_by_row-clause-ok
+returns-in_err-unlock_by_row-clause-ok g c =
+    let store = c.self.inside.store in
+    let k = c.args.call.open_number in
+    let refusal = unlock_refusal store k c.args.asks.now in
+    rw (c.unlock_by_row.ensures.store, ← c.self.view_is)
+    (failed g.A.Authenticator.meaning _ c.args.call _ (through_open store k (option_map (λ refusal. Refusal.Lock refusal) refusal)) _ c.from_residual.result c.from_residual.ensures.1
+    (through_row (λ refusal. Refusal.Lock refusal) store k refusal c.in_err-unlock_by_row.field-0.0 c.unlock_by_row.ensures.shown c.in_err-unlock_by_row.ensures.why))

@@ -1,0 +1,236 @@
+//! Why a share refuses requests and ends connections in a replay, as it is told of an event.
+
+use smb_engine::Answer;
+use smb_head::read_header;
+use smb_peers::{Ending, Observer};
+use smb_refusal_texts::Why;
+use smb_refusals::{LoginRefusal, Refusal};
+use smb_wire::limits::MOST_REQUESTS;
+use std::alloc::{AllocError, Global};
+use std::fmt::Display;
+use std::io::Write;
+use std::{fmt, io};
+
+/// The bytes of a frame before its payload.
+const FRAME_HEAD: usize = 4;
+
+/// A reason, and what it is of.
+#[derive(Clone, Copy)]
+struct Told {
+    connection: u64,
+    /// The MessageId of a request that was refused, and its command.
+    request: Option<(u64, u16)>,
+    why: Why,
+}
+
+impl Told {
+    /// Whether it is of the request with this MessageId.
+    fn is_of(&self, message_id: u64) -> bool {
+        match self.request {
+            Some((number, _)) => number == message_id,
+            None => false,
+        }
+    }
+}
+
+/// The line of a reason: the mark of the answer that it is of, the connection, the event's line in the text, and why.
+#[derive(Clone, Copy)]
+struct ReasonLine {
+    told: Told,
+    line: u64,
+}
+
+impl Display for ReasonLine {
+    fn fmt<W: fmt::Write>(&self, f: &mut fmt::Formatter<W>) -> fmt::Result {
+        let ReasonLine { told, line } = *self;
+        let mark = match told.why {
+            Why::Connection(_) => "x",
+            Why::Request(_) | Why::Login(_) => "<",
+        };
+        let (connection, why) = (told.connection, told.why);
+        write!(f, "{mark} {connection}, line {line}: {why}")
+    }
+}
+
+/// The reasons of an event, in the order in which they were told.
+#[derive(Drop)]
+pub(crate) struct Reasons {
+    alloc: Global,
+    are_wanted: bool,
+    told: Vec<Told>,
+    /// Of each denied login the name that the client gave.
+    names: Vec<Vec<u8>>,
+    /// How many of them are written.
+    written: usize,
+    /// There was no memory for one.
+    is_lost: bool,
+}
+
+impl Reasons {
+    /// None so far; where they are not wanted none is kept.
+    pub(crate) fn new(alloc: Global, are_wanted: bool) -> Self {
+        Reasons {
+            alloc,
+            are_wanted,
+            told: Vec::new(alloc),
+            names: Vec::new(alloc),
+            written: 0,
+            is_lost: false,
+        }
+    }
+
+    /// Forgets those of the event before.
+    pub(crate) fn clear(&mut self) {
+        self.told.clear();
+        self.names.clear();
+        self.written = 0;
+    }
+
+    /// Whether there was no memory for one.
+    pub(crate) fn is_lost(&self) -> bool {
+        self.is_lost
+    }
+
+    /// Whether there is none.
+    pub(crate) fn is_empty(&self) -> bool {
+        self.told.is_empty()
+    }
+
+    /// Keeps a reason, where it is wanted.
+    fn keep(&mut self, connection: u64, request: Option<(u64, u16)>, why: Why) {
+        let told = Told {
+            connection,
+            request,
+            why,
+        };
+        if self.are_wanted && self.told.push(told).is_err() {
+            self.is_lost = true;
+        }
+    }
+
+    /// Keeps the name of a denied login.
+    fn add_name(&mut self, name: &[u8]) -> Result<(), AllocError> {
+        let name = Vec::from_slice(self.alloc, name)?;
+        self.names.push(name)?;
+        Ok(())
+    }
+
+    /// Tells them on to who hears the replay.
+    pub(crate) fn tell<H: Observer>(&self, heard: &mut H) {
+        let mut names = self.names.iter();
+        for told in &self.told {
+            let connection = told.connection;
+            match (told.why, told.request) {
+                (Why::Request(refusal), Some((message_id, command))) => {
+                    heard.refused(connection, message_id, command, refusal);
+                }
+                (Why::Login(reason), _) => {
+                    if let Some(name) = names.next() {
+                        heard.denied(connection, reason, name);
+                    }
+                }
+                (Why::Connection(ending), _) => heard.ended(connection, ending),
+                (Why::Request(_), None) => {}
+            }
+        }
+    }
+
+    /// Writes all of an event of this line.
+    pub(crate) fn write_all<W: Write>(&self, line: u64, errors: &mut W) -> io::Result<()> {
+        for told in &self.told {
+            let reason = ReasonLine { told: *told, line };
+            writeln!(errors, "{reason}")?;
+        }
+        Ok(())
+    }
+
+    /// The next that is not written.
+    fn next(&self) -> Option<Told> {
+        self.told.get(self.written).copied()
+    }
+
+    /// Writes one as a comment, which is the next.
+    fn write_comment<W: Write>(&mut self, told: Told, line: u64, output: &mut W) -> io::Result<()> {
+        self.written = self.written.saturating_add(1);
+        let reason = ReasonLine { told, line };
+        writeln!(output, "# {reason}")
+    }
+
+    /// Writes that of a response, where its request was refused, and behind it that of a login.
+    fn write_response<W: Write>(
+        &mut self,
+        message_id: u64,
+        line: u64,
+        output: &mut W,
+    ) -> io::Result<()> {
+        match self.next() {
+            Some(told) if told.is_of(message_id) => {
+                self.write_comment(told, line, output)?;
+            }
+            _ => return Ok(()),
+        }
+        match self.next() {
+            Some(told) if matches!(told.why, Why::Login(_)) => {
+                self.write_comment(told, line, output)
+            }
+            _ => Ok(()),
+        }
+    }
+
+    /// Writes that of an end.
+    fn write_end<W: Write>(&mut self, line: u64, output: &mut W) -> io::Result<()> {
+        match self.next() {
+            Some(told) if matches!(told.why, Why::Connection(_)) => {
+                self.write_comment(told, line, output)
+            }
+            _ => Ok(()),
+        }
+    }
+
+    /// Writes those of the responses in a frame as comments.
+    fn write_frame<W: Write>(&mut self, frame: &[u8], line: u64, output: &mut W) -> io::Result<()> {
+        let mut payload = frame.get(FRAME_HEAD..).unwrap_or(&[]);
+        for _ in 0..MOST_REQUESTS {
+            let Ok(header) = read_header(payload) else {
+                break;
+            };
+            self.write_response(header.message_id, line, output)?;
+            if header.next_command == 0 {
+                break;
+            }
+            payload = payload.get(header.next_command as usize..).unwrap_or(&[]);
+        }
+        Ok(())
+    }
+
+    /// Writes those of an answer to an event of this line, as comments.
+    pub(crate) fn write_comments<W: Write>(
+        &mut self,
+        answer: &Answer,
+        line: u64,
+        output: &mut W,
+    ) -> io::Result<()> {
+        match answer {
+            Answer::Frame(_, frame) => self.write_frame(frame, line, output),
+            Answer::End(_) => self.write_end(line, output),
+        }
+    }
+}
+
+impl Observer for Reasons {
+    fn refused(&mut self, connection: u64, message_id: u64, command: u16, refusal: Refusal) {
+        let request = Some((message_id, command));
+        self.keep(connection, request, Why::Request(refusal));
+    }
+
+    fn denied(&mut self, connection: u64, reason: LoginRefusal, name: &[u8]) {
+        self.keep(connection, None, Why::Login(reason));
+        if self.are_wanted && self.add_name(name).is_err() {
+            self.is_lost = true;
+        }
+    }
+
+    fn ended(&mut self, connection: u64, ending: Ending) {
+        self.keep(connection, None, Why::Connection(ending));
+    }
+}
