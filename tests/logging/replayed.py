@@ -13,8 +13,6 @@ ALL = ('--log-level', 'requests')
 # What is written in place of lines for which no memory was left.
 LOST = b'lines were lost for want of memory'
 MOST_SAID = 5
-# How many allocations the reasons of an event take in a replay that is logged, where the share tells one: one of its vector.
-OF_REASONS = 1
 
 
 def names_of_rows():
@@ -147,8 +145,7 @@ class Refused:
 
 
 def each_allocation_beside_a_log(program):
-    """Each allocation of a replay that is logged is refused in turn: it is answered as without a log, but that it also ends
-    where there is no memory for the reasons of an event."""
+    """Each allocation of a replay that is logged is refused in turn: it is answered as without a log."""
     with built('refuse_allocation') as library, tempfile.TemporaryDirectory() as folder:
         trial = Refused(program, library, folder, 'chains')
         with_log, without = trial.all(True), trial.all(False)
@@ -159,4 +156,4 @@ def each_allocation_beside_a_log(program):
     ended = [sum(status == 3 and output != b'' for status, output, _ in found) for found in (with_log, without)]
     print(f'  {len(with_log)} refused, {len(faults)} of them wrong; behind an answer it ended at {ended[0]}, without a '
           f'log at {ended[1]}', flush=True)
-    return not faults and len(with_log) > len(without) and ended[0] == ended[1] + OF_REASONS and ended[1] > 0
+    return not faults and len(with_log) > len(without) and ended[0] == ended[1] > 0

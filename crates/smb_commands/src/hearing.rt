@@ -68,10 +68,6 @@ impl Observer for Hearing<'_> {
 }
 
 impl Hears for Hearing<'_> {
-    fn hears_reasons(&self) -> bool {
-        self.log.is_some()
-    }
-
     fn hear(&mut self, event: &Event, answers: &[Answer]) {
         if let Some(log) = &mut self.log {
             log.hear(event, answers);

@@ -5,11 +5,6 @@ use smb_peers::Observer;
 
 /// Hears the events of a replay in order, each once it is told what the share refused in it.
 pub trait Hears: Observer {
-    /// Whether it hears what the share refuses.
-    fn hears_reasons(&self) -> bool {
-        true
-    }
-
     /// Takes an event that the share performed, and what it answered to it.
     fn hear(&mut self, event: &Event, answers: &[Answer]);
 }
@@ -21,9 +16,5 @@ pub struct Deaf;
 impl Observer for Deaf {}
 
 impl Hears for Deaf {
-    fn hears_reasons(&self) -> bool {
-        false
-    }
-
     fn hear(&mut self, _event: &Event, _answers: &[Answer]) {}
 }

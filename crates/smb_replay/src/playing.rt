@@ -82,13 +82,12 @@ impl<'a, W: Write, E: Write, H: Hears> Playing<'a, W, E, H> {
         errors: &'a mut E,
         heard: &'a mut H,
     ) -> Self {
-        let are_wanted = telling != Telling::Nowhere || heard.hears_reasons();
         Playing {
             output,
             errors,
             heard,
             telling,
-            reasons: Reasons::new(alloc, are_wanted),
+            reasons: Reasons::new(alloc),
             answers: Vec::new(alloc),
             opened: 0,
         }
@@ -121,6 +120,21 @@ impl<'a, W: Write, E: Write, H: Hears> Playing<'a, W, E, H> {
         Ok(())
     }
 
+    /// Has the share perform an event, of which the reasons are kept where they are said, and told to who hears the replay.
+    fn perform<A: Authenticator + Drop, T: Tree + Drop, O: Opens + Drop>(
+        &mut self,
+        share: &mut Share<A, T, O>,
+        event: &Event,
+    ) -> Result<(), RunFault> {
+        let events = slice::from_ref(event);
+        if self.telling == Telling::Nowhere {
+            return share.run_observed(events, &mut self.answers, self.heard);
+        }
+        let ran = share.run_observed(events, &mut self.answers, &mut self.reasons);
+        self.reasons.tell(self.heard);
+        ran
+    }
+
     /// Plays an event of this line.
     fn play<A: Authenticator + Drop, T: Tree + Drop, O: Opens + Drop>(
         &mut self,
@@ -130,9 +144,7 @@ impl<'a, W: Write, E: Write, H: Hears> Playing<'a, W, E, H> {
     ) -> Result<(), CommandFault> {
         self.answers.clear();
         self.reasons.clear();
-        let events = slice::from_ref(event);
-        let ran = share.run_observed(events, &mut self.answers, &mut self.reasons);
-        self.reasons.tell(self.heard);
+        let ran = self.perform(share, event);
         if ran.is_ok() {
             self.heard.hear(event, &self.answers);
         }

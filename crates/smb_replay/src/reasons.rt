@@ -56,7 +56,6 @@ impl Display for ReasonLine {
 #[derive(Drop)]
 pub(crate) struct Reasons {
     alloc: Global,
-    are_wanted: bool,
     told: Vec<Told>,
     /// Of each denied login the name that the client gave.
     names: Vec<Vec<u8>>,
@@ -67,11 +66,10 @@ pub(crate) struct Reasons {
 }
 
 impl Reasons {
-    /// None so far; where they are not wanted none is kept.
-    pub(crate) fn new(alloc: Global, are_wanted: bool) -> Self {
+    /// None so far.
+    pub(crate) fn new(alloc: Global) -> Self {
         Reasons {
             alloc,
-            are_wanted,
             told: Vec::new(alloc),
             names: Vec::new(alloc),
             written: 0,
@@ -96,14 +94,14 @@ impl Reasons {
         self.told.is_empty()
     }
 
-    /// Keeps a reason, where it is wanted.
+    /// Keeps a reason.
     fn keep(&mut self, connection: u64, request: Option<(u64, u16)>, why: Why) {
         let told = Told {
             connection,
             request,
             why,
         };
-        if self.are_wanted && self.told.push(told).is_err() {
+        if self.told.push(told).is_err() {
             self.is_lost = true;
         }
     }
@@ -225,7 +223,7 @@ impl Observer for Reasons {
 
     fn denied(&mut self, connection: u64, reason: LoginRefusal, name: &[u8]) {
         self.keep(connection, None, Why::Login(reason));
-        if self.are_wanted && self.add_name(name).is_err() {
+        if self.add_name(name).is_err() {
             self.is_lost = true;
         }
     }
