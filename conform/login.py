@@ -1,12 +1,13 @@
 """How a client comes in to a server: NEGOTIATE, a login by NTLM, and a TREE_CONNECT."""
 import collections
+import os
 import struct
 import time
 
 from conform.statuses import name_of
-from conform.wire import Link, whole
+from conform.wire import CREDITS, Link, framed_words, whole
 from tests.smb import ntlm
-from tests.smb.frames import negotiate, session_setup, tree_connect
+from tests.smb.frames import session_setup, tree_connect
 
 DIALECTS, OF_1970 = (0x0202, 0x0210), 116_444_736_000_000_000
 SIGNING_REQUIRED, IS_GUEST, IS_NULL = 2, 1, 2
@@ -29,11 +30,11 @@ def must_be(server, doing, answer, status=0):
     return whole(answer)
 
 
-def comes_in(server, dialects=DIALECTS):
-    """A client that is in at a server's share, and the dialect that it speaks there."""
+def comes_in(server, guid, dialects=DIALECTS):
+    """A client of this ClientGuid that is in at a server's share, and the dialect that it speaks there."""
     link = Link(server.host, server.port, server.patience)
     try:
-        dialect, wants_signatures = negotiates(server, link, dialects)
+        dialect, wants_signatures = negotiates(server, link, guid, dialects)
         logs_in(server, link, wants_signatures)
         frame = tree_connect(link.next_id(), link.session, share_path(server))
         answer = must_be(server, f'its share {server.share} cannot be connected', link.answer_to(frame))
@@ -52,7 +53,7 @@ def speaks(server, dialect):
     """Whether a server speaks a dialect, where no other is offered."""
     link = Link(server.host, server.port, server.patience)
     try:
-        negotiates(server, link, (dialect,))
+        negotiates(server, link, new_guid(), (dialect,))
     except Refused:
         return False
     finally:
@@ -60,9 +61,17 @@ def speaks(server, dialect):
     return True
 
 
-def negotiates(server, link, dialects):
-    """The dialect, and whether the server wants requests signed."""
-    frame = negotiate(link.next_id(), dialects)
+def new_guid():
+    """A ClientGuid, by which a server knows one machine from another."""
+    return os.urandom(16)
+
+
+def negotiates(server, link, guid, dialects):
+    """The dialect, and whether the server wants requests signed. Who offers 2.0.2 alone has a ClientGuid of zeros
+    ([MS-SMB2] 2.2.3)."""
+    sent = bytes(16) if dialects == DIALECTS[:1] else guid
+    frame = framed_words('NEGOTIATE', {'MessageId': link.next_id(), 'Credits': CREDITS, 'ClientGuid': sent.hex(),
+                                       'Dialects': ','.join(map(str, dialects))})
     answer = must_be(server, 'it speaks neither dialect 2.0.2 nor 2.1', link.answer_to(frame))
     dialect = answer.fields['DialectRevision']
     if dialect not in dialects:

@@ -3,7 +3,7 @@ import collections
 import os
 
 from conform import information
-from conform.login import Refused, comes_in, share_path
+from conform.login import Refused, comes_in, new_guid, share_path
 from conform.places import Places, asked_in
 from conform.statuses import name_of
 from conform.steps import (ALL, BASIC, DISPOSITION, RESTART_SCANS, RETURN_SINGLE_ENTRY, WHOLE, Comes, Frame, List,
@@ -33,6 +33,8 @@ class Side:
         self.server, self.dialects = server, dialects
         # The clients by name, those of a row by `#` and its number; all that ever came, in order.
         self.links, self.came, self.top, self.at = {}, [], '', ''
+        # The ClientGuid of each client, by its name: it keeps it where it comes in anew.
+        self.guids = collections.defaultdict(new_guid)
         # The opens by their labels; those that are not closed yet, each with its client; what could not be removed.
         self.opens, self.held, self.left = {}, [], []
         # The numbers of a row that is played, and how many directories of scripts were made.
@@ -40,7 +42,7 @@ class Side:
 
     def link(self, client, dialects=()):
         if client not in self.links:
-            link, dialect = comes_in(self.server, dialects or self.dialects)
+            link, dialect = comes_in(self.server, self.guids[client], dialects or self.dialects)
             self.links[client] = link
             self.came.append(link)
             if not dialects:

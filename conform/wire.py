@@ -17,8 +17,10 @@ from tools import frame as frame_tool
 HEADER_FIELDS, HEADER_SIZE = [it[0] for it in frame_tool.table(frame_tool.HEADER)[0]], 64
 # How long a payload may be; how many credits a request asks for; and the flags of a response, of one that is not the
 # last, with the status that such a one has, and of a message that is signed.
-LONGEST, CREDITS, CANCEL = 8_388_608, 31, 12
+LONGEST, CREDITS, LOGOFF, CANCEL = 8_388_608, 31, 2, 12
 IS_RESPONSE, IS_ASYNC, PENDING, IS_SIGNED = 1, 2, 0x103, 8
+# The SessionId of a related request of a chain, which is in the session of the one before it ([MS-SMB2] 3.2.4.1.4).
+AS_BEFORE = 2 ** 64 - 1
 # What waits for other clients, a LOCK and a CHANGE_NOTIFY; for how many seconds it is awaited where a server says that
 # it is worked on; and how a server ends what was cancelled.
 MAY_WAIT, LONGEST_WAIT, CANCELLED = (10, 15), 1, (0xC0000120, 0xC000007E, 0xC0000055)
@@ -57,8 +59,8 @@ class Link(Client):
             raise Fault('it cannot be reached', why.strerror or str(why)) from None
         self.patience, self.deadline = patience, 0
         self.message_id, self.credits, self.charge, self.session, self.tree = 0, 1, 0, 0, 0
-        # The key by which requests are signed, where the server wants that; each refusal, a command and a status; and
-        # the answer that says of a request that it waits for other clients.
+        # The key by which requests are signed, where the server wants that, until the LOGOFF; each refusal, a command
+        # and a status; and the answer that says of a request that it waits for other clients.
         self.key, self.refusals, self.pending = b'', [], None
 
     def next_id(self, charge=1):
@@ -135,7 +137,13 @@ class Link(Client):
                 self.takes(self.looked_at(message, waiting), waiting, found)
         answers = [found[number_in(it)] for it in asked]
         self.refusals += [(command_name(it.fields['Command']), it.status) for it in answers if it.status]
+        if any(self.is_logged_off(it) for it in answers):
+            self.key = b''
         return answers
+
+    def is_logged_off(self, answer):
+        """Whether an answer says that the session is over, and with it its key."""
+        return answer.fields['Command'] == LOGOFF and answer.status == 0 and answer.fields['SessionId'] == self.session
 
     def awaited(self):
         """The payload of the next frame. Where none comes, what waits for other clients is cancelled."""
@@ -168,11 +176,13 @@ class Link(Client):
         self.send(self.signed(frame[:36] + of + frame[44:]))
 
     def signed(self, frame):
-        """A frame whose requests are signed where there is a key ([MS-SMB2] 3.1.4.1)."""
+        """A frame whose requests in this session are signed where there is a key; of another session there is none
+        ([MS-SMB2] 3.1.4.1)."""
         if not self.key:
             return frame
-        payload = b''.join(with_signature(it, self.key) for it in messages_of(frame[4:]))
-        return frame[:4] + payload
+        own = (self.session, AS_BEFORE)
+        messages = messages_of(frame[4:])
+        return frame[:4] + b''.join(with_signature(it, self.key) if session_in(it) in own else it for it in messages)
 
     def looked_at(self, message, waiting):
         """A response that answers one of the requests that wait."""
@@ -193,9 +203,9 @@ class Link(Client):
         return answer_of(message, fields)
 
     def checks_signature(self, message, fields):
-        """Where requests are signed their answers are, by the same key, but one that is not the last ([MS-SMB2]
-        3.2.5.1.3)."""
-        if not self.key or fields['Status'] == PENDING:
+        """Where requests are signed their answers are, by the same key, but one that is not the last; of another
+        session there is no key here ([MS-SMB2] 3.2.5.1.3)."""
+        if not self.key or fields['Status'] == PENDING or fields['SessionId'] != self.session:
             return
         if not fields['HeaderFlags'] & IS_SIGNED:
             if fields['Status'] == 0:

@@ -33,9 +33,14 @@ def served(program, *words):
     return program.serve('--config', GUEST, '--login', 'ntlm', *words)
 
 
+def side_at(port, patience, dialects=DIALECTS):
+    """A share, with clients that come in as guests."""
+    return Side(Server('a share', '127.0.0.1', port, 'data', NOBODY, NO_PASSWORD, patience), dialects)
+
+
 def names_at_the_top(share):
     """The names at the top of a share, as a guest finds them."""
-    side = Side(Server('a share', '127.0.0.1', share.port, 'data', NOBODY, NO_PASSWORD, share.patience), DIALECTS)
+    side = side_at(share.port, share.patience)
     _, file_id = side.create('', 'READ_DATA', 'DIRECTORY_FILE')
     names = side.names_in(file_id, 0)
     side.loses_clients()

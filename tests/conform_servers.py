@@ -8,15 +8,17 @@ import struct
 import tempfile
 import time
 
-from tests.conform_runs import LOCK, NEGOTIATE, READ, SESSION_SETUP, other_status, ran, served
+from conform.wire import AS_BEFORE, messages_of
+from tests.conform_runs import DIALECTS, LOCK, NEGOTIATE, READ, SESSION_SETUP, other_status, ran, served, side_at
 from tests.smb import ntlm
 from tests.smb.between import MESSAGE_ID_AT, Between, command_of, frames_of, status_of, with_status
+from tests.smb.frames import chain, close
 
 # How many seconds an answer may take, and a run with a wrong server.
 PATIENCE, LONGEST = 3, 60
 LOCK_NOT_GRANTED, PENDING, CANCELLED, CANCEL = 0xC0000055, 0x103, 0xC0000120, 12
 ASYNC_ID = struct.pack('<Q', 7)
-FLAGS_AT, IS_ASYNC, IS_SIGNED, SIGNATURE_AT = 20, 2, 8, 52
+FLAGS_AT, IS_ASYNC, IS_SIGNED, SIGNATURE_AT, GUID_AT = 20, 2, 8, 52, 80
 
 
 def insists_on_signing(frame):
@@ -75,6 +77,26 @@ def requests_are_signed_where_the_server_insists(program):
                     for it in requests[3:]))
 
 
+def are_signed(link):
+    """Whether a client signs what a chain asks in its session, in that of the request before, and in another one."""
+    frame = chain([close(9, 1, it, link.tree) for it in (link.session, AS_BEFORE, link.session + 1)])
+    return [bool(it[FLAGS_AT - 4] & IS_SIGNED) for it in messages_of(link.signed(frame)[4:])]
+
+
+def only_what_is_asked_in_the_session_is_signed(program):
+    """And nothing once it is logged off, which a LOGOFF that is refused does not do."""
+    key, found = bytes(16), []
+    with served(program) as share, Between(share.port, lambda frame: signed(frame, key)) as server:
+        side = side_at(server.port, share.patience)
+        link = side.link('A')
+        link.key = key
+        for session in (link.session + 1, link.session):
+            link.asks('LOGOFF', {'SessionId': session})
+            found.append(are_signed(link))
+        side.loses_clients()
+    return found == [[True, True, False], [False] * 3]
+
+
 def another_signature_is_named(program):
     """A server that signs by another key, and one that insists and does not sign itself."""
     ways = {'it answers with a wrong signature': lambda frame, key: signed(frame, bytes(16)),
@@ -85,6 +107,24 @@ def another_signature_is_named(program):
             print(f'  {said}: {status}, {output}{errors}')
             return False
     return True
+
+
+def guids(share, dialects):
+    """The ClientGuids of client A, of B, and of A when it comes in anew."""
+    with Between(share.port, lambda frame: frame) as server:
+        side = side_at(server.port, share.patience, dialects)
+        for clients in ('AB', 'A'):
+            for client in clients:
+                side.link(client)
+            side.loses_clients()
+        return [bytes(it[GUID_AT:GUID_AT + 16]) for it in server.heard]
+
+
+def each_client_has_a_guid_of_its_own(program):
+    """And keeps it. It is zeros where 2.0.2 alone is offered."""
+    with served(program) as share:
+        of_a, of_b, anew = guids(share, DIALECTS)
+        return of_a == anew and len({of_a, of_b, bytes(16)}) == 3 and guids(share, DIALECTS[:1]) == [bytes(16)] * 3
 
 
 # Servers that misbehave: at the login, and at each READ, which no directory needs to be removed.
@@ -260,7 +300,8 @@ def words_and_servers_are_refused(program):
 
 
 TESTS = (
-    requests_are_signed_where_the_server_insists, another_signature_is_named, a_wrong_server_is_named_at_once,
+    each_client_has_a_guid_of_its_own, requests_are_signed_where_the_server_insists,
+    only_what_is_asked_in_the_session_is_signed, another_signature_is_named, a_wrong_server_is_named_at_once,
     one_that_closes_within_a_frame_is_named, a_server_that_goes_wrong_is_named, a_body_that_is_none_is_found,
     what_differed_stays_where_the_server_ends_then, a_lock_that_waits_is_cancelled, words_and_servers_are_refused,
 )
