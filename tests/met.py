@@ -3,13 +3,14 @@
     python3 -m tests.met [--check] [smb_rows]
 
 Plays the rows by the program smb_rows, which `rt ci` built where no other is named, and writes into docs/TESTING.md for each row
-of docs/PROFILE.md's tables how many rows of crates/smb_rows meet it, and the first. With --check it writes nothing, and its
-status is 1 where the page has another table, or a refusal that a request can meet is met by none.
+of docs/PROFILE.md's tables how many rows of crates/smb_rows meet it, and which one where it is one alone. With --check it writes
+nothing, and its status is 1 where the page has another list, or a refusal that a request can meet is met by none.
 """
 import os
 import re
 import subprocess
 import sys
+import textwrap
 
 from tests.smb.program import TOP
 from tools.lib.refusals import rows, tables
@@ -39,13 +40,24 @@ def met(program):
     return found
 
 
+def item(words):
+    """An item of the list, in lines of at most 120 columns."""
+    return textwrap.fill(f'- {words}', 120, subsequent_indent='  ') + '\n'
+
+
 def written(found):
-    """The table."""
-    lines = ['| | met by | the first |', '|---|---|---|']
+    """The list: the labels that no row meets, those that one meets, by its name, and the others with how many rows meet them."""
+    none, one, more = [], {}, []
     for label, sentence in rows(tables()):
         names = found.get((label, sentence), [])
-        lines.append(f'| {label} | {len(names)} | {names[0] if names else ""} |')
-    return '\n'.join(lines) + '\n'
+        if not names:
+            none.append(label)
+        elif len(names) == 1:
+            one.setdefault(names[0], []).append(label)
+        else:
+            more.append(f'{label} {len(names)}')
+    of_one = '; '.join(f'{", ".join(labels)} {name}' for name, labels in one.items())
+    return item(f'by no row: {", ".join(none)}') + item(f'by one: {of_one}') + item(f'by more: {", ".join(more)}')
 
 
 def faults(found):

@@ -4,14 +4,15 @@ name, and those that these name.
 
 Of these it counts those behind the main theorem, which the clauses of `Share::run` name; those behind what else the
 program promises; and those for laws, authenticators and peers of tests alone, with how many of these are a law's
-statement and nothing else: a clause of a `laws_of_` function is such a name, and no other definition has it. A statement
-is proved, and no promise stands on it; a reader of the law has to read it all the same. --list prints all by file, --run
-those of the first count. --check fails where docs/DEFINITIONS.md does not name one beside its file, or names a file or a
-definition that is not there, and where a file of which nothing need be believed does not begin by saying so, or another
-one does. The page has two parts, of which the first names the definitions behind `Share::run` and no other. In each,
-under a heading with a crate's name, it has an item for each file, or for several, whose names it begins with, as
-`Number.antt`. Of the text behind them names count where a colon, or sections in parentheses and a colon, are behind
-them. With `, whole:` behind its files an item names all definitions.
+statement and nothing else: a clause of a `laws_of_` function is such a name, and no other definition has it. A
+statement is proved, and no promise stands on it; a reader of the law has to read it all the same. --list prints all by
+file, --run those of the first count. --check fails where docs/DEFINITIONS.md does not name one beside its file, or
+names a file or a definition that is not there, where that page or README.md says other counts, and where a file of
+which nothing need be believed does not begin by saying so, or another one does. The page has two parts, of which the
+first names the definitions behind `Share::run` and no other. In each, under a heading with a crate's name, it has an
+item for each file, or for several, whose names it begins with, as `Number.antt`. Of the text behind them names count
+where a colon, or sections in parentheses and a colon, are behind them. With `, whole:` behind its files an item names
+all definitions.
 
 Public is what lib.rt exports; of an inner crate, whose lib.rt says `An inner crate of NAME:`, what the lib.rt of NAME
 exports on. Of it count the clauses of functions, of types' `pub` methods and of traits' methods, and the ghost members
@@ -290,6 +291,14 @@ def counts(specs, reached):
         yield f"{crate:18}" + "".join(f"{it:10}" for it in row)
 
 
+def miscounted(run, program, laws):
+    """The pages that do not say these counts, with the words that are wanted."""
+    wanted = {PAGE: f"{run} definitions behind the main theorem, {program} more behind what else the program promises, and {laws} more behind laws",
+              ROOT / "README.md": f"of {run} definitions"}
+    return [f"{page.relative_to(ROOT)}: does not say: {words}" for page, words in wanted.items()
+            if words not in " ".join(page.read_text(encoding="utf-8").split())]
+
+
 def main(words):
     specs = read_specs()
     reached = followed(specs, all_roots(specs))
@@ -300,7 +309,9 @@ def main(words):
         wrong += [f"names in its first part, though `Share::run` does not lead to it, of {line}" for line in by_file(specs, first - run)]
         wrong += [f"does not name, of {line}" for line in by_file(specs, reached - first - others)]
         wrong += [f"names, though it need not be believed, of {line}" for line in by_file(specs, quoted - reached)]
-        sys.exit("\n".join([*(f"{PAGE.relative_to(ROOT)}: {it}" for it in wrong), *marks(specs, reached)]) or None)
+        program = behind_program(specs) & reached - run
+        counted = miscounted(len(run & reached), len(program), len(reached - run - program))
+        sys.exit("\n".join([*(f"{PAGE.relative_to(ROOT)}: {it}" for it in wrong), *counted, *marks(specs, reached)]) or None)
     if words not in ([], ["--list"], ["--run"]):
         sys.exit(__doc__)
     if words == ["--run"]:

@@ -114,9 +114,9 @@ def requests_are_logged(program):
 
 
 # Who logs in by a wrong password, the name as it is logged, and why he is denied.
-DENIED = (('ann', 'ann', "T8 the account's proof is wrong, or that of NTLM version 1"),
-          ('bob', 'bob', 'T10 no such account, and guests may not come in'),
-          ('b\n\t"\\u{9}', r'b\u{A}\u{9}"\u{5C}u{9}', 'T10 no such account, and guests may not come in'))
+DENIED = (('ann', 'ann', "LG8 the account's proof is wrong, or that of NTLM version 1"),
+          ('bob', 'bob', 'LG10 no such account, and guests may not come in'),
+          ('b\n\t"\\u{9}', r'b\u{A}\u{9}"\u{5C}u{9}', 'LG10 no such account, and guests may not come in'))
 
 
 def denied_logins_are_logged(program):

@@ -37,11 +37,6 @@ def written(page, printed):
     return re.sub(TABLE, lambda it: f"<!-- table: {it[1]} -->\n{printed.get(it[1], 'no such table')}\n", page, flags=re.M)
 
 
-def by_hand(page):
-    """The page without the tables that are written."""
-    return re.sub(TABLE, "", page, flags=re.M)
-
-
 def faults():
     """What is wrong with the page."""
     printed, page = tables(), PAGE.read_text(encoding="utf-8")

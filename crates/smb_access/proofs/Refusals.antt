@@ -1,5 +1,5 @@
 -- A refusal by a row of a table is, among the faults of a store, the status of that table.
-use Rattle.std.proofs.Common.{◌≡◌, ◌≢◌, List, Some, None, refl, sym, ap, subst, ◌∙◌}
+use Rattle.std.proofs.Common.{◌≡◌, ◌≢◌, List, sym, ap, subst, ◌∙◌}
 use Rattle.smb_wire.specs.NtStatus.{status_code}
 use Rattle.smb_wire.specs.declared.nt_status.NtStatus.TheVariants.{Success}
 use Rattle.smb_refusals.specs.declared.refusal.Refusal.{Refusal}

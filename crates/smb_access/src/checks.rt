@@ -141,7 +141,7 @@ fn target_becomes_read_only(
     }
 }
 
-/// The disposition and the path that a request names, or why it is refused whatever stands.
+/// The disposition and the path that a request names, or by which row it is refused, whatever files the share has.
 pub fn asked_path<'a>(
     ask: &CreateAsk<'a>,
 ) -> Result<(CreateDisposition, PathView<'a>), CreateRefusal>

@@ -48,6 +48,12 @@ impl<'v> Hearing<'v> {
 }
 
 impl Observer for Hearing<'_> {
+    ghost use Rattle.std.specs.Prelude.{[], false};
+
+    ghost observed = { λ hearing. [] };
+
+    ghost keeps = { λ hearing. false };
+
     fn refused(&mut self, connection: u64, message_id: u64, command: u16, refusal: Refusal) {
         if let Some(log) = &mut self.log {
             log.refused(connection, message_id, command, refusal);

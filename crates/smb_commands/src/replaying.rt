@@ -115,6 +115,12 @@ struct Printer<'m, W: Write + Drop> {
 }
 
 impl<W: Write + Drop> Observer for Printer<'_, W> {
+    ghost use Rattle.std.specs.Prelude.{[], false};
+
+    ghost observed = { λ printer. [] };
+
+    ghost keeps = { λ printer. false };
+
     fn refused(&mut self, connection: u64, message_id: u64, command: u16, refusal: Refusal) {
         self.hearing
             .refused(connection, message_id, command, refusal);

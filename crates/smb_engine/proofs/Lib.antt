@@ -15,4 +15,6 @@ pub mod Cuts
 pub mod Rest
 pub mod SoFar
 pub mod Endings
+pub mod Observed
+pub mod HeardEnds
 pub mod WrongEndings

@@ -34,7 +34,7 @@ added_is received piece =
     ap (drop (length (payloads longest_payload received))) (payloads-more longest_payload piece received)
     ∙ drop_at (payloads longest_payload received) (payloads longest_payload (rest longest_payload received ++ piece)) (length (payloads longest_payload received)) refl
 
-added-waits : (stream : StreamState) (piece : List ℕ) → Waits stream → added_payloads stream.received piece ≡ payloads longest_payload (stream.received ++ piece)
+pub added-waits : (stream : StreamState) (piece : List ℕ) → Waits stream → added_payloads stream.received piece ≡ payloads longest_payload (stream.received ++ piece)
 added-waits stream piece w = added_is stream.received piece ∙ ap (λ b. payloads longest_payload (b ++ piece)) (rest-none longest_payload stream.received w.partial)
 
 -- what a buffer holds after a piece

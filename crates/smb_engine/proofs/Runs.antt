@@ -92,11 +92,11 @@ module _ {S : Type 0} (m : Meaning S) where
   goes_at s d r None h = (refl, later-none r.stop h)
   goes_at s d r (Some why) h = cc
 
-  run-goes : (s : ShareState S) (event : EventText) (events : List EventText) → (run m s (event ∷ events)).stop ≡ None →
+  pub run-goes : (s : ShareState S) (event : EventText) (events : List EventText) → (run m s (event ∷ events)).stop ≡ None →
       (event_refusal s event ≡ None) × ((run m (event_step m s event).state events).stop ≡ None)
   run-goes s event events h = goes_at s (event_step m s event) (run m (event_step m s event).state events) (event_refusal s event) h
 
-  run-cons : (s : ShareState S) (event : EventText) (events : List EventText) → event_refusal s event ≡ None →
+  pub run-cons : (s : ShareState S) (event : EventText) (events : List EventText) → event_refusal s event ≡ None →
       run m s (event ∷ events) ≡ then_ran (event_step m s event) (run m (event_step m s event).state events)
   run-cons s event events h = rw h refl
 
@@ -170,14 +170,14 @@ module _ {S : Type 0} (m : Meaning S) where
   pub run_none : (start : ShareState S) (front : List Output) (events : List EventText) → start ≡ unread start → RunSoFar start start front front events 0
   run_none start front events h = record { goes = refl; state = h; says = sym (append-nil front) }
 
-  at_place : (events : List Event) (event : Event) (i : ℕ) → i < length events → event ≡ get_or events i event → drop i (events_of events) ≡ text_of event ∷ events_of (drop (i + 1) events)
+  pub at_place : (events : List Event) (event : Event) (i : ℕ) → i < length events → event ≡ get_or events i event → drop i (events_of events) ≡ text_of event ∷ events_of (drop (i + 1) events)
   at_place events event i p e = drop-map text_of i events ∙ ap events_of (drop_more events i event p) ∙ ap (λ x. text_of x ∷ events_of (drop (i + 1) events)) (sym e)
 
   -- the connection of the event at a place
   pub connection_read : (events : List Event) (event : Event) (i : ℕ) → i < length events → event ≡ get_or events i event → connection_at (events_of events) i ≡ Some (connection_of (text_of event))
   connection_read events event i p e = rw slice_get-map (ap (λ o. option_map connection_of (option_map text_of o)) (slice_get_read events (length events) i event refl p e))
 
-  not_refused : (start now : ShareState S) (events : List EventText) (event : EventText) (i : ℕ) (o : Option ServeFault) → now ≡ unread (run m start (take i events)).state → event_refusal now event ≡ o →
+  pub not_refused : (start now : ShareState S) (events : List EventText) (event : EventText) (i : ℕ) (o : Option ServeFault) → now ≡ unread (run m start (take i events)).state → event_refusal now event ≡ o →
       event_refusal (run m start (take i events)).state event ≡ o
   not_refused start now events event i o h r = sym (refusal-unread (run m start (take i events)).state event) ∙ ap (λ t. event_refusal t event) (sym h) ∙ r
 

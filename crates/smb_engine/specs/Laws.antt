@@ -1,7 +1,7 @@
 -- What follows from the definitions, of every authenticator.
 use Rattle.std.specs.Prelude.{◌≡◌, ◌⊎◌, ℕ, suc, ◌+◌, ◌<◌, false, ◌==◌, not, nat_lt, List, [], ◌∷◌, ◌++◌, length, map, None, Some, is_some, MatchOption, if◌then◌else◌}
 use Rattle.std.specs.Option.{option_map, option_map_or}
-use Rattle.std.specs.List.{AllByRecursion, Any, concat}
+use Rattle.std.specs.List.{AllByRecursion, Any, concat, flat_map}
 use Rattle.smb_session.specs.Numbers.{IsRising}
 use Rattle.smb_session.specs.Authenticator.{Meaning}
 use Rattle.smb_session.specs.Session.{SessionState}
@@ -9,6 +9,7 @@ use Rattle.smb_session.specs.Table.{session_at}
 use Rattle.smb_opens.specs.Readers.{LeavesFiles}
 use Rattle.smb_request.specs.Laws.{IsInOrder, IsAsItWas, IsOver, ReplacesSession, AllMayOnlyRead}
 use Rattle.smb_peers.specs.Event.{EventText, brings, connection_of}
+use Rattle.smb_peers.specs.Observed.{Observed, refused, ended}
 use Rattle.smb_engine.specs.declared.connection.Connection.{Connection}
 use Rattle.smb_engine.specs.State.{ShareState, stream_of}
 use Rattle.smb_engine.specs.Good.{GoodState}
@@ -16,6 +17,7 @@ use Rattle.smb_engine.specs.Stream.{unread}
 use Rattle.smb_engine.specs.Run.{PerformedRequest, Stop, Ran, run, event_refusal, event_step, admitted, ending_of}
 use Rattle.smb_engine.specs.Refusals.{run_behind}
 use Rattle.smb_engine.specs.Output.{Output, frame_to, end_of}
+use Rattle.smb_engine.specs.Observed.{run_observed}
 
 -- the numbers of the open connections rise, and each was given to a connection
 pub record StreamsInOrder {S : Type 0} (s : ShareState S) : Type 0 where
@@ -34,6 +36,20 @@ run_after count before ran = record {
 abbrev pub receiver : Output → ℕ
 receiver (frame_to connection bytes) = connection
 receiver (end_of connection) = connection
+
+-- the connections that outputs end, and those that are heard of as ended
+abbrev pub ends_put_out : List Output → List ℕ
+ends_put_out outputs = flat_map
+    (λ output. elim output as (λ it. List ℕ) [ frame_to connection bytes ↦ [] | end_of connection ↦ connection ∷ [] ])
+    outputs
+
+abbrev pub ends_heard : List Observed → List ℕ
+ends_heard heard = flat_map
+    (λ it. elim it as (λ it. List ℕ) [
+      | refused connection message_id command refusal ↦ []
+      | ended connection rule ↦ connection ∷ []
+    ])
+    heard
 
 -- two runs leave and put out the same, and stop for the same reason, or neither does
 pub record AreAlike {S : Type 0} (one other : Ran S) : Type 0 where
@@ -125,6 +141,12 @@ module _ {S : Type 0} (authenticator : Meaning S) where
       (s : ShareState S) → StreamsInOrder s → (events : List EventText) (connection : ℕ) (before after : List Output) →
       (run authenticator s events).outputs ≡ before ++ end_of connection ∷ after →
       AllByRecursion (λ output. (receiver output == connection) ≡ false) after
+
+  -- who observes a run hears of each connection that the share ends, in order, by which rule, and of no other
+  abbrev pub EachEndIsHeard : Type 0
+  EachEndIsHeard =
+      (s : ShareState S) (events : List EventText) →
+      ends_put_out (run authenticator s events).outputs ≡ ends_heard (run_observed authenticator s events)
 
   -- as each request of these events comes, no session of its connection may write
   abbrev pub AreOfReaders : ShareState S → List EventText → Type 0

@@ -11,3 +11,4 @@ pub mod Held
 pub mod InPlace
 pub mod SoFar
 pub mod Parts
+pub mod Observed

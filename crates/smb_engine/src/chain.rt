@@ -1,6 +1,6 @@
 //! A payload: its requests in order, and the replies in one payload ([MS-SMB2] 3.3.5.2).
 
-ghost use Rattle.std.specs.Prelude.{ℕ, List, ◌≡◌, ◌≤◌, ◌<◌, ◌+◌, ◌-◌, ◌^◌, [], ◌∷◌, ◌++◌, is_some, OnOk, OnErr, IfOk, IfErr, IfSome, length, take, replicate, if◌then◌else◌};
+ghost use Rattle.std.specs.Prelude.{ℕ, List, ◌≡◌, ◌≤◌, ◌<◌, ◌+◌, ◌-◌, ◌^◌, [], ◌∷◌, ◌++◌, Some, is_some, OnOk, OnErr, IfOk, IfErr, IfSome, length, take, replicate, if◌then◌else◌};
 ghost use Rattle.std.specs.List.{flat_map};
 ghost use Rattle.smb_head.specs.Headers.{header_of};
 ghost use Rattle.smb_head.specs.Replies.{Reply, rounded_up};
@@ -10,14 +10,15 @@ ghost use Rattle.std.specs.Bool.{OnTrue, OnFalse};
 ghost use Rattle.smb_wire.specs.Limits.{longest_response};
 ghost use Rattle.smb_head.specs.Replies.{joined_replies};
 ghost use Rattle.smb_request.specs.Negotiate.{negotiate_answer};
-ghost use Rattle.smb_request.specs.Parts.{hello_of};
 ghost use Rattle.smb_request.specs.Smb1.{reply_to_smb1};
-ghost use Rattle.smb_engine.specs.Run.{one_performed, smb1_step, chain_step, payload_step};
+ghost use Rattle.smb_engine.specs.Run.{one_performed, smb1_step, chain_step, payload_step, ending_of};
 ghost use Rattle.smb_engine.specs.Parts.{longest_reply, reply_to, first_negotiate};
 ghost use Rattle.smb_engine.specs.Held.{StoppedAfter};
 ghost use Rattle.smb_request.specs.Held.{is_performed};
 ghost use Rattle.smb_engine.specs.Output.{output_bytes, reply_frame};
 ghost use Rattle.smb_engine.specs.InPlace.{chain_state_behind, step_behind};
+ghost use Rattle.smb_peers.specs.Record.{Keeping};
+ghost use Rattle.smb_engine.specs.Observed.{response_observed, requests_observed, ending_observed, smb1_ending, payload_observed};
 
 use super::admission::{admit, request_at};
 use super::arrival::Arrival;
@@ -88,7 +89,10 @@ fn report_denial<A: Authenticator + Drop, T: Tree + Drop, O: Opens + Drop, W: Ob
     server: &Server<A, T, O>,
     arrival: Arrival,
     observer: &mut W,
-) {
+)
+    ensures observed { Keeping (W.keeps observer.old) (W.keeps observer.new)
+        (W.observed observer.new ≡ W.observed observer.old) }
+{
     if let Some(denial) = server.denial() {
         observer.denied(arrival.connection_id, denial.reason, denial.name);
     }
@@ -101,7 +105,10 @@ fn report_refusal<A: Authenticator + Drop, T: Tree + Drop, O: Opens + Drop, W: O
     header: &Header,
     answered: Answered,
     observer: &mut W,
-) {
+)
+    ensures observed { (request body : List ℕ) → header.now ≡ header_of request → Keeping (W.keeps observer.old) (W.keeps observer.new)
+        (W.observed observer.new ≡ W.observed observer.old ++ response_observed arrival.connection_id request (Some (record { status = answered.status; refusal = answered.refusal; ids = answered.ids; body = body }))) }
+{
     if let Some(refusal) = answered.refusal {
         observer.refused(
             arrival.connection_id,
@@ -155,6 +162,9 @@ fn perform_one<A: Authenticator + Drop, T: Tree + Drop, O: Opens + Drop, W: Obse
         then (performed A.meaning arrival.connection_id arrival.moment server.old connection.old.dialect
         progress.old.context request.now).server
         else server.old)) }
+    ensures observed { OnOk result (Keeping (W.keeps observer.old) (W.keeps observer.new)
+        (W.observed observer.new ≡ W.observed observer.old ++ response_observed arrival.connection_id request.now
+        (performed A.meaning arrival.connection_id arrival.moment server.old connection.old.dialect progress.old.context request.now).response)) }
 {
     let Ok(reply) = progress.writer.open_reply(out) else {
         return Err(NoReply::NotPerformed);
@@ -231,6 +241,9 @@ fn chain_payload<A: Authenticator + Drop, T: Tree + Drop, O: Opens + Drop, W: Ob
     ensures kept { OnErr result (out.new.items ≡ out.old.items) }
     ensures err { IfErr result (λ ran_out. StoppedAfter server.old
         (chain_step A.meaning arrival server.old connection.old payload.now) ran_out.done server.new) }
+    ensures observed { OnOk result (Keeping (W.keeps observer.old) (W.keeps observer.new)
+        (W.observed observer.new ≡ W.observed observer.old ++ (requests_observed arrival.connection_id (chain_step A.meaning arrival server.old connection.old payload.now).requests
+        ++ ending_observed arrival.connection_id (ending_of connection.old payload.now)))) }
     ensures known { server.new.sessions.table.connections ≡ server.old.sessions.table.connections }
 {
     let chain = match admit(connection, payload) {
@@ -326,6 +339,9 @@ fn first_payload<A: Authenticator + Drop, T: Tree + Drop, O: Opens + Drop, W: Ob
     ensures len { OnOk result (length out.new.items ≤ length out.old.items + (4 + longest_reply)) }
     ensures err { IfErr result (λ ran_out. ran_out.done ≡ 0) }
     ensures kept { OnErr result (out.new.items ≡ out.old.items) }
+    ensures observed { OnOk result (Keeping (W.keeps observer.old) (W.keeps observer.new)
+        (W.observed observer.new ≡ W.observed observer.old ++ (requests_observed arrival.connection_id (smb1_step A.meaning arrival server.now connection.old dialects).requests
+        ++ ending_observed arrival.connection_id (smb1_ending dialects)))) }
 {
     let Some(answer) = smb1::answer(dialects) else {
         observer.ended(arrival.connection_id, Ending::Smb1NoDialect);
@@ -368,6 +384,8 @@ pub(crate) fn perform_payload<
     ensures kept { OnErr result (out.new.items ≡ out.old.items) }
     ensures err { IfErr result (λ ran_out. StoppedAfter server.old
         (payload_step A.meaning arrival server.old connection.old payload.now) ran_out.done server.new) }
+    ensures observed { OnOk result (Keeping (W.keeps observer.old) (W.keeps observer.new)
+        (W.observed observer.new ≡ W.observed observer.old ++ payload_observed A.meaning arrival server.old connection.old payload.now)) }
     ensures known { server.new.sessions.table.connections ≡ server.old.sessions.table.connections }
 {
     match first_negotiate(connection, payload) {

@@ -1,6 +1,6 @@
 //! The laws of shares.
 
-ghost use Rattle.smb_engine.specs.Laws.{StatesAreInOrder, ACutDoesNotMatter, CutsDoNotMatter, RunsAreOne, UnreadIsEnough, OthersAreLeft, SessionsAreInOrder, SessionsOfOthersAreLeft, WhatIsOverStaysOver, AnEndIsTheLast, EachPayloadIsAdmittedOrEnds, AReaderChangesNoFile};
+ghost use Rattle.smb_engine.specs.Laws.{StatesAreInOrder, ACutDoesNotMatter, CutsDoNotMatter, RunsAreOne, UnreadIsEnough, OthersAreLeft, SessionsAreInOrder, SessionsOfOthersAreLeft, WhatIsOverStaysOver, AnEndIsTheLast, EachPayloadIsAdmittedOrEnds, EachEndIsHeard, AReaderChangesNoFile};
 
 use smb_session::Authenticator;
 
@@ -8,7 +8,8 @@ use smb_session::Authenticator;
 /// the events were cut into runs; events on other connections leave a connection as it was, and put nothing out to it;
 /// they leave each of its sessions too, with its trees and opens, or one of their requests replaced it, and what is over
 /// stays over; and the share ends a connection at most once, with nothing behind it. A payload is performed, or there is a rule
-/// by which it ends its connection.
+/// by which it ends its connection. Who observes a run hears of each connection that the share ends, by which rule, and of no
+/// other.
 ///
 /// Whoever may only read changes no file: events on connections none of whose sessions may write, as each of their requests
 /// comes, leave every entry as it was, with its name, bytes, attributes and times, and add none. What goes with its last open
@@ -28,5 +29,6 @@ pub fn laws_of_shares<A: Authenticator>()
     ensures over { WhatIsOverStaysOver A.meaning }
     ensures last { AnEndIsTheLast A.meaning }
     ensures endings { EachPayloadIsAdmittedOrEnds }
+    ensures heard { EachEndIsHeard A.meaning }
     ensures readers { AReaderChangesNoFile A.meaning }
 {}

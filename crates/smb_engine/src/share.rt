@@ -3,40 +3,37 @@
 ghost use Rattle.std.specs.Prelude.{◌≡◌, ◌<◌, ◌+◌, ◌-◌, ◌^◌, ◌++◌, [], true, false, Some, None, OnOk, OnErr, IfOk, IfErr, IfSome, IfNone, length, map, slice_get, unwrap_or, ℕ, if◌then◌else◌};
 ghost use Rattle.std.specs.Bool.{OnTrue};
 ghost use Rattle.std.specs.Option.{option_map};
-ghost use Rattle.std.specs.List.{AllByRecursion, flat_map};
-ghost use Rattle.std.specs.Map.{remove_entry};
-ghost use Rattle.std.specs.BTreeMap.{is_at, insert_entry};
-ghost use Rattle.std.specs.Ordering.{nat_cmp};
+ghost use Rattle.std.specs.List.{flat_map};
 ghost use Rattle.smb_wire.specs.Limits.{most_connections};
 ghost use Rattle.smb_tree.specs.Content.{new_content, used_space};
 ghost use Rattle.smb_opens.specs.Readers.{LeavesFiles};
 ghost use Rattle.smb_request.specs.Settings.{settings_of, is_lawful};
-ghost use Rattle.smb_request.specs.State.{connection_added};
 ghost use Rattle.smb_peers.specs.Event.{brings, text_of, connection_of};
 ghost use Rattle.smb_engine.specs.Parts.{events_of, unknown_refusal, EventStopped};
 ghost use Rattle.smb_engine.specs.Output.{AreShort, output_bytes, outputs_of};
 ghost use Rattle.smb_engine.specs.Refusals.{EventOutOfMemory, run_behind, RunStopped, opening_refusal};
 ghost use Rattle.smb_engine.specs.Rest.{ends_of, IsAtRest};
-ghost use Rattle.smb_engine.specs.State.{StreamState, new_share, new_stream, stream_of, is_open, opened, ended};
+ghost use Rattle.smb_engine.specs.State.{StreamState, new_share, stream_of, is_open, opened, ended};
 ghost use Rattle.smb_engine.specs.Run.{bytes_step, event_refusal, event_step, run};
 ghost use Rattle.smb_engine.specs.Stream.{unread};
 ghost use Rattle.smb_engine.specs.Good.{GoodState};
+ghost use Rattle.smb_peers.specs.Record.{Keeping};
+ghost use Rattle.smb_engine.specs.Observed.{event_observed, run_observed};
 
 use super::arrival::Arrival;
-use super::connection::{Connection, ConnectionStream};
+use super::connection::{ConnectionStream, add_connection, new_stream, remove_stream};
 use super::fault::{CutShort, RunFault, ServeFault};
 use super::output::Sink;
 use super::stream::take_piece;
-use smb_frame::FrameBuffer;
 use smb_handles::HandleTable;
 use smb_nodes::NodeTree;
 use smb_opens::Opens;
 use smb_peers::{Answer, Event, Fate, Observer};
 use smb_request::{Config, Server};
-use smb_session::{Authenticator, Window};
+use smb_session::Authenticator;
 use smb_tree::{Tree, Usage};
-use smb_wire::limits::{LONGEST_PAYLOAD, MOST_CONNECTIONS};
-use std::alloc::{AllocError, Global};
+use smb_wire::limits::MOST_CONNECTIONS;
+use std::alloc::Global;
 use std::collections::BTreeMap;
 use std::fmt;
 use std::marker::Model;
@@ -68,63 +65,6 @@ impl<A: Authenticator + Drop, T: Tree + Drop, O: Opens + Drop> Model for Share<A
     ghost view = { λ s. record { server = s.server; streams = s.streams.entries; next = s.next } };
 
     ghost invariant = { λ s. AreKept s.server.sessions.table.connections s.streams.entries s.next };
-}
-
-/// The stream of a new connection: nothing was received, no dialect is negotiated, and the window is {0}.
-fn new_stream(alloc: Global) -> ConnectionStream
-    ensures { result ≡ new_stream }
-{
-    ConnectionStream {
-        buffer: FrameBuffer::new(alloc, LONGEST_PAYLOAD),
-        connection: Connection {
-            payload_came: false,
-            dialect: None,
-            window: Window::new(0),
-        },
-    }
-}
-
-/// Adds a connection's stream.
-fn add_stream(
-    streams: &mut BTreeMap<u64, ConnectionStream>,
-    connection: u64,
-    stream: ConnectionStream,
-) -> Result<(), AllocError>
-    ensures ok { OnOk result (streams.new.entries ≡ insert_entry nat_cmp streams.old.entries connection stream) }
-    ensures err { OnErr result (streams.new.entries ≡ streams.old.entries) }
-{
-    streams.insert(connection, stream)?;
-    Ok(())
-}
-
-/// Takes a connection's stream out.
-fn remove_stream(streams: &mut BTreeMap<u64, ConnectionStream>, connection: u64)
-    ensures { streams.new.entries ≡ remove_entry (is_at (nat_cmp connection)) streams.old.entries }
-{
-    let _ = streams.remove(&connection);
-}
-
-/// Adds a connection, which may begin sessions from now on. An error changes nothing.
-fn add_connection<A: Authenticator + Drop, T: Tree + Drop, O: Opens + Drop>(
-    server: &mut Server<A, T, O>,
-    streams: &mut BTreeMap<u64, ConnectionStream>,
-    connection: u64,
-    stream: ConnectionStream,
-) -> Result<(), AllocError>
-    requires { AllByRecursion (λ entry. entry.0 < connection) streams.old.entries }
-    ensures server { OnOk result (server.new ≡ connection_added server.old connection) }
-    ensures streams { OnOk result (streams.new.entries ≡ insert_entry nat_cmp streams.old.entries connection stream) }
-    ensures err_server { OnErr result (server.new ≡ server.old) }
-    ensures err_streams { OnErr result (streams.new.entries ≡ streams.old.entries) }
-{
-    add_stream(streams, connection, stream)?;
-    match server.connect(connection) {
-        Ok(()) => Ok(()),
-        Err(fault) => {
-            remove_stream(streams, connection);
-            Err(fault)
-        }
-    }
 }
 
 impl<A: Authenticator + Drop> Share<A, NodeTree, HandleTable> {
@@ -261,6 +201,8 @@ impl<A: Authenticator + Drop, T: Tree + Drop, O: Opens + Drop> Share<A, T, O> {
             (bytes_step A.meaning self.old connection moment piece.now).outputs) }
         ensures fate { IfOk result (λ fate. fate ≡ (if is_open self.new connection then Fate.Open else Fate.Ended)) }
         ensures short { OnOk result (AreShort (bytes_step A.meaning self.old connection moment piece.now).outputs) }
+        ensures observed { OnOk result (Keeping (W.keeps observer.old) (W.keeps observer.new)
+            (W.observed observer.new ≡ W.observed observer.old ++ event_observed A.meaning self.old (brings connection moment piece.now))) }
         ensures err { IfErr result (λ ran_out. EventOutOfMemory A.meaning self.old
             (brings connection moment piece.now) ran_out.done self.new) }
         ensures kept { OnErr result (K.content out.new ≡ K.content out.old) }
@@ -353,6 +295,8 @@ impl<A: Authenticator + Drop, T: Tree + Drop, O: Opens + Drop> Share<A, T, O> {
             (bytes_step A.meaning self.old connection moment piece.now).outputs) }
         ensures fate { IfOk result (λ fate. fate ≡ (if is_open self.new connection then Fate.Open else Fate.Ended)) }
         ensures short { OnOk result (AreShort (bytes_step A.meaning self.old connection moment piece.now).outputs) }
+        ensures observed { OnOk result (Keeping (W.keeps observer.old) (W.keeps observer.new)
+            (W.observed observer.new ≡ W.observed observer.old ++ event_observed A.meaning self.old (brings connection moment piece.now))) }
         ensures err { IfErr result (λ fault. (done : ℕ) × (fault ≡ ServeFault.NoMemory done)
             × EventOutOfMemory A.meaning self.old (brings connection moment piece.now) done self.new) }
         ensures kept { OnErr result (out.new.items ≡ out.old.items) }
@@ -442,6 +386,8 @@ impl<A: Authenticator + Drop, T: Tree + Drop, O: Opens + Drop> Share<A, T, O> {
         ensures outputs { OnOk result (outputs_of answers.new.items ≡ outputs_of answers.old.items ++
             (event_step A.meaning self.old (text_of event.now)).outputs) }
         ensures short { OnOk result (AreShort (event_step A.meaning self.old (text_of event.now)).outputs) }
+        ensures observed { OnOk result (Keeping (W.keeps observer.old) (W.keeps observer.new)
+            (W.observed observer.new ≡ W.observed observer.old ++ event_observed A.meaning self.old (text_of event.now))) }
         ensures err { IfErr result (λ fault. EventStopped A.meaning self.old (text_of event.now) fault self.new) }
         ensures kept { OnErr result (outputs_of answers.new.items ≡ outputs_of answers.old.items) }
     {
@@ -488,6 +434,8 @@ impl<A: Authenticator + Drop, T: Tree + Drop, O: Opens + Drop> Share<A, T, O> {
     ) -> Result<(), RunFault>
         ensures ok { OnOk result (record { state = self.new; outputs = outputs_of answers.new.items; stop = None }
             ≡ run_behind (outputs_of answers.old.items) (run A.meaning self.old (events_of events.now))) }
+        ensures observed { OnOk result (Keeping (W.keeps observer.old) (W.keeps observer.new)
+            (W.observed observer.new ≡ W.observed observer.old ++ run_observed A.meaning self.old (events_of events.now))) }
         ensures err { IfErr result (λ e. RunStopped A.meaning self.old (events_of events.now) e.place e.fault self.new
             (outputs_of answers.old.items) (outputs_of answers.new.items)) }
         ensures connection { IfErr result (λ e. option_map connection_of (slice_get (events_of events.now) e.place) ≡ Some e.connection) }
@@ -541,6 +489,8 @@ impl<A: Authenticator + Drop, T: Tree + Drop, O: Opens + Drop> Share<A, T, O> {
     ) -> Result<(), RunFault>
         ensures ok { OnOk result (record { state = self.new; outputs = outputs_of answers.new.items; stop = None }
             ≡ run_behind (outputs_of answers.old.items) (run A.meaning self.old (map text_of events.now))) }
+        ensures observed { OnOk result (Keeping (W.keeps observer.old) (W.keeps observer.new)
+            (W.observed observer.new ≡ W.observed observer.old ++ run_observed A.meaning self.old (map text_of events.now))) }
         ensures err { IfErr result (λ e. RunStopped A.meaning self.old (map text_of events.now) e.place e.fault self.new
             (outputs_of answers.old.items) (outputs_of answers.new.items)) }
         ensures connection { IfErr result (λ e. option_map connection_of (slice_get (map text_of events.now) e.place) ≡ Some e.connection) }

@@ -1,6 +1,7 @@
 //! A piece of a connection's stream, payload by payload.
 
-ghost use Rattle.std.specs.Prelude.{◌≡◌, ◌≤◌, ◌++◌, ◌&&◌, None, OnOk, OnErr, IfOk, IfErr, IfSome, is_none, is_some, length, take, drop};
+ghost use Rattle.std.specs.Prelude.{◌≡◌, ◌≤◌, ◌++◌, ◌&&◌, [], None, OnOk, OnErr, IfOk, IfErr, IfSome, is_none, is_some, length, take, drop, if◌then◌else◌};
+ghost use Rattle.std.specs.Option.{option_map};
 ghost use Rattle.std.specs.List.{flat_map};
 ghost use Rattle.smb_wire.specs.Limits.{longest_payload};
 ghost use Rattle.smb_frame.specs.Reading.{first, fault_of, payloads};
@@ -9,6 +10,9 @@ ghost use Rattle.smb_engine.specs.Held.{Waits, IsPieceHeld, StoppedAfter};
 ghost use Rattle.smb_engine.specs.InPlace.{step_behind};
 ghost use Rattle.smb_engine.specs.SoFar.{AreTaken};
 ghost use Rattle.smb_engine.specs.Output.{AreShort};
+ghost use Rattle.smb_peers.specs.Record.{Keeping};
+ghost use Rattle.smb_peers.specs.declared.ending.Ending.TheVariants.{Frame};
+ghost use Rattle.smb_engine.specs.Observed.{ending_observed, payload_observed, payloads_observed, piece_observed};
 
 use super::arrival::Arrival;
 use super::chain::perform_payload;
@@ -45,6 +49,8 @@ fn put_payload<A: Authenticator + Drop, T: Tree + Drop, O: Opens + Drop, K: Sink
     ensures err { IfErr result (λ ran_out. StoppedAfter server.old
         (payload_step A.meaning arrival server.old connection.old payload.now) ran_out.done server.new) }
     ensures kept { OnErr result (K.content out.new ≡ K.content out.old) }
+    ensures observed { OnOk result (Keeping (W.keeps observer.old) (W.keeps observer.new)
+        (W.observed observer.new ≡ W.observed observer.old ++ payload_observed A.meaning arrival server.old connection.old payload.now)) }
     ensures known { server.new.sessions.table.connections ≡ server.old.sessions.table.connections }
 {
     let mut bytes = out.take_bytes(server.allocator());
@@ -82,6 +88,8 @@ fn take_payloads<A: Authenticator + Drop, T: Tree + Drop, O: Opens + Drop, K: Si
     ensures taken { IfOk result (λ r. AreTaken A.meaning K.hears arrival
         server.old connection.old (K.content out.old) buffer.old.bytes
         server.new connection.new (K.content out.new) buffer.new.bytes r.0 r.1) }
+    ensures observed { OnOk result (Keeping (W.keeps observer.old) (W.keeps observer.new)
+        (W.observed observer.new ≡ W.observed observer.old ++ payloads_observed A.meaning arrival server.old connection.old (payloads longest_payload buffer.old.bytes))) }
     ensures err { IfErr result (λ ran_out. StoppedAfter server.old
         (payload_steps A.meaning arrival server.old connection.old (payloads longest_payload buffer.old.bytes))
         ran_out.done server.new) }
@@ -137,6 +145,8 @@ fn take_frames<A: Authenticator + Drop, T: Tree + Drop, O: Opens + Drop, K: Sink
         server.old connection.old (K.content out.old) bytes.now
         server.new connection.new (K.content out.new) (drop r.2 bytes.now) r.0 r.1) }
     ensures used { IfOk result (λ r. r.2 ≤ length bytes.now) }
+    ensures observed { OnOk result (Keeping (W.keeps observer.old) (W.keeps observer.new)
+        (W.observed observer.new ≡ W.observed observer.old ++ payloads_observed A.meaning arrival server.old connection.old (payloads longest_payload bytes.now))) }
     ensures err { IfErr result (λ ran_out. StoppedAfter server.old
         (payload_steps A.meaning arrival server.old connection.old (payloads longest_payload bytes.now))
         ran_out.done server.new) }
@@ -192,6 +202,8 @@ fn take_held<A: Authenticator + Drop, T: Tree + Drop, O: Opens + Drop, K: Sink, 
     ensures taken { IfOk result (λ r. AreTaken A.meaning K.hears arrival
         server.old connection.old (K.content out.old) (buffer.old.bytes ++ bytes.now)
         server.new connection.new (K.content out.new) buffer.new.bytes r.0 r.1) }
+    ensures observed { OnOk result (Keeping (W.keeps observer.old) (W.keeps observer.new)
+        (W.observed observer.new ≡ W.observed observer.old ++ payloads_observed A.meaning arrival server.old connection.old (payloads longest_payload (buffer.old.bytes ++ bytes.now)))) }
     ensures err { IfErr result (λ ran_out. StoppedAfter server.old
         (payload_steps A.meaning arrival server.old connection.old (payloads longest_payload (buffer.old.bytes ++ bytes.now)))
         ran_out.done server.new) }
@@ -223,6 +235,8 @@ fn take_back<A: Authenticator + Drop, T: Tree + Drop, O: Opens + Drop, K: Sink, 
     ensures taken { IfOk result (λ r. AreTaken A.meaning K.hears arrival
         server.old connection.old (K.content out.old) (buffer.old.bytes ++ back.now)
         server.new connection.new (K.content out.new) buffer.new.bytes r.0 r.1) }
+    ensures observed { OnOk result (Keeping (W.keeps observer.old) (W.keeps observer.new)
+        (W.observed observer.new ≡ W.observed observer.old ++ payloads_observed A.meaning arrival server.old connection.old (payloads longest_payload (buffer.old.bytes ++ back.now)))) }
     ensures err { IfErr result (λ ran_out. StoppedAfter server.old
         (payload_steps A.meaning arrival server.old connection.old (payloads longest_payload (buffer.old.bytes ++ back.now)))
         ran_out.done server.new) }
@@ -282,6 +296,8 @@ fn take_parts<A: Authenticator + Drop, T: Tree + Drop, O: Opens + Drop, K: Sink,
     ensures taken { IfOk result (λ r. AreTaken A.meaning K.hears arrival
         server.old connection.old (K.content out.old) (buffer.old.bytes ++ piece.now)
         server.new connection.new (K.content out.new) buffer.new.bytes r.0 r.1) }
+    ensures observed { OnOk result (Keeping (W.keeps observer.old) (W.keeps observer.new)
+        (W.observed observer.new ≡ W.observed observer.old ++ payloads_observed A.meaning arrival server.old connection.old (payloads longest_payload (buffer.old.bytes ++ piece.now)))) }
     ensures err { IfErr result (λ ran_out. StoppedAfter server.old
         (payload_steps A.meaning arrival server.old connection.old (payloads longest_payload (buffer.old.bytes ++ piece.now)))
         ran_out.done server.new) }
@@ -322,7 +338,9 @@ fn stays_open<W: Observer>(
     observer: &mut W,
 ) -> bool
     requires { buffer.now.limit ≡ longest_payload }
-    ensures { result ≡ (open_still && is_none (fault_of longest_payload buffer.now.bytes)) }
+    ensures open { result ≡ (open_still && is_none (fault_of longest_payload buffer.now.bytes)) }
+    ensures observed { Keeping (W.keeps observer.old) (W.keeps observer.new)
+        (W.observed observer.new ≡ W.observed observer.old ++ (if open_still then ending_observed connection_id (option_map Frame (fault_of longest_payload buffer.now.bytes)) else [])) }
 {
     if !open_still {
         return false;
@@ -361,6 +379,8 @@ pub(crate) fn take_piece<
     ensures outputs { OnOk result (K.content out.new ≡ K.content out.old ++ flat_map K.hears
         (piece_step A.meaning arrival server.old stream.old piece.now).outputs) }
     ensures short { OnOk result (AreShort (piece_step A.meaning arrival server.old stream.old piece.now).outputs) }
+    ensures observed { OnOk result (Keeping (W.keeps observer.old) (W.keeps observer.new)
+        (W.observed observer.new ≡ W.observed observer.old ++ piece_observed A.meaning arrival server.old stream.old piece.now)) }
     ensures err { IfErr result (λ ran_out. StoppedAfter server.old
         (piece_step A.meaning arrival server.old stream.old piece.now) ran_out.done server.new) }
     ensures kept { OnErr result (K.content out.new ≡ K.content out.old) }

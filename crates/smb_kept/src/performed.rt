@@ -4,12 +4,13 @@ ghost use Rattle.std.specs.Prelude.{vec_len};
 
 use smb_engine::{Authenticator, Opens, RunFault, ServeFault, Share, Tree};
 use smb_journal::{JournalFault, Line, Lines};
-use smb_peers::{Answer, Event, Observer};
+use smb_peers::{Answer, Ending, Event, Observer};
+use smb_refusals::Refusal;
 use std::alloc::Global;
 use std::io::Read;
 use std::slice;
 
-/// Hears what happens to a share on which a recording is performed: of each event first what the share refused in it.
+/// Hears what happens to a share on which a recording is performed: of each event first its refusals and endings.
 pub trait Hears: Observer {
     /// Takes an event that the share performed, and what it answered to it.
     fn hear(&mut self, event: &Event, answers: &[Answer]) -> Result<(), JournalFault>;
@@ -23,7 +24,17 @@ pub trait Hears: Observer {
 #[derive(Clone, Copy, Debug, Drop)]
 pub struct Deaf;
 
-impl Observer for Deaf {}
+impl Observer for Deaf {
+    ghost use Rattle.std.specs.Prelude.{[], false};
+
+    ghost observed = { λ deaf. [] };
+
+    ghost keeps = { λ deaf. false };
+
+    fn refused(&mut self, _connection: u64, _message_id: u64, _command: u16, _refusal: Refusal) {}
+
+    fn ended(&mut self, _connection: u64, _ending: Ending) {}
+}
 
 impl Hears for Deaf {
     fn hear(&mut self, _event: &Event, _answers: &[Answer]) -> Result<(), JournalFault> {

@@ -240,7 +240,8 @@ impl Connection {
         Ok(())
     }
 
-    /// Why the login was denied that was refused so, where it is known. Responses come in the order of their requests.
+    /// Why the authenticator denied the login that this refusal answers, where that is known. Responses come in the order of their
+    /// requests.
     pub(crate) fn take_denial(&mut self, refusal: Option<Refusal>) -> Option<Denial> {
         match refusal {
             Some(Refusal::SessionSetup(SetupRefusal::Denied)) => self.denials.pop_front(),

@@ -7,7 +7,7 @@ use std::fmt;
 pub enum Ending {
     /// Its client ended it, or a read of it failed.
     ByClient,
-    /// The share ended it: for the reason that it told, or where memory ran out.
+    /// The share ended it: its client broke a rule, or memory ran out.
     ByShare,
     /// It was owed more bytes than the share keeps for one connection.
     Owed,

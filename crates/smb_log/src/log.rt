@@ -86,7 +86,7 @@ impl<W: Write + Drop> Log<W> {
         self.connections.contains_key(&connection)
     }
 
-    /// Whether nothing that came on a connection is a cause for the share to end it: it told no reason, and memory did not run out.
+    /// Whether no cause is known for which the share would end a connection: no rule was reported broken, and memory did not run out.
     pub fn is_without_cause(&self, connection: u64) -> bool {
         match self.connections.get(&connection) {
             Some(connection) => !self.is_unsure && connection.is_without_cause(),
@@ -229,7 +229,7 @@ impl<W: Write + Drop> Log<W> {
         }
     }
 
-    /// Takes note of the reasons that a share told since the last call: before the responses and the ends that they are of.
+    /// Takes the reasons that the share has reported since the last call, before the responses and the ends that they explain.
     pub fn take_reasons(&mut self, reasons: &Reasons) {
         for _ in 0..MOST_REASONS {
             let Some(reason) = reasons.take() else {

@@ -107,6 +107,12 @@ impl<'a> LogObserver<'a> {
 }
 
 impl Observer for LogObserver<'_> {
+    ghost use Rattle.std.specs.Prelude.{[], false};
+
+    ghost observed = { λ log. [] };
+
+    ghost keeps = { λ log. false };
+
     fn refused(&mut self, connection: u64, message_id: u64, _command: u16, refusal: Refusal) {
         self.reasons
             .keep(Reason::Refused(connection, message_id, refusal));

@@ -90,6 +90,12 @@ impl<'v, W: Write + Drop> ReplayLog<'v, W> {
 }
 
 impl<W: Write + Drop> Observer for ReplayLog<'_, W> {
+    ghost use Rattle.std.specs.Prelude.{[], false};
+
+    ghost observed = { λ log. [] };
+
+    ghost keeps = { λ log. false };
+
     fn refused(&mut self, connection: u64, message_id: u64, command: u16, refusal: Refusal) {
         LogObserver::new(&self.reasons).refused(connection, message_id, command, refusal);
     }

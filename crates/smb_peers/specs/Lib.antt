@@ -1,6 +1,7 @@
 pub mod Event
 pub mod Ending
 pub mod Record
+pub mod Observed
 pub mod Clock
 pub mod Peers
 pub mod Filetime

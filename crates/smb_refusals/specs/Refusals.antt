@@ -223,9 +223,9 @@ refusal_label (Rename RenameRefusal.PathTooDeep) = codes "N12"
 
 -- the label of a row by which a login by NTLM is denied
 abbrev pub login_label : LoginRefusal → List ℕ
-login_label TokenUnreadable = codes "T1"
-login_label MessageUnknown = codes "T3"
-login_label NoUnicode = codes "T4"
-login_label LoginUnreadable = codes "T6"
-login_label ProofWrong = codes "T8"
-login_label NoGuests = codes "T10"
+login_label TokenUnreadable = codes "LG1"
+login_label MessageUnknown = codes "LG3"
+login_label NoUnicode = codes "LG4"
+login_label LoginUnreadable = codes "LG6"
+login_label ProofWrong = codes "LG8"
+login_label NoGuests = codes "LG10"

@@ -6,17 +6,17 @@ ghost use Rattle.smb_refusals.specs.Refusals.{login_label};
 /// Why a login by NTLM is denied, in the order in which it is looked at. Each is answered by LOGON_FAILURE.
 #[derive(Clone, Copy)]
 pub enum LoginRefusal {
-    /// T1: the token is too long, or neither a message nor SPNEGO.
+    /// LG1: the token is too long, or neither a message nor SPNEGO.
     TokenUnreadable,
-    /// T3: the message is neither NEGOTIATE nor AUTHENTICATE.
+    /// LG3: the message is neither NEGOTIATE nor AUTHENTICATE.
     MessageUnknown,
-    /// T4: a NEGOTIATE without UNICODE.
+    /// LG4: a NEGOTIATE without UNICODE.
     NoUnicode,
-    /// T6: the AUTHENTICATE is cut, or without UNICODE.
+    /// LG6: the AUTHENTICATE is cut, or without UNICODE.
     LoginUnreadable,
-    /// T8: the account's proof is wrong, or that of NTLM version 1.
+    /// LG8: the account's proof is wrong, or that of NTLM version 1.
     ProofWrong,
-    /// T10: no such account, and guests may not come in.
+    /// LG10: no such account, and guests may not come in.
     NoGuests,
 }
 
@@ -26,12 +26,12 @@ impl LoginRefusal {
         ensures { result.now ≡ login_label self }
     {
         match self {
-            LoginRefusal::TokenUnreadable => "T1",
-            LoginRefusal::MessageUnknown => "T3",
-            LoginRefusal::NoUnicode => "T4",
-            LoginRefusal::LoginUnreadable => "T6",
-            LoginRefusal::ProofWrong => "T8",
-            LoginRefusal::NoGuests => "T10",
+            LoginRefusal::TokenUnreadable => "LG1",
+            LoginRefusal::MessageUnknown => "LG3",
+            LoginRefusal::NoUnicode => "LG4",
+            LoginRefusal::LoginUnreadable => "LG6",
+            LoginRefusal::ProofWrong => "LG8",
+            LoginRefusal::NoGuests => "LG10",
         }
     }
 }

@@ -81,7 +81,7 @@ impl LogoffRefusal {
 pub enum TreeConnectRefusal {
     /// TC1: SessionId is that of no finished session of this connection.
     UnknownSession,
-    /// TC2: the path is not `\server\share`, or names another share.
+    /// TC2: the path is not `\\server\share`, or names another share.
     UnknownShare,
     /// TC3: the session has 16 tree connects, or their numbers are spent.
     NoTreeConnectLeft,

@@ -12,7 +12,7 @@ use std::slice;
 
 /// Where it is said why the share refuses requests and ends connections.
 #[derive(Clone, Copy, Debug, PartialEq, Eq)]
-pub(crate) enum Telling {
+pub(crate) enum ReasonOutput {
     Nowhere,
     /// On standard error, a line for each.
     ToErrors,
@@ -20,13 +20,13 @@ pub(crate) enum Telling {
     InOutput,
 }
 
-impl Telling {
-    /// Where a replay has them told that writes so much of a fault, and reasons among the answers or not.
+impl ReasonOutput {
+    /// Where a replay writes reasons that writes faults in this detail, and reasons among the answers or not.
     pub(crate) fn of(detail: Detail<'_>, with_reasons: bool) -> Self {
         match detail {
-            _ if with_reasons => Telling::InOutput,
-            Detail::Brief => Telling::Nowhere,
-            Detail::Explained(_) => Telling::ToErrors,
+            _ if with_reasons => ReasonOutput::InOutput,
+            Detail::Brief => ReasonOutput::Nowhere,
+            Detail::Explained(_) => ReasonOutput::ToErrors,
         }
     }
 }
@@ -66,7 +66,7 @@ pub(crate) struct Playing<'a, W: Write, E: Write, H: Hears> {
     output: &'a mut W,
     errors: &'a mut E,
     heard: &'a mut H,
-    telling: Telling,
+    reason_output: ReasonOutput,
     reasons: Reasons,
     answers: Vec<Answer>,
     /// How many connections were opened.
@@ -77,7 +77,7 @@ impl<'a, W: Write, E: Write, H: Hears> Playing<'a, W, E, H> {
     /// A replay in which nothing has happened yet.
     pub(crate) fn new(
         alloc: Global,
-        telling: Telling,
+        reason_output: ReasonOutput,
         output: &'a mut W,
         errors: &'a mut E,
         heard: &'a mut H,
@@ -86,7 +86,7 @@ impl<'a, W: Write, E: Write, H: Hears> Playing<'a, W, E, H> {
             output,
             errors,
             heard,
-            telling,
+            reason_output,
             reasons: Reasons::new(alloc),
             answers: Vec::new(alloc),
             opened: 0,
@@ -97,7 +97,7 @@ impl<'a, W: Write, E: Write, H: Hears> Playing<'a, W, E, H> {
     fn write_answers(&mut self, line: u64) -> Result<(), CommandFault> {
         for answer in &self.answers {
             write_answer(answer, self.output).map_err(|_| CommandFault::OutputFailed)?;
-            if self.telling == Telling::InOutput {
+            if self.reason_output == ReasonOutput::InOutput {
                 let written = self.reasons.write_comments(answer, line, self.output);
                 written.map_err(|_| CommandFault::OutputFailed)?;
             }
@@ -113,25 +113,25 @@ impl<'a, W: Write, E: Write, H: Hears> Playing<'a, W, E, H> {
     /// Says the reasons of an event of this line on standard error, behind the answers, where these are said there. That the writer
     /// fails is passed over.
     fn say_reasons(&mut self, line: u64) -> Result<(), CommandFault> {
-        if self.telling == Telling::ToErrors && !self.reasons.is_empty() {
+        if self.reason_output == ReasonOutput::ToErrors && !self.reasons.is_empty() {
             self.flush()?;
             let _ = self.reasons.write_all(line, self.errors);
         }
         Ok(())
     }
 
-    /// Has the share perform an event, of which the reasons are kept where they are said, and told to who hears the replay.
+    /// Has the share perform an event. Its reasons are kept where they are written, and reported to who hears the replay.
     fn perform<A: Authenticator + Drop, T: Tree + Drop, O: Opens + Drop>(
         &mut self,
         share: &mut Share<A, T, O>,
         event: &Event,
     ) -> Result<(), RunFault> {
         let events = slice::from_ref(event);
-        if self.telling == Telling::Nowhere {
+        if self.reason_output == ReasonOutput::Nowhere {
             return share.run_observed(events, &mut self.answers, self.heard);
         }
         let ran = share.run_observed(events, &mut self.answers, &mut self.reasons);
-        self.reasons.tell(self.heard);
+        self.reasons.report_to(self.heard);
         ran
     }
 

@@ -1,4 +1,4 @@
-//! Why a share refuses requests and ends connections in a replay, as it is told of an event.
+//! Why a share refuses requests and ends connections in a replay, event by event.
 
 use smb_engine::Answer;
 use smb_head::read_header;
@@ -16,14 +16,14 @@ const FRAME_HEAD: usize = 4;
 
 /// A reason, and what it is of.
 #[derive(Clone, Copy)]
-struct Told {
+struct Reported {
     connection: u64,
     /// The MessageId of a request that was refused, and its command.
     request: Option<(u64, u16)>,
     why: Why,
 }
 
-impl Told {
+impl Reported {
     /// Whether it is of the request with this MessageId.
     fn is_of(&self, message_id: u64) -> bool {
         match self.request {
@@ -36,27 +36,27 @@ impl Told {
 /// The line of a reason: the mark of the answer that it is of, the connection, the event's line in the text, and why.
 #[derive(Clone, Copy)]
 struct ReasonLine {
-    told: Told,
+    reported: Reported,
     line: u64,
 }
 
 impl Display for ReasonLine {
     fn fmt<W: fmt::Write>(&self, f: &mut fmt::Formatter<W>) -> fmt::Result {
-        let ReasonLine { told, line } = *self;
-        let mark = match told.why {
+        let ReasonLine { reported, line } = *self;
+        let mark = match reported.why {
             Why::Connection(_) => "x",
             Why::Request(_) | Why::Login(_) => "<",
         };
-        let (connection, why) = (told.connection, told.why);
+        let (connection, why) = (reported.connection, reported.why);
         write!(f, "{mark} {connection}, line {line}: {why}")
     }
 }
 
-/// The reasons of an event, in the order in which they were told.
+/// The reasons of an event, in the order in which the share gave them.
 #[derive(Drop)]
 pub(crate) struct Reasons {
     alloc: Global,
-    told: Vec<Told>,
+    reported: Vec<Reported>,
     /// Of each denied login the name that the client gave.
     names: Vec<Vec<u8>>,
     /// How many of them are written.
@@ -70,7 +70,7 @@ impl Reasons {
     pub(crate) fn new(alloc: Global) -> Self {
         Reasons {
             alloc,
-            told: Vec::new(alloc),
+            reported: Vec::new(alloc),
             names: Vec::new(alloc),
             written: 0,
             is_lost: false,
@@ -79,7 +79,7 @@ impl Reasons {
 
     /// Forgets those of the event before.
     pub(crate) fn clear(&mut self) {
-        self.told.clear();
+        self.reported.clear();
         self.names.clear();
         self.written = 0;
     }
@@ -91,17 +91,17 @@ impl Reasons {
 
     /// Whether there is none.
     pub(crate) fn is_empty(&self) -> bool {
-        self.told.is_empty()
+        self.reported.is_empty()
     }
 
     /// Keeps a reason.
     fn keep(&mut self, connection: u64, request: Option<(u64, u16)>, why: Why) {
-        let told = Told {
+        let reported = Reported {
             connection,
             request,
             why,
         };
-        if self.told.push(told).is_err() {
+        if self.reported.push(reported).is_err() {
             self.is_lost = true;
         }
     }
@@ -114,11 +114,11 @@ impl Reasons {
     }
 
     /// Tells them on to who hears the replay.
-    pub(crate) fn tell<H: Observer>(&self, heard: &mut H) {
+    pub(crate) fn report_to<H: Observer>(&self, heard: &mut H) {
         let mut names = self.names.iter();
-        for told in &self.told {
-            let connection = told.connection;
-            match (told.why, told.request) {
+        for reported in &self.reported {
+            let connection = reported.connection;
+            match (reported.why, reported.request) {
                 (Why::Request(refusal), Some((message_id, command))) => {
                     heard.refused(connection, message_id, command, refusal);
                 }
@@ -135,22 +135,30 @@ impl Reasons {
 
     /// Writes all of an event of this line.
     pub(crate) fn write_all<W: Write>(&self, line: u64, errors: &mut W) -> io::Result<()> {
-        for told in &self.told {
-            let reason = ReasonLine { told: *told, line };
+        for reported in &self.reported {
+            let reason = ReasonLine {
+                reported: *reported,
+                line,
+            };
             writeln!(errors, "{reason}")?;
         }
         Ok(())
     }
 
     /// The next that is not written.
-    fn next(&self) -> Option<Told> {
-        self.told.get(self.written).copied()
+    fn next(&self) -> Option<Reported> {
+        self.reported.get(self.written).copied()
     }
 
     /// Writes one as a comment, which is the next.
-    fn write_comment<W: Write>(&mut self, told: Told, line: u64, output: &mut W) -> io::Result<()> {
+    fn write_comment<W: Write>(
+        &mut self,
+        reported: Reported,
+        line: u64,
+        output: &mut W,
+    ) -> io::Result<()> {
         self.written = self.written.saturating_add(1);
-        let reason = ReasonLine { told, line };
+        let reason = ReasonLine { reported, line };
         writeln!(output, "# {reason}")
     }
 
@@ -162,14 +170,14 @@ impl Reasons {
         output: &mut W,
     ) -> io::Result<()> {
         match self.next() {
-            Some(told) if told.is_of(message_id) => {
-                self.write_comment(told, line, output)?;
+            Some(reported) if reported.is_of(message_id) => {
+                self.write_comment(reported, line, output)?;
             }
             _ => return Ok(()),
         }
         match self.next() {
-            Some(told) if matches!(told.why, Why::Login(_)) => {
-                self.write_comment(told, line, output)
+            Some(reported) if matches!(reported.why, Why::Login(_)) => {
+                self.write_comment(reported, line, output)
             }
             _ => Ok(()),
         }
@@ -178,8 +186,8 @@ impl Reasons {
     /// Writes that of an end.
     fn write_end<W: Write>(&mut self, line: u64, output: &mut W) -> io::Result<()> {
         match self.next() {
-            Some(told) if matches!(told.why, Why::Connection(_)) => {
-                self.write_comment(told, line, output)
+            Some(reported) if matches!(reported.why, Why::Connection(_)) => {
+                self.write_comment(reported, line, output)
             }
             _ => Ok(()),
         }
@@ -216,6 +224,12 @@ impl Reasons {
 }
 
 impl Observer for Reasons {
+    ghost use Rattle.std.specs.Prelude.{[], false};
+
+    ghost observed = { λ reasons. [] };
+
+    ghost keeps = { λ reasons. false };
+
     fn refused(&mut self, connection: u64, message_id: u64, command: u16, refusal: Refusal) {
         let request = Some((message_id, command));
         self.keep(connection, request, Why::Request(refusal));

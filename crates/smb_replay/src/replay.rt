@@ -6,7 +6,7 @@ ghost use Rattle.smb_tree.specs.Content.{new_content};
 use crate::fault::{CommandFault, Detail};
 use crate::hears::{Deaf, Hears};
 use crate::input::read_input;
-use crate::playing::{Playing, ReplayWords, Telling};
+use crate::playing::{Playing, ReasonOutput, ReplayWords};
 use crate::script::{Part, Unread};
 use smb_config::Configuration;
 use smb_engine::{Answer, Authenticator, Event, ServeFault, Share};
@@ -224,8 +224,8 @@ pub fn replay_in_detail<R: Read + Drop, W: Write, E: Write>(
     errors: &mut E,
 ) -> u8 {
     let mut heard = Deaf;
-    let telling = Telling::of(detail, false);
-    let playing = Playing::new(alloc, telling, output, errors, &mut heard);
+    let reason_output = ReasonOutput::of(detail, false);
+    let playing = Playing::new(alloc, reason_output, output, errors, &mut heard);
     let replayed = replay(alloc, config, input, playing);
     status_of(alloc, replayed, detail, errors)
 }
@@ -258,8 +258,8 @@ pub fn replay_heard<A: Authenticator + Drop, R: Read + Drop, W: Write, E: Write,
         detail,
         with_reasons,
     } = words;
-    let telling = Telling::of(detail, with_reasons);
-    let playing = Playing::new(alloc, telling, output, errors, heard);
+    let reason_output = ReasonOutput::of(detail, with_reasons);
+    let playing = Playing::new(alloc, reason_output, output, errors, heard);
     let replayed = replay_on(alloc, share, input, playing);
     status_of(alloc, replayed, detail, errors)
 }
@@ -273,7 +273,7 @@ pub fn replay_plain_text<R: Read + Drop, W: Write, E: Write>(
     errors: &mut E,
 ) -> u8 {
     let mut heard = Deaf;
-    let playing = Playing::new(alloc, Telling::Nowhere, output, errors, &mut heard);
+    let playing = Playing::new(alloc, ReasonOutput::Nowhere, output, errors, &mut heard);
     let replayed = replay_plain(alloc, config, input, playing);
     status_of(alloc, replayed, Detail::Brief, errors)
 }

@@ -2,6 +2,7 @@ use Rattle.std.proofs.Common.{refl, sym, ap, take, ◌∙◌, arith}
 use Rattle.std.proofs.lemmas.List.{take_all}
 use Rattle.smb_engine.proofs.Chains.{chain_begins, writer_at, out_at, chain_more, chain_stopped, chain_so_far, chain_left, chain_count, done_least, kept_on}
 use Rattle.smb_engine.proofs.Steps.{front_kept, kept_more}
+use Rattle.smb_engine.proofs.Observed.{grew_none, chain_heard_one, chain_heard_more, chain_heard_all, chain_heard_none}
 use Rattle.smb_engine.proofs.chain.chain_payload.Goals as goal
 
 pub loop-i-init : goal.loop-i-init
@@ -12,6 +13,7 @@ loop-i-init g c = record {
   order = omega (arith, c.begin.ensures.base, c.begin.ensures.last);
   within = omega (arith, c.begin.ensures.last);
   kept = take_all _ _ (omega arith);
+  observed = grew_none _ _;
   room = omega arith;
 }
 
@@ -54,6 +56,8 @@ loop-i-preserved g c = record {
   order = c.perform_one.ensures.order;
   within = c.in-Ok-perform_one.ensures.within;
   kept = kept_on _ _ _ _ _ c.loop-i.invariant.base c.perform_one.ensures.kept c.loop-i.invariant.kept;
+  observed = chain_heard_more g.A.Authenticator.meaning _ _ _ _ _ _ _ _ _ _ _ _ c.request_at.ensures.request
+      (chain_heard_one g.A.Authenticator.meaning _ _ _ _ _ _ _ c.loop-i.invariant.so_far) c.loop-i.invariant.observed c.in-Ok-perform_one.ensures.observed;
   room = omega (arith, c.in-Ok-perform_one.ensures.len, c.loop-i.invariant.room, c.loop-i.invariant.base);
 }
 
@@ -61,3 +65,11 @@ pub returns-clause-count : goal.returns-clause-count
 returns-clause-count g c =
     c.len-count.ensures.len
     ∙ sym (chain_count g.A.Authenticator.meaning c.args.arrival c.args.server.now c.args.connection.now c.args.payload.now _ (sym c.in-Ok.ensures.chain))
+
+pub returns-in-Err-clause-observed : goal.returns-in-Err-clause-observed
+returns-in-Err-clause-observed g c =
+    chain_heard_none g.A.Authenticator.meaning c.args.arrival c.args.server.now c.args.connection.now c.args.payload.now _ _ _ _ _ c.in-Err.ensures.err c.ended.ensures
+
+pub returns-clause-observed : goal.returns-clause-observed
+returns-clause-observed g c =
+    chain_heard_all g.A.Authenticator.meaning c.args.arrival c.args.server.now c.args.connection.now _ c.args.payload.now _ _ _ _ _ _ (sym c.in-Ok.ensures.chain) c.in-Ok.ensures.taken (omega arith) c.loop-i.invariant.observed

@@ -1,7 +1,9 @@
-use Rattle.std.proofs.Common.{◌≡◌, ◌≤◌, ◌*◌, ◌-◌, length, take}
+use Rattle.std.proofs.Common.{◌≡◌, ◌++◌, ◌≤◌, ◌*◌, ◌-◌, length, take}
 use Rattle.smb_wire.specs.Limits.{longest_response}
 use Rattle.smb_head.specs.Replies.{rounded_up}
 use Rattle.smb_engine.proofs.Chains.{ChainSoFar, first_chain}
+use Rattle.smb_peers.specs.Record.{Keeping}
+use Rattle.smb_engine.proofs.Observed.{chain_observed}
 use Rattle.smb_engine.proofs.chain.chain_payload.Given as goal
 
 abbrev pub invariant-loop-i : goal.invariant-loop-i
@@ -13,5 +15,7 @@ invariant-loop-i g l = record {
   order : l.progress.writer.base ≤ l.progress.writer.last;
   within : l.progress.writer.last ≤ length l.out.items;
   kept : take (length l.initial.out.items) l.out.items ≡ l.initial.out.items;
+  observed : Keeping (g.W.Observer.keeps l.fn.observer) (g.W.Observer.keeps l.observer)
+      (g.W.Observer.observed l.observer ≡ g.W.Observer.observed l.fn.observer ++ chain_observed g.A.Authenticator.meaning l.arrival (first_chain l.initial.server l.initial.connection) l.chain l.i);
   room : rounded_up (length l.out.items - length l.initial.out.items) ≤ longest_response * l.i;
 }

@@ -1,5 +1,6 @@
 use Rattle.smb_engine.proofs.Endings.{admitted_or_ends}
 use Rattle.smb_engine.proofs.Ends.{an_end_is_the_last}
+use Rattle.smb_engine.proofs.HeardEnds.{each_end_is_heard}
 use Rattle.smb_engine.proofs.Order.{good_in_order, run_in_order, others_left}
 use Rattle.smb_engine.proofs.Readers.{reader_changes_no_file}
 use Rattle.smb_engine.proofs.Sessions.{good_numbers, run_numbers, sessions_left, over_stays}
@@ -38,6 +39,9 @@ returns-clause-last g c = λ s o events connection before after e. an_end_is_the
 
 pub returns-clause-endings : goal.returns-clause-endings
 returns-clause-endings g c = admitted_or_ends
+
+pub returns-clause-heard : goal.returns-clause-heard
+returns-clause-heard g c = each_end_is_heard g.A.Authenticator.meaning
 
 pub returns-clause-readers : goal.returns-clause-readers
 returns-clause-readers g c = reader_changes_no_file g.A.Authenticator.meaning

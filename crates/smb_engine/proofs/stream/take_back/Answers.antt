@@ -1,4 +1,5 @@
 use Rattle.smb_engine.proofs.SoFar.{none_held, tail_is, taken_then, stopped_then}
+use Rattle.smb_engine.proofs.Observed.{back_heard}
 use Rattle.smb_engine.proofs.stream.take_back.Goals as goal
 
 pub returns-in-Ok-take_held-clause-taken : goal.returns-in-Ok-take_held-clause-taken
@@ -14,3 +15,9 @@ returns-in-Err-take_held-clause-err g c =
     let one = c.in-Ok.ensures.taken.all c.if-not-open_still.false in
     let two = rw (e, tail_is c.args.back.now c.in-Ok.taken.2) at c.in-Err-take_held.ensures.err in
     rw e (stopped_then g.A.Authenticator.meaning g.K.Sink.hears _ _ _ _ _ _ _ _ _ _ _ _ one two)
+
+pub returns-in-Ok-take_held-clause-observed : goal.returns-in-Ok-take_held-clause-observed
+returns-in-Ok-take_held-clause-observed g c =
+    let e = none_held c.args.buffer.now.bytes (c.is_empty.ensures.0 c.if-not-is_empty.false) in
+    let two = rw (e, tail_is c.args.back.now c.in-Ok.taken.2) at c.in-Ok-take_held.ensures.observed in
+    rw e (back_heard g.A.Authenticator.meaning c.args.arrival _ _ _ _ _ _ _ _ _ _ _ _ (c.in-Ok.ensures.taken.partial c.if-not-open_still.false) c.in-Ok.ensures.observed two)

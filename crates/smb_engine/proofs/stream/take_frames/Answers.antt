@@ -4,6 +4,7 @@ use Rattle.std.proofs.lemmas.List.{drop-drop, length-drop}
 use Rattle.smb_engine.proofs.Chains.{count_few, within_few}
 use Rattle.smb_engine.proofs.Steps.{steps_more, steps_over, steps_over_short, steps_refused, steps_stopped, steps_stopped_in, steps_within, steps_done, front_kept, kept_more}
 use Rattle.smb_engine.proofs.SoFar.{first_behind, tail_long}
+use Rattle.smb_engine.proofs.Observed.{heard_more, heard_over, heard_all}
 use Rattle.smb_engine.proofs.stream.take_frames.Goals as goal
 
 pub returns-then-done-most-clause-err : goal.returns-then-done-most-clause-err
@@ -42,6 +43,8 @@ loop-payload-preserved g c =
           c.in-Ok-Some.ensures.short;
       kept = kept_more _ _ _ c.loop-payload.invariant.kept (front_kept _ _ _ (ap (λ p. p.out) e));
       within = let long = c.in-Some.ensures.long in omega (arith, long, c.loop-payload.invariant.within, tail_long c.args.bytes.now c.loop-payload.used);
+      observed = heard_more g.A.Authenticator.meaning c.args.arrival g.K.Sink.hears _ _ _ _ _ _ _ _ _ _ _ _ _ _ _ _ c.loop-payload.invariant.observed
+          (first_behind c.args.bytes.now c.loop-payload.used _ c.in-Some.ensures.first) e (sym (drop-drop _ c.loop-payload.used c.args.bytes.now)) c.in-Ok-Some.ensures.observed;
       known = c.put_payload.ensures.known ∙ c.loop-payload.invariant.known;
     }
 
@@ -94,3 +97,12 @@ returns-in-Err-clause-few g c =
     let count = c.loop-payload.invariant.so_far.count in
     let long = c.in-Some.ensures.long in
     omega (arith, few, count, long, tail_long c.args.bytes.now c.loop-payload.used, length-drop c.loop-payload.used c.args.bytes.now)
+
+pub returns-in-Ok-None-clause-observed : goal.returns-in-Ok-None-clause-observed
+returns-in-Ok-None-clause-observed g c =
+    heard_over g.A.Authenticator.meaning c.args.arrival g.K.Sink.hears _ _ _ _ _ _ _ _ _ _ _ _ _ _ _ c.loop-payload.invariant.observed
+    (first_behind c.args.bytes.now c.loop-payload.used _ c.in-Some.ensures.first) (rw c.in-Ok-None.field-0-is at c.in-Ok-None.ensures.ok) c.in-Ok-None.ensures.observed
+
+pub returns-clause-observed : goal.returns-clause-observed
+returns-clause-observed g c =
+    heard_all g.A.Authenticator.meaning c.args.arrival _ _ _ _ _ _ _ _ c.loop-payload.invariant.observed (first_behind c.args.bytes.now c.loop-payload.used _ c.in_default.ensures.first)

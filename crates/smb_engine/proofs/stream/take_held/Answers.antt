@@ -12,3 +12,6 @@ returns-in-Ok-clause-err g c = rw (← (pushed c.args.buffer.now c.push.new.self
 
 pub returns-in-Ok-clause-few : goal.returns-in-Ok-clause-few
 returns-in-Ok-clause-few g c = rw (← (pushed c.args.buffer.now c.push.new.self c.args.bytes.now c.requires.limit c.requires.sound c.in-Ok.ensures.ok).1) c.take_payloads.ensures.few
+
+pub returns-in-Ok-clause-observed : goal.returns-in-Ok-clause-observed
+returns-in-Ok-clause-observed g c = rw (← (pushed c.args.buffer.now c.push.new.self c.args.bytes.now c.requires.limit c.requires.sound c.in-Ok.ensures.ok).1) c.take_payloads.ensures.observed

@@ -2,6 +2,7 @@ use Rattle.std.proofs.Common.{◌≤◌, length, take, arith, rules}
 use Rattle.std.proofs.lemmas.List.{length-take-le}
 use Rattle.smb_frame.specs.Unread.{lacking}
 use Rattle.smb_engine.proofs.SoFar.{parts_over, parts_stopped, parts_far, taken_then, stopped_then, taken_rest, split_is, sound_front, sum_small}
+use Rattle.smb_engine.proofs.Observed.{parts_heard, parts_heard_over}
 use Rattle.smb_engine.proofs.stream.take_parts.Goals as goal
 
 pub returns-in-Err-clause-err : goal.returns-in-Err-clause-err
@@ -51,3 +52,13 @@ returns-in-Err-take_back-clause-err g c =
     let one = parts_far g.A.Authenticator.meaning g.K.Sink.hears c.args.arrival _ _ _ c.args.buffer.now.bytes _ _ c.args.piece.now _ _ _ _ _ _
     (split_is c.args.piece.now c.min-count.result) c.if-not-open_still.false c.in-Ok.ensures.taken in
     stopped_then g.A.Authenticator.meaning g.K.Sink.hears c.args.arrival _ _ _ _ _ _ _ _ _ _ _ one c.in-Err-take_back.ensures.err
+
+pub returns-then-not-open_still-clause-observed : goal.returns-then-not-open_still-clause-observed
+returns-then-not-open_still-clause-observed g c =
+    parts_heard_over g.A.Authenticator.meaning c.args.arrival g.K.Sink.hears _ _ _ c.args.buffer.now.bytes _ _ c.args.piece.now _ _ _ _ _ _ _ _ _ _
+    (split_is c.args.piece.now c.min-count.result) c.if-not-open_still.true c.in-Ok.ensures.taken c.in-Ok.ensures.observed
+
+pub returns-in-Ok-take_back-clause-observed : goal.returns-in-Ok-take_back-clause-observed
+returns-in-Ok-take_back-clause-observed g c =
+    parts_heard g.A.Authenticator.meaning c.args.arrival g.K.Sink.hears _ _ _ c.args.buffer.now.bytes _ _ c.args.piece.now _ _ _ _ _ _ _ _ _ _ _ _
+    (split_is c.args.piece.now c.min-count.result) c.if-not-open_still.false c.in-Ok.ensures.taken c.in-Ok.ensures.observed c.in-Ok-take_back.ensures.observed

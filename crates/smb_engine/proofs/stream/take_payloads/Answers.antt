@@ -2,6 +2,7 @@ use Rattle.std.proofs.Common.{sym, ap, ◌∙◌, rules, arith}
 use Rattle.std.proofs.lemmas.Bool.{false≢true}
 use Rattle.smb_engine.proofs.Chains.{count_few, within_few}
 use Rattle.smb_engine.proofs.Steps.{steps_more, steps_over, steps_over_short, steps_refused, steps_stopped, steps_stopped_in, steps_within, steps_done, front_kept, kept_more, at_limit}
+use Rattle.smb_engine.proofs.Observed.{heard_more, heard_over, heard_all}
 use Rattle.smb_engine.proofs.stream.take_payloads.Goals as goal
 
 pub returns-then-done-most-clause-err : goal.returns-then-done-most-clause-err
@@ -39,6 +40,8 @@ loop-payload-preserved g c =
           (count_few g.A.Authenticator.meaning _ _ _ _ _ (rw c.in-Ok-Some.field-0-is at c.in-Ok-Some.ensures.count))
           c.in-Ok-Some.ensures.short;
       kept = kept_more _ _ _ c.loop-payload.invariant.kept (front_kept _ _ _ (ap (λ p. p.out) e));
+      observed = heard_more g.A.Authenticator.meaning c.args.arrival g.K.Sink.hears _ _ _ _ _ _ _ _ _ _ _ _ _ _ _ _ c.loop-payload.invariant.observed
+          (at_limit c.loop-payload.buffer.limit c.loop-payload.buffer.bytes _ c.loop-payload.invariant.limit c.in-Some.ensures.first) e (ap (λ b. b.bytes) (c.done.ensures _ (sym c.in-Some.ensures.first))) c.in-Ok-Some.ensures.observed;
       known = c.put_payload.ensures.known ∙ c.loop-payload.invariant.known;
       limit = ap (λ b. b.limit) (c.done.ensures _ (sym c.in-Some.ensures.first)) ∙ c.loop-payload.invariant.limit;
     }
@@ -92,3 +95,12 @@ returns-in-Err-clause-few g c =
     let count = c.loop-payload.invariant.so_far.count in
     let long = c.in-Some.ensures.long in
     omega (arith, few, count, long)
+
+pub returns-in-Ok-None-clause-observed : goal.returns-in-Ok-None-clause-observed
+returns-in-Ok-None-clause-observed g c =
+    heard_over g.A.Authenticator.meaning c.args.arrival g.K.Sink.hears _ _ _ _ _ _ _ _ _ _ _ _ _ _ _ c.loop-payload.invariant.observed
+    (at_limit c.loop-payload.buffer.limit c.loop-payload.buffer.bytes _ c.loop-payload.invariant.limit c.in-Some.ensures.first) (rw c.in-Ok-None.field-0-is at c.in-Ok-None.ensures.ok) c.in-Ok-None.ensures.observed
+
+pub returns-clause-observed : goal.returns-clause-observed
+returns-clause-observed g c =
+    heard_all g.A.Authenticator.meaning c.args.arrival _ _ _ _ _ _ _ _ c.loop-payload.invariant.observed (at_limit c.loop-payload.buffer.limit c.loop-payload.buffer.bytes _ c.loop-payload.invariant.limit c.in_default.ensures.first)

@@ -1,6 +1,9 @@
 use Rattle.std.proofs.Common.{◌≡◌, length, take}
 use Rattle.smb_wire.specs.Limits.{longest_payload}
 use Rattle.smb_engine.specs.SoFar.{StepsSoFar}
+use Rattle.smb_frame.specs.Reading.{payloads}
+use Rattle.smb_engine.specs.Observed.{payloads_observed}
+use Rattle.smb_engine.proofs.Observed.{IsLeft}
 use Rattle.smb_engine.proofs.stream.take_payloads.Given as goal
 
 abbrev pub invariant-loop-payload : goal.invariant-loop-payload
@@ -9,6 +12,9 @@ invariant-loop-payload g l = record {
       l.fn.server l.fn.connection (g.K.Sink.content l.fn.out) l.fn.buffer.bytes
       l.server l.connection (g.K.Sink.content l.out) l.buffer.bytes l.done;
   kept : take (length (g.K.Sink.content l.fn.out)) (g.K.Sink.content l.out) ≡ g.K.Sink.content l.fn.out;
+  observed : IsLeft (g.W.Observer.keeps l.fn.observer) (g.W.Observer.keeps l.observer) (g.W.Observer.observed l.fn.observer) (g.W.Observer.observed l.observer)
+      (payloads_observed g.A.Authenticator.meaning l.arrival l.server l.connection (payloads longest_payload l.buffer.bytes))
+      (payloads_observed g.A.Authenticator.meaning l.arrival l.fn.server l.fn.connection (payloads longest_payload l.fn.buffer.bytes));
   known : l.server.sessions.table.connections ≡ l.fn.server.sessions.table.connections;
   limit : l.buffer.limit ≡ longest_payload;
 }

@@ -6,6 +6,7 @@ use Rattle.smb_peers.specs.declared.event.Fate.TheVariants.{Open, Ended}
 use Rattle.smb_engine.proofs.Streams.{waits_found, remove-set, take_none, take_open, take_over, take_stopped}
 use Rattle.smb_engine.proofs.Kept.{kept_set, kept_over}
 use Rattle.smb_engine.proofs.Order.{lookup-set, stream_of-without}
+use Rattle.smb_engine.proofs.Observed.{brought_heard, passed_heard}
 use Rattle.smb_engine.proofs.share.Share.take.Goals as goal
 
 pub returns-in-None-clause-state : goal.returns-in-None-clause-state
@@ -55,3 +56,14 @@ returns-in-Ok-false-clause-fate g c =
     rw (c.remove_stream.ensures, (c.get_mut.follows.holds c.take_piece.new.stream).0, remove-set)
     (ap (λ b. if b then Open else Ended) (sym (ap is_some (stream_of-without c.args.connection c.self.inside.streams.entries
     (subst IsRising (c.take_piece.ensures.known ∙ c.self.invariant.known) c.good.ensures.sessions.connections)))))
+
+pub returns-in-None-clause-observed : goal.returns-in-None-clause-observed
+returns-in-None-clause-observed g c = rw (← c.self.view_is) (passed_heard g.A.Authenticator.meaning (record { server = c.self.inside.server; streams = c.self.inside.streams.entries; next = c.self.inside.next }) _ c.args.moment c.args.piece.now _ _ (sym c.in-None.ensures.value))
+
+pub returns-in-Ok-true-clause-observed : goal.returns-in-Ok-true-clause-observed
+returns-in-Ok-true-clause-observed g c =
+    rw (← c.self.view_is) (brought_heard g.A.Authenticator.meaning (record { server = c.self.inside.server; streams = c.self.inside.streams.entries; next = c.self.inside.next }) _ _ _ _ _ _ _ _ (sym c.in-Some.ensures.value) c.in-Ok-true.ensures.observed)
+
+pub returns-in-Ok-false-clause-observed : goal.returns-in-Ok-false-clause-observed
+returns-in-Ok-false-clause-observed g c =
+    rw (← c.self.view_is) (brought_heard g.A.Authenticator.meaning (record { server = c.self.inside.server; streams = c.self.inside.streams.entries; next = c.self.inside.next }) _ _ _ _ _ _ _ _ (sym c.in-Some.ensures.value) c.in-Ok-false.ensures.observed)
