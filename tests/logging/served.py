@@ -70,6 +70,7 @@ def logged(program, *words):
         return events_of(file), bytes_of(file)
 
 
+GOES = b'\tended: by the client\t'
 STARTED = ('-', 'started', '-')
 REFUSED = [('guest', r'CREATE none OPEN access=read,write', 'STATUS_OBJECT_NAME_NOT_FOUND',
             'C9 the entry is absent, and has to exist'),
@@ -172,6 +173,45 @@ def a_full_disk_stops_no_share(program):
         return is_served and counts == (1, 1) and status == 1
 
 
+def comes_and_goes(share, file):
+    """A client comes in and goes, a second after the last line, and its last line is waited for. Gives the events of a log, those of
+    requests by their command."""
+    time.sleep(1.1)
+    before = bytes_of(file).count(GOES) if os.path.isfile(file) else 0
+    Looking(share).comes_in().client.end()
+    end = time.monotonic() + PATIENCE
+    while not (os.path.isfile(file) and bytes_of(file).count(GOES) > before) and time.monotonic() < end:
+        time.sleep(0.01)
+    events = [line.split('\t')[4] for line in bytes_of(file).decode().splitlines()]
+    return [event.split(' ')[0] if event[:1].isupper() else event for event in events]
+
+
+def a_log_follows_its_name(program):
+    """Who moves or removes the file finds later lines in a new one of its name, of mode 600. Where a directory has the name lines
+    go on in the file that was moved, until the name is free."""
+    visit = ['opened', 'SESSION_SETUP', 'ended: by the client']
+    with tempfile.TemporaryDirectory() as folder:
+        file, *moved = (os.path.join(folder, name) for name in ('log', 'log.1', 'log.2'))
+        with keeping(program, '--log', file) as share:
+            first = comes_and_goes(share, file)
+            os.rename(file, moved[0])
+            kept, second = bytes_of(moved[0]), comes_and_goes(share, file)
+            os.remove(file)
+            third, mode = comes_and_goes(share, file), os.stat(file).st_mode & 0o777
+            os.rename(file, moved[1])
+            os.mkdir(file)
+            fourth = comes_and_goes(share, moved[1])
+            os.rmdir(file)
+            fifth = comes_and_goes(share, file)
+            killed(share)
+        is_kept = bytes_of(moved[0]) == kept
+    found = (first, second, third, fourth, fifth)
+    if found != (['event', 'started', *visit], visit, visit, visit + visit, visit) or mode != 0o600 or not is_kept:
+        print(f'  {found}, {mode:o}, {is_kept}', flush=True)
+        return False
+    return True
+
+
 def one_that_cannot_be_made_is_refused(program):
     with tempfile.TemporaryDirectory() as folder:
         absent = os.path.join(folder, 'absent', 'log')
@@ -228,5 +268,5 @@ def a_replay_of_a_record_is_logged_too(program):
 
 
 TESTS = (refusals_are_logged, sessions_are_logged, requests_are_logged, denied_logins_are_logged, why_a_client_ended_is_logged,
-         a_full_disk_stops_no_share, one_that_cannot_be_made_is_refused, standard_error_has_the_lines,
+         a_full_disk_stops_no_share, a_log_follows_its_name, one_that_cannot_be_made_is_refused, standard_error_has_the_lines,
          a_share_is_logged_and_kept, a_pipe_that_is_closed_stops_no_share, a_replay_of_a_record_is_logged_too)

@@ -259,6 +259,43 @@ def serve_explains_too(program):
                 and ran(program, words) == (1, b'', REFUSED))
 
 
+def check_says_what_would_be_served(program):
+    """The share with its limits, and who may come in; on standard error what `serve` says beside; never a hash or a token."""
+    share = ('share: data', 'label: DATA', 'capacity: 67108864 bytes',
+             'limits: 64 clients, 1024 opens, 4096 files and folders, 16777216 bytes a file')
+    text = ACCOUNTS + f'[[account]]\nname = "eve"\nnt_hash = "{HASH[::-1]}"\nreadonly = true\n'
+    with open(GUEST, encoding='utf-8') as guests, accounts_file(text.encode()) as accounts:
+        with accounts_file((guests.read() + 'guest_readonly = true\n').encode()) as readers:
+            found = [ran(program, ('check', *words)) for words in (
+                (), ('--config', GUEST), ('--config', readers, '--login', 'ntlm', '--accounts', accounts))]
+    names = [line.split('"')[1] for line in ACCOUNTS.splitlines() if line.startswith('name')]
+    said = (('login: token, users: 1', 'guests: no'), ('login: token, users: 0', 'guests: yes'),
+            (f'login: ntlm, accounts: {len(names) + 1}', *(f'account: {name}' for name in names), 'account: eve, to read only',
+             'guests: yes, to read only'))
+    notices = [errors.count(b'\n') for _, _, errors in found]
+    wanted = [(0, ''.join(f'{line}\n' for line in share + lines)) for lines in said]
+    if [(status, output.decode()) for status, output, _ in found] != wanted or notices != [1, 0, 0]:
+        print(f'  {found}')
+        return False
+    return True
+
+
+def check_refuses_as_serve_does(program):
+    """The same words and status for a configuration, for accounts, and for options that don't go together."""
+    at = ('--listen', '127.0.0.1:0', '--turns', '1')
+    with accounts_file(b'share = 1') as config, accounts_file(b'[[account]]') as accounts, accounts_file(ACCOUNTS.encode(), 0o644) as shown:
+        cases = (('--config', config), ('--config', config, '--explain'), ('--config', '/nowhere', '--explain'),
+                 ('--login', 'ntlm', '--accounts', accounts, '--explain'), ('--login', 'ntlm', '--accounts', shown, '--explain'))
+        found = [(ran(program, ('check', *words)), ran(program, ('serve', *at, *words))) for words in cases]
+        alone = ran(program, ('check', '--accounts', accounts))
+    with open('/dev/full', 'wb') as full:
+        unwritten = ran(program, ('check',), stdout=full)[::2]
+    if any(checked != served or checked[0] != 1 for checked, served in found):
+        print(f'  {found}')
+        return False
+    return alone[:2] == (2, b'') and unwritten == (1, b'output: failed\n')
+
+
 def addresses_are_explained(program):
     in_use = socket.create_server(('127.0.0.1', 0))
     port = in_use.getsockname()[1]
@@ -480,6 +517,7 @@ TESTS = (
     broken_accounts_are_explained, accounts_are_read_as_a_configuration_is, accounts_are_their_owners_alone,
     serve_takes_accounts_too, a_seed_that_is_given_is_said, words_of_ntlm_go_together, replays_by_ntlm_repeat,
     passwords_are_hashed, a_hash_that_is_not_written_failed, serve_explains_too,
+    check_says_what_would_be_served, check_refuses_as_serve_does,
     addresses_are_explained, files_that_are_not_read_are_explained, a_terminal_is_told_more,
     serve_says_that_nobody_can_log_in, serve_says_what_is_not_as_it_may_be_wanted,
     unreadable_lines_are_explained, bad_events_are_explained,

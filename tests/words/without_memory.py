@@ -66,6 +66,11 @@ def replay_by_ntlm_ends_without_memory(program):
         return ends_without_memory(program, *BY_NTLM, '--accounts', name, given=b'+ 1\n- 1\n')
 
 
+def check_ends_without_memory(program):
+    with accounts_file(ACCOUNTS.encode()) as name:
+        return ends_without_memory(program, 'check', '--login', 'ntlm', '--accounts', name)
+
+
 def nt_hash_ends_without_memory(program):
     return ends_without_memory(program, 'nt-hash', given=b'Password')
 
@@ -87,7 +92,7 @@ def replay_takes_a_small_multiple_of_its_text(program):
 
 TESTS = (
     help_ends_without_memory, version_ends_without_memory, wrong_words_end_without_memory,
-    replay_ends_without_memory, replay_by_ntlm_ends_without_memory, nt_hash_ends_without_memory,
+    replay_ends_without_memory, replay_by_ntlm_ends_without_memory, check_ends_without_memory, nt_hash_ends_without_memory,
     show_ends_without_memory, fields_end_without_memory,
     replay_takes_a_small_multiple_of_its_text,
 )

@@ -43,6 +43,10 @@ A file of accounts has a table for each, and nobody but its owner has a right to
   nt_hash = \"a4f49c406510bdcab6824ee7c30fd852\"
   readonly = true    # where it may only read";
 
+/// The end of the help of `check`.
+const CHECK_HELP: &str = "Example:
+  smbshare check --explain --config share.toml --login ntlm --accounts accounts.toml";
+
 /// The end of the help of `nt-hash`.
 const NT_HASH_HELP: &str =
     "The password is all of standard input, in UTF-8, but for one line feed at its end. Who has its hash can log in.
@@ -298,6 +302,12 @@ const COMMANDS: &[CommandRow] = &[
             CONFIG, EXPLAIN, LISTEN, LOGIN, ACCOUNTS, SEED, TURNS, IDLE, IDLE_NEW, JOURNAL, RECORD,
             SYNC, LOG, LOG_LEVEL, LOG_MUST, FROM, CLOCK,
         ],
+    },
+    CommandRow {
+        name: "check",
+        about: "Prints what `serve` would serve by these files, for whom and within which limits; or what is wrong with them",
+        examples: CHECK_HELP,
+        options: &[CONFIG, EXPLAIN, LOGIN, ACCOUNTS],
     },
     CommandRow {
         name: "show",

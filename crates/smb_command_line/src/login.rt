@@ -53,7 +53,7 @@ pub fn login_of(command: Option<(&str, &ArgMatches<'_>)>) -> Result<Login, &'sta
             if words.get_str("log-level").is_some() && words.get_str("log").is_none() => {
             Err("--log-level and --log-must are only taken with --log")
         }
-        Some(("serve" | "replay", words)) => Login::of(words),
+        Some(("serve" | "check" | "replay", words)) => Login::of(words),
         _ => Ok(Login::Token),
     }
 }

@@ -1,7 +1,8 @@
 //! The log of a replay.
 
 use crate::fault::Fault;
-use crate::logging::{LogOutput, LogWords, log_of};
+use crate::log_output::LogOutput;
+use crate::logging::{LogWords, log_of};
 use smb_engine::{Answer, Event};
 use smb_log::{ReplayLog, Visitors};
 use smb_peers::{Ending, Observer};
@@ -11,14 +12,14 @@ use smb_replay::Hears;
 /// What hears a replay: its log, where there is one.
 #[derive(Drop)]
 pub struct Hearing<'v> {
-    log: Option<ReplayLog<'v, LogOutput>>,
+    log: Option<ReplayLog<'v, LogOutput<'v>>>,
 }
 
 impl<'v> Hearing<'v> {
     /// The log that the words ask for, of a share that was made at this moment, and of those whom the visitors note.
     pub fn open(
-        rt: &HostRuntime,
-        words: Option<LogWords<'_>>,
+        rt: &'v HostRuntime,
+        words: Option<LogWords<'v>>,
         visitors: &'v Visitors,
         created: u64,
     ) -> Result<Self, Fault> {

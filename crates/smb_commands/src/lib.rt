@@ -1,7 +1,8 @@
-//! The commands of the program that have a share: `serve`, `replay`, `extract` and `compact`.
+//! The commands of the program that have a share: `serve`, `check`, `replay`, `extract` and `compact`.
 //!
 //! ```text
 //!    serve_share      a share to clients over TCP: new, or with the files of a folder; recorded, logged, or neither
+//!    check            what would be served by a configuration and accounts, and for whom
 //!    replay_input     the events of standard input, performed on a share; print_recording: those of a recording
 //!    extract, compact the files that the recording on standard input leaves, as a folder, or as a new journal
 //! ```
@@ -12,10 +13,12 @@
 //! Its calls have no clauses: that they are safe and return is proved, and what they do is tested over the program (docs/TESTING.md).
 #![tactic(auto)]
 
+mod checking;
 mod clock;
 mod compaction;
 mod fault;
 mod hearing;
+mod log_output;
 mod logging;
 mod login;
 mod notices;
@@ -23,6 +26,7 @@ mod replaying;
 mod serve;
 mod served_record;
 
+pub use checking::check;
 pub use compaction::compact;
 pub use fault::Fault;
 pub use logging::{Heard, LogWords};

@@ -1,21 +1,11 @@
-//! The log of a served share: where it is written, and what it hears of clients.
+//! The log of a served share: how much it has, and what it hears of clients.
 
 use crate::clock::ServeClock;
 use crate::fault::Fault;
+use crate::log_output::LogOutput;
 use smb_log::{ConnectionFacts, Level, Log, LoggedPeers, Reasons, Visitors};
-use smb_reason::Reason;
 use smb_tcp::{PeerFacts, TcpPeers};
 use std::alloc::{AllocError, Global};
-use std::fs::{File, OpenOptions};
-use std::io;
-use std::io::{Stderr, Write};
-use std::os::unix::fs::OpenOptionsExt;
-
-/// The word for standard error.
-const STANDARD_ERROR: &str = "-";
-
-/// What is said, once, where a line can't be written.
-const FAILED: &[u8] = b"log: failed\n";
 
 /// What the words of a command say of a log.
 #[derive(Clone, Copy)]
@@ -27,59 +17,15 @@ pub struct LogWords<'a> {
     pub must: bool,
 }
 
-/// Where a log is written: a file, or standard error. Where a write fails standard error says so.
-#[derive(Drop)]
-pub struct LogOutput {
-    file: Option<File>,
-    errors: Stderr,
-}
-
-impl LogOutput {
-    /// The file that the words name, which is made with mode 600 where it does not exist, or standard error.
-    fn open(rt: &HostRuntime, words: LogWords<'_>) -> Result<LogOutput, Fault> {
-        let errors = rt.stderr();
-        if words.path == STANDARD_ERROR {
-            return Ok(LogOutput { file: None, errors });
-        }
-        let mut options = OpenOptions::new();
-        let _ = options.append(true).create(true);
-        let _ = options.mode(0o600);
-        match options.open(rt, words.path) {
-            Ok(file) => Ok(LogOutput {
-                file: Some(file),
-                errors,
-            }),
-            Err(error) => Err(Fault::Log(Reason(error.kind()))),
-        }
-    }
-}
-
-impl Write for LogOutput {
-    fn write(&mut self, bytes: &[u8]) -> io::Result<usize> {
-        let Some(file) = &mut self.file else {
-            return self.errors.write(bytes);
-        };
-        let written = file.write(bytes);
-        if written.is_err() {
-            let _ = self.errors.write_all(FAILED);
-        }
-        written
-    }
-
-    fn flush(&mut self) -> io::Result<()> {
-        Ok(())
-    }
-}
-
 /// The log that the words ask for, whose first line is written; None where they ask for none.
-pub fn log_of(
-    rt: &HostRuntime,
-    words: Option<LogWords<'_>>,
-) -> Result<Option<Log<LogOutput>>, Fault> {
+pub fn log_of<'a>(
+    rt: &'a HostRuntime,
+    words: Option<LogWords<'a>>,
+) -> Result<Option<Log<LogOutput<'a>>>, Fault> {
     let Some(words) = words else {
         return Ok(None);
     };
-    let mut log = Log::new(rt.alloc(), LogOutput::open(rt, words)?, words.level);
+    let mut log = Log::new(rt.alloc(), LogOutput::open(rt, words.path)?, words.level);
     log.begin();
     Ok(Some(log))
 }
@@ -130,5 +76,5 @@ pub type ServedPeers<'a> = LoggedPeers<
     TcpPeers<'a, HostRuntime>,
     TcpFacts,
     ServeClock<'a>,
-    LogOutput,
+    LogOutput<'a>,
 >;

@@ -1,6 +1,7 @@
 //! What is said where all goes on: by `serve` who cannot log in and what is not safe, and of a recording that its last line is cut.
 
 use smb_command_line::{Login, Texts};
+use smb_config::Configuration;
 use smb_journal::Form;
 use smb_reason::Shown;
 
@@ -43,6 +44,18 @@ pub struct Entrance {
     pub accounts: usize,
     /// Whether the share's name is `IPC$`, in any case.
     pub is_named_ipc: bool,
+}
+
+impl Entrance {
+    /// Who may come in by a configuration and so many accounts.
+    pub fn of(configuration: &Configuration, accounts: usize) -> Self {
+        Entrance {
+            guest: configuration.guest,
+            users: configuration.users,
+            accounts,
+            is_named_ipc: configuration.config.share.eq_ignore_ascii_case("IPC$"),
+        }
+    }
 }
 
 /// Says a line on standard error, where it holds.

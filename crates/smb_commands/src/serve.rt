@@ -251,12 +251,7 @@ fn serve_by_ntlm(
 /// Serves a share of a configuration, for so many turns, where its journal is not to be written anew first.
 fn serve_configured(rt: &HostRuntime, words: &ServeWords<'_>) -> Result<Served, Fault> {
     let configuration = Configuration::read(rt.alloc(), words.texts.config.as_str())?;
-    let entrance = Entrance {
-        guest: configuration.guest,
-        users: configuration.users,
-        accounts: 0,
-        is_named_ipc: configuration.config.share.eq_ignore_ascii_case("IPC$"),
-    };
+    let entrance = Entrance::of(&configuration, 0);
     match words.login {
         Login::Token => serve_by_token(rt, words, entrance, configuration),
         Login::Ntlm(seed) => serve_by_ntlm(rt, words, entrance, configuration, seed),

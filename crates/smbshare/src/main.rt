@@ -5,8 +5,8 @@ use clap::ArgMatches;
 use clap::error::ErrorKind as WordFault;
 use smb_command_line::{CommandLine, Login, Texts, command, login_of};
 use smb_commands::{
-    Fault, Form, Heard, KeepWords, Level, LogWords, ServeWords, compact, extract, print_recording,
-    replay_input, serve_share,
+    Fault, Form, Heard, KeepWords, Level, LogWords, ServeWords, check, compact, extract,
+    print_recording, replay_input, serve_share,
 };
 use smb_config::BUILT_IN;
 use smb_replay::{CommandFault, Detail, Given, ReplayWords, hash_password, show_fields, show_text};
@@ -204,6 +204,10 @@ fn run_with_share(
     };
     if name == "serve" {
         return serve_clients(rt, &texts, login, words);
+    }
+    if name == "check" {
+        let checked = check(rt, &texts, login);
+        return status_of(rt, checked, detail_of(rt, words, Some(&texts)));
     }
     let replay_words = ReplayWords {
         detail: detail_of(rt, words, Some(&texts)),

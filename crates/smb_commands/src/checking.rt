@@ -1,0 +1,90 @@
+//! The command `check`: what `serve` would serve by a configuration and accounts, for whom, and within which limits.
+
+use crate::fault::Fault;
+use crate::login::read_accounts;
+use crate::notices::{Entrance, say_notices};
+use smb_command_line::{Login, Texts};
+use smb_config::{Accounts, Configuration};
+use smb_replay::CommandFault;
+use smb_wire::limits::{MOST_CONNECTIONS, MOST_ENTRIES, MOST_FILE_BYTES, MOST_OPENS};
+use std::io::{BufWriter, Write};
+use std::{io, str};
+
+/// What is written behind the name of somebody who may only read.
+fn right_of(read_only: bool) -> &'static str {
+    if read_only { ", to read only" } else { "" }
+}
+
+/// Writes what is served: the share and its limits.
+fn write_share<W: Write>(configuration: &Configuration, output: &mut W) -> io::Result<()> {
+    let config = &configuration.config;
+    writeln!(output, "share: {}", config.share)?;
+    writeln!(output, "label: {}", config.label)?;
+    writeln!(output, "capacity: {} bytes", config.capacity)?;
+    writeln!(
+        output,
+        "limits: {} clients, {} opens, {} files and folders, {} bytes a file",
+        MOST_CONNECTIONS, MOST_OPENS, MOST_ENTRIES, MOST_FILE_BYTES,
+    )
+}
+
+/// Writes a line for each account, of its name alone.
+fn write_accounts<W: Write>(accounts: &Accounts, output: &mut W) -> io::Result<()> {
+    for account in accounts.list.iter() {
+        let name = str::from_utf8(&account.name).unwrap_or("?");
+        writeln!(output, "account: {name}{}", right_of(account.read_only))?;
+    }
+    Ok(())
+}
+
+/// Writes how clients log in, and whether guests may come.
+fn write_logins<W: Write>(
+    configuration: &Configuration,
+    accounts: &Accounts,
+    login: Login,
+    output: &mut W,
+) -> io::Result<()> {
+    match login {
+        Login::Token => writeln!(output, "login: token, users: {}", configuration.users)?,
+        Login::Ntlm(_) => writeln!(output, "login: ntlm, accounts: {}", accounts.list.len())?,
+    }
+    write_accounts(accounts, output)?;
+    if configuration.guest {
+        writeln!(
+            output,
+            "guests: yes{}",
+            right_of(configuration.guest_read_only)
+        )
+    } else {
+        writeln!(output, "guests: no")
+    }
+}
+
+/// Writes all of it.
+fn write_all<W: Write>(
+    configuration: &Configuration,
+    accounts: &Accounts,
+    login: Login,
+    output: &mut W,
+) -> io::Result<()> {
+    write_share(configuration, output)?;
+    write_logins(configuration, accounts, login, output)?;
+    output.flush()
+}
+
+/// Prints what `serve` would serve by these texts, and for whom; standard error has what `serve` would say beside. A text that it
+/// would refuse is the fault that it would end with.
+pub fn check(rt: &HostRuntime, texts: &Texts, login: Login) -> Result<(), Fault> {
+    let alloc = rt.alloc();
+    let configuration = Configuration::read(alloc, texts.config.as_str())?;
+    let accounts = read_accounts(alloc, texts.accounts())?;
+    let Ok(mut output) = BufWriter::new(alloc, rt.stdout()) else {
+        return Err(Fault::Command(CommandFault::NoMemory));
+    };
+    if write_all(&configuration, &accounts, login, &mut output).is_err() {
+        return Err(Fault::Command(CommandFault::OutputFailed));
+    }
+    let entrance = Entrance::of(&configuration, accounts.list.len());
+    say_notices(rt, texts, login, entrance);
+    Ok(())
+}
