@@ -16,8 +16,8 @@ SIZES = {'NEGOTIATE': 128, 'SESSION_SETUP': 72, 'LOGOFF': 68, 'TREE_CONNECT': 80
          'QUERY_INFO': 72, 'SET_INFO': 66}
 # The bytes of a refusal, before a payload, and of a header.
 REFUSAL, FRAME_HEAD, HEADER = 73, 4, 64
-# The sentence of each row, of the last of a label. The reasons for which a chain is not performed, and an SMB_COM_NEGOTIATE.
-SENTENCES, IN_CHAINS, BY_SMB1 = dict(rows(tables())), ('E1', 'E2', 'E3', 'E4'), 'E7'
+# The sentence of each row, of the last of a label.
+SENTENCES = dict(rows(tables()))
 # A command, and a class of information.
 FLUSH, NAMES = 7, 12
 
@@ -31,14 +31,6 @@ def date_of(moment):
 def without_comma(why):
     """A reason as the log has it: without the comma behind its label."""
     return why.replace(',', '', 1)
-
-
-def requests_in(piece):
-    """How many requests the chain of a frame has."""
-    count, place = 1, FRAME_HEAD
-    while following := struct.unpack_from('<I', piece, place + 20)[0]:
-        count, place = count + 1, place + following
-    return count
 
 
 class Answer:
@@ -143,11 +135,8 @@ class Client:
         self.row.logs(self.number, 'ended: by the client', self.user)
 
     def is_ended(self, piece, why):
-        """A piece by which the share ends the connection. The requests that it does not perform count, where they can be read."""
+        """A piece by which the share ends the connection. None of its requests is performed, so none counts."""
         self.row.brings(self.number, piece)
-        if why.startswith(IN_CHAINS):
-            self.row.requests += requests_in(piece)
-        self.row.requests += why.startswith(BY_SMB1)
         self.row.logs(self.number, f'ended: by the share, {without_comma(why)}', self.user)
 
 

@@ -124,16 +124,14 @@ class Refused:
         if not (status == 0 and output == self.whole or status == 3 and self.whole.startswith(output)):
             return f'it ends with {status} behind {len(output)} of {len(self.whole)} bytes'
         others = [line for line in log.splitlines() if line not in self.lines and LOST not in line
-                  and b'\tminute ' not in line and not self.is_in_part(line, log)]
+                  and b'\tminute ' not in line and not self.is_in_part(line)]
         return f'the log has {others[0]}' if others else ''
 
-    def is_in_part(self, line, log):
-        """Whether a line is one of the row's but for its user or its file's name, which were not kept, or but for its reason,
-        where the log says that something was lost."""
+    def is_in_part(self, line):
+        """Whether a line is one of the row's but for its user, which was not kept."""
         fields = line.split(b'\t')
-        return any(fields[:3] == other[:3] and fields[4].split()[:1] == other[4].split()[:1]
-                   and (fields[5:] == other[5:] or LOST in log and fields[5:] == [*other[5:-1], other[-1].split(b' why=')[0]])
-                   for other in (wanted.split(b'\t') for wanted in self.lines) if len(other) == len(fields))
+        return any(fields[:3] + fields[4:] == other[:3] + other[4:]
+                   for other in (wanted.split(b'\t') for wanted in self.lines))
 
     def all(self, is_logged):
         """What each refusal comes to, from the first allocation on."""

@@ -56,15 +56,15 @@ def session():
     client.asks(r'SET_INFO reports\june.txt delete=yes', set_info, 2, DISPOSITION, b'\x01')
     client.asks(r'SET_INFO reports\june.txt delete=no', set_info, 2, DISPOSITION, b'\x00')
     client.asks(r'SET_INFO reports\june.txt rename to july.txt', rename, 2, 'july.txt')
-    client.asks(r'SET_INFO reports\june.txt rename over reports\august.txt', replace, 2, r'reports\august.txt')
-    client.asks(r'LOCK reports\june.txt offset=1 length=3 exclusive,at_once offset=9 length=1 shared,at_once',
+    client.asks(r'SET_INFO july.txt rename over reports\august.txt', replace, 2, r'reports\august.txt')
+    client.asks(r'LOCK reports\august.txt offset=1 length=3 exclusive,at_once offset=9 length=1 shared,at_once',
                 lock, 2, [(1, 3, EXCLUSIVE | AT_ONCE), (9, 1, SHARED | AT_ONCE)])
-    client.asks(r'LOCK reports\june.txt offset=1 length=3 unlock', lock, 2, [(1, 3, UNLOCK)])
-    client.asks(r'LOCK reports\june.txt offset=0 length=1 exclusive,at_once offset=1 length=1 exclusive,at_once '
+    client.asks(r'LOCK reports\august.txt offset=1 length=3 unlock', lock, 2, [(1, 3, UNLOCK)])
+    client.asks(r'LOCK reports\august.txt offset=0 length=1 exclusive,at_once offset=1 length=1 exclusive,at_once '
                 'offset=2 length=1 exclusive,at_once offset=3 length=1 exclusive,at_once and 2 more',
                 lock, 2, [(place, 1, EXCLUSIVE | AT_ONCE) for place in range(6)])
     client.asks('ECHO', short, ECHO)
-    client.asks(r'CLOSE reports\june.txt', close, 2)
+    client.asks(r'CLOSE reports\august.txt', close, 2)
     client.refused('FILE_CLOSED', 'P8', 'READ ? offset=0 length=65536', read, 2, 0, 65_536)
     client.asks('CREATE . OPEN access=attributes share=none', create, '', CHANGES, OPEN, 0, 0)
     client.asks('CLOSE .', close, 3)
@@ -93,7 +93,6 @@ def sessions():
                create, 'july.txt', 0x02000000, OVERWRITE_IF, 0, DELETE_ON_CLOSE)
     again.asks('CREATE august.txt SUPERSEDE access=read,write,execute share=read,write,delete',
                create, 'august.txt', 0xE0000000, SUPERSEDE, 7, 0)
-    first.user = '-'
     first.leaves()
     again.asks('TREE_DISCONNECT', short, TREE_DISCONNECT)
     again.tree = 0
@@ -123,8 +122,8 @@ def chains():
             (Answer('CLOSE ?', 'STATUS_FILE_CLOSED', why='P8'), (close, INHERITED)))
     absent, missing = 'STATUS_OBJECT_NAME_NOT_FOUND', 'CREATE none.txt OPEN access=read share=none'
     chained((Answer(missing, absent, why='C9'), (create, 'none.txt', READS, OPEN, 0, 0)),
-            (Answer('READ none.txt offset=0 length=9', absent, why='P7'), (read, INHERITED, 0, 9)),
-            (Answer('CLOSE none.txt', absent, why='P7'), (close, INHERITED)))
+            (Answer('READ ? offset=0 length=9', absent, why='P7'), (read, INHERITED, 0, 9)),
+            (Answer('CLOSE ?', absent, why='P7'), (close, INHERITED)))
     client.asks('CREATE july.txt CREATE access=read share=none', create, 'july.txt', READS, CREATE, 0, 0)
     chained(made, (Answer('FLUSH july.txt'), (flush, 3)), (Answer('CLOSE july.txt'), (close, INHERITED)),
             (Answer('CLOSE june.txt'), (close, 4)))
@@ -132,8 +131,8 @@ def chains():
     client.refused('FILE_CLOSED', 'P8', 'READ ? offset=0 length=9', read, INHERITED, 0, 9)
     client.row.requests += 1
     client.sends(chain([client.makes(short, ECHO), frame(header(CANCEL, 0, session_id=1) + b'\4\0\0\0')]))
-    client.row.logs(1, 'CANCEL', 'ann')
     client.row.answers(1, 'ann', [Answer('ECHO')])
+    client.row.logs(1, 'CANCEL', 'ann')
     client.refused('INVALID_PARAMETER', 'P3', 'FLUSH unreadable', short, FLUSH)
     client.refused('INVALID_PARAMETER', 'P3', 'CREATE unreadable', short, 5)
     client.refused('NOT_SUPPORTED', 'P2', 'IOCTL', short, IOCTL)
@@ -303,7 +302,7 @@ def hostile():
                 create, '\u202efdp.exe', READS | DELETES, CREATE, 0, 0)
     client.refused(INVALID, 'N2', r'SET_INFO \u{202E}fdp.exe rename to x\u{A}y', rename, 2, 'x\ny')
     client.asks(r'SET_INFO \u{202E}fdp.exe rename to \u{FEFF}', rename, 2, '\ufeff')
-    client.asks(r'CLOSE \u{202E}fdp.exe', close, 2)
+    client.asks(r'CLOSE \u{FEFF}', close, 2)
     client.asks('CREATE a OPEN access=all CREATE access=read share=none',
                 create, 'a OPEN access=all', READS, CREATE, 0, 0)
     client.asks('CREATE . OPEN access=read share=none', create, '', READS, OPEN, 0, 0)

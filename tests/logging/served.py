@@ -110,8 +110,8 @@ def requests_are_logged(program):
         STARTED, ('-', 'opened', '-'), ('-', 'NEGOTIATE ', done), ('guest', 'SESSION_SETUP', done),
         ('guest', 'TREE_CONNECT ', done), ('guest', 'CREATE june.txt CREATE access=read,write', done),
         ('guest', 'WRITE june.txt offset=0 length=12', done),
-        ('guest', 'SET_INFO june.txt rename to july.txt', done), ('guest', 'READ june.txt offset=0 length=100', done),
-        ('guest', 'READ june.txt offset=100 length=1', 'STATUS_END_OF_FILE'), ('guest', 'CLOSE june.txt', done), *REFUSED, ('guest', 'ended: by the client', '-')])
+        ('guest', 'SET_INFO june.txt rename to july.txt', done), ('guest', 'READ july.txt offset=0 length=100', done),
+        ('guest', 'READ july.txt offset=100 length=1', 'STATUS_END_OF_FILE'), ('guest', 'CLOSE july.txt', done), *REFUSED, ('guest', 'ended: by the client', '-')])
 
 
 # Who logs in by a wrong password, the name as it is logged, and why he is denied.

@@ -18,6 +18,8 @@ pub mod QueryDirectory
 pub mod QueryInfo
 pub mod SetInfo
 pub mod Requests
+pub mod Needs
+pub mod Facts
 pub mod Replies
 pub mod Smb1
 pub mod Readings

@@ -22,6 +22,7 @@ mod flush;
 mod lock;
 mod lock_element;
 mod lock_list;
+mod needs;
 mod negotiate;
 mod numbers;
 mod query;
@@ -48,13 +49,14 @@ pub use flush::FlushRequest;
 pub use lock::{LockRequest, LockSequence};
 pub use lock_element::LockElement;
 pub use lock_list::LockList;
+pub use needs::{Needs, RequestFacts};
 pub use negotiate::{NegotiateRequest, NegotiateResponse, SecurityMode};
 pub use query::{QueryResponse, close_query_response, open_query_response};
 pub use query_directory::QueryDirectoryRequest;
 pub use query_info::{QueryInfoFlags, QueryInfoRequest};
 pub use read::{ReadFlags, ReadRequest, ReadResponse, put_read_head};
 pub use reply::{Reply, write_reply};
-pub use request::{Request, laws_of_requests, payload, read_body, write_request};
+pub use request::{Request, laws_of_requests, read_body, write_request};
 pub use reserved::ReservedRequest;
 pub use session_setup::{
     SessionFlags, SessionSecurityMode, SessionSetupFlags, SessionSetupRequest, SessionSetupResponse,

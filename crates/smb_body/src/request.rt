@@ -1,9 +1,9 @@
 //! Requests of all commands.
 
-ghost use Rattle.std.specs.Prelude.{◌≡◌, ◌++◌, length, min, take, Some, None, IfSome, IfNone, OnOk, OnErr, IfOk, IfErr, false};
+ghost use Rattle.std.specs.Prelude.{◌≡◌, ◌++◌, length, take, Some, None, IfSome, IfNone, OnOk, OnErr, IfOk, IfErr, false};
 ghost use Rattle.smb_body.specs.LockLists.{EachElementIsRead};
 ghost use Rattle.smb_body.specs.Refusals.{body_refusal};
-ghost use Rattle.smb_body.specs.Requests.{request_value, request_of, file_id_of, payload_of, request_spelling, FitsRequest, is_too_long, IsReadBack, RequestsAreTold, LaidIsTheSame};
+ghost use Rattle.smb_body.specs.Requests.{request_value, request_of, request_spelling, FitsRequest, is_too_long, IsReadBack, RequestsAreTold, LaidIsTheSame};
 
 use super::close::{CloseRequest, put_close, read_close};
 use super::create::{CreateRequest, put_create, read_create};
@@ -19,7 +19,6 @@ use super::session_setup::{SessionSetupRequest, put_session_setup, read_session_
 use super::set_info::{SetInfoRequest, put_set_info, read_set_info};
 use super::tree_connect::{TreeConnectRequest, put_tree_connect, read_tree_connect};
 use super::write::{WriteRequest, put_write, read_write};
-use smb_wire::FileId;
 
 /// A request of a command ([MS-SMB2] 2.2).
 #[derive(Clone, Copy)]
@@ -40,65 +39,6 @@ pub enum Request<'a> {
     QueryDirectory(QueryDirectoryRequest<'a>),
     QueryInfo(QueryInfoRequest),
     SetInfo(SetInfoRequest<'a>),
-}
-
-/// The length of a buffer, as far as a field of four bytes can say it.
-fn length_said(buffer: &[u8]) -> u32
-    ensures { result ≡ min (length buffer.now) 4294967295 }
-{
-    buffer.len().min(4_294_967_295) as u32
-}
-
-impl Request<'_> {
-    /// The FileId that a request names, where it acts on an open.
-    pub fn file_id(&self) -> Option<FileId>
-        ensures { result ≡ file_id_of (request_value self.now) }
-    {
-        match self {
-            Request::Negotiate(_)
-            | Request::SessionSetup(_)
-            | Request::Logoff(_)
-            | Request::TreeConnect(_)
-            | Request::TreeDisconnect(_)
-            | Request::Create(_)
-            | Request::Cancel(_)
-            | Request::Echo(_) => None,
-            Request::Close(asked) => Some(asked.file_id),
-            Request::Flush(asked) => Some(asked.file_id),
-            Request::Read(asked) => Some(asked.file_id),
-            Request::Write(asked) => Some(asked.file_id),
-            Request::Lock(asked) => Some(asked.file_id),
-            Request::QueryDirectory(asked) => Some(asked.file_id),
-            Request::QueryInfo(asked) => Some(asked.file_id),
-            Request::SetInfo(asked) => Some(asked.file_id),
-        }
-    }
-}
-
-/// How many bytes a request of a command sends or asks for, by which it is charged ([MS-SMB2] 3.3.5.2.5): the Length of a
-/// READ or WRITE, the OutputBufferLength of a QUERY_INFO or QUERY_DIRECTORY, the BufferLength of a SET_INFO, and 0 of all
-/// others; 4,294,967,295 where a buffer is longer than its field can say, as none is that was read.
-pub fn payload(request: &Request<'_>) -> u32
-    ensures { result ≡ min (payload_of (request_value request.now)) 4294967295 }
-{
-    match request {
-        Request::Read(asked) => asked.length,
-        Request::Write(asked) => length_said(asked.buffer),
-        Request::QueryDirectory(asked) => asked.output_buffer_length,
-        Request::QueryInfo(asked) => asked.output_buffer_length,
-        Request::SetInfo(asked) => length_said(asked.buffer),
-        Request::Negotiate(_)
-        | Request::SessionSetup(_)
-        | Request::Logoff(_)
-        | Request::TreeConnect(_)
-        | Request::TreeDisconnect(_)
-        | Request::Create(_)
-        | Request::Close(_)
-        | Request::Flush(_)
-        | Request::Lock(_)
-        | Request::Cancel(_)
-        | Request::Echo(_) => 0,
-    }
 }
 
 /// What a request of a command says, or None where it says nothing.

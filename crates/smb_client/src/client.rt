@@ -7,7 +7,7 @@ use smb_body::{
     Capabilities, Channel, CloseFlags, CloseRequest, CreateRequest, Dialects, Guid,
     ImpersonationLevel, NegotiateRequest, OplockLevel, ReadFlags, ReadRequest, Request,
     ReservedRequest, SecurityFlags, SecurityMode, SessionSecurityMode, SessionSetupFlags,
-    SessionSetupRequest, SmbCreateFlags, TreeConnectRequest, WriteFlags, WriteRequest, payload,
+    SessionSetupRequest, SmbCreateFlags, TreeConnectRequest, WriteFlags, WriteRequest,
     write_request,
 };
 use smb_frame::put_frame;
@@ -57,7 +57,7 @@ fn command_of(request: &Request<'_>) -> Command {
 /// How many MessageIds a request has to take in dialect 2.1: one for each 65,536 bytes that it sends or asks for, one at
 /// least ([MS-SMB2] 3.2.4.1.5).
 fn due_of(request: &Request<'_>) -> u16 {
-    let due = payload(request).saturating_sub(1) / 65_536 + 1;
+    let due = request.facts().payload.saturating_sub(1) / 65_536 + 1;
     due.min(65_535) as u16
 }
 

@@ -1,35 +1,28 @@
-//! The log of a replay.
+//! What hears a replay.
 
 use crate::fault::Fault;
 use crate::log_output::LogOutput;
 use crate::logging::{LogWords, log_of};
 use smb_engine::{Answer, Event};
-use smb_log::{ReplayLog, Visitors};
-use smb_peers::{Ending, Observer};
-use smb_refusals::{LoginRefusal, Refusal};
+use smb_log::Log;
+use smb_peers::{Acting, Ending, Observer, Responded, Usage};
+use smb_refusals::LoginRefusal;
 use smb_replay::Hears;
 
 /// What hears a replay: its log, where there is one.
 #[derive(Drop)]
-pub struct Hearing<'v> {
-    log: Option<ReplayLog<'v, LogOutput<'v>>>,
+pub struct Hearing<'a> {
+    log: Option<Log<LogOutput<'a>>>,
 }
 
-impl<'v> Hearing<'v> {
-    /// The log that the words ask for, of a share that was made at this moment, and of those whom the visitors note.
+impl<'a> Hearing<'a> {
+    /// The log that the words ask for, of a share that was made at this moment.
     pub fn open(
-        rt: &'v HostRuntime,
-        words: Option<LogWords<'v>>,
-        visitors: &'v Visitors,
+        rt: &'a HostRuntime,
+        words: Option<LogWords<'a>>,
         created: u64,
     ) -> Result<Self, Fault> {
-        let log = match log_of(rt, words)? {
-            Some(log) => Some(ReplayLog::new(rt.alloc(), log, visitors, created)),
-            None => {
-                visitors.close();
-                None
-            }
-        };
+        let log = log_of(rt, words, created)?;
         Ok(Hearing { log })
     }
 
@@ -40,10 +33,11 @@ impl<'v> Hearing<'v> {
         }
     }
 
-    /// Writes what is left. Where a line could not be written standard error says so already.
-    pub fn finish(self) {
-        if let Some(log) = self.log {
-            let _ = log.finish();
+    /// Writes a last line, with the sessions and the opens that are left. Where a line could not be written standard error says so
+    /// already.
+    pub fn finish(mut self, usage: Usage) {
+        if let Some(log) = &mut self.log {
+            log.minute(usage, false);
         }
     }
 }
@@ -55,15 +49,37 @@ impl Observer for Hearing<'_> {
 
     ghost keeps = { λ hearing. false };
 
-    fn refused(&mut self, connection: u64, message_id: u64, command: u16, refusal: Refusal) {
+    fn listens(&self) -> bool {
+        self.log.is_some()
+    }
+
+    fn note_subject(&mut self, user: &[u8], file: Option<&[u8]>) {
         if let Some(log) = &mut self.log {
-            log.refused(connection, message_id, command, refusal);
+            log.note_subject(user, file);
+        }
+    }
+
+    fn performed(&mut self, connection: u64, moment: u64, request: &[u8], acting: Acting) {
+        if let Some(log) = &mut self.log {
+            log.performed(connection, moment, request, acting);
+        }
+    }
+
+    fn responded(&mut self, connection: u64, response: Responded) {
+        if let Some(log) = &mut self.log {
+            log.responded(connection, response);
         }
     }
 
     fn denied(&mut self, connection: u64, reason: LoginRefusal, name: &[u8]) {
         if let Some(log) = &mut self.log {
             log.denied(connection, reason, name);
+        }
+    }
+
+    fn let_in(&mut self, connection: u64, session_id: u64, user: &[u8]) {
+        if let Some(log) = &mut self.log {
+            log.let_in(connection, session_id, user);
         }
     }
 

@@ -29,7 +29,7 @@ mod served_record;
 pub use checking::check;
 pub use compaction::compact;
 pub use fault::Fault;
-pub use logging::{Heard, LogWords};
+pub use logging::{LogWords, TcpFacts};
 pub use replaying::{extract, print_recording, replay_input};
 pub use serve::{ServeWords, serve_share};
 pub use smb_journal::Form;

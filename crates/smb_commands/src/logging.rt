@@ -1,11 +1,12 @@
-//! The log of a served share: how much it has, and what it hears of clients.
+//! The log of a share: how much it has, and what is known of clients.
 
 use crate::clock::ServeClock;
 use crate::fault::Fault;
 use crate::log_output::LogOutput;
-use smb_log::{ConnectionFacts, Level, Log, LoggedPeers, Reasons, Visitors};
+use smb_log::{ConnectionFacts, Level, Log, LoggedPeers};
 use smb_tcp::{PeerFacts, TcpPeers};
 use std::alloc::{AllocError, Global};
+use std::cell::RefCell;
 
 /// What the words of a command say of a log.
 #[derive(Clone, Copy)]
@@ -17,17 +18,17 @@ pub struct LogWords<'a> {
     pub must: bool,
 }
 
-/// The log that the words ask for, whose first line is written; None where they ask for none.
+/// The log that the words ask for, which begins at a moment, and whose first line is written; None where they ask for none.
 pub fn log_of<'a>(
     rt: &'a HostRuntime,
     words: Option<LogWords<'a>>,
+    moment: u64,
 ) -> Result<Option<Log<LogOutput<'a>>>, Fault> {
     let Some(words) = words else {
         return Ok(None);
     };
-    let mut log = Log::new(rt.alloc(), LogOutput::open(rt, words.path)?, words.level);
-    log.begin();
-    Ok(Some(log))
+    let output = LogOutput::open(rt, words.path)?;
+    Ok(Some(Log::new(rt.alloc(), output, words.level, moment)))
 }
 
 /// What is known of the connections of TCP peers.
@@ -49,30 +50,29 @@ impl ConnectionFacts for TcpFacts {
     }
 }
 
-/// What a log hears of beside bytes: what is known of connections, who was let in, and why a share refuses.
-#[derive(Drop)]
-pub struct Heard {
-    pub facts: TcpFacts,
-    pub visitors: Visitors,
-    pub reasons: Reasons,
-}
-
-impl Heard {
-    /// Nothing so far.
+impl TcpFacts {
+    /// Of no peers.
     pub fn new(alloc: Global) -> Result<Self, AllocError> {
-        Ok(Heard {
-            facts: TcpFacts {
-                peers: PeerFacts::new(alloc)?,
-            },
-            visitors: Visitors::new(alloc),
-            reasons: Reasons::new(alloc),
+        Ok(TcpFacts {
+            peers: PeerFacts::new(alloc)?,
         })
     }
 }
 
+/// The log of a served share, where there is one: its peers and its observer borrow it in turn.
+pub type ServedLog<'a> = Option<RefCell<Log<LogOutput<'a>>>>;
+
+/// The log that the words ask for, of a share that is to be served.
+pub fn served_log<'a>(
+    rt: &'a HostRuntime,
+    words: Option<LogWords<'a>>,
+) -> Result<ServedLog<'a>, Fault> {
+    Ok(log_of(rt, words, 0)?.map(RefCell::new))
+}
+
 /// TCP peers, of which all is logged where there is a log.
-pub type ServedPeers<'a> = LoggedPeers<
-    'a,
+pub type ServedPeers<'l, 'a> = LoggedPeers<
+    'l,
     TcpPeers<'a, HostRuntime>,
     TcpFacts,
     ServeClock<'a>,

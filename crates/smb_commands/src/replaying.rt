@@ -11,10 +11,9 @@ use smb_config::Configuration;
 use smb_engine::{Answer, Authenticator, Config, Event, HandleTable, NodeTree, Share, Tokens};
 use smb_journal::{Form, JournalFault, Mailbox, RecordedLogin};
 use smb_kept::{Hears, KeptFault, nobody, perform_file, read_recording, recorded_login, share_of};
-use smb_log::{LoggedLogin, Visitors};
-use smb_peers::{Ending, Observer};
+use smb_peers::{Acting, Ending, Observer, Responded};
 use smb_reason::Reason;
-use smb_refusals::{LoginRefusal, Refusal};
+use smb_refusals::LoginRefusal;
 use smb_replay::{CommandFault, ReplayWords, replay_heard, write_answers};
 use std::fs;
 use std::io::{BufWriter, ErrorKind, Write};
@@ -35,17 +34,17 @@ fn replay_by<A: Authenticator + Drop>(
         return Err(Fault::Command(CommandFault::NoMemory));
     };
     let mut errors = rt.stderr();
-    let share = share_of(alloc, config, authenticator)?;
+    let mut share = share_of(alloc, config, authenticator)?;
     let status = replay_heard(
         alloc,
-        share,
+        &mut share,
         words,
         rt.stdin(),
         &mut output,
         &mut errors,
         &mut hearing,
     );
-    hearing.finish();
+    hearing.finish(share.usage());
     Ok(status)
 }
 
@@ -61,15 +60,8 @@ fn replay_by_ntlm(
     let accounts = read_accounts(rt.alloc(), texts.accounts())?;
     let ntlm = ntlm_of(rt.alloc(), &configuration, accounts, seed)?;
     let config = configuration.config;
-    let visitors = Visitors::new(rt.alloc());
-    let hearing = Hearing::open(rt, log, &visitors, config.created)?;
-    replay_by(
-        rt,
-        config,
-        LoggedLogin::new(ntlm, &visitors),
-        hearing,
-        words,
-    )
+    let hearing = Hearing::open(rt, log, config.created)?;
+    replay_by(rt, config, ntlm, hearing, words)
 }
 
 /// Replays standard input on a share to which clients log in by tokens, and gives the exit status.
@@ -84,10 +76,8 @@ fn replay_by_token(
         authenticator,
         ..
     } = configuration;
-    let visitors = Visitors::new(rt.alloc());
-    let hearing = Hearing::open(rt, log, &visitors, config.created)?;
-    let login = LoggedLogin::new(authenticator, &visitors);
-    replay_by(rt, config, login, hearing, words)
+    let hearing = Hearing::open(rt, log, config.created)?;
+    replay_by(rt, config, authenticator, hearing, words)
 }
 
 /// Replays standard input on a share of these texts, and gives the exit status.
@@ -121,13 +111,36 @@ impl<W: Write + Drop> Observer for Printer<'_, W> {
 
     ghost keeps = { λ printer. false };
 
-    fn refused(&mut self, connection: u64, message_id: u64, command: u16, refusal: Refusal) {
-        self.hearing
-            .refused(connection, message_id, command, refusal);
+    fn listens(&self) -> bool {
+        self.hearing.listens()
+    }
+
+    fn note_subject(&mut self, user: &[u8], file: Option<&[u8]>) {
+        self.hearing.note_subject(user, file);
+    }
+
+    fn performed(&mut self, connection: u64, moment: u64, request: &[u8], acting: Acting) {
+        if !self.mailbox.has_asked() {
+            self.hearing.performed(connection, moment, request, acting);
+        }
+    }
+
+    fn responded(&mut self, connection: u64, response: Responded) {
+        if !self.mailbox.has_asked() {
+            self.hearing.responded(connection, response);
+        }
     }
 
     fn denied(&mut self, connection: u64, reason: LoginRefusal, name: &[u8]) {
-        self.hearing.denied(connection, reason, name);
+        if !self.mailbox.has_asked() {
+            self.hearing.denied(connection, reason, name);
+        }
+    }
+
+    fn let_in(&mut self, connection: u64, session_id: u64, user: &[u8]) {
+        if !self.mailbox.has_asked() {
+            self.hearing.let_in(connection, session_id, user);
+        }
     }
 
     fn ended(&mut self, connection: u64, ending: Ending) {
@@ -156,7 +169,7 @@ impl<W: Write + Drop> Hears for Printer<'_, W> {
 /// A share whose recording is printed: its clients are let in by the recorded answers.
 #[derive(Drop)]
 struct Printed<'m> {
-    share: Share<LoggedLogin<'m, RecordedLogin<'m, Tokens>>, NodeTree, HandleTable>,
+    share: Share<RecordedLogin<'m, Tokens>, NodeTree, HandleTable>,
     /// When it was made, in units of 100 ns since 1601.
     created: u64,
 }
@@ -166,14 +179,13 @@ fn printed_of<'m>(
     rt: &HostRuntime,
     path: &str,
     mailbox: &'m Mailbox,
-    visitors: &'m Visitors,
 ) -> Result<Printed<'m>, Fault> {
     let alloc = rt.alloc();
     let (header, given) = read_recording(rt, path)?;
     let config = header.config(alloc).map_err(KeptFault::Journal)?;
     let created = config.created;
     let login = recorded_login(header.hello, given, nobody(alloc)?, mailbox)?;
-    let share = share_of(alloc, config, LoggedLogin::new(login, visitors))?;
+    let share = share_of(alloc, config, login)?;
     Ok(Printed { share, created })
 }
 
@@ -196,7 +208,7 @@ fn print_events<A: Authenticator + Drop>(
     };
     let performed = perform_file(rt, path, share, &mut printer);
     let has_failed = printer.has_failed;
-    printer.hearing.finish();
+    printer.hearing.finish(share.usage());
     match performed {
         Ok(_) => Ok(()),
         Err(_) if has_failed => Err(Fault::Command(CommandFault::OutputFailed)),
@@ -208,10 +220,9 @@ fn print_events<A: Authenticator + Drop>(
 fn print_logged(rt: &HostRuntime, path: &str, log: Option<LogWords<'_>>) -> Result<(), Fault> {
     let mailbox = Mailbox::new(rt.alloc());
     mailbox.close();
-    let visitors = Visitors::new(rt.alloc());
-    match printed_of(rt, path, &mailbox, &visitors) {
+    match printed_of(rt, path, &mailbox) {
         Ok(mut printed) => {
-            let hearing = Hearing::open(rt, log, &visitors, printed.created)?;
+            let hearing = Hearing::open(rt, log, printed.created)?;
             print_events(rt, path, &mut printed.share, &mailbox, hearing)
         }
         Err(fault) => Err(fault),

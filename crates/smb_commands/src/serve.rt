@@ -3,7 +3,7 @@
 use crate::clock::ServeClock;
 use crate::compaction::write_anew_or_say;
 use crate::fault::Fault;
-use crate::logging::{Heard, LogWords, ServedPeers, log_of};
+use crate::logging::{LogWords, ServedLog, ServedPeers, TcpFacts, served_log};
 use crate::login::{ntlm_of, read_accounts};
 use crate::notices::{Entrance, say_notices};
 use crate::served_record::{Serving, serve_folder, serve_recorded, serve_recorded_folder};
@@ -12,7 +12,8 @@ use smb_command_line::{Login, Texts};
 use smb_config::Configuration;
 use smb_engine::{Authenticator, Config, HandleTable, NodeTree, Share};
 use smb_kept::{KeepWords, share_of};
-use smb_log::{LogObserver, LoggedLogin, LoggedPeers};
+use smb_log::{LogObserver, LoggedPeers};
+use smb_peers::Usage;
 use smb_replay::{CommandFault, ListenFault};
 use smb_serving::serve_until_observed;
 use smb_tcp::TcpPeers;
@@ -43,9 +44,10 @@ pub struct ServeWords<'a> {
     pub from: Option<&'a str>,
     /// The moment of the first piece, for tests.
     pub clock: Option<u64>,
-    /// Where the share is logged, if it is, and what the log hears of.
+    /// Where the share is logged, if it is.
     pub log: Option<LogWords<'a>>,
-    pub heard: &'a Heard,
+    /// What is known of the connections of its clients.
+    pub facts: &'a TcpFacts,
     /// Whether a journal is written anew first that is much longer than its files ask for.
     pub writes_anew: bool,
 }
@@ -106,32 +108,29 @@ fn peers_of<'a>(
         peers = peers.with_unanswered_limit(Duration::from_secs(words.unanswered_seconds));
     }
     if words.log.is_some() {
-        peers = peers.with_facts(&words.heard.facts.peers);
+        peers = peers.with_facts(&words.facts.peers);
     }
     Ok(peers)
 }
 
-/// The peers of a share whose next connection has the number `next`, once it listens: all of them are logged, where the words ask for it.
-pub fn listening_peers<'a>(
+/// The peers of a share whose next connection has the number `next`, once it listens: all of them are logged, where there is a log.
+pub fn listening_peers<'l, 'a: 'l>(
     rt: &'a HostRuntime,
     words: &ServeWords<'a>,
     entrance: Entrance,
+    log: &'l ServedLog<'a>,
     next: u64,
-) -> Result<ServedPeers<'a>, Fault> {
-    let log = log_of(rt, words.log)?;
+) -> Result<ServedPeers<'l, 'a>, Fault> {
     let stops = words.log.is_some_and(|log| log.must);
     let listener = begin_to_listen(rt, words, entrance)?;
     let peers = peers_of(rt, words, listener)?;
     let clock = ServeClock::new(rt, words.clock);
-    let heard = words.heard;
     let mut logged = LoggedPeers::new(
         rt.alloc(),
         peers,
-        &heard.facts,
+        words.facts,
         clock,
-        &heard.visitors,
-        &heard.reasons,
-        log,
+        log.as_ref(),
         stops,
         next,
     );
@@ -140,8 +139,8 @@ pub fn listening_peers<'a>(
 }
 
 /// What is served, once all is said of it that is logged.
-pub fn end_of(peers: ServedPeers<'_>) -> Result<Served, Fault> {
-    if peers.finish() {
+pub fn end_of(peers: ServedPeers<'_, '_>, usage: Usage) -> Result<Served, Fault> {
+    if peers.finish(usage) {
         Ok(Served::Done)
     } else {
         Err(Fault::LogFailed)
@@ -168,12 +167,13 @@ pub fn serve_peers<A: Authenticator + Drop>(
         words,
         entrance,
     } = serving;
-    match listening_peers(rt, words, entrance, next) {
+    let log = served_log(rt, words.log)?;
+    match listening_peers(rt, words, entrance, &log, next) {
         Ok(mut peers) => {
-            let mut observer = LogObserver::new(&words.heard.reasons);
+            let mut observer = LogObserver::new(log.as_ref(), ServeClock::new(rt, words.clock));
             let turns = words.turns;
             let _ = serve_until_observed(share, &mut peers, clock, turns, &mut observer);
-            end_of(peers)
+            end_of(peers, share.usage())
         }
         Err(fault) => Err(fault),
     }
@@ -228,8 +228,7 @@ fn serve_by_token(
         authenticator,
         ..
     } = configuration;
-    let login = LoggedLogin::new(authenticator, &words.heard.visitors);
-    serve_by(rt, words, entrance, config, login)
+    serve_by(rt, words, entrance, config, authenticator)
 }
 
 /// Serves a share to which clients log in by NTLM.
@@ -244,8 +243,7 @@ fn serve_by_ntlm(
     let accounts = read_accounts(alloc, words.texts.accounts())?;
     entrance.accounts = accounts.list.len();
     let ntlm = ntlm_of(alloc, &configuration, accounts, seed)?;
-    let login = LoggedLogin::new(ntlm, &words.heard.visitors);
-    serve_by(rt, words, entrance, configuration.config, login)
+    serve_by(rt, words, entrance, configuration.config, ntlm)
 }
 
 /// Serves a share of a configuration, for so many turns, where its journal is not to be written anew first.

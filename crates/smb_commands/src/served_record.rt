@@ -2,7 +2,7 @@
 
 use crate::clock::ServeClock;
 use crate::fault::Fault;
-use crate::logging::ServedPeers;
+use crate::logging::{ServedLog, ServedPeers, served_log};
 use crate::notices::{Entrance, say_cut};
 use crate::serve::{ServeWords, Served, end_of, listening_peers, serve_peers};
 use smb_engine::{Authenticator, Config};
@@ -12,6 +12,7 @@ use smb_kept::{
     path_of, put_folder_in, recorded_share,
 };
 use smb_log::LogObserver;
+use smb_peers::Usage;
 use smb_reason::Reason;
 use smb_serving::serve_until_observed;
 use std::alloc::Global;
@@ -42,7 +43,7 @@ impl Store for Nowhere {
 }
 
 /// The peers of a share of which all is recorded.
-type Recorded<'a> = RecordedPeers<'a, ServedPeers<'a>, ServeClock<'a>, File>;
+type Recorded<'l, 'a> = RecordedPeers<'l, ServedPeers<'l, 'a>, ServeClock<'a>, File>;
 
 /// What is served, and how.
 #[derive(Clone, Copy)]
@@ -53,39 +54,44 @@ pub struct Serving<'a, 'w> {
 }
 
 /// The peers of a share of which all is recorded, once it listens.
-fn recorded_peers<'a>(
+fn recorded_peers<'l, 'a: 'l>(
     serving: Serving<'a, '_>,
     begun: Begun,
-    shared: Shared<'a>,
+    shared: Shared<'l>,
+    log: &'l ServedLog<'a>,
     clock: ServeClock<'a>,
-) -> Result<Recorded<'a>, Fault> {
+) -> Result<Recorded<'l, 'a>, Fault> {
     let Serving {
         rt,
         words,
         entrance,
     } = serving;
     let Begun { recorder, next, .. } = begun;
-    let peers = listening_peers(rt, words, entrance, next)?;
+    let peers = listening_peers(rt, words, entrance, log, next)?;
     let Shared { moment, mailbox } = shared;
     let recorded = RecordedPeers::new(rt.alloc(), peers, clock, moment, mailbox, recorder, next)?;
     Ok(recorded)
 }
 
 /// Logs that the record can't be written, where there is memory for the line.
-fn log_failure(alloc: Global, peers: &mut ServedPeers<'_>, reason: Reason) {
+fn log_failure(alloc: Global, peers: &mut ServedPeers<'_, '_>, reason: Reason) {
     if let Ok(event) = format!(in alloc; "failed: the record can't be written: {reason}") {
         peers.note(event.as_str());
     }
 }
 
 /// What is served, once all of it is recorded and logged.
-fn end_of_recorded(alloc: Global, recorded: Recorded<'_>) -> Result<Served, Fault> {
+fn end_of_recorded(
+    alloc: Global,
+    recorded: Recorded<'_, '_>,
+    usage: Usage,
+) -> Result<Served, Fault> {
     let (recorder, mut peers) = recorded.finish();
     let failure = recorder.failure();
     if let Some(reason) = failure {
         log_failure(alloc, &mut peers, reason);
     }
-    let ended = end_of(peers);
+    let ended = end_of(peers, usage);
     match failure {
         None => ended,
         Some(reason) => Err(Fault::Kept(KeptFault::RecordFailed(reason))),
@@ -105,13 +111,15 @@ fn serve_begun<A: Authenticator + Drop>(
         moment: &moment,
         mailbox,
     };
-    match recorded_peers(serving, begun, shared, clock) {
+    let Serving { rt, words, .. } = serving;
+    let log = served_log(rt, words.log)?;
+    match recorded_peers(serving, begun, shared, &log, clock) {
         Ok(mut recorded) => {
             let mut told = RecordedClock::new(&moment);
-            let mut observer = LogObserver::new(&serving.words.heard.reasons);
-            let turns = serving.words.turns;
+            let mut observer = LogObserver::new(log.as_ref(), ServeClock::new(rt, words.clock));
+            let turns = words.turns;
             let _ = serve_until_observed(share, &mut recorded, &mut told, turns, &mut observer);
-            end_of_recorded(serving.rt.alloc(), recorded)
+            end_of_recorded(rt.alloc(), recorded, share.usage())
         }
         Err(fault) => Err(fault),
     }

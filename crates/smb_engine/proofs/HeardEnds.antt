@@ -7,7 +7,6 @@ use Rattle.smb_frame.specs.Reading.{fault_of, rest}
 use Rattle.smb_frame.specs.declared.fault.FrameFault.{FrameFault}
 use Rattle.smb_body.specs.declared.smb1.Smb1Dialects.{Smb1Dialects}
 use Rattle.smb_session.specs.Authenticator.{Meaning}
-use Rattle.smb_refusals.specs.declared.refusal.Refusal.{Refusal}
 use Rattle.smb_request.specs.State.{ServerState}
 use Rattle.smb_request.specs.Response.{ResponseState}
 use Rattle.smb_peers.specs.Event.{EventText, opens, brings, ends}
@@ -18,7 +17,7 @@ use Rattle.smb_engine.specs.declared.arrival.Arrival.{Arrival}
 use Rattle.smb_engine.specs.declared.connection.Connection.{Connection}
 use Rattle.smb_engine.specs.declared.fault.ServeFault.{ServeFault}
 use Rattle.smb_engine.specs.Laws.{ends_put_out, ends_heard, EachEndIsHeard}
-use Rattle.smb_engine.specs.Observed.{response_observed, requests_observed, ending_observed, smb1_ending, payload_ending, payload_observed, payloads_observed, piece_observed, event_observed, run_observed}
+use Rattle.smb_engine.specs.Observed.{response_observed, request_observed, requests_observed, smb1_observed, ending_observed, smb1_ending, payload_ending, payload_observed, payloads_observed, piece_observed, event_observed, run_observed}
 use Rattle.smb_engine.specs.Output.{Output, end_of, reply_frame}
 use Rattle.smb_engine.specs.Parts.{added_payloads, and_then, first_negotiate, framed_chain, chain_begun, refused_at_once, refused_step, then_ran}
 use Rattle.smb_engine.specs.Run.{PerformedRequest, Step, admitted, ending_of, smb1_step, chain_step, payload_step, payload_steps, piece_step, bytes_step, EventStep, event_step, event_refusal, Ran, run}
@@ -34,24 +33,21 @@ put_both : (xs ys : List Output) → ends_put_out (xs ++ ys) ≡ ends_put_out xs
 put_both xs ys = flat_map-append _ xs ys
 
 -- requests end nothing, and neither do replies
-refusal_ends_none : (n : ℕ) (request : List ℕ) (response : Option ResponseState) → ends_heard (response_observed n request response) ≡ []
-refusal_ends_none n request None = refl
-refusal_ends_none n request (Some response) = by response.refusal
-  where
-    by : (o : Option Refusal) → ends_heard (response_observed n request (Some (record response { refusal = o }))) ≡ []
-    by None = refl
-    by (Some refusal) = refl
+response_ends_none : (n credits : ℕ) (request : List ℕ) (response : Option ResponseState) → ends_heard (response_observed n request credits response) ≡ []
+response_ends_none n credits request None = refl
+response_ends_none n credits request (Some response) = refl
 
-requests_end_none : {S : Type 0} (n : ℕ) (requests : List (PerformedRequest S)) → ends_heard (requests_observed n requests) ≡ []
-requests_end_none n [] = refl
-requests_end_none {S} n (x ∷ requests) =
-    let first = option_map_or (λ request. response_observed n request x.response) x.request [] in
-    heard_both first (requests_observed n requests) ∙ by x.request (requests_end_none n requests)
+requests_end_none : {S : Type 0} (arrival : Arrival) (payload : List ℕ) (requests : List (PerformedRequest S)) → ends_heard (requests_observed arrival payload requests) ≡ []
+requests_end_none arrival payload [] = refl
+requests_end_none {S} arrival payload (x ∷ requests) =
+    let one : Option (List ℕ) → List Observed = λ o. option_map_or (λ request. request_observed arrival x.dialect x.context request x.credits x.response) o (smb1_observed arrival.connection_id payload x.credits) in
+    heard_both (one x.request) (requests_observed arrival payload requests) ∙ by x.request (requests_end_none arrival payload requests)
   where
-    by : (o : Option (List ℕ)) → ends_heard (requests_observed n requests) ≡ [] →
-        ends_heard (option_map_or (λ request. response_observed n request x.response) o []) ++ ends_heard (requests_observed n requests) ≡ []
+    by : (o : Option (List ℕ)) → ends_heard (requests_observed arrival payload requests) ≡ [] →
+        ends_heard (option_map_or (λ request. request_observed arrival x.dialect x.context request x.credits x.response) o (smb1_observed arrival.connection_id payload x.credits))
+        ++ ends_heard (requests_observed arrival payload requests) ≡ []
     by None h = h
-    by (Some request) h = rw (refusal_ends_none n request x.response) h
+    by (Some request) h = rw (response_ends_none arrival.connection_id x.credits request x.response) h
 
 frame_ends_none : (n : ℕ) (replies : List ℕ) → ends_put_out (reply_frame n replies) ≡ []
 frame_ends_none n [] = refl
@@ -100,8 +96,8 @@ module _ {S : Type 0} (m : Meaning S) (arrival : Arrival) where
       ends_heard (payload_observed m arrival server connection payload) ≡ end_if (payload_step m arrival server connection payload).stays_open
   payload_heard server connection payload =
       let requests = (payload_step m arrival server connection payload).requests in
-      heard_both (requests_observed n requests) (ending_observed n (payload_ending connection payload))
-      ∙ ap (λ t. t ++ ends_heard (ending_observed n (payload_ending connection payload))) (requests_end_none n requests)
+      heard_both (requests_observed arrival payload requests) (ending_observed n (payload_ending connection payload))
+      ∙ ap (λ t. t ++ ends_heard (ending_observed n (payload_ending connection payload))) (requests_end_none arrival payload requests)
       ∙ ending_ends (payload_ending connection payload)
       ∙ ap end_if (sym (stays_is server connection payload))
 

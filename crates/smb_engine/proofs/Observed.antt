@@ -1,6 +1,6 @@
 -- What an observer heard: one request, one payload, one piece, one event further.
 use Rattle.std.proofs.Common.{◌≡◌, ℕ, zero, suc, ◌+◌, ◌≤◌, ◌<◌, Bool, true, false, get_or, List, [], ◌∷◌, ◌++◌, length, take, drop, Option, None, Some, refl, sym, ap, ◌∙◌, append_assoc, arith, if◌then◌else◌}
-use Rattle.std.specs.Prelude.{slice_get}
+use Rattle.std.specs.Prelude.{slice_get, IfSome, IfNone}
 use Rattle.std.specs.Option.{option_map, option_map_or}
 use Rattle.std.proofs.lemmas.List.{append-nil, take_all, length-map}
 use Rattle.std.proofs.lemmas.Grind.{flat_map-append}
@@ -11,15 +11,17 @@ use Rattle.smb_frame.specs.Reading.{first, fault_of, payloads, rest}
 use Rattle.smb_frame.specs.Parts.{after}
 use Rattle.smb_frame.proofs.Streams.{payloads-none, payloads-some, payloads-more, rest-more}
 use Rattle.smb_session.specs.Authenticator.{Meaning}
+use Rattle.smb_session.specs.Window.{credits_granted}
 use Rattle.smb_request.specs.State.{ServerState}
 use Rattle.smb_request.specs.Request.{performed}
 use Rattle.smb_request.specs.Response.{ResponseState}
 use Rattle.smb_request.specs.InPlace.{AnswerHeld, answer_held, answer_behind}
 use Rattle.smb_request.specs.declared.response.Answered.{Answered}
-use Rattle.smb_refusals.specs.declared.refusal.Refusal.{Refusal}
 use Rattle.smb_head.specs.Headers.{header_of}
 use Rattle.smb_peers.specs.Record.{Keeping}
-use Rattle.smb_peers.specs.Observed.{Observed, refused}
+use Rattle.smb_peers.specs.Observed.{Observed, performed as was_performed}
+use Rattle.smb_wire.specs.declared.dialect.Dialect.{Dialect}
+use Rattle.smb_request.specs.declared.context.Context.{Context}
 use Rattle.smb_peers.specs.declared.event.Event.{Event}
 use Rattle.smb_peers.specs.Event.{EventText, opens, brings, ends, text_of}
 use Rattle.smb_peers.specs.declared.ending.Ending.{Ending}
@@ -32,10 +34,11 @@ use Rattle.smb_engine.specs.Output.{Output}
 use Rattle.smb_engine.specs.Sink.{Heard}
 use Rattle.smb_engine.specs.Run.{PerformedRequest, ChainState, one_performed, requests_of_chain, admitted, ending_of, Step, chain_step, payload_step, payload_steps, event_step, event_refusal, run}
 use Rattle.smb_engine.specs.Parts.{and_then, added_payloads, all_performed, chain_begun, unread_stream, events_of}
-use Rattle.smb_engine.specs.Held.{Waits}
+use Rattle.smb_engine.specs.Held.{Waits, report_observed}
+use Rattle.smb_peers.specs.declared.observer.Acting.{Acting}
 use Rattle.smb_engine.specs.InPlace.{ChainStatePlaced, step_behind}
 use Rattle.smb_engine.specs.SoFar.{AreTaken}
-use Rattle.smb_engine.specs.Observed.{response_observed, requests_observed, ending_observed, payload_observed, payloads_observed, piece_observed, event_observed, run_observed}
+use Rattle.smb_engine.specs.Observed.{acting_on, response_observed, request_observed, requests_observed, ending_observed, payload_observed, payloads_observed, piece_observed, event_observed, run_observed}
 use Rattle.smb_engine.proofs.Chains.{first_chain, ChainSoFar}
 use Rattle.smb_engine.proofs.Endings.{none_admitted}
 use Rattle.smb_engine.proofs.Pieces.{added-waits}
@@ -82,13 +85,38 @@ left_none k₀ k₁ a₀ a₁ left all one none = λ keeps.
 
 -- A CHAIN
 
--- what is heard of a response is told by its refusal
-pub same_refusal : (connection : ℕ) (request front out : List ℕ) (answered : Answered) (response : Option ResponseState) → Some (answer_held answered out) ≡ option_map (answer_behind front) response →
-    response_observed connection request (Some (record { status = answered.status; refusal = answered.refusal; ids = answered.ids; body = [] })) ≡ response_observed connection request response
-same_refusal connection request front out answered None h = cc
-same_refusal connection request front out answered (Some response) h =
-    let same : answered.refusal ≡ response.refusal = ap (λ o. option_map_or (λ (answer : AnswerHeld). answer.refusal) o None) h in
-    ap (λ (o : Option Refusal). option_map_or (λ refusal. refused connection (header_of request).message_id (header_of request).command.0 refusal ∷ []) o []) same
+-- what is heard of a response is told by its status and its refusal
+pub same_response : (connection credits : ℕ) (request front out : List ℕ) (answered : Answered) (response : Option ResponseState) → Some (answer_held answered out) ≡ option_map (answer_behind front) response →
+    response_observed connection request credits (Some (record { status = answered.status; refusal = answered.refusal; ids = answered.ids; body = [] })) ≡ response_observed connection request credits response
+same_response connection credits request front out answered None h = cc
+same_response connection credits request front out answered (Some response) h =
+    let status : answered.status ≡ response.status = ap (λ o. option_map_or (λ (answer : AnswerHeld). answer.status) o answered.status) h in
+    let refusal : answered.refusal ≡ response.refusal = ap (λ o. option_map_or (λ (answer : AnswerHeld). answer.refusal) o None) h in
+    rw (status, refusal) refl
+
+-- what is reported of a request is what is heard of it
+pub same_report : (arrival : Arrival) (dialect : Option Dialect) (context : Context) (credits credits' : ℕ) (request front out : List ℕ) (answered : Answered) (response : Option ResponseState) → credits ≡ credits' →
+    Some (answer_held answered out) ≡ option_map (answer_behind front) response →
+    report_observed arrival.connection_id request (acting_on arrival dialect context request) (Some (answered, credits)) ≡ request_observed arrival dialect context request credits' response
+same_report arrival dialect context credits credits' request front out answered response e h =
+    ap (λ t. was_performed arrival.connection_id request (acting_on arrival dialect context request) ∷ t)
+    (same_response arrival.connection_id credits request front out answered response h ∙ ap (λ k. response_observed arrival.connection_id request k response) e)
+
+pub same_cancelled : (arrival : Arrival) (dialect : Option Dialect) (context : Context) (credits : ℕ) (request front : List ℕ) (response : Option ResponseState) → None ≡ option_map (answer_behind front) response →
+    report_observed arrival.connection_id request (acting_on arrival dialect context request) None ≡ request_observed arrival dialect context request credits response
+same_cancelled arrival dialect context credits request front None h = refl
+same_cancelled arrival dialect context credits request front (Some response) h = cc
+
+-- a request was noted, and then reported, to an observer that listens; one that does not keeps no record
+pub report_grew : (acting : Option Acting) (acts : Acting) (k₀ k₁ k₂ : Bool) (a₀ a₁ a₂ : List Observed) (connection : ℕ) (request : List ℕ) (answered : Option (Answered × ℕ)) (xs : List Observed) →
+    IfSome acting (λ it. it ≡ acts) → IfNone acting (k₁ ≡ true → ⊥) → Keeping k₀ k₁ (a₁ ≡ a₀) →
+    IfSome acting (λ it. Keeping k₁ k₂ (a₂ ≡ a₁ ++ report_observed connection request it answered)) → IfNone acting (k₂ ≡ true → k₁ ≡ true) →
+    report_observed connection request acts answered ≡ xs → Keeping k₀ k₂ (a₂ ≡ a₀ ++ xs)
+report_grew None acts k₀ k₁ k₂ a₀ a₁ a₂ connection request answered xs is deaf noted reported still same = λ keeps. absurd (deaf (still keeps))
+report_grew (Some acting) acts k₀ k₁ k₂ a₀ a₁ a₂ connection request answered xs is deaf noted reported still same = λ keeps.
+    let later = reported keeps in
+    let before = noted later.0 in
+    (before.0, later.1 ∙ ap (λ t. t ++ report_observed connection request acting answered) before.1 ∙ ap (λ it. a₀ ++ report_observed connection request it answered) is ∙ ap (λ t. a₀ ++ t) same)
 
 module _ {S : Type 0} (m : Meaning S) (arrival : Arrival) where
   -- the record of a request that was performed in a chain
@@ -100,6 +128,7 @@ module _ {S : Type 0} (m : Meaning S) (arrival : Arrival) where
     request = Some request;
     after = (one_performed m arrival chain request).server;
     response = (performed m arrival.connection_id arrival.moment chain.server chain.connection.dialect chain.context request).response;
+    credits = credits_granted chain.connection.window (header_of request).credits;
   }
 
   requests-more : (chain : ChainState S) (i : ℕ) (requests : List (List ℕ)) (request : List ℕ) → slice_get requests i ≡ Some request →
@@ -111,28 +140,30 @@ module _ {S : Type 0} (m : Meaning S) (arrival : Arrival) where
       rw e (ap (λ t. one_request chain x ∷ t) (requests-more (one_performed m arrival chain x) i requests request h))
 
   -- what was heard of the first i requests of a chain
-  abbrev pub chain_observed : ChainState S → List (List ℕ) → ℕ → List Observed
-  chain_observed chain requests i = requests_observed arrival.connection_id (requests_of_chain m arrival chain (take i requests))
+  abbrev pub chain_observed : List ℕ → ChainState S → List (List ℕ) → ℕ → List Observed
+  chain_observed payload chain requests i = requests_observed arrival payload (requests_of_chain m arrival chain (take i requests))
 
-  pub chain_heard_more : (chain : ChainState S) (i : ℕ) (requests : List (List ℕ)) (request : List ℕ) (k₀ k₁ k₂ : Bool) (a₀ a₁ a₂ x : List Observed) → slice_get requests i ≡ Some request →
-      x ≡ requests_observed arrival.connection_id (one_request (all_performed m arrival chain (take i requests)) request ∷ []) →
-      Keeping k₀ k₁ (a₁ ≡ a₀ ++ chain_observed chain requests i) → Keeping k₁ k₂ (a₂ ≡ a₁ ++ x) →
-      Keeping k₀ k₂ (a₂ ≡ a₀ ++ chain_observed chain requests (i + 1))
-  chain_heard_more chain i requests request k₀ k₁ k₂ a₀ a₁ a₂ x at e one two =
+  pub chain_heard_more : (payload : List ℕ) (chain : ChainState S) (i : ℕ) (requests : List (List ℕ)) (request : List ℕ) (k₀ k₁ k₂ : Bool) (a₀ a₁ a₂ x : List Observed) → slice_get requests i ≡ Some request →
+      x ≡ requests_observed arrival payload (one_request (all_performed m arrival chain (take i requests)) request ∷ []) →
+      Keeping k₀ k₁ (a₁ ≡ a₀ ++ chain_observed payload chain requests i) → Keeping k₁ k₂ (a₂ ≡ a₁ ++ x) →
+      Keeping k₀ k₂ (a₂ ≡ a₀ ++ chain_observed payload chain requests (i + 1))
+  chain_heard_more payload chain i requests request k₀ k₁ k₂ a₀ a₁ a₂ x at e one two =
       let done = requests_of_chain m arrival chain (take i requests) in
       let last = one_request (all_performed m arrival chain (take i requests)) request ∷ [] in
-      let same : chain_observed chain requests i ++ x ≡ chain_observed chain requests (i + 1) =
-      ap (λ t. chain_observed chain requests i ++ t) e
+      let same : chain_observed payload chain requests i ++ x ≡ chain_observed payload chain requests (i + 1) =
+      ap (λ t. chain_observed payload chain requests i ++ t) e
       ∙ sym (flat_map-append _ done last)
-      ∙ ap (requests_observed arrival.connection_id) (sym (requests-more chain i requests request at)) in
+      ∙ ap (requests_observed arrival payload) (sym (requests-more chain i requests request at)) in
       grew_as k₀ k₂ a₀ a₂ _ _ same (grew_twice k₀ k₁ k₂ a₀ a₁ a₂ _ x one two)
 
   -- what was heard of the next request of a chain
-  pub chain_heard_one : (front : List ℕ) (start : ChainState S) (now : ChainStatePlaced S) (requests : List (List ℕ)) (request : List ℕ) (i : ℕ) → ChainSoFar m arrival front start now requests i →
-      response_observed arrival.connection_id request (performed m arrival.connection_id arrival.moment now.server now.connection.dialect now.context request).response
-      ≡ requests_observed arrival.connection_id (one_request (all_performed m arrival start (take i requests)) request ∷ [])
-  chain_heard_one front start now requests request i h =
-      ap (λ t. response_observed arrival.connection_id request (performed m arrival.connection_id arrival.moment t.server t.connection.dialect t.context request).response) h.so_far
+  pub chain_heard_one : (front payload : List ℕ) (start : ChainState S) (now : ChainStatePlaced S) (requests : List (List ℕ)) (request : List ℕ) (i : ℕ) → ChainSoFar m arrival front start now requests i →
+      request_observed arrival now.connection.dialect now.context request (credits_granted now.connection.window (header_of request).credits)
+      (performed m arrival.connection_id arrival.moment now.server now.connection.dialect now.context request).response
+      ≡ requests_observed arrival payload (one_request (all_performed m arrival start (take i requests)) request ∷ [])
+  chain_heard_one front payload start now requests request i h =
+      ap (λ t. request_observed arrival t.connection.dialect t.context request (credits_granted t.connection.window (header_of request).credits)
+      (performed m arrival.connection_id arrival.moment t.server t.connection.dialect t.context request).response) h.so_far
       ∙ sym (append-nil _)
 
   no_ending : (connection : Connection) (payload : List ℕ) (requests : List (List ℕ)) (ending : Option Ending) → ending_of connection payload ≡ ending → admitted connection payload ≡ Some requests → ending ≡ None
@@ -142,20 +173,20 @@ module _ {S : Type 0} (m : Meaning S) (arrival : Arrival) where
   -- a chain that was performed whole
   pub chain_heard_all : (server : ServerState S) (connection connection' : Connection) (payload : List ℕ) (requests : List (List ℕ)) (i : ℕ) (k₀ k₁ : Bool) (a₀ a₁ : List Observed) →
       admitted connection payload ≡ Some requests → connection' ≡ (chain_begun server connection requests).connection → length requests ≤ i →
-      Keeping k₀ k₁ (a₁ ≡ a₀ ++ chain_observed (first_chain server connection') requests i) →
-      Keeping k₀ k₁ (a₁ ≡ a₀ ++ (requests_observed arrival.connection_id (chain_step m arrival server connection payload).requests ++ ending_observed arrival.connection_id (ending_of connection payload)))
+      Keeping k₀ k₁ (a₁ ≡ a₀ ++ chain_observed payload (first_chain server connection') requests i) →
+      Keeping k₀ k₁ (a₁ ≡ a₀ ++ (requests_observed arrival payload (chain_step m arrival server connection payload).requests ++ ending_observed arrival.connection_id (ending_of connection payload)))
   unfolding chain_step
   chain_heard_all server connection connection' payload requests i k₀ k₁ a₀ a₁ h c l one =
       let none : ending_of connection payload ≡ None = no_ending connection payload requests (ending_of connection payload) refl h in
       let whole : take i requests ≡ requests = take_all i requests l in
-      let same : chain_observed (first_chain server connection') requests i ≡ requests_observed arrival.connection_id (requests_of_chain m arrival (chain_begun server connection requests) requests) =
+      let same : chain_observed payload (first_chain server connection') requests i ≡ requests_observed arrival payload (requests_of_chain m arrival (chain_begun server connection requests) requests) =
       rw (whole, c) refl in
       rw (h, none) (grew_as k₀ k₁ a₀ a₁ _ _ (same ∙ sym (append-nil _)) one)
 
   -- a payload that ends its connection by a rule
   pub chain_heard_none : (server : ServerState S) (connection : Connection) (payload : List ℕ) (ending : Ending) (k₀ k₁ : Bool) (a₀ a₁ : List Observed) →
       ending_of connection payload ≡ Some ending → Keeping k₀ k₁ (a₁ ≡ a₀ ++ ending_observed arrival.connection_id (Some ending)) →
-      Keeping k₀ k₁ (a₁ ≡ a₀ ++ (requests_observed arrival.connection_id (chain_step m arrival server connection payload).requests ++ ending_observed arrival.connection_id (ending_of connection payload)))
+      Keeping k₀ k₁ (a₁ ≡ a₀ ++ (requests_observed arrival payload (chain_step m arrival server connection payload).requests ++ ending_observed arrival.connection_id (ending_of connection payload)))
   unfolding chain_step
   chain_heard_none server connection payload ending k₀ k₁ a₀ a₁ h one = rw (h, none_admitted connection payload ending h) one
 

@@ -4,7 +4,9 @@ use Rattle.std.proofs.lemmas.Bool.{eq-eqb}
 use Rattle.std.specs.List.{AllByRecursion, Any}
 use Rattle.std.specs.Option.{option_map_or}
 use Rattle.smb_frame.specs.Reading.{rest}
+use Rattle.smb_head.specs.Headers.{header_of}
 use Rattle.smb_session.specs.Authenticator.{Meaning}
+use Rattle.smb_session.specs.Window.{credits_granted}
 use Rattle.smb_session.specs.Session.{SessionState}
 use Rattle.smb_session.specs.Table.{session_at}
 use Rattle.smb_body.specs.declared.smb1.Smb1Dialects.{Smb1Dialects}
@@ -63,7 +65,7 @@ module _ {S : Type 0} (m : Meaning S) (acts : ℕ → Bool) where
     abbrev came_of : ChainState S → List ℕ → PerformedRequest S
     came_of chain request =
         let done = performed m n moment chain.server chain.connection.dialect chain.context request in
-        record { before = chain.server; dialect = chain.connection.dialect; context = chain.context; request = Some request; after = (one_performed m (arrived n moment) chain request).server; response = done.response }
+        record { before = chain.server; dialect = chain.connection.dialect; context = chain.context; request = Some request; after = (one_performed m (arrived n moment) chain request).server; response = done.response; credits = credits_granted chain.connection.window (header_of request).credits }
 
     one_left : (chain : ChainState S) (request : List ℕ) → IsInOrder chain.server → LeavesAt (came_of chain request ∷ []) chain.server (one_performed m (arrived n moment) chain request).server
     one_left chain request o =

@@ -1,6 +1,11 @@
 -- For the proofs; nothing here need be believed.
 -- What the code holds of the definitions' values.
-use Rattle.std.specs.Prelude.{◌≡◌, ℕ, ◌++◌, ◌≤◌, ◌<◌, Bool, false, None, List, length, map, IsTrue}
+use Rattle.std.specs.Prelude.{◌≡◌, ℕ, ◌++◌, ◌≤◌, ◌<◌, Bool, false, Option, None, Some, List, [], ◌∷◌, length, map, IsTrue}
+use Rattle.std.specs.Option.{option_map_or}
+use Rattle.smb_peers.specs.declared.observer.Acting.{Acting}
+use Rattle.smb_peers.specs.Observed.{Observed, performed}
+use Rattle.smb_request.specs.declared.response.Answered.{Answered}
+use Rattle.smb_engine.specs.Observed.{response_observed}
 use Rattle.std.specs.List.{AllByRecursion}
 use Rattle.smb_wire.specs.Limits.{longest_payload, most_connections}
 use Rattle.smb_frame.specs.Reading.{first, fault_of, rest}
@@ -36,6 +41,15 @@ pub record IsPieceHeld {S : Type 0} (received piece : List ℕ) (step : Step S) 
   pub fate : stays_open ≡ step.stays_open
   pub rests : IsTrue stays_open → stream ≡ record { received = rest longest_payload (received ++ piece); connection = step.connection }
   pub waits : IsTrue stays_open → Waits stream
+
+-- of a request that acts on this: that it was performed, and how it was responded to and with how many credits, where it was
+abbrev pub report_observed : ℕ → List ℕ → Acting → Option (Answered × ℕ) → List Observed
+report_observed connection request acting answered =
+    performed connection request acting
+    ∷ option_map_or
+    (λ answer. response_observed connection request answer.1
+    (Some (record { status = answer.0.status; refusal = answer.0.refusal; ids = answer.0.ids; body = [] })))
+    answered []
 
 -- the first `done` requests of a step were performed, and then memory ran out, or the step ended
 pub record StoppedAfter {S : Type 0} (server : ServerState S) (step : Step S) (done : ℕ) (left : ServerState S) : Type 0 where

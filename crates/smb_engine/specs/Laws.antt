@@ -9,7 +9,7 @@ use Rattle.smb_session.specs.Table.{session_at}
 use Rattle.smb_opens.specs.Readers.{LeavesFiles}
 use Rattle.smb_request.specs.Laws.{IsInOrder, IsAsItWas, IsOver, ReplacesSession, AllMayOnlyRead}
 use Rattle.smb_peers.specs.Event.{EventText, brings, connection_of}
-use Rattle.smb_peers.specs.Observed.{Observed, refused, ended}
+use Rattle.smb_peers.specs.Observed.{Observed, performed, responded, ended}
 use Rattle.smb_engine.specs.declared.connection.Connection.{Connection}
 use Rattle.smb_engine.specs.State.{ShareState, stream_of}
 use Rattle.smb_engine.specs.Good.{GoodState}
@@ -46,7 +46,8 @@ ends_put_out outputs = flat_map
 abbrev pub ends_heard : List Observed → List ℕ
 ends_heard heard = flat_map
     (λ it. elim it as (λ it. List ℕ) [
-      | refused connection message_id command refusal ↦ []
+      | performed connection request acting ↦ []
+      | responded connection response ↦ []
       | ended connection rule ↦ connection ∷ []
     ])
     heard

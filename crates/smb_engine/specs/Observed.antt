@@ -1,5 +1,5 @@
--- What an observer hears of a share: by which rows requests are refused, and by which rules connections are ended, in the
--- order in which the share does this. Nothing that the share does depends on it.
+-- What an observer hears of a share: which requests are performed, how they are responded to, and by which rules connections
+-- are ended, in the order in which the share does this. Nothing that the share does depends on it.
 use Rattle.std.specs.Prelude.{ℕ, List, [], ◌∷◌, ◌++◌, length, drop, Option, Some, None, ◌||◌, if◌then◌else◌}
 use Rattle.std.specs.Option.{option_map, option_map_or}
 use Rattle.std.specs.List.{flat_map}
@@ -13,7 +13,14 @@ use Rattle.smb_request.specs.State.{ServerState}
 use Rattle.smb_request.specs.Response.{ResponseState}
 use Rattle.smb_peers.specs.declared.ending.Ending.{Ending}
 use Rattle.smb_peers.specs.declared.ending.Ending.TheVariants.{Frame, Smb1NoDialect}
-use Rattle.smb_peers.specs.Observed.{Observed, refused, ended}
+use Rattle.smb_peers.specs.Observed.{Observed, performed, responded, ended}
+use Rattle.smb_peers.specs.declared.observer.Acting.{Acting}
+use Rattle.smb_wire.specs.Commands.{code_of}
+use Rattle.smb_wire.specs.declared.command.Command.TheVariants.{Negotiate}
+use Rattle.smb_wire.specs.declared.dialect.Dialect.{Dialect}
+use Rattle.smb_wire.specs.declared.nt_status.NtStatus.TheVariants.{Success}
+use Rattle.smb_request.specs.declared.context.Context.{Context}
+use Rattle.smb_request.specs.Call.{call_of}
 use Rattle.smb_peers.specs.Event.{EventText, opens, brings, ends}
 use Rattle.smb_engine.specs.declared.arrival.Arrival.{Arrival}
 use Rattle.smb_engine.specs.declared.connection.Connection.{Connection}
@@ -21,20 +28,52 @@ use Rattle.smb_engine.specs.declared.fault.ServeFault.{ServeFault}
 use Rattle.smb_engine.specs.State.{StreamState, ShareState, stream_of}
 use Rattle.smb_engine.specs.Run.{PerformedRequest, ending_of, payload_step, payload_steps, event_step, event_refusal}
 
--- of a request and its response: the row by which it was refused, where it was
-abbrev pub response_observed : ℕ → List ℕ → Option ResponseState → List Observed
-response_observed connection request response = option_map_or
-    (λ (response : ResponseState). option_map_or
-    (λ refusal. refused connection (header_of request).message_id (header_of request).command.0 refusal ∷ [])
-    response.refusal [])
+-- what a request acts on that comes behind the requests of a context: the session and the tree connect that it acts under,
+-- and the number of the open that it names, 0 where it names none (3.3.5.2.7.2)
+abbrev pub acting_on : Arrival → Option Dialect → Context → List ℕ → Acting
+acting_on arrival dialect context request =
+    let call = call_of arrival.connection_id arrival.moment dialect context request in
+    record { session_id = call.ids.session_id; tree_id = call.ids.tree_id; open_number = call.open_number }
+
+-- of a request: how it was responded to, where it was
+abbrev pub response_observed : ℕ → List ℕ → ℕ → Option ResponseState → List Observed
+response_observed connection request credits response = option_map_or
+    (λ (response : ResponseState). responded connection (record {
+      message_id = (header_of request).message_id;
+      command = (header_of request).command;
+      status = response.status;
+      refusal = response.refusal;
+      credits = credits;
+    }) ∷ [])
     response []
 
--- of requests that were performed; an SMB_COM_NEGOTIATE is never refused
-abbrev pub requests_observed : {S : Type 0} → ℕ → List (PerformedRequest S) → List Observed
-requests_observed {S} connection requests = flat_map
-    (λ (performed : PerformedRequest S). option_map_or
-    (λ request. response_observed connection request performed.response)
-    performed.request [])
+-- of a request: that it was performed, and its response
+abbrev pub request_observed : Arrival → Option Dialect → Context → List ℕ → ℕ → Option ResponseState → List Observed
+request_observed arrival dialect context request credits response =
+    performed arrival.connection_id request (acting_on arrival dialect context request)
+    ∷ response_observed arrival.connection_id request credits response
+
+-- of an SMB_COM_NEGOTIATE that is answered: it is performed, by its payload, and its response is to MessageId 0 of a
+-- NEGOTIATE (3.3.5.3.1)
+abbrev pub smb1_observed : ℕ → List ℕ → ℕ → List Observed
+smb1_observed connection payload credits =
+    performed connection payload (record { session_id = 0; tree_id = 0; open_number = 0 })
+    ∷ responded connection (record {
+      message_id = 0;
+      command = record { 0 = code_of Negotiate };
+      status = Success;
+      refusal = None;
+      credits = credits;
+    })
+    ∷ []
+
+-- of the requests of a payload that were performed
+abbrev pub requests_observed : {S : Type 0} → Arrival → List ℕ → List (PerformedRequest S) → List Observed
+requests_observed {S} arrival payload requests = flat_map
+    (λ (came : PerformedRequest S). option_map_or
+    (λ request. request_observed arrival came.dialect came.context request came.credits came.response)
+    came.request
+    (smb1_observed arrival.connection_id payload came.credits))
     requests
 
 -- of a connection that is ended by a rule, or by none
@@ -56,7 +95,7 @@ module _ {S : Type 0} (authenticator : Meaning S) (arrival : Arrival) where
   -- of a payload: its requests, or the rule by which it ends the connection
   abbrev pub payload_observed : ServerState S → Connection → List ℕ → List Observed
   payload_observed server connection payload =
-      requests_observed arrival.connection_id (payload_step authenticator arrival server connection payload).requests
+      requests_observed arrival payload (payload_step authenticator arrival server connection payload).requests
       ++ ending_observed arrival.connection_id (payload_ending connection payload)
 
   -- of payloads in order, up to one that ends the connection

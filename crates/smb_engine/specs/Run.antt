@@ -47,7 +47,8 @@ use Rattle.smb_engine.specs.Output.{Output, end_of, reply_frame}
 -- A REQUEST
 
 -- a request that was performed: the server before and after it, the dialect of its connection and the context of its
--- chain as it came, its bytes, and its response; an SMB_COM_NEGOTIATE has neither bytes nor a response here
+-- chain as it came, its bytes, its response, and the credits that this grants; an SMB_COM_NEGOTIATE has neither bytes nor
+-- a response here
 pub record PerformedRequest (S : Type 0) : Type 0 where
   pub before : ServerState S
   pub dialect : Option Dialect
@@ -55,6 +56,7 @@ pub record PerformedRequest (S : Type 0) : Type 0 where
   pub request : Option (List ℕ)
   pub after : ServerState S
   pub response : Option ResponseState
+  pub credits : ℕ
 
 -- a chain in progress: the server, the connection, what the next related request acts under (3.3.5.2.7.2), and the
 -- replies
@@ -121,6 +123,7 @@ module _ {S : Type 0} (authenticator : Meaning S) (arrival : Arrival) where
         request = Some request;
         after = (one_performed chain request).server;
         response = done.response;
+        credits = credits_granted chain.connection.window (header_of request).credits;
       }
       ∷ requests_of_chain (one_performed chain request) requests
 
@@ -247,6 +250,7 @@ module _ {S : Type 0} (authenticator : Meaning S) (arrival : Arrival) where
           request = None;
           after = server;
           response = None;
+          credits = 1;
         } ∷ [];
       })
       answer

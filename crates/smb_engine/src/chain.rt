@@ -1,6 +1,6 @@
 //! A payload: its requests in order, and the replies in one payload ([MS-SMB2] 3.3.5.2).
 
-ghost use Rattle.std.specs.Prelude.{ℕ, List, ◌≡◌, ◌≤◌, ◌<◌, ◌+◌, ◌-◌, ◌^◌, [], ◌∷◌, ◌++◌, Some, is_some, OnOk, OnErr, IfOk, IfErr, IfSome, length, take, replicate, if◌then◌else◌};
+ghost use Rattle.std.specs.Prelude.{ℕ, List, ◌≡◌, ◌≤◌, ◌<◌, ◌+◌, ◌-◌, ◌^◌, [], ◌∷◌, ◌++◌, Some, Option, true, is_some, OnOk, OnErr, IfOk, IfErr, IfSome, IfNone, length, take, replicate, if◌then◌else◌};
 ghost use Rattle.std.specs.List.{flat_map};
 ghost use Rattle.smb_head.specs.Headers.{header_of};
 ghost use Rattle.smb_head.specs.Replies.{Reply, rounded_up};
@@ -13,12 +13,14 @@ ghost use Rattle.smb_request.specs.Negotiate.{negotiate_answer};
 ghost use Rattle.smb_request.specs.Smb1.{reply_to_smb1};
 ghost use Rattle.smb_engine.specs.Run.{one_performed, smb1_step, chain_step, payload_step, ending_of};
 ghost use Rattle.smb_engine.specs.Parts.{longest_reply, reply_to, first_negotiate};
-ghost use Rattle.smb_engine.specs.Held.{StoppedAfter};
+ghost use Rattle.smb_engine.specs.Held.{StoppedAfter, report_observed};
 ghost use Rattle.smb_request.specs.Held.{is_performed};
 ghost use Rattle.smb_engine.specs.Output.{output_bytes, reply_frame};
 ghost use Rattle.smb_engine.specs.InPlace.{chain_state_behind, step_behind};
 ghost use Rattle.smb_peers.specs.Record.{Keeping};
-ghost use Rattle.smb_engine.specs.Observed.{response_observed, requests_observed, ending_observed, smb1_ending, payload_observed};
+ghost use Rattle.smb_engine.specs.Observed.{acting_on, response_observed, request_observed, requests_observed, smb1_observed, ending_observed, smb1_ending, payload_observed};
+ghost use Rattle.smb_session.specs.Window.{credits_granted};
+ghost use Rattle.smb_wire.specs.declared.dialect.Dialect.{Dialect};
 
 use super::admission::{admit, request_at};
 use super::arrival::Arrival;
@@ -29,13 +31,13 @@ use smb_body::{Smb1Dialects, read_smb1_negotiate};
 use smb_frame::{close_frame, open_frame};
 use smb_head::{Header, HeaderFlags, ReplyWriter};
 use smb_opens::Opens;
-use smb_peers::{Ending, Observer};
-use smb_refusals::{Refusal, SetupRefusal};
+use smb_peers::{Acting, Ending, Observer, Responded};
 use smb_request::smb1::Smb1Answer;
-use smb_request::{Answered, Context, NoReply, Server, smb1};
+use smb_request::{Answered, Context, NoReply, Server, acting_on, smb1};
 use smb_session::{Authenticator, Window};
 use smb_tree::Tree;
 use smb_wire::limits::MOST_REQUESTS;
+use smb_wire::{Command, NtStatus};
 
 /// The flags of a response to a request that is not related to the one before it, and of one to a related request.
 const RESPONSE: HeaderFlags = HeaderFlags::SERVER_TO_REDIR;
@@ -83,42 +85,111 @@ struct ChainProgress {
     writer: ReplyWriter,
 }
 
-/// Reports for which reason the server's authenticator denied a login, and the name that the client gave, where the
-/// authenticator keeps these.
-fn report_denial<A: Authenticator + Drop, T: Tree + Drop, O: Opens + Drop, W: Observer>(
+/// What a request acts on that is performed next, for an observer that listens, which notes its user and its file; None for one
+/// that does not.
+fn note_subject<A: Authenticator + Drop, T: Tree + Drop, O: Opens + Drop, W: Observer>(
     server: &Server<A, T, O>,
     arrival: Arrival,
+    context: Context,
+    header: &Header,
+    request: &[u8],
+    observer: &mut W,
+) -> Option<Acting>
+    requires { header.now ≡ header_of request.now }
+    ensures acting { (dialect : Option Dialect) → IfSome result (λ acting. acting ≡ acting_on arrival dialect context request.now) }
+    ensures deaf { IfNone result (W.keeps observer.new ≡ true → ⊥) }
+    ensures observed { Keeping (W.keeps observer.old) (W.keeps observer.new) (W.observed observer.new ≡ W.observed observer.old) }
+{
+    if !observer.listens() {
+        return None;
+    }
+    let (ids, open_number) = acting_on(context, header, request);
+    match server.user(arrival.connection_id, ids.session_id) {
+        Some(user) => match server.file_name(ids, open_number) {
+            Some(name) => observer.note_subject(user, Some(&name)),
+            None => observer.note_subject(user, None),
+        },
+        None => observer.note_subject(&[], None),
+    }
+    Some(Acting {
+        session_id: ids.session_id,
+        tree_id: ids.tree_id,
+        open_number,
+    })
+}
+
+/// Reports who was let in by a SESSION_SETUP, or why nobody was, where the authenticator keeps that.
+fn report_login<A: Authenticator + Drop, T: Tree + Drop, O: Opens + Drop, W: Observer>(
+    server: &Server<A, T, O>,
+    arrival: Arrival,
+    answered: Answered,
     observer: &mut W,
 )
-    ensures observed { Keeping (W.keeps observer.old) (W.keeps observer.new)
-        (W.observed observer.new ≡ W.observed observer.old) }
+    ensures observed { Keeping (W.keeps observer.old) (W.keeps observer.new) (W.observed observer.new ≡ W.observed observer.old) }
 {
-    if let Some(denial) = server.denial() {
-        observer.denied(arrival.connection_id, denial.reason, denial.name);
+    let (connection, session_id) = (arrival.connection_id, answered.ids.session_id);
+    match answered.status {
+        NtStatus::Success => {
+            if let Some(user) = server.user(connection, session_id) {
+                observer.let_in(connection, session_id, user);
+            }
+        }
+        NtStatus::LogonFailure => {
+            if let Some(denial) = server.denial() {
+                observer.denied(connection, denial.reason, denial.name);
+            }
+        }
+        _ => {}
     }
 }
 
-/// Reports that a request was refused, where it was.
-fn report_refusal<A: Authenticator + Drop, T: Tree + Drop, O: Opens + Drop, W: Observer>(
+/// Reports how a request is responded to.
+fn report_response<A: Authenticator + Drop, T: Tree + Drop, O: Opens + Drop, W: Observer>(
     server: &Server<A, T, O>,
     arrival: Arrival,
     header: &Header,
     answered: Answered,
+    credits: u16,
     observer: &mut W,
 )
     ensures observed { (request body : List ℕ) → header.now ≡ header_of request → Keeping (W.keeps observer.old) (W.keeps observer.new)
-        (W.observed observer.new ≡ W.observed observer.old ++ response_observed arrival.connection_id request (Some (record { status = answered.status; refusal = answered.refusal; ids = answered.ids; body = body }))) }
+        (W.observed observer.new ≡ W.observed observer.old ++ response_observed arrival.connection_id request credits (Some (record { status = answered.status; refusal = answered.refusal; ids = answered.ids; body = body }))) }
 {
-    if let Some(refusal) = answered.refusal {
-        observer.refused(
-            arrival.connection_id,
-            header.message_id,
-            header.command.0,
-            refusal,
-        );
-        if let Refusal::SessionSetup(SetupRefusal::Denied) = refusal {
-            report_denial(server, arrival, observer);
-        }
+    if header.command == Command::SessionSetup.code() {
+        report_login(server, arrival, answered, observer);
+    }
+    let response = Responded {
+        message_id: header.message_id,
+        command: header.command,
+        status: answered.status,
+        refusal: answered.refusal,
+        credits,
+    };
+    observer.responded(arrival.connection_id, response);
+}
+
+/// Reports a request that was performed, and how it is responded to and with how many credits, where it is; to an observer
+/// that listens, for which it was noted what the request acts on.
+fn report<A: Authenticator + Drop, T: Tree + Drop, O: Opens + Drop, W: Observer>(
+    server: &Server<A, T, O>,
+    arrival: Arrival,
+    header: &Header,
+    request: &[u8],
+    acting: Option<Acting>,
+    answered: Option<(Answered, u16)>,
+    observer: &mut W,
+)
+    requires { header.now ≡ header_of request.now }
+    ensures observed { IfSome acting (λ acting. Keeping (W.keeps observer.old) (W.keeps observer.new)
+        (W.observed observer.new ≡ W.observed observer.old ++ report_observed arrival.connection_id request.now acting answered)) }
+    ensures deaf { IfNone acting (W.keeps observer.new ≡ true → W.keeps observer.old ≡ true) }
+{
+    let Some(acting) = acting else {
+        return;
+    };
+    observer.performed(arrival.connection_id, arrival.moment, request, acting);
+    if let Some((answered, credits)) = answered {
+        report_response(server, arrival, header, answered, credits, observer);
     }
 }
 
@@ -163,12 +234,14 @@ fn perform_one<A: Authenticator + Drop, T: Tree + Drop, O: Opens + Drop, W: Obse
         progress.old.context request.now).server
         else server.old)) }
     ensures observed { OnOk result (Keeping (W.keeps observer.old) (W.keeps observer.new)
-        (W.observed observer.new ≡ W.observed observer.old ++ response_observed arrival.connection_id request.now
+        (W.observed observer.new ≡ W.observed observer.old ++ request_observed arrival connection.old.dialect progress.old.context request.now
+        (credits_granted connection.old.window (header_of request.now).credits)
         (performed A.meaning arrival.connection_id arrival.moment server.old connection.old.dialect progress.old.context request.now).response)) }
 {
     let Ok(reply) = progress.writer.open_reply(out) else {
         return Err(NoReply::NotPerformed);
     };
+    let acting = note_subject(server, arrival, progress.context, header, request, observer);
     let answered = match server.perform(
         arrival.connection_id,
         arrival.moment,
@@ -182,11 +255,20 @@ fn perform_one<A: Authenticator + Drop, T: Tree + Drop, O: Opens + Drop, W: Obse
         Err(no_reply) => return Err(no_reply),
     };
     let Some(answered) = answered else {
+        report(server, arrival, header, request, acting, None, observer);
         progress.writer.drop_reply(reply, out);
         return Ok(());
     };
-    report_refusal(server, arrival, header, answered, observer);
     let credits = connection.window.grant(header.credits);
+    report(
+        server,
+        arrival,
+        header,
+        request,
+        acting,
+        Some((answered, credits)),
+        observer,
+    );
     let header = reply_header(header, answered, credits);
     progress.writer.close_reply(reply, &header, out);
     Ok(())
@@ -242,7 +324,7 @@ fn chain_payload<A: Authenticator + Drop, T: Tree + Drop, O: Opens + Drop, W: Ob
     ensures err { IfErr result (λ ran_out. StoppedAfter server.old
         (chain_step A.meaning arrival server.old connection.old payload.now) ran_out.done server.new) }
     ensures observed { OnOk result (Keeping (W.keeps observer.old) (W.keeps observer.new)
-        (W.observed observer.new ≡ W.observed observer.old ++ (requests_observed arrival.connection_id (chain_step A.meaning arrival server.old connection.old payload.now).requests
+        (W.observed observer.new ≡ W.observed observer.old ++ (requests_observed arrival payload.now (chain_step A.meaning arrival server.old connection.old payload.now).requests
         ++ ending_observed arrival.connection_id (ending_of connection.old payload.now)))) }
     ensures known { server.new.sessions.table.connections ≡ server.old.sessions.table.connections }
 {
@@ -320,6 +402,32 @@ fn frame_smb1<A: Authenticator + Drop, T: Tree + Drop, O: Opens + Drop>(
     true
 }
 
+/// What an SMB_COM_NEGOTIATE acts on: nothing.
+const ON_NOTHING: Acting = Acting {
+    session_id: 0,
+    tree_id: 0,
+    open_number: 0,
+};
+
+/// Reports an SMB_COM_NEGOTIATE that is answered.
+fn report_smb1<W: Observer>(arrival: Arrival, payload: &[u8], observer: &mut W)
+    ensures observed { Keeping (W.keeps observer.old) (W.keeps observer.new)
+        (W.observed observer.new ≡ W.observed observer.old ++ smb1_observed arrival.connection_id payload.now 1) }
+{
+    if !observer.listens() {
+        return;
+    }
+    observer.performed(arrival.connection_id, arrival.moment, payload, ON_NOTHING);
+    let response = Responded {
+        message_id: 0,
+        command: Command::Negotiate.code(),
+        status: NtStatus::Success,
+        refusal: None,
+        credits: 1,
+    };
+    observer.responded(arrival.connection_id, response);
+}
+
 /// Answers an SMB_COM_NEGOTIATE that lists these dialects, and tells how many requests it is; None where it ends the
 /// connection. Where it is not answered `out` is as it was.
 #[tactic(auto, unfolding(crate::specs::Run::smb1_step))]
@@ -327,6 +435,7 @@ fn first_payload<A: Authenticator + Drop, T: Tree + Drop, O: Opens + Drop, W: Ob
     server: &Server<A, T, O>,
     arrival: Arrival,
     connection: &mut Connection,
+    payload: &[u8],
     dialects: Smb1Dialects,
     out: &mut Vec<u8>,
     observer: &mut W,
@@ -340,7 +449,7 @@ fn first_payload<A: Authenticator + Drop, T: Tree + Drop, O: Opens + Drop, W: Ob
     ensures err { IfErr result (λ ran_out. ran_out.done ≡ 0) }
     ensures kept { OnErr result (out.new.items ≡ out.old.items) }
     ensures observed { OnOk result (Keeping (W.keeps observer.old) (W.keeps observer.new)
-        (W.observed observer.new ≡ W.observed observer.old ++ (requests_observed arrival.connection_id (smb1_step A.meaning arrival server.now connection.old dialects).requests
+        (W.observed observer.new ≡ W.observed observer.old ++ (requests_observed arrival payload.now (smb1_step A.meaning arrival server.now connection.old dialects).requests
         ++ ending_observed arrival.connection_id (smb1_ending dialects)))) }
 {
     let Some(answer) = smb1::answer(dialects) else {
@@ -353,6 +462,7 @@ fn first_payload<A: Authenticator + Drop, T: Tree + Drop, O: Opens + Drop, W: Ob
     connection.payload_came = true;
     connection.dialect = answer.dialect;
     connection.window = Window::new(1);
+    report_smb1(arrival, payload, observer);
     Ok(Some(1))
 }
 
@@ -390,6 +500,10 @@ pub(crate) fn perform_payload<
 {
     match first_negotiate(connection, payload) {
         None => chain_payload(server, arrival, connection, payload, most, out, observer),
-        Some(dialects) => first_payload(server, arrival, connection, dialects, out, observer),
+        Some(dialects) => {
+            first_payload(
+                server, arrival, connection, payload, dialects, out, observer,
+            )
+        }
     }
 }

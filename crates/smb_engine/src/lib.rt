@@ -42,9 +42,9 @@
 //! is not open. A piece takes time in proportion to its bytes and to those of its replies; a connection is found in
 //! logarithmic time.
 //!
-//! An [`Observer`] hears by which row a request is refused, and by which rule ([`Ending`]) the share ends a connection:
-//! [`feed_observed`](Share::feed_observed), [`run_observed`](Share::run_observed). Which rule that is, is the definition
-//! `ending_of` of `specs/Run.antt`.
+//! An [`Observer`] hears which requests are performed, how they are responded to, and by which rule ([`Ending`]) the share
+//! ends a connection: [`feed_observed`](Share::feed_observed), [`run_observed`](Share::run_observed). What it hears is the
+//! definition `run_observed` of `specs/Observed.antt`, and the rule `ending_of` of `specs/Run.antt`.
 #![tactic(auto)]
 
 mod admission;
@@ -65,9 +65,9 @@ pub use smb_handles::HandleTable;
 pub use smb_nodes::NodeTree;
 pub use smb_opens::{Opens, PlainOpens};
 pub use smb_peers::{
-    Answer, Ending, Event, FILETIME_OF_1970, Fate, Observer, filetime_of, since_1970,
+    Answer, Ending, Event, FILETIME_OF_1970, Fate, Observer, Usage, filetime_of, since_1970,
 };
 pub use smb_request::Config;
 pub use smb_session::{Authenticator, Tokens, User};
-pub use smb_tree::{PlainTree, Tree, TreeFault, Usage};
+pub use smb_tree::{PlainTree, Tree, TreeFault};
 pub use smb_wire::NtStatus;

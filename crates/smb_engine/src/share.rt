@@ -28,10 +28,10 @@ use super::stream::take_piece;
 use smb_handles::HandleTable;
 use smb_nodes::NodeTree;
 use smb_opens::Opens;
-use smb_peers::{Answer, Event, Fate, Observer};
+use smb_peers::{Answer, Event, Fate, Observer, Usage};
 use smb_request::{Config, Server};
 use smb_session::Authenticator;
-use smb_tree::{Tree, Usage};
+use smb_tree::Tree;
 use smb_wire::limits::MOST_CONNECTIONS;
 use std::alloc::Global;
 use std::collections::BTreeMap;
@@ -281,7 +281,7 @@ impl<A: Authenticator + Drop, T: Tree + Drop, O: Opens + Drop> Share<A, T, O> {
         self.feed_observed(connection, moment, piece, out, &mut ())
     }
 
-    /// The same as [`feed`](Share::feed), and an observer hears what is refused, and which rule ends the connection.
+    /// The same as [`feed`](Share::feed), and an observer hears which requests are performed, how they are responded to, and which rule ends the connection.
     pub fn feed_observed<W: Observer>(
         &mut self,
         connection: u64,
@@ -316,8 +316,16 @@ impl<A: Authenticator + Drop, T: Tree + Drop, O: Opens + Drop> Share<A, T, O> {
     pub fn usage(&self) -> Usage
         ensures entries { result.entries ≡ length self.now.server.store.tree.rows - 1 }
         ensures used { result.used ≡ used_space self.now.server.store.tree.rows }
+        ensures sessions { result.sessions ≡ length self.now.server.sessions.table.sessions }
+        ensures opens { result.opens ≡ length self.now.server.store.opens }
     {
-        self.server.usage()
+        let files = self.server.usage();
+        Usage {
+            entries: files.entries,
+            used: files.used,
+            sessions: self.server.session_count(),
+            opens: self.server.open_count(),
+        }
     }
 
     /// The open connection of the least number.
@@ -480,7 +488,7 @@ impl<A: Authenticator + Drop, T: Tree + Drop, O: Opens + Drop> Share<A, T, O> {
         self.run_observed(events, answers, &mut ())
     }
 
-    /// The same as [`run`](Share::run), and an observer hears what is refused, and which rules end connections.
+    /// The same as [`run`](Share::run), and an observer hears which requests are performed, how they are responded to, and which rules end connections.
     pub fn run_observed<W: Observer>(
         &mut self,
         events: &[Event],

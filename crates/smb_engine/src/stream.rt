@@ -259,6 +259,9 @@ fn take_back<A: Authenticator + Drop, T: Tree + Drop, O: Opens + Drop, K: Sink, 
     if !open_still {
         return Ok((false, done));
     }
+    if used == back.len() {
+        return Ok((true, done));
+    }
     let most = most.saturating_sub(done);
     match take_held(
         server,
@@ -306,6 +309,11 @@ fn take_parts<A: Authenticator + Drop, T: Tree + Drop, O: Opens + Drop, K: Sink,
     ensures limit { buffer.new.limit ≡ longest_payload }
     ensures known { server.new.sessions.table.connections ≡ server.old.sessions.table.connections }
 {
+    if buffer.is_empty() {
+        return take_back(
+            server, arrival, buffer, connection, piece, most, out, observer,
+        );
+    }
     let count = buffer.lacking().min(piece.len());
     let front = &piece[..count];
     let back = &piece[count..];

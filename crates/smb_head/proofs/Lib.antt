@@ -6,3 +6,4 @@ pub mod Joining
 pub mod Faults
 pub mod Placing
 pub mod Spelled
+pub mod Firsts

@@ -1,8 +1,9 @@
 -- For the proofs; nothing here need be believed.
 -- Parts of chains and of replies.
-use Rattle.std.specs.Prelude.{ℕ, ◌+◌, ◌%◌, Bool, ◌&&◌, ◌||◌, ◌==◌, List, ◌++◌, Result, nat_le, bit_and, ◌-◌, length, replicate}
+use Rattle.std.specs.Prelude.{◌≡◌, ℕ, Some, slice_get, ◌+◌, ◌%◌, Bool, ◌&&◌, ◌||◌, ◌==◌, List, ◌++◌, Result, nat_le, bit_and, ◌-◌, length, replicate}
 use Rattle.std.specs.Result.{result_map_both}
 use Rattle.smb_head.specs.declared.fault.HeadFault.{HeadFault}
+use Rattle.smb_head.specs.declared.header.Header.{Header}
 use Rattle.smb_head.specs.Headers.{header_of}
 use Rattle.smb_head.specs.Replies.{Reply, reply_bytes, rounded_up}
 
@@ -18,6 +19,10 @@ next_of bytes = (header_of bytes).next_command
 -- distance of a next header, a multiple of 8 and at least 64, which leaves at least 64 bytes there
 abbrev pub is_next_right : ℕ → ℕ → Bool
 is_next_right next left = (next == 0) || ((next % 8 == 0) && (nat_le 64 next && nat_le (next + 64) left))
+
+-- a header is that of the first of some requests, where there is one
+abbrev pub IsOfFirst : Header → List (List ℕ) → Type 0
+IsOfFirst header requests = (request : List ℕ) → slice_get requests 0 ≡ Some request → header ≡ header_of request
 
 -- some requests, and then those that were read behind them, or their fault
 abbrev pub followed_by : List (List ℕ) → Result (List (List ℕ)) HeadFault → Result (List (List ℕ)) HeadFault

@@ -1,7 +1,7 @@
 //! The two forms of a recording, and its first line.
 
 use crate::fault::JournalFault;
-use crate::text::{hex_of, number_of};
+use crate::text::{at_last, number_of, token_of, write_hex};
 use smb_request::Config;
 use std::alloc::Global;
 use std::io;
@@ -71,20 +71,8 @@ fn write_share(config: &Config, out: &mut Vec<u8>) -> io::Result<()> {
         created,
     } = config;
     write!(out, "share={share} label=\"{label}\" guid=")?;
-    for byte in guid {
-        write!(out, "{byte:02x}")?;
-    }
+    write_hex(guid, out)?;
     write!(out, " capacity={capacity} created={created}")
-}
-
-/// The text before the last place of these bytes, and the text behind it.
-fn at_last<'a>(bytes: &[u8], text: &'a [u8]) -> Option<(&'a [u8], &'a [u8])> {
-    for place in (0..text.len()).rev() {
-        if let Some(back) = text.get(place..)?.strip_prefix(bytes) {
-            return Some((text.get(..place)?, back));
-        }
-    }
-    None
 }
 
 /// What a first line says of a share.
@@ -161,7 +149,7 @@ impl Header {
         let Some((share, digits)) = at_last(HELLO, text) else {
             return Err(JournalFault::NoRecording);
         };
-        let Some(hello) = hex_of(alloc, digits)? else {
+        let Some(hello) = token_of(alloc, digits)? else {
             return Err(JournalFault::NoRecording);
         };
         Ok(Header {

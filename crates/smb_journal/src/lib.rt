@@ -3,7 +3,7 @@
 //! A share answers as its definition says, and so a run is its list of events and nothing else. [`RecordedPeers`] stand between a
 //! share and its peers, and write each event before it is handed on: a line that says what came, at which moment. What an
 //! authenticator answers is a line too, by [`RecordedLogin`]; so whoever performs the recording, as the crate smb_kept does, asks no
-//! one again. [`Lines`] gives what each line says.
+//! one again. [`Lines`] gives what each line says. A replay reads its lines by the same [`read_line`].
 //!
 //! | line | what it says |
 //! |---|---|
@@ -19,8 +19,9 @@
 //! has a check of 16 hex digits at its end, behind a blank, which goes over the check of the line before: so a line that is missing, or
 //! elsewhere, is found too. A last line without its line feed was never answered, and is left out.
 //!
-//! That the calls are safe and return is proved, and that a [`RecordedLogin`] is the authenticator that `by_record` defines. That the lines
-//! are those of the events that happened is tested, and what the system does with them is trusted.
+//! That the calls are safe and return is proved, that [`read_line`] gives the event that its definition reads in a line, and that a
+//! [`RecordedLogin`] is the authenticator that `by_record` defines. That the lines are those of the events that happened is tested, and
+//! what the system does with them is trusted.
 #![tactic(auto)]
 
 mod check;
@@ -39,10 +40,11 @@ mod text;
 pub use fault::JournalFault;
 pub use form::{Form, Header};
 pub use given::{GivenAnswer, given_answers};
-pub use line::Line;
+pub use line::{Line, read_line};
 pub use lines::Lines;
 pub use login::RecordedLogin;
 pub use mailbox::Mailbox;
 pub use peers::{RecordedClock, RecordedPeers};
 pub use recorder::Recorder;
 pub use store::Store;
+pub use text::{place_of, read_hex, write_hex};

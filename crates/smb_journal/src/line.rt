@@ -1,7 +1,11 @@
 //! What a line of a recording says.
 
+ghost use Rattle.std.specs.Prelude.{◌≡◌, IfOk};
+ghost use Rattle.smb_peers.specs.Event.{opens, ends};
+ghost use Rattle.smb_journal.specs.Lines.{decimal_number, line_text, bytes_line, unreadable, says, with_part, read_line};
+
 use crate::given::GivenAnswer;
-use crate::text::{at_blank, check_of_digits, hex_of, number_of};
+use crate::text::{at_blank, check_of_digits, number_of, piece_of, piece_parts, token_of};
 use smb_peers::Event;
 use smb_session::Answer;
 use std::alloc::{AllocError, Global};
@@ -32,24 +36,30 @@ pub(crate) struct PieceHead {
 /// The most bytes of a piece.
 const LONGEST_PIECE: u64 = 1_048_576;
 
-/// Two numbers, with a blank between them.
-fn two_numbers(text: &[u8]) -> Option<(u64, u64)> {
-    let (first, second) = at_blank(text)?;
-    Some((number_of(first)?, number_of(second)?))
+/// The rest of a line that opens a connection.
+fn opened_line(text: &[u8]) -> Option<Line>
+    ensures { line_text result ≡ with_part (decimal_number text.now) (λ number. says (opens number)) }
+{
+    let number = number_of(text)?;
+    Some(Line::Happens(Event::Opened(number)))
 }
 
-/// A line `N MOMENT HEX`.
-fn piece_line(alloc: Global, text: &[u8]) -> Result<Option<Line>, AllocError> {
-    let Some((connection, others)) = at_blank(text) else {
+/// The rest of a line that ends a connection.
+fn ended_line(text: &[u8]) -> Option<Line>
+    ensures { line_text result ≡ with_part (decimal_number text.now) (λ number. says (ends number)) }
+{
+    let number = number_of(text)?;
+    Some(Line::Happens(Event::Ended(number)))
+}
+
+/// The rest of a line that brings a piece.
+fn bytes_line(alloc: Global, text: &[u8]) -> Result<Option<Line>, AllocError>
+    ensures { IfOk result (λ line. line_text line ≡ bytes_line text.now) }
+{
+    let Some((connection, moment, digits)) = piece_parts(text) else {
         return Ok(None);
     };
-    let Some((moment, digits)) = at_blank(others) else {
-        return Ok(None);
-    };
-    let (Some(connection), Some(moment)) = (number_of(connection), number_of(moment)) else {
-        return Ok(None);
-    };
-    match hex_of(alloc, digits)? {
+    match piece_of(alloc, digits)? {
         Some(piece) => Ok(Some(Line::Happens(Event::Bytes {
             connection,
             moment,
@@ -59,10 +69,13 @@ fn piece_line(alloc: Global, text: &[u8]) -> Result<Option<Line>, AllocError> {
     }
 }
 
-/// A line `N DONE`.
-fn stopped_line(text: &[u8]) -> Option<Line> {
-    let (connection, done) = two_numbers(text)?;
-    let done = usize::try_from(done).ok()?;
+/// The rest of a line `~ N DONE`.
+fn stopped_line(text: &[u8]) -> Option<Line>
+    ensures { line_text result ≡ unreadable }
+{
+    let (connection, done) = at_blank(text)?;
+    let connection = number_of(connection)?;
+    let done = usize::try_from(number_of(done)?).ok()?;
     Some(Line::Stopped { connection, done })
 }
 
@@ -75,22 +88,28 @@ fn flag_of(word: &[u8]) -> Option<bool> {
     }
 }
 
-/// A line `accept USER FLAGS READONLY TOKEN`.
-fn accept_line(alloc: Global, text: &[u8]) -> Result<Option<Answer>, AllocError> {
-    let Some((user, others)) = at_blank(text) else {
+/// The words of `USER FLAGS READONLY TOKEN`.
+fn accept_parts(text: &[u8]) -> Option<(&[u8], u16, bool, &[u8])> {
+    let (user, others) = at_blank(text)?;
+    let (flags, others) = at_blank(others)?;
+    let (read_only, token) = at_blank(others)?;
+    let flags = u16::try_from(number_of(flags)?).ok()?;
+    Some((user, flags, flag_of(read_only)?, token))
+}
+
+/// What an authenticator answered: `continue TOKEN`, `accept USER FLAGS READONLY TOKEN` or `deny`.
+fn answer_of(alloc: Global, text: &[u8]) -> Result<Option<Answer>, AllocError> {
+    if text == b"deny".as_slice() {
+        return Ok(Some(Answer::Deny));
+    }
+    if let Some(digits) = text.strip_prefix(b"continue ") {
+        return Ok(token_of(alloc, digits)?.map(Answer::Continue));
+    }
+    let Some((user, flags, read_only, token)) = text.strip_prefix(b"accept ").and_then(accept_parts)
+    else {
         return Ok(None);
     };
-    let Some((flags, others)) = at_blank(others) else {
-        return Ok(None);
-    };
-    let Some((read_only, token)) = at_blank(others) else {
-        return Ok(None);
-    };
-    let flags = number_of(flags).and_then(|flags| u16::try_from(flags).ok());
-    let (Some(flags), Some(read_only)) = (flags, flag_of(read_only)) else {
-        return Ok(None);
-    };
-    match (hex_of(alloc, user)?, hex_of(alloc, token)?) {
+    match (token_of(alloc, user)?, token_of(alloc, token)?) {
         (Some(user), Some(token)) => Ok(Some(Answer::Accept {
             user,
             flags,
@@ -101,47 +120,36 @@ fn accept_line(alloc: Global, text: &[u8]) -> Result<Option<Answer>, AllocError>
     }
 }
 
-/// What an authenticator answered: `continue TOKEN`, `accept ..` or `deny`.
-fn answer_line(alloc: Global, text: &[u8]) -> Result<Option<Answer>, AllocError> {
-    if text == b"deny".as_slice() {
-        return Ok(Some(Answer::Deny));
+/// The rest of a line `= ..`.
+fn answered_line(alloc: Global, text: &[u8]) -> Result<Option<Line>, AllocError>
+    ensures { IfOk result (λ line. line_text line ≡ unreadable) }
+{
+    match answer_of(alloc, text)?.and_then(GivenAnswer::of) {
+        Some(answer) => Ok(Some(Line::Answered(answer))),
+        None => Ok(None),
     }
-    if let Some(text) = text.strip_prefix(b"accept ") {
-        return accept_line(alloc, text);
-    }
-    if let Some(digits) = text.strip_prefix(b"continue ") {
-        return Ok(hex_of(alloc, digits)?.map(Answer::Continue));
-    }
-    Ok(None)
 }
 
-/// What a line says; None where it can't be read.
-pub(crate) fn read_line(alloc: Global, line: &[u8]) -> Result<Option<Line>, AllocError> {
+/// What a line says; None where it can't be read. Of an event it is that of the definition `read_line`, of any text.
+pub fn read_line(alloc: Global, line: &[u8]) -> Result<Option<Line>, AllocError>
+    ensures { IfOk result (λ read. line_text read ≡ read_line line.now) }
+{
     match line {
-        [] | [b'#', ..] => Ok(Some(Line::Skipped)),
-        [b'+', b' ', text @ ..] => {
-            Ok(number_of(text).map(|connection| Line::Happens(Event::Opened(connection))))
-        }
-        [b'-', b' ', text @ ..] => {
-            Ok(number_of(text).map(|connection| Line::Happens(Event::Ended(connection))))
-        }
-        [b'>', b' ', text @ ..] => piece_line(alloc, text),
+        [] => Ok(Some(Line::Skipped)),
+        [b'#', ..] => Ok(Some(Line::Skipped)),
+        [b'+', b' ', text @ ..] => Ok(opened_line(text)),
+        [b'-', b' ', text @ ..] => Ok(ended_line(text)),
+        [b'>', b' ', text @ ..] => bytes_line(alloc, text),
         [b'~', b' ', text @ ..] => Ok(stopped_line(text)),
-        [b'=', b' ', text @ ..] => match answer_line(alloc, text)? {
-            Some(answer) => Ok(GivenAnswer::of(answer).map(Line::Answered)),
-            None => Ok(None),
-        },
+        [b'=', b' ', text @ ..] => answered_line(alloc, text),
         _ => Ok(None),
     }
 }
 
 /// The head of a piece, a line `b N MOMENT LENGTH SUM`; None where it is none.
 pub(crate) fn read_head(line: &[u8]) -> Option<PieceHead> {
-    let text = line.strip_prefix(b"b ")?;
-    let (connection, others) = at_blank(text)?;
-    let (moment, others) = at_blank(others)?;
+    let (connection, moment, others) = piece_parts(line.strip_prefix(b"b ")?)?;
     let (length, sum) = at_blank(others)?;
-    let (connection, moment) = (number_of(connection)?, number_of(moment)?);
     let length = number_of(length)?;
     if length > LONGEST_PIECE {
         return None;

@@ -4,7 +4,7 @@ use crate::check::check_of;
 use crate::fault::JournalFault;
 use crate::form::{Form, Header};
 use crate::line::{Line, PieceHead, read_head, read_line};
-use crate::text::{at_last_blank, check_of_digits};
+use crate::text::{at_last, check_of_digits};
 use smb_peers::Event;
 use std::alloc::Global;
 use std::io::{ErrorKind, Read};
@@ -171,7 +171,7 @@ impl<R: Read + Drop> Lines<R> {
         if self.form == Form::Recording || line.is_empty() || line.starts_with(b"#") {
             return Ok((end, self.check));
         }
-        let Some((text, digits)) = at_last_blank(line) else {
+        let Some((text, digits)) = at_last(b" ", line) else {
             return Err(JournalFault::Unreadable(self.number));
         };
         match check_of_digits(digits) {

@@ -1,5 +1,6 @@
 //! What an authenticator answered, on its way to the recording.
 
+use crate::text::write_hex;
 use smb_session::Answer;
 use std::alloc::{AllocError, Global};
 use std::cell::{Cell, RefCell};
@@ -21,15 +22,12 @@ pub struct Mailbox {
     asked: Cell<bool>,
 }
 
-/// Writes bytes as hex, and `-` for none.
-fn write_hex(bytes: &[u8], out: &mut Vec<u8>) -> io::Result<()> {
+/// Writes a token or a user: its bytes as hex, and `-` for none.
+fn write_token(bytes: &[u8], out: &mut Vec<u8>) -> io::Result<()> {
     if bytes.is_empty() {
         return out.write_all(b"-");
     }
-    for byte in bytes {
-        write!(out, "{byte:02x}")?;
-    }
-    Ok(())
+    write_hex(bytes, out)
 }
 
 /// Writes an answer as a line.
@@ -37,7 +35,7 @@ fn write_answer(answer: &Answer, out: &mut Vec<u8>) -> io::Result<()> {
     match answer {
         Answer::Continue(token) => {
             out.write_all(b"= continue ")?;
-            write_hex(token, out)?;
+            write_token(token, out)?;
         }
         Answer::Accept {
             user,
@@ -46,9 +44,9 @@ fn write_answer(answer: &Answer, out: &mut Vec<u8>) -> io::Result<()> {
             token,
         } => {
             out.write_all(b"= accept ")?;
-            write_hex(user, out)?;
+            write_token(user, out)?;
             write!(out, " {flags} {} ", u8::from(*read_only))?;
-            write_hex(token, out)?;
+            write_token(token, out)?;
         }
         Answer::Deny => out.write_all(b"= deny")?,
     }

@@ -188,6 +188,10 @@ impl<P: Peers + Drop, C: Clock + Drop, S: Store + Drop> Peers for RecordedPeers<
         self.peers.ran_out(number, done)
     }
 
+    fn wants_usage(&self) -> bool {
+        self.peers.wants_usage()
+    }
+
     fn note_usage(&mut self, usage: Usage) {
         self.peers.note_usage(usage)
     }

@@ -7,13 +7,11 @@ use crate::fault::JournalFault;
 use crate::form::{Form, Header};
 use crate::mailbox::Mailbox;
 use crate::store::Store;
+use crate::text::write_hex;
 use smb_reason::Reason;
 use std::alloc::Global;
 use std::io::{ErrorKind, Write};
 use std::{io, mem};
-
-/// How many bytes of a piece are made hex at a time.
-const HEX_PART: usize = 4_096;
 
 /// A line for each event, written before the call returns. After a failed write nothing more is written.
 #[derive(Drop)]
@@ -31,18 +29,6 @@ pub struct Recorder<S: Store + Drop> {
     settles: bool,
     /// Why what failed first has failed, once something has.
     failure: Option<Reason>,
-}
-
-/// Adds bytes as hex to a line.
-fn push_hex(bytes: &[u8], line: &mut Vec<u8>) -> io::Result<()> {
-    let mut digits = [0u8; 8_192];
-    for part in bytes.chunks(HEX_PART) {
-        let length = 2 * part.len().min(HEX_PART);
-        if hex::encode_to_slice(part, &mut digits[..length]).is_ok() {
-            line.write_all(&digits[..length])?;
-        }
-    }
-    Ok(())
 }
 
 impl<S: Store + Drop> Recorder<S> {
@@ -163,7 +149,7 @@ impl<S: Store + Drop> Recorder<S> {
     /// The line of a piece as hex.
     fn make_hex(&mut self, connection: u64, moment: u64, piece: &[u8]) -> io::Result<()> {
         write!(self.line, "> {connection} {moment} ")?;
-        push_hex(piece, &mut self.line)?;
+        write_hex(piece, &mut self.line)?;
         self.line.write_all(b"\n")
     }
 

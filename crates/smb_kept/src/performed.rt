@@ -4,13 +4,12 @@ ghost use Rattle.std.specs.Prelude.{vec_len};
 
 use smb_engine::{Authenticator, Opens, RunFault, ServeFault, Share, Tree};
 use smb_journal::{JournalFault, Line, Lines};
-use smb_peers::{Answer, Ending, Event, Observer};
-use smb_refusals::Refusal;
+use smb_peers::{Acting, Answer, Ending, Event, Observer, Responded};
 use std::alloc::Global;
 use std::io::Read;
 use std::slice;
 
-/// Hears what happens to a share on which a recording is performed: of each event first its refusals and endings.
+/// Hears what happens to a share on which a recording is performed: of each event first what the share did.
 pub trait Hears: Observer {
     /// Takes an event that the share performed, and what it answered to it.
     fn hear(&mut self, event: &Event, answers: &[Answer]) -> Result<(), JournalFault>;
@@ -31,7 +30,13 @@ impl Observer for Deaf {
 
     ghost keeps = { λ deaf. false };
 
-    fn refused(&mut self, _connection: u64, _message_id: u64, _command: u16, _refusal: Refusal) {}
+    fn listens(&self) -> bool {
+        false
+    }
+
+    fn performed(&mut self, _connection: u64, _moment: u64, _request: &[u8], _acting: Acting) {}
+
+    fn responded(&mut self, _connection: u64, _response: Responded) {}
 
     fn ended(&mut self, _connection: u64, _ending: Ending) {}
 }

@@ -1,5 +1,6 @@
-//! Why a connection ends, or is not opened.
+//! Why a connection ends.
 
+use smb_refusal_texts::{Why, WithoutComma};
 use std::fmt;
 
 /// Why a connection ended.
@@ -7,8 +8,10 @@ use std::fmt;
 pub enum Ending {
     /// Its client ended it, or a read of it failed.
     ByClient,
-    /// The share ended it: its client broke a rule, or memory ran out.
+    /// The share ended it, and it is not known why.
     ByShare,
+    /// The share ended it, whose client broke this rule.
+    ByRule(smb_peers::Ending),
     /// It was owed more bytes than the share keeps for one connection.
     Owed,
     /// A limit of silence passed.
@@ -24,30 +27,15 @@ impl fmt::Display for Ending {
         let words = match self {
             Ending::ByClient => "by the client",
             Ending::ByShare => "by the share",
+            Ending::ByRule(rule) => {
+                let why = WithoutComma(Why::Connection(*rule));
+                return write!(f, "by the share, {why}");
+            }
             Ending::Owed => "owed more than 33,554,432 bytes",
             Ending::Silence => "silence",
             Ending::Memory => "memory",
             Ending::SendFailed => "a send failed",
         };
-        write!(f, "{words}")
-    }
-}
-
-/// Why a connection is not opened.
-#[derive(Clone, Copy, Debug, PartialEq, Eq)]
-pub enum Refusal {
-    /// As many are open as a share has at most.
-    Full,
-    /// Memory ran out.
-    Memory,
-}
-
-impl fmt::Display for Refusal {
-    fn fmt<W: fmt::Write>(&self, f: &mut fmt::Formatter<W>) -> fmt::Result {
-        let words = match self {
-            Refusal::Full => "64 connections are open",
-            Refusal::Memory => "memory",
-        };
-        write!(f, "{words}")
+        f.write_str(words)
     }
 }

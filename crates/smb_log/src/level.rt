@@ -25,38 +25,31 @@ fn is_of_sessions(command: CommandCode) -> bool {
 }
 
 /// Whether a status is that of a request that was refused. The end of a listing or of a file is no refusal.
-pub(crate) fn is_refusal(status: u32) -> bool {
-    status != NtStatus::Success.code()
-        && status != NtStatus::MoreProcessingRequired.code()
-        && status != NtStatus::NoMoreFiles.code()
-        && status != NtStatus::EndOfFile.code()
-}
-
-/// Whether a request with this status let a user in.
-fn has_let_in(command: CommandCode, status: u32) -> bool {
-    command == Command::SessionSetup.code() && status == NtStatus::Success.code()
+pub(crate) fn is_refusal(status: NtStatus) -> bool {
+    !matches!(
+        status,
+        NtStatus::Success
+            | NtStatus::MoreProcessingRequired
+            | NtStatus::NoMoreFiles
+            | NtStatus::EndOfFile
+    )
 }
 
 impl Level {
-    /// Whether a request that is answered by this status is written.
-    pub(crate) fn shows(self, command: CommandCode, status: u32) -> bool {
+    /// Whether a request with this status is written.
+    pub(crate) fn shows(self, command: CommandCode, status: NtStatus) -> bool {
         match self {
             Level::Sessions => is_of_sessions(command),
-            Level::Refusals => is_refusal(status) || has_let_in(command, status),
+            Level::Refusals => {
+                let lets_in = command == Command::SessionSetup.code();
+                is_refusal(status) || (lets_in && status == NtStatus::Success)
+            }
             Level::Requests => true,
         }
     }
 
     /// Whether a request may be written once its status is known.
     pub(crate) fn may_show(self, command: CommandCode) -> bool {
-        match self {
-            Level::Sessions => is_of_sessions(command),
-            Level::Refusals | Level::Requests => true,
-        }
-    }
-
-    /// Whether a request that is never answered is written.
-    pub(crate) fn shows_unanswered(self) -> bool {
-        self == Level::Requests
+        self != Level::Sessions || is_of_sessions(command)
     }
 }

@@ -1,318 +1,304 @@
 //! The log of a share.
 
-use crate::book::{Answered, Book};
-use crate::connection::Connection;
-use crate::counts::Counts;
-use crate::ending::{Ending, Refusal};
+use crate::ending::Ending;
 use crate::level::Level;
-use crate::reasons::{MOST_REASONS, Reason, Reasons};
-use crate::sessions::Sessions;
-use crate::visitors::{MOST_VISITORS, Visitors};
-use smb_log_text::{Lines, Subject};
-use smb_peers::Usage;
-use smb_refusal_texts::{Why, WithoutComma};
+use crate::minute::{Counts, Minute, add};
+use crate::request::LoggedRequest;
+use smb_head::read_header;
+use smb_log_text::{Lines, Outcome, Subject};
+use smb_peers::{Acting, Answer, Event, Observer, Responded, Usage};
+use smb_refusals::LoginRefusal;
+use smb_wire::limits::MOST_CONNECTIONS;
+use smb_wire::{Command, CommandCode, NtStatus};
 use std::alloc::{AllocError, Global};
 use std::collections::BTreeMap;
 use std::io::Write;
 
-/// The log of what happens to one share, in lines that are written to `W` as the events come. Moments are in units of 100 ns since
-/// 1601, and connections have the caller's numbers. No call fails; a connection costs logarithmic time to find, and so do a request
-/// and its file.
+/// A connection.
+#[derive(Drop)]
+struct Connection {
+    address: String,
+    /// When the last piece of its stream came, where its moment was noted.
+    came: Option<u64>,
+    /// Who was let in last, until that user logs off; empty for none.
+    user: Vec<u8>,
+    /// Why the share ends it, where that is known.
+    cause: Option<Ending>,
+}
+
+/// The log of what happens to one share, in lines that are written to `W` as the events come. Connections have the share's numbers.
+/// No call fails; a connection costs logarithmic time to find.
+///
+/// It observes the share. Moments are in units of 100 ns since 1601: that of an event is the one that was noted last.
 #[derive(Drop)]
 pub struct Log<W: Write + Drop> {
-    connections: BTreeMap<u64, Connection>,
-    book: Book<W>,
-    /// A reason of the share was lost: why it ends a connection may not be known.
-    is_unsure: bool,
-}
-
-/// What is known of a connection that opens.
-fn new_connection(alloc: Global, level: Level, address: &str) -> Result<Connection, AllocError> {
-    let address = String::from_str(alloc, address)?;
-    Ok(Connection::new(alloc, level, address))
-}
-
-/// What the line of an end says.
-fn ended_by(
     alloc: Global,
-    connection: Option<&Connection>,
-    why: Ending,
-) -> Result<String, AllocError> {
-    if why == Ending::ByShare {
-        if let Some(ending) = connection.and_then(|connection| connection.ending) {
-            let why = WithoutComma(Why::Connection(ending));
-            return format!(in alloc; "ended: by the share, {why}");
-        }
-        if connection.is_some_and(|connection| connection.ran_out) {
-            return format!(in alloc; "ended: {}", Ending::Memory);
-        }
+    level: Level,
+    lines: Lines<W>,
+    moment: u64,
+    connections: BTreeMap<u64, Connection>,
+    request: LoggedRequest,
+    counts: Counts,
+}
+
+/// The command of a request, by its bytes: one without a header is an SMB_COM_NEGOTIATE.
+fn command_of(request: &[u8]) -> CommandCode {
+    match read_header(request) {
+        Ok(header) => header.command,
+        Err(_) => Command::Negotiate.code(),
     }
-    format!(in alloc; "ended: {why}")
 }
 
 impl<W: Write + Drop> Log<W> {
-    /// A log of a share without connections, of which nothing is written yet.
-    pub fn new(alloc: Global, writer: W, level: Level) -> Self {
+    /// A log of a share without connections that begins at a moment. The line that names the fields is written.
+    pub fn new(alloc: Global, writer: W, level: Level, moment: u64) -> Self {
         Log {
+            alloc,
+            level,
+            lines: Lines::new(alloc, writer),
+            moment,
             connections: BTreeMap::new(alloc),
-            book: Book {
-                alloc,
-                level,
-                lines: Lines::new(alloc, writer),
-                sessions: Sessions::new(alloc),
-                counts: Counts::none(),
-            },
-            is_unsure: false,
+            request: LoggedRequest::none(alloc),
+            counts: Counts::default(),
         }
-    }
-
-    /// Writes the line that names the fields.
-    pub fn begin(&mut self) {
-        self.book.lines.begin();
     }
 
     /// Whether a write failed; nothing is written behind it.
     pub fn has_failed(&self) -> bool {
-        self.book.lines.has_failed()
-    }
-
-    /// How many connections are open.
-    pub fn open_connections(&self) -> usize {
-        self.connections.len()
-    }
-
-    /// Whether a connection is open.
-    pub(crate) fn is_open(&self, connection: u64) -> bool {
-        self.connections.contains_key(&connection)
-    }
-
-    /// Whether no cause is known for which the share would end a connection: no rule was reported broken, and memory did not run out.
-    pub fn is_without_cause(&self, connection: u64) -> bool {
-        match self.connections.get(&connection) {
-            Some(connection) => !self.is_unsure && connection.is_without_cause(),
-            None => false,
-        }
-    }
-
-    /// Takes note of what happens to the server itself, which has no TAB and no line feed in it: `started`, `stopped`, or a failure.
-    pub fn note(&mut self, moment: u64, event: &str) {
-        let subject = Subject {
-            connection: None,
-            address: "",
-            user: &[],
-        };
-        let _ = self.book.lines.put(moment, subject, event);
+        self.lines.has_failed()
     }
 
     /// Takes note that what later lines need was lost for want of memory.
     pub(crate) fn lose(&mut self) {
-        self.book.lines.lose();
+        self.lines.lose();
+    }
+
+    /// Notes the moment of what happens next.
+    pub fn note_moment(&mut self, moment: u64) {
+        self.moment = moment;
+    }
+
+    /// Takes note of what happens to the server itself, which has no TAB and no line feed in it: `started`, `stopped`, or a failure.
+    pub fn note(&mut self, event: &str) {
+        let _ = self.lines.put(self.moment, Subject::at(""), event, None);
+    }
+
+    /// What is kept of a connection that opens.
+    fn keep(&mut self, connection: u64, address: &str) -> Result<(), AllocError> {
+        let opened = Connection {
+            address: String::from_str(self.alloc, address)?,
+            came: None,
+            user: Vec::new(self.alloc),
+            cause: None,
+        };
+        self.connections.insert(connection, opened)?;
+        Ok(())
     }
 
     /// Takes note that a connection was opened to a peer of this address, as it is to be shown.
-    pub fn opened(&mut self, connection: u64, address: &str, moment: u64) {
-        match new_connection(self.book.alloc, self.book.level, address) {
-            Ok(opened) => {
-                if self.connections.insert(connection, opened).is_err() {
-                    self.book.lines.lose();
-                }
-            }
-            Err(_) => self.book.lines.lose(),
-        }
+    pub fn opened(&mut self, connection: u64, address: &str) {
         let subject = Subject {
             connection: Some(connection),
-            address,
-            user: &[],
+            ..Subject::at(address)
         };
-        let _ = self.book.lines.put(moment, subject, "opened");
+        let _ = self.lines.put(self.moment, subject, "opened", None);
+        if self.keep(connection, address).is_err() {
+            self.lines.lose();
+        }
     }
 
-    /// Takes note that no connection was opened to a peer of this address.
-    pub fn refused(&mut self, address: &str, moment: u64, why: Refusal) {
-        if why == Refusal::Memory {
-            self.book.counts.add_ran_out();
-        }
-        let subject = Subject {
-            connection: None,
-            address,
-            user: &[],
+    /// Takes note that no connection was opened to a peer of this address: too many are open, or memory ran out.
+    pub fn refused(&mut self, address: &str) {
+        let is_full = self.connections.len() >= MOST_CONNECTIONS;
+        let event = if is_full {
+            "refused: 64 connections are open"
+        } else {
+            add(&mut self.counts.ran_out, 1);
+            "refused: memory"
         };
-        let event = format!(in self.book.alloc; "refused: {why}");
-        let _ = self.book.lines.put_made(moment, subject, event);
+        let _ = self
+            .lines
+            .put(self.moment, Subject::at(address), event, None);
     }
 
-    /// Takes the next piece of a client's stream, cut anywhere. One on a connection that is not open is passed over.
-    pub fn came(&mut self, connection: u64, moment: u64, piece: &[u8]) {
-        let number = connection;
-        let Some(connection) = self.connections.get_mut(&number) else {
-            return;
-        };
-        self.book.counts.add_in(piece.len());
-        if !connection.push(piece) {
-            self.book.lines.lose();
-        }
-        for _ in 0..connection.most_payloads().saturating_add(1) {
-            match connection.take_payload(moment) {
-                Some(taken) => self.book.take(number, connection, moment, &taken),
-                None => break,
-            }
+    /// Takes note that a piece of so many bytes of a client's stream came.
+    pub fn came(&mut self, connection: u64, length: usize) {
+        add(&mut self.counts.bytes_in, length);
+        if let Some(connection) = self.connections.get_mut(&connection) {
+            connection.came = Some(self.moment);
         }
     }
 
-    /// Takes the next bytes of the share's stream, cut anywhere, once the connection's peer has taken them.
-    pub fn answered(&mut self, connection: u64, moment: u64, bytes: &[u8]) {
-        self.book.counts.add_out(bytes.len());
-        let number = connection;
-        let Some(connection) = self.connections.get_mut(&number) else {
-            return;
-        };
-        let mut rest = bytes;
-        for _ in 0..bytes.len() {
-            if rest.is_empty() {
-                break;
-            }
-            let (left, response) = connection.responses.take(rest);
-            rest = left;
-            if let Some(response) = response {
-                let answered = Answered {
-                    number,
-                    moment,
-                    response,
-                };
-                self.book.respond(connection, &answered);
-            }
-        }
-    }
-
-    /// Takes note that an authenticator let a user into a session, whose response has not come yet. `user` is as the authenticator
-    /// names it, of at most 256 bytes.
-    pub fn let_in(&mut self, session: u64, user: &[u8]) {
-        let Ok(user) = Vec::from_slice(self.book.alloc, user) else {
-            self.book.lines.lose();
-            return;
-        };
-        if self.book.sessions.accept(session, user).is_err() {
-            self.book.lines.lose();
-        }
-    }
-
-    /// Takes note of all whom an authenticator let in since the last call.
-    pub fn take_visitors(&mut self, visitors: &Visitors) {
-        for _ in 0..MOST_VISITORS {
-            let Some(visitor) = visitors.take() else {
-                break;
-            };
-            self.let_in(visitor.session, visitor.user.as_slice());
-        }
-    }
-
-    /// Takes note of a reason of the share.
-    fn take_reason(&mut self, reason: Reason) {
-        match reason {
-            Reason::Refused(number, message_id, refusal) => {
-                if let Some(connection) = self.connections.get_mut(&number) {
-                    connection.refuse(message_id, refusal);
-                }
-            }
-            Reason::Denied(number, reason, name) => {
-                if let Some(connection) = self.connections.get_mut(&number) {
-                    if connection.deny(reason, name).is_err() {
-                        self.book.lines.lose();
-                    }
-                }
-            }
-            Reason::Ended(number, ending) => {
-                if let Some(connection) = self.connections.get_mut(&number) {
-                    connection.end_by(ending);
-                }
-            }
-        }
-    }
-
-    /// Takes the reasons that the share has reported since the last call, before the responses and the ends that they explain.
-    pub fn take_reasons(&mut self, reasons: &Reasons) {
-        for _ in 0..MOST_REASONS {
-            let Some(reason) = reasons.take() else {
-                break;
-            };
-            self.take_reason(reason);
-        }
-        if reasons.take_lost() {
-            self.is_unsure = true;
-            self.book.lines.lose();
-        }
+    /// Takes note that so many bytes of the share's streams were taken.
+    pub fn sent(&mut self, length: usize) {
+        add(&mut self.counts.bytes_out, length);
     }
 
     /// Takes note that memory ran out in a piece of a connection's stream: the share ends the connection.
     pub fn ran_out(&mut self, connection: u64) {
-        self.book.counts.add_ran_out();
+        add(&mut self.counts.ran_out, 1);
+        self.note_cause(connection, Ending::Memory);
+    }
+
+    /// Takes note of why a connection is going to end.
+    pub fn note_cause(&mut self, connection: u64, cause: Ending) {
         if let Some(connection) = self.connections.get_mut(&connection) {
-            connection.ran_out = true;
+            connection.cause = Some(cause);
         }
     }
 
-    /// Takes note that a connection has ended.
-    pub fn ended(&mut self, connection: u64, moment: u64, why: Ending) {
-        let number = connection;
-        let connection = self.connections.remove(&number);
-        let event = ended_by(self.book.alloc, connection.as_ref(), why);
-        let address = match &connection {
-            Some(connection) => connection.address.as_str(),
+    /// Takes note that an open connection has ended: for the cause that was noted, or for this one.
+    pub fn end(&mut self, connection: u64, why: Ending) {
+        let Some(known) = self.connections.remove(&connection) else {
+            return;
+        };
+        let subject = Subject {
+            connection: Some(connection),
+            address: known.address.as_str(),
+            user: known.user.as_slice(),
+        };
+        let why = known.cause.unwrap_or(why);
+        let event = format_args!("ended: {why}");
+        let _ = self.lines.put(self.moment, subject, event, None);
+    }
+
+    /// Writes the line of the request that was performed last.
+    fn put_request(&mut self, connection: u64, outcome: Option<Outcome>) {
+        if self.request.is_lost {
+            self.lines.lose();
+            return;
+        }
+        let address = match self.connections.get(&connection) {
+            Some(known) => known.address.as_str(),
             None => "",
         };
-        let session = match &connection {
-            Some(connection) => connection.last_session().unwrap_or(0),
-            None => 0,
-        };
-        let user = self.book.sessions.user(session).unwrap_or(&[]);
         let subject = Subject {
-            connection: Some(number),
+            connection: Some(connection),
             address,
-            user,
+            user: self.request.user.as_slice(),
         };
-        let _ = self.book.lines.put_made(moment, subject, event);
-        if let Some(connection) = &connection {
-            for session in connection.sessions.as_slice() {
-                self.book.sessions.end(*session);
+        let event = self.request.event.as_str();
+        let _ = self.lines.put(self.moment, subject, event, outcome);
+    }
+
+    /// Takes note that the user of the present request has logged off.
+    fn log_off(&mut self, connection: u64) {
+        if let Some(connection) = self.connections.get_mut(&connection) {
+            if connection.user.as_slice() == self.request.user.as_slice() {
+                connection.user.clear();
             }
         }
     }
 
-    /// The text of a line `minute`.
-    fn minute_event(&self, usage: Option<Usage>) -> Result<String, AllocError> {
-        let connections = self.connections.len();
-        let (sessions, opens) = (self.book.sessions.len(), self.book.sessions.opens());
-        let mut event = format!(in self.book.alloc;
-            "minute connections={connections} sessions={sessions} opens={opens}"
-        )?;
-        self.book.counts.put(&mut event)?;
-        if let Some(usage) = usage {
-            let (files, used_bytes) = (usage.entries, usage.used);
-            write!(event, " files={files} used_bytes={used_bytes}")?;
-        }
-        Ok(event)
-    }
-
-    /// Writes what there is, and what was counted since the last call.
-    pub fn minute(&mut self, moment: u64, usage: Option<Usage>) {
-        let subject = Subject {
-            connection: None,
-            address: "",
-            user: &[],
+    /// Writes the line of a minute: what there is, with or without how much the files hold, and what was counted since the last.
+    pub fn minute(&mut self, usage: Usage, with_files: bool) {
+        let minute = Minute {
+            connections: self.connections.len(),
+            usage,
+            counts: self.counts,
+            with_files,
         };
-        let event = self.minute_event(usage);
-        if self.book.lines.put_made(moment, subject, event) {
-            self.book.counts = Counts::none();
+        if self.lines.put(self.moment, Subject::at(""), minute, None) {
+            self.counts = Counts::default();
         }
     }
 
     /// The writer, to which all lines were written.
     pub fn into_writer(self) -> W {
-        let Log {
-            connections: _,
-            book,
-            is_unsure: _,
-        } = self;
-        book.into_writer()
+        self.lines.into_writer()
+    }
+}
+
+/// What a replay has beside what the share does.
+impl<W: Write + Drop> Log<W> {
+    /// Takes an event of a replay that the share performed, and what it answered to it. What happens behind a piece has the moment of
+    /// the piece.
+    pub fn hear(&mut self, event: &Event, answers: &[Answer]) {
+        match event {
+            Event::Opened(connection) => self.opened(*connection, ""),
+            Event::Bytes { moment, piece, .. } => {
+                self.moment = *moment;
+                add(&mut self.counts.bytes_in, piece.len());
+            }
+            Event::Ended(connection) => self.end(*connection, Ending::ByClient),
+        }
+        for answer in answers {
+            match answer {
+                Answer::Frame(_, frame) => self.sent(frame.len()),
+                Answer::End(connection) => self.end(*connection, Ending::ByShare),
+            }
+        }
+    }
+
+    /// Takes note that a connection of a replay ended where memory had run out in a piece of its stream.
+    pub fn cut_short(&mut self, connection: u64) {
+        self.ran_out(connection);
+        self.end(connection, Ending::ByShare);
+    }
+}
+
+impl<W: Write + Drop> Observer for Log<W> {
+    ghost use Rattle.std.specs.Prelude.{[], false};
+
+    ghost observed = { λ log. [] };
+
+    ghost keeps = { λ log. false };
+
+    fn listens(&self) -> bool {
+        true
+    }
+
+    fn note_subject(&mut self, user: &[u8], file: Option<&[u8]>) {
+        self.request.begin(user, file);
+    }
+
+    fn performed(&mut self, connection: u64, moment: u64, request: &[u8], acting: Acting) {
+        add(&mut self.counts.requests, 1);
+        if acting.session_id == 0 {
+            self.request.begin(&[], None);
+        }
+        let came = self.connections.get(&connection).and_then(|it| it.came);
+        if came.is_none() {
+            self.moment = moment;
+        }
+        self.request.came = came.unwrap_or(moment);
+        self.request.lacks_name &= acting.open_number != 0;
+        let command = command_of(request);
+        if self.level.may_show(command) {
+            self.request.describe(command, request);
+        }
+        if command == Command::Cancel.code() && self.level.shows(command, NtStatus::Success) {
+            self.put_request(connection, None);
+        }
+    }
+
+    fn denied(&mut self, _connection: u64, reason: LoginRefusal, name: &[u8]) {
+        self.request.deny(reason, name);
+    }
+
+    fn let_in(&mut self, connection: u64, _session_id: u64, user: &[u8]) {
+        self.request.set_user(user);
+        if let Some(connection) = self.connections.get_mut(&connection) {
+            connection.user.clear();
+            if connection.user.extend_from_slice(user).is_err() {
+                self.lines.lose();
+            }
+        }
+    }
+
+    fn responded(&mut self, connection: u64, response: Responded) {
+        let (command, status) = (response.command, response.status);
+        if command == Command::Logoff.code() && status == NtStatus::Success {
+            self.log_off(connection);
+        }
+        self.request.conclude(&response);
+        if self.level.shows(command, status) {
+            let outcome = self.request.outcome(self.moment, &response);
+            self.put_request(connection, Some(outcome));
+        }
+    }
+
+    fn ended(&mut self, connection: u64, ending: smb_peers::Ending) {
+        self.note_cause(connection, Ending::ByRule(ending));
     }
 }

@@ -2,19 +2,26 @@
 
 ghost use Rattle.std.specs.Prelude.{◌≡◌};
 
-use crate::ending::{Ending, Refusal};
-use crate::facts::ConnectionFacts;
+use crate::ending::Ending;
 use crate::log::Log;
-use crate::reasons::Reasons;
-use crate::visitors::Visitors;
+use crate::observer::borrowed;
 use smb_peers::{Clock, PeerEvent, Peers, SendFault, Stopping, Usage};
-use smb_wire::limits::MOST_CONNECTIONS;
-use std::alloc::Global;
+use std::alloc::{AllocError, Global};
+use std::cell::{RefCell, RefMut};
 use std::collections::BTreeMap;
 use std::io::Write;
 
 /// A minute, in units of 100 ns.
 const MINUTE: u64 = 600_000_000;
+
+/// What is known of the connections of peers, by the numbers under which the peers opened them.
+pub trait ConnectionFacts {
+    /// Adds the address of a connection's peer, or nothing where it is not known.
+    fn put_address(&self, number: u64, text: &mut String) -> Result<(), AllocError>;
+
+    /// Whether a limit of silence is why a connection has ended, and not its client.
+    fn was_silent(&self, number: u64) -> bool;
+}
 
 /// An opening of which the share has not decided, and when it came.
 #[derive(Clone, Copy)]
@@ -23,30 +30,25 @@ struct Opening {
     moment: u64,
 }
 
-/// Other peers, of which all is logged: each event as it comes, and bytes as they are taken. A connection has the number in the log
-/// that it has in the share, which an opening gets with the next event: it is not refused then.
+/// Other peers, of which all is logged where there is a log: each event as it comes, and how many bytes are taken. A connection has
+/// the number in the log that it has in the share, which an opening gets with the next event: it is not refused then.
 #[derive(Drop)]
 pub struct LoggedPeers<'a, P: Peers + Drop, F: ConnectionFacts, C: Clock + Drop, W: Write + Drop> {
     peers: P,
     facts: &'a F,
     clock: C,
-    visitors: &'a Visitors,
-    reasons: &'a Reasons,
-    log: Option<Log<W>>,
+    log: Option<&'a RefCell<Log<W>>>,
     /// Whether they ask to stop where the log can't be written, and whether they do.
     stops: bool,
     asks_to_stop: bool,
     alloc: Global,
-    /// When the last line of a minute was written, or the first event came.
+    /// When the last line of a minute was written, or the first event came; and whether a minute has passed since then.
     minute: Option<u64>,
-    /// How much the share holds.
-    usage: Option<Usage>,
+    is_due: bool,
     /// The numbers in the share, by those of the peers.
     connections: BTreeMap<u64, u64>,
     waiting: Option<Opening>,
     next: u64,
-    /// A send to this number failed.
-    send_failed: Option<u64>,
 }
 
 impl<'a, P: Peers + Drop, F: ConnectionFacts, C: Clock + Drop, W: Write + Drop> LoggedPeers<
@@ -56,16 +58,14 @@ impl<'a, P: Peers + Drop, F: ConnectionFacts, C: Clock + Drop, W: Write + Drop> 
     C,
     W,
 > {
-    /// Peers of a share whose next connection has the number `next`. The clock's moments are those of the log, whom the share lets in and
-    /// why it refuses `visitors` and `reasons` hear of. Without a log nothing is done. With `stops` they ask to stop where the log can't be written.
+    /// Peers of a share whose next connection has the number `next`. The clock has the moments of the events. With `stops` they ask to
+    /// stop where the log can't be written.
     pub fn new(
         alloc: Global,
         peers: P,
         facts: &'a F,
         clock: C,
-        visitors: &'a Visitors,
-        reasons: &'a Reasons,
-        log: Option<Log<W>>,
+        log: Option<&'a RefCell<Log<W>>>,
         stops: bool,
         next: u64,
     ) -> Self {
@@ -73,18 +73,15 @@ impl<'a, P: Peers + Drop, F: ConnectionFacts, C: Clock + Drop, W: Write + Drop> 
             peers,
             facts,
             clock,
-            visitors,
-            reasons,
             log,
             stops,
             asks_to_stop: false,
             alloc,
             minute: None,
-            usage: None,
+            is_due: false,
             connections: BTreeMap::new(alloc),
             waiting: None,
             next,
-            send_failed: None,
         }
     }
 
@@ -97,77 +94,29 @@ impl<'a, P: Peers + Drop, F: ConnectionFacts, C: Clock + Drop, W: Write + Drop> 
         address
     }
 
+    /// The log, and the number in it of a connection that is open.
+    fn of_open(&self, number: u64) -> Option<(RefMut<'a, Log<W>>, u64)> {
+        let connection = self.connections.get(&number)?;
+        Some((borrowed(self.log)?, *connection))
+    }
+
     /// Logs the opening that waits.
     fn log_opening(&mut self)
         ensures { self.new.peers ≡ self.old.peers }
     {
-        let Some(opening) = self.waiting.take() else {
+        let Some(Opening { number, moment }) = self.waiting.take() else {
             return;
         };
         let connection = self.next;
         self.next = connection.saturating_add(1);
-        let is_noted = self.connections.insert(opening.number, connection).is_ok();
-        let address = self.address(opening.number);
-        if let Some(log) = &mut self.log {
+        let is_noted = self.connections.insert(number, connection).is_ok();
+        let address = self.address(number);
+        if let Some(mut log) = borrowed(self.log) {
             if !is_noted {
                 log.lose();
             }
-            log.opened(connection, address.as_str(), opening.moment);
-        }
-    }
-
-    /// Notes an opening, which is logged once the share has taken it.
-    fn note_opening(&mut self, number: u64)
-        ensures { self.new.peers ≡ self.old.peers }
-    {
-        if self.log.is_some() {
-            let moment = self.clock.moment();
-            self.waiting = Some(Opening { number, moment });
-        }
-    }
-
-    /// Whether the opening of a number waits.
-    fn is_opening(&self, number: u64) -> bool {
-        self.waiting.is_some_and(|opening| opening.number == number)
-    }
-
-    /// Logs a refused opening.
-    fn log_refusal(&mut self, number: u64)
-        ensures { self.new.peers ≡ self.old.peers }
-    {
-        self.waiting = None;
-        let moment = self.clock.moment();
-        let address = self.address(number);
-        if let Some(log) = &mut self.log {
-            let why = if log.open_connections() >= MOST_CONNECTIONS {
-                Refusal::Full
-            } else {
-                Refusal::Memory
-            };
-            log.refused(address.as_str(), moment, why);
-        }
-    }
-
-    /// Has the log take note of whom the authenticator let in, and of what the share refused.
-    fn log_told(&mut self)
-        ensures { self.new.peers ≡ self.old.peers }
-    {
-        if let Some(log) = &mut self.log {
-            log.take_visitors(self.visitors);
-            log.take_reasons(self.reasons);
-        }
-    }
-
-    /// Logs a piece.
-    fn log_piece(&mut self, number: u64)
-        ensures { self.new.peers ≡ self.old.peers }
-    {
-        let Some(log) = &mut self.log else {
-            return;
-        };
-        if let Some(connection) = self.connections.get(&number).copied() {
-            let moment = self.clock.moment();
-            log.came(connection, moment, self.peers.piece());
+            log.note_moment(moment);
+            log.opened(connection, address.as_str());
         }
     }
 
@@ -175,67 +124,68 @@ impl<'a, P: Peers + Drop, F: ConnectionFacts, C: Clock + Drop, W: Write + Drop> 
     fn log_end(&mut self, number: u64, why: Ending)
         ensures { self.new.peers ≡ self.old.peers }
     {
-        let Some(log) = &mut self.log else {
-            return;
-        };
-        if let Some(connection) = self.connections.remove(&number) {
-            let moment = self.clock.moment();
-            log.ended(connection, moment, why);
+        if let Some((mut log, connection)) = self.of_open(number) {
+            log.end(connection, why);
         }
+        let _ = self.connections.remove(&number);
     }
 
-    /// Logs bytes that were taken.
-    fn log_sent(&mut self, number: u64, bytes: &[u8])
+    /// Logs an event at this moment, an opening once the share has taken it; and notes whether a line of a minute is due.
+    fn log_event(&mut self, event: PeerEvent, moment: u64)
         ensures { self.new.peers ≡ self.old.peers }
     {
-        let Some(log) = &mut self.log else {
-            return;
-        };
-        if let Some(connection) = self.connections.get(&number).copied() {
-            let moment = self.clock.moment();
-            log.answered(connection, moment, bytes);
+        let first = *self.minute.get_or_insert(moment);
+        self.is_due = moment.saturating_sub(first) >= MINUTE;
+        if let Some(mut log) = borrowed(self.log) {
+            log.note_moment(moment);
+        }
+        match event {
+            PeerEvent::Opened(number) => self.waiting = Some(Opening { number, moment }),
+            PeerEvent::Bytes(number) => {
+                if let Some((mut log, connection)) = self.of_open(number) {
+                    log.came(connection, self.peers.piece().len());
+                }
+            }
+            PeerEvent::Ended(number) => {
+                let was_silent = self.facts.was_silent(number);
+                let why = if was_silent {
+                    Ending::Silence
+                } else {
+                    Ending::ByClient
+                };
+                self.log_end(number, why);
+            }
+            PeerEvent::Idle => {}
         }
     }
 
-    /// Why the share closes a connection that its client did not end.
-    fn cause(&self, number: u64) -> Ending {
-        if self.send_failed == Some(number) {
-            return Ending::SendFailed;
-        }
-        match (&self.log, self.connections.get(&number)) {
-            (Some(log), Some(connection)) if log.is_without_cause(*connection) => Ending::Owed,
-            _ => Ending::ByShare,
-        }
-    }
-
-    /// Writes the line of a minute at this moment.
-    fn log_minute(&mut self, moment: u64)
+    /// Logs an opening that the share refuses.
+    fn log_refusal(&mut self, number: u64)
         ensures { self.new.peers ≡ self.old.peers }
     {
-        self.minute = Some(moment);
-        if let Some(log) = &mut self.log {
-            log.minute(moment, self.usage);
+        self.waiting = None;
+        let address = self.address(number);
+        if let Some(mut log) = borrowed(self.log) {
+            log.refused(address.as_str());
         }
     }
 
-    /// Writes the line of a minute where one has passed since the last, or since the first call.
-    fn log_passing(&mut self)
+    /// Writes the line of a minute, at this moment.
+    fn log_minute(&mut self, usage: Usage)
         ensures { self.new.peers ≡ self.old.peers }
     {
-        if self.log.is_none() {
-            return;
-        }
         let moment = self.clock.moment();
-        match self.minute {
-            None => self.minute = Some(moment),
-            Some(last) if moment.saturating_sub(last) >= MINUTE => self.log_minute(moment),
-            Some(_) => {}
+        self.is_due = false;
+        self.minute = Some(moment);
+        if let Some(mut log) = borrowed(self.log) {
+            log.note_moment(moment);
+            log.minute(usage, true);
         }
     }
 
     /// Whether a write of the log failed.
     pub fn has_failed(&self) -> bool {
-        match &self.log {
+        match borrowed(self.log) {
             Some(log) => log.has_failed(),
             None => false,
         }
@@ -245,28 +195,21 @@ impl<'a, P: Peers + Drop, F: ConnectionFacts, C: Clock + Drop, W: Write + Drop> 
     pub fn note(&mut self, event: &str)
         ensures { self.new.peers ≡ self.old.peers }
     {
-        if let Some(log) = &mut self.log {
-            let moment = self.clock.moment();
-            log.note(moment, event);
+        if let Some(mut log) = borrowed(self.log) {
+            log.note_moment(self.clock.moment());
+            log.note(event);
         }
     }
 
-    /// Writes what is left, a last line of a minute, and that the server has stopped. False where the share was served no more since the
-    /// log could not be written.
-    pub fn finish(mut self) -> bool {
+    /// Writes what is left, a last line of a minute with what the share holds, and that the server has stopped. False where the share
+    /// was served no more since the log could not be written.
+    pub fn finish(mut self, usage: Usage) -> bool {
         self.log_opening();
         if self.log.is_some() {
-            let moment = self.clock.moment();
-            self.log_minute(moment);
+            self.log_minute(usage);
             self.note("stopped");
         }
         !(self.stops && self.has_failed())
-    }
-
-    /// The log, with what is left to be written in it.
-    pub fn into_log(mut self) -> Option<Log<W>> {
-        self.log_opening();
-        self.log
     }
 }
 
@@ -286,22 +229,11 @@ impl<P: Peers + Drop, F: ConnectionFacts, C: Clock + Drop, W: Write + Drop> Peer
 
     fn next(&mut self) -> PeerEvent {
         self.log_opening();
-        self.log_told();
-        self.log_passing();
         self.asks_to_stop = self.stops && self.has_failed();
         let event = self.peers.next();
-        match event {
-            PeerEvent::Opened(number) => self.note_opening(number),
-            PeerEvent::Bytes(number) => self.log_piece(number),
-            PeerEvent::Ended(number) => {
-                let why = if self.facts.was_silent(number) {
-                    Ending::Silence
-                } else {
-                    Ending::ByClient
-                };
-                self.log_end(number, why);
-            }
-            PeerEvent::Idle => {}
+        if self.log.is_some() {
+            let moment = self.clock.moment();
+            self.log_event(event, moment);
         }
         event
     }
@@ -311,39 +243,40 @@ impl<P: Peers + Drop, F: ConnectionFacts, C: Clock + Drop, W: Write + Drop> Peer
     }
 
     fn send(&mut self, number: u64, bytes: &[u8]) -> Result<usize, SendFault> {
-        self.log_told();
-        match self.peers.send(number, bytes) {
-            Ok(count) => {
-                self.log_sent(number, bytes.get(..count).unwrap_or(bytes));
-                Ok(count)
-            }
-            Err(fault) => {
-                self.send_failed = Some(number);
-                Err(fault)
+        let sent = self.peers.send(number, bytes);
+        if let Some((mut log, connection)) = self.of_open(number) {
+            match &sent {
+                Ok(count) => log.sent(*count),
+                Err(_) => log.note_cause(connection, Ending::SendFailed),
             }
         }
+        sent
     }
 
     fn close(&mut self, number: u64) {
-        if self.is_opening(number) {
+        if self.waiting.is_some_and(|opening| opening.number == number) {
             self.log_refusal(number);
         } else {
-            self.log_told();
-            let why = self.cause(number);
-            self.log_end(number, why);
+            self.log_end(number, Ending::Owed);
         }
         self.peers.close(number)
     }
 
     fn ran_out(&mut self, number: u64, done: usize) {
-        if let (Some(log), Some(connection)) = (&mut self.log, self.connections.get(&number)) {
-            log.ran_out(*connection);
+        if let Some((mut log, connection)) = self.of_open(number) {
+            log.ran_out(connection);
         }
         self.peers.ran_out(number, done)
     }
 
+    fn wants_usage(&self) -> bool {
+        self.is_due || self.peers.wants_usage()
+    }
+
     fn note_usage(&mut self, usage: Usage) {
-        self.usage = Some(usage);
+        if self.is_due {
+            self.log_minute(usage);
+        }
         self.peers.note_usage(usage)
     }
 

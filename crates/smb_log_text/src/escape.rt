@@ -6,6 +6,12 @@ use std::alloc::AllocError;
 /// The most bytes of a text, behind which it is cut.
 const MOST_BYTES: usize = 1_024;
 
+/// What says that a text is cut.
+const CUT: &str = "\\u{..}";
+
+/// What a file is called whose name is not known.
+const UNKNOWN: &str = "?";
+
 /// What a guest's user begins with, where it has a number behind it.
 const NUMBERED_GUEST: &[u8] = b"guest\0";
 
@@ -37,14 +43,9 @@ fn put_char(c: char, text: &mut String) -> Result<(), AllocError> {
     }
 }
 
-/// Whether a unit is the first half of a pair.
-fn is_high(unit: u16) -> bool {
-    matches!(unit, 0xD800..=0xDBFF)
-}
-
 /// The character of a pair, where the units are one.
 fn paired(high: u16, low: u16) -> Option<char> {
-    if !is_high(high) || !matches!(low, 0xDC00..=0xDFFF) {
+    if !matches!((high, low), (0xD800..=0xDBFF, 0xDC00..=0xDFFF)) {
         return None;
     }
     let (high, low) = (u32::from(high & 0x3FF), u32::from(low & 0x3FF));
@@ -92,11 +93,6 @@ fn put_at(units: Units<'_>, place: usize, text: &mut String) -> Result<usize, Al
     Ok(1)
 }
 
-/// Adds what says that a text is cut.
-fn put_cut(text: &mut String) -> Result<(), AllocError> {
-    text.push_str("\\u{..}")
-}
-
 /// Adds a text in UTF-16.
 pub(crate) fn put_units(units: Units<'_>, text: &mut String) -> Result<(), AllocError> {
     let before = text.len();
@@ -106,7 +102,7 @@ pub(crate) fn put_units(units: Units<'_>, text: &mut String) -> Result<(), Alloc
             break;
         }
         if text.len().saturating_sub(before) >= MOST_BYTES {
-            return put_cut(text);
+            return text.push_str(CUT);
         }
         place = place.saturating_add(put_at(units, place, text)?);
     }
@@ -121,6 +117,14 @@ pub(crate) fn put_path(units: Units<'_>, text: &mut String) -> Result<(), AllocE
     put_units(units, text)
 }
 
+/// Adds the name of a file in UTF-16LE, `?` where it is not known.
+pub fn put_file_name(name: Option<&[u8]>, text: &mut String) -> Result<(), AllocError> {
+    match name.and_then(Units::of) {
+        Some(units) => put_path(units, text),
+        None => text.push_str(UNKNOWN),
+    }
+}
+
 /// Adds a text that may have any character, or `-` where it is empty.
 pub(crate) fn put_text(said: &str, text: &mut String) -> Result<(), AllocError> {
     if said.is_empty() {
@@ -129,7 +133,7 @@ pub(crate) fn put_text(said: &str, text: &mut String) -> Result<(), AllocError> 
     let before = text.len();
     for c in said.chars() {
         if text.len().saturating_sub(before) >= MOST_BYTES {
-            return put_cut(text);
+            return text.push_str(CUT);
         }
         if c == '\\' {
             put_escape(0x5C, text)?;

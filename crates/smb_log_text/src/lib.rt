@@ -1,8 +1,8 @@
-//! The texts of a log's lines: what was asked in words, the names of things, moments as dates, and users and paths as they were given.
+//! The texts of a log's lines: requests in words, the names of things, moments as dates, and users and paths as they were given.
 //!
 //! ```text
-//!    Asked    what a request asks, out of its bytes, as it is shown once its response comes
-//!    Lines    the fields of an event as a line, written as it is made
+//!    put_request    a request in words, out of its bytes
+//!    Lines          the fields of an event as a line, written as it is made
 //! ```
 //!
 //! # Names
@@ -30,8 +30,7 @@ mod line;
 mod moment;
 mod names;
 
-pub use asked::Asked;
-pub use escape::{put_typed, put_user};
+pub use asked::put_request;
+pub use escape::{put_file_name, put_typed, put_user};
 pub use line::{Lines, Outcome, Subject};
 pub use moment::put_moment;
-pub use names::put_command;

@@ -2,9 +2,10 @@
 
 use crate::escape::{put_text, put_user};
 use crate::moment::put_moment;
-use crate::names::put_status;
 use smb_refusal_texts::WithoutComma;
+use smb_wire::NtStatus;
 use std::alloc::{AllocError, Global};
+use std::fmt::Display;
 use std::io::Write;
 
 /// The line that names the fields.
@@ -25,10 +26,21 @@ pub struct Subject<'a> {
 /// How a request ended.
 #[derive(Clone, Copy)]
 pub struct Outcome {
-    pub status: u32,
+    pub status: NtStatus,
     pub microseconds: u64,
     /// Why it was refused, where that is said.
     pub why: Option<WithoutComma>,
+}
+
+impl<'a> Subject<'a> {
+    /// No connection, at this address; none where it is empty.
+    pub fn at(address: &'a str) -> Self {
+        Subject {
+            connection: None,
+            address,
+            user: &[],
+        }
+    }
 }
 
 /// Lines, each written as it is made. After a failed write nothing more is written.
@@ -58,10 +70,8 @@ fn put_back(outcome: Option<Outcome>, text: &mut String) -> Result<(), AllocErro
     let Some(outcome) = outcome else {
         return text.push_str("\t-\t-\n");
     };
-    text.push_str("\t")?;
-    put_status(outcome.status, text)?;
-    let microseconds = outcome.microseconds;
-    write!(text, "\t{microseconds}")?;
+    let (status, microseconds) = (outcome.status.name(), outcome.microseconds);
+    write!(text, "\t{status}\t{microseconds}")?;
     if let Some(why) = outcome.why {
         write!(text, " why=\"{why}\"")?;
     }
@@ -69,13 +79,14 @@ fn put_back(outcome: Option<Outcome>, text: &mut String) -> Result<(), AllocErro
 }
 
 impl<W: Write + Drop> Lines<W> {
-    /// Lines of a writer to which none was written.
-    pub fn new(alloc: Global, writer: W) -> Self {
+    /// Lines of a writer, of which the first, that names the fields, is written.
+    pub fn new(alloc: Global, mut writer: W) -> Self {
+        let has_failed = writer.write_all(HEADER.as_bytes()).is_err();
         Lines {
             writer,
             line: String::new(alloc),
             is_lost: false,
-            has_failed: false,
+            has_failed,
         }
     }
 
@@ -89,19 +100,12 @@ impl<W: Write + Drop> Lines<W> {
         self.is_lost = true;
     }
 
-    /// Writes the line that names the fields.
-    pub fn begin(&mut self) {
-        if !self.has_failed && self.writer.write_all(HEADER.as_bytes()).is_err() {
-            self.has_failed = true;
-        }
-    }
-
     /// Makes a line, behind one that says that lines were lost, where some were.
-    fn make(
+    fn make<E: Display + Drop>(
         &mut self,
         moment: u64,
         subject: Subject<'_>,
-        event: &str,
+        event: E,
         outcome: Option<Outcome>,
     ) -> Result<(), AllocError> {
         self.line.clear();
@@ -110,67 +114,27 @@ impl<W: Write + Drop> Lines<W> {
             self.line.push_str(LOST)?;
         }
         put_front(moment, subject, &mut self.line)?;
-        self.line.push_str(event)?;
+        write!(self.line, "{event}")?;
         put_back(outcome, &mut self.line)
     }
 
-    /// Writes the line that was made.
-    fn write_line(&mut self) {
-        self.is_lost = false;
-        if self.writer.write_all(self.line.as_bytes()).is_err() {
-            self.has_failed = true;
-        }
-    }
-
-    /// Writes the line of a request, whose event has no TAB and no line feed.
-    pub fn put_request(
+    /// Writes the line of an event, in whose text is no TAB and no line feed; that of a request also says how it ended. False
+    /// where there was no memory for it.
+    pub fn put<E: Display + Drop>(
         &mut self,
         moment: u64,
         subject: Subject<'_>,
-        event: &str,
-        outcome: Outcome,
-    ) {
-        if self.has_failed {
-            return;
-        }
-        match self.make(moment, subject, event, Some(outcome)) {
-            Ok(()) => self.write_line(),
-            Err(_) => self.is_lost = true,
-        }
-    }
-
-    /// Writes the line of an event that has no status and takes no time, and no TAB and no line feed in it. Tells whether memory
-    /// sufficed for it.
-    pub fn put(&mut self, moment: u64, subject: Subject<'_>, event: &str) -> bool {
+        event: E,
+        outcome: Option<Outcome>,
+    ) -> bool {
         if self.has_failed {
             return true;
         }
-        match self.make(moment, subject, event, None) {
-            Ok(()) => {
-                self.write_line();
-                true
-            }
-            Err(_) => {
-                self.is_lost = true;
-                false
-            }
+        self.is_lost = self.make(moment, subject, event, outcome).is_err();
+        if !self.is_lost && self.writer.write_all(self.line.as_bytes()).is_err() {
+            self.has_failed = true;
         }
-    }
-
-    /// Writes the line of such an event, where there was memory for its text.
-    pub fn put_made(
-        &mut self,
-        moment: u64,
-        subject: Subject<'_>,
-        event: Result<String, AllocError>,
-    ) -> bool {
-        match event {
-            Ok(event) => self.put(moment, subject, event.as_str()),
-            Err(_) => {
-                self.is_lost = true;
-                false
-            }
-        }
+        !self.is_lost
     }
 
     /// The writer.

@@ -1,7 +1,7 @@
-//! The names of commands, dialects, dispositions, information classes and statuses.
+//! The names of commands, dialects, dispositions and information classes.
 
 use smb_body::{InfoType, InformationClass};
-use smb_wire::{Command, CommandCode, CreateDisposition, CreateDispositionCode, NtStatus};
+use smb_wire::{Command, CommandCode, CreateDisposition, CreateDispositionCode};
 use std::alloc::AllocError;
 
 /// The name of a command.
@@ -30,7 +30,7 @@ fn command_name(command: Command) -> &'static str {
 }
 
 /// Adds the name of a command, or the number of an unknown one.
-pub fn put_command(code: CommandCode, text: &mut String) -> Result<(), AllocError> {
+pub(crate) fn put_command(code: CommandCode, text: &mut String) -> Result<(), AllocError> {
     match code.known() {
         Some(command) => text.push_str(command_name(command)),
         None => {
@@ -116,7 +116,7 @@ fn file_system_class(number: u8) -> Option<&'static str> {
     }
 }
 
-/// Adds the name of an information class, or the numbers of an unknown one.
+/// Adds a blank and the name of an information class, or the numbers of an unknown one.
 pub(crate) fn put_class(
     kind: InfoType,
     class: InformationClass,
@@ -130,18 +130,10 @@ pub(crate) fn put_class(
         _ => None,
     };
     match name {
-        Some(name) => write!(text, "{name}Information"),
+        Some(name) => write!(text, " {name}Information"),
         None => {
             let (kind, class) = (kind.0, class.0);
-            write!(text, "type={kind} class={class}")
+            write!(text, " type={kind} class={class}")
         }
-    }
-}
-
-/// Adds the name of a status, or the number of one that the share never answers.
-pub(crate) fn put_status(code: u32, text: &mut String) -> Result<(), AllocError> {
-    match NtStatus::known(code) {
-        Some(status) => text.push_str(status.name()),
-        None => write!(text, "0x{code:08X}"),
     }
 }

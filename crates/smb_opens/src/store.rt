@@ -1,12 +1,13 @@
 //! The store: a tree and its opens, joined.
 
-ghost use Rattle.std.specs.Prelude.{◌≡◌, ◌∷◌, [], None, Some, true, false, IsSome, IfOk, IfErr, OnOk, OnErr, is_some, filter, length, not};
+ghost use Rattle.std.specs.Prelude.{◌≡◌, ◌∷◌, [], None, Some, true, false, IsSome, IfOk, IfErr, IfSome, OnOk, OnErr, is_some, filter, length, not, option_and_then};
 ghost use Rattle.std.specs.Option.{option_map};
 ghost use Rattle.smb_wire.specs.Paths.{path_spelled, folded_path};
 ghost use Rattle.smb_wire.specs.PathViews.{parts_of};
 ghost use Rattle.smb_wire.specs.Units.{units_of};
 ghost use Rattle.smb_tree.specs.Entries.{is_folder_kind};
 ghost use Rattle.smb_tree.specs.Content.{entry_at, parent};
+ghost use Rattle.smb_tree.specs.WholeNames.{entry_copied};
 ghost use Rattle.smb_tree.specs.Faults.{add_fault};
 ghost use Rattle.smb_access.specs.Access.{granted};
 ghost use Rattle.smb_wire.specs.Dispositions.{disposition_code, overwrites_by};
@@ -107,6 +108,24 @@ impl<T: Tree + Drop, O: Opens + Drop> Store<T, O> {
         ensures { result ≡ length self.now.tree.rows }
     {
         self.entries_count
+    }
+
+    /// How many opens there are. It is kept, and not counted.
+    pub fn open_count(&self) -> usize
+        ensures { result ≡ length self.now.opens }
+    {
+        self.opens_count
+    }
+
+    /// The whole name of the entry that is open, as it is spelled now; None where no open has the number, or an allocation is refused.
+    pub fn open_name(&self, alloc: Global, number: OpenNo) -> Option<Vec<u8>>
+        ensures { IfSome result (λ name. option_and_then (λ row. option_map (λ copy. copy.name) (entry_copied self.now.tree.rows row.entry)) (open_of self.now.opens number) ≡ Some name.items) }
+    {
+        let row = self.opens.get(number)?;
+        match self.tree.copy_entry(alloc, row.entry) {
+            Ok(copy) => Some(copy.name),
+            Err(_) => None,
+        }
     }
 
     /// The number that the next open will have, where one can still be made.

@@ -4,7 +4,7 @@
 //! ```text
 //!    Event     a connection opens, a piece of its stream comes, it ends        Answer    a frame for its client, or its end
 //!    Peers     streams of bytes that come and go: next, piece, send, close     Clock     moments, in 100 ns since 1601
-//!    Observer  hears what the share refuses, and by which rule (an Ending) it ends a connection
+//!    Observer  hears which requests the share performs, how it responds, and by which rule (an Ending) it ends a connection
 //! ```
 //!
 //! A share of the crate smb_engine takes [`Event`]s and gives [`Answer`]s; the crate smb_serving serves it to [`Peers`] by a
@@ -17,6 +17,7 @@ mod clock;
 mod ending;
 mod event;
 mod filetime;
+mod observed_list;
 mod observer;
 mod peers;
 
@@ -25,6 +26,6 @@ pub use clock::{Clock, ListClock};
 pub use ending::Ending;
 pub use event::{Event, Fate};
 pub use filetime::{FILETIME_OF_1970, filetime_of, since_1970};
-pub use observer::Observer;
-pub use peers::{PeerEvent, Peers, SendFault, Stopping};
-pub use smb_tree::Usage;
+pub use observed_list::{Heard, ListObserver};
+pub use observer::{Acting, Observer, Responded};
+pub use peers::{PeerEvent, Peers, SendFault, Stopping, Usage};

@@ -4,7 +4,17 @@ ghost use Rattle.std.specs.Prelude.{◌≡◌, ◌<◌, ◌≤◌, ◌++◌, ◌
 ghost use Rattle.smb_peers.specs.Record.{Keeping, close};
 ghost use Rattle.smb_peers.specs.Peers.{call_of, send_call, OpensOnce};
 
-use smb_tree::Usage;
+/// How much a share holds.
+#[derive(Clone, Copy, Debug, PartialEq, Eq)]
+pub struct Usage {
+    /// Its files and folders, without the root.
+    pub entries: usize,
+    /// The room that all files take, in bytes: of each its size, rounded up to 4,096.
+    pub used: u64,
+    /// Its sessions, those that are not finished among them.
+    pub sessions: usize,
+    pub opens: usize,
+}
 
 /// What `next` brought. Peers number their connections as they like.
 #[derive(Clone, Copy, Debug, PartialEq, Eq)]
@@ -75,7 +85,12 @@ pub trait Peers {
         ensures opened { opened self.new ≡ opened self.old }
     {}
 
-    /// Takes note of how much the share holds, before each turn. It does nothing to what is sent, and is not in the record.
+    /// Whether they want to know how much the share holds, before the next turn.
+    fn wants_usage(&self) -> bool {
+        false
+    }
+
+    /// Takes note of how much the share holds, where they want to know. It does nothing to what is sent, and is not in the record.
     fn note_usage(&mut self, _usage: Usage)
         ensures kept { Keeping (keeps self.old) (keeps self.new) (calls self.new ≡ calls self.old) }
         ensures opened { opened self.new ≡ opened self.old }

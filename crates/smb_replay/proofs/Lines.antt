@@ -10,7 +10,8 @@ use Rattle.std.proofs.lemmas.List.{append-nil}
 use Rattle.smb_replay.specs.declared.script.Script.{Script}
 use Rattle.smb_replay.specs.Reading.{script_text, behind}
 use Rattle.smb_peers.specs.Event.{text_of}
-use Rattle.smb_replay.specs.Script.{lines_of, LineText, ScriptText, line_then, read_line, script_from}
+use Rattle.smb_journal.specs.Lines.{LineText, read_line}
+use Rattle.smb_replay.specs.Script.{lines_of, ScriptText, line_then, script_from}
 
 abbrev to_end : List ℕ → ℕ
 to_end text = prefix_len (λ c. not (eqb c 10)) text

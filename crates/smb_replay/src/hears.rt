@@ -1,10 +1,9 @@
 //! Who hears what happens in a replay.
 
 use smb_engine::{Answer, Event};
-use smb_peers::{Ending, Observer};
-use smb_refusals::Refusal;
+use smb_peers::{Acting, Ending, Observer, Responded};
 
-/// Hears the events of a replay in order, each behind the refusals and the endings that it caused.
+/// Hears the events of a replay in order, each behind what the share did at it.
 pub trait Hears: Observer {
     /// Takes an event that the share performed, and what it answered to it.
     fn hear(&mut self, event: &Event, answers: &[Answer]);
@@ -21,7 +20,13 @@ impl Observer for Deaf {
 
     ghost keeps = { λ deaf. false };
 
-    fn refused(&mut self, _connection: u64, _message_id: u64, _command: u16, _refusal: Refusal) {}
+    fn listens(&self) -> bool {
+        false
+    }
+
+    fn performed(&mut self, _connection: u64, _moment: u64, _request: &[u8], _acting: Acting) {}
+
+    fn responded(&mut self, _connection: u64, _response: Responded) {}
 
     fn ended(&mut self, _connection: u64, _ending: Ending) {}
 }

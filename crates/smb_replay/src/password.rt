@@ -2,7 +2,7 @@
 
 use crate::fault::{CommandFault, Detail};
 use crate::input::read_input;
-use crate::replay::write_hex;
+use smb_journal::write_hex;
 use smb_ntlm::nt_hash_of;
 use std::alloc::Global;
 use std::io;

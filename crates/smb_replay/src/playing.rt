@@ -2,7 +2,7 @@
 
 use crate::fault::{CommandFault, Detail};
 use crate::hears::Hears;
-use crate::reasons::Reasons;
+use crate::reasons::{Reasoning, Reasons};
 use crate::replay::write_answer;
 use crate::script::Script;
 use smb_engine::{Answer, Authenticator, Event, Opens, RunFault, ServeFault, Share, Tree};
@@ -120,7 +120,7 @@ impl<'a, W: Write, E: Write, H: Hears> Playing<'a, W, E, H> {
         Ok(())
     }
 
-    /// Has the share perform an event. Its reasons are kept where they are written, and reported to who hears the replay.
+    /// Has the share perform an event, as who hears the replay observes. Its reasons are kept where they are written.
     fn perform<A: Authenticator + Drop, T: Tree + Drop, O: Opens + Drop>(
         &mut self,
         share: &mut Share<A, T, O>,
@@ -130,9 +130,8 @@ impl<'a, W: Write, E: Write, H: Hears> Playing<'a, W, E, H> {
         if self.reason_output == ReasonOutput::Nowhere {
             return share.run_observed(events, &mut self.answers, self.heard);
         }
-        let ran = share.run_observed(events, &mut self.answers, &mut self.reasons);
-        self.reasons.report_to(self.heard);
-        ran
+        let mut reasoning = Reasoning::new(&mut self.reasons, self.heard);
+        share.run_observed(events, &mut self.answers, &mut reasoning)
     }
 
     /// Plays an event of this line.

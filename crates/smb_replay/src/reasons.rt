@@ -2,11 +2,11 @@
 
 use smb_engine::Answer;
 use smb_head::read_header;
-use smb_peers::{Ending, Observer};
+use smb_peers::{Acting, Ending, Observer, Responded};
 use smb_refusal_texts::Why;
-use smb_refusals::{LoginRefusal, Refusal};
+use smb_refusals::LoginRefusal;
 use smb_wire::limits::MOST_REQUESTS;
-use std::alloc::{AllocError, Global};
+use std::alloc::Global;
 use std::fmt::Display;
 use std::io::Write;
 use std::{fmt, io};
@@ -18,18 +18,15 @@ const FRAME_HEAD: usize = 4;
 #[derive(Clone, Copy)]
 struct Reported {
     connection: u64,
-    /// The MessageId of a request that was refused, and its command.
-    request: Option<(u64, u16)>,
+    /// The MessageId of a request that was refused.
+    message_id: Option<u64>,
     why: Why,
 }
 
 impl Reported {
     /// Whether it is of the request with this MessageId.
     fn is_of(&self, message_id: u64) -> bool {
-        match self.request {
-            Some((number, _)) => number == message_id,
-            None => false,
-        }
+        self.message_id == Some(message_id)
     }
 }
 
@@ -55,10 +52,9 @@ impl Display for ReasonLine {
 /// The reasons of an event, in the order in which the share gave them.
 #[derive(Drop)]
 pub(crate) struct Reasons {
-    alloc: Global,
     reported: Vec<Reported>,
-    /// Of each denied login the name that the client gave.
-    names: Vec<Vec<u8>>,
+    /// Why the login was denied whose response comes next.
+    denied: Option<LoginRefusal>,
     /// How many of them are written.
     written: usize,
     /// There was no memory for one.
@@ -69,9 +65,8 @@ impl Reasons {
     /// None so far.
     pub(crate) fn new(alloc: Global) -> Self {
         Reasons {
-            alloc,
             reported: Vec::new(alloc),
-            names: Vec::new(alloc),
+            denied: None,
             written: 0,
             is_lost: false,
         }
@@ -80,7 +75,7 @@ impl Reasons {
     /// Forgets those of the event before.
     pub(crate) fn clear(&mut self) {
         self.reported.clear();
-        self.names.clear();
+        self.denied = None;
         self.written = 0;
     }
 
@@ -95,10 +90,10 @@ impl Reasons {
     }
 
     /// Keeps a reason.
-    fn keep(&mut self, connection: u64, request: Option<(u64, u16)>, why: Why) {
+    fn keep(&mut self, connection: u64, message_id: Option<u64>, why: Why) {
         let reported = Reported {
             connection,
-            request,
+            message_id,
             why,
         };
         if self.reported.push(reported).is_err() {
@@ -106,29 +101,13 @@ impl Reasons {
         }
     }
 
-    /// Keeps the name of a denied login.
-    fn add_name(&mut self, name: &[u8]) -> Result<(), AllocError> {
-        let name = Vec::from_slice(self.alloc, name)?;
-        self.names.push(name)?;
-        Ok(())
-    }
-
-    /// Tells them on to who hears the replay.
-    pub(crate) fn report_to<H: Observer>(&self, heard: &mut H) {
-        let mut names = self.names.iter();
-        for reported in &self.reported {
-            let connection = reported.connection;
-            match (reported.why, reported.request) {
-                (Why::Request(refusal), Some((message_id, command))) => {
-                    heard.refused(connection, message_id, command, refusal);
-                }
-                (Why::Login(reason), _) => {
-                    if let Some(name) = names.next() {
-                        heard.denied(connection, reason, name);
-                    }
-                }
-                (Why::Connection(ending), _) => heard.ended(connection, ending),
-                (Why::Request(_), None) => {}
+    /// Keeps why the share refused a request, where it did, and behind it why a login was denied.
+    fn keep_refusal(&mut self, connection: u64, response: &Responded) {
+        let denied = self.denied.take();
+        if let Some(refusal) = response.refusal {
+            self.keep(connection, Some(response.message_id), Why::Request(refusal));
+            if let Some(reason) = denied {
+                self.keep(connection, None, Why::Login(reason));
             }
         }
     }
@@ -223,26 +202,65 @@ impl Reasons {
     }
 }
 
-impl Observer for Reasons {
+/// Keeps the reasons of a share, and has another observer hear what it does.
+#[derive(Drop)]
+pub(crate) struct Reasoning<'a, H: Observer> {
+    reasons: &'a mut Reasons,
+    heard: &'a mut H,
+}
+
+impl<'a, H: Observer> Reasoning<'a, H> {
+    /// Keeps them here, beside this observer.
+    pub(crate) fn new(reasons: &'a mut Reasons, heard: &'a mut H) -> Self {
+        Reasoning { reasons, heard }
+    }
+}
+
+impl<H: Observer> Observer for Reasoning<'_, H> {
     ghost use Rattle.std.specs.Prelude.{[], false};
 
-    ghost observed = { λ reasons. [] };
+    ghost observed = { λ reasoning. [] };
 
-    ghost keeps = { λ reasons. false };
+    ghost keeps = { λ reasoning. false };
 
-    fn refused(&mut self, connection: u64, message_id: u64, command: u16, refusal: Refusal) {
-        let request = Some((message_id, command));
-        self.keep(connection, request, Why::Request(refusal));
+    fn listens(&self) -> bool {
+        true
+    }
+
+    fn note_subject(&mut self, user: &[u8], file: Option<&[u8]>) {
+        if self.heard.listens() {
+            self.heard.note_subject(user, file);
+        }
+    }
+
+    fn performed(&mut self, connection: u64, moment: u64, request: &[u8], acting: Acting) {
+        if self.heard.listens() {
+            self.heard.performed(connection, moment, request, acting);
+        }
+    }
+
+    fn responded(&mut self, connection: u64, response: Responded) {
+        self.reasons.keep_refusal(connection, &response);
+        if self.heard.listens() {
+            self.heard.responded(connection, response);
+        }
     }
 
     fn denied(&mut self, connection: u64, reason: LoginRefusal, name: &[u8]) {
-        self.keep(connection, None, Why::Login(reason));
-        if self.add_name(name).is_err() {
-            self.is_lost = true;
+        self.reasons.denied = Some(reason);
+        if self.heard.listens() {
+            self.heard.denied(connection, reason, name);
+        }
+    }
+
+    fn let_in(&mut self, connection: u64, session_id: u64, user: &[u8]) {
+        if self.heard.listens() {
+            self.heard.let_in(connection, session_id, user);
         }
     }
 
     fn ended(&mut self, connection: u64, ending: Ending) {
-        self.keep(connection, None, Why::Connection(ending));
+        self.reasons.keep(connection, None, Why::Connection(ending));
+        self.heard.ended(connection, ending);
     }
 }

@@ -11,6 +11,7 @@ use crate::script::{Part, Unread};
 use smb_config::Configuration;
 use smb_engine::{Answer, Authenticator, Event, ServeFault, Share};
 use smb_handles::HandleTable;
+use smb_journal::write_hex;
 use smb_nodes::NodeTree;
 use smb_opens::{Opens, PlainOpens};
 use smb_session::Tokens;
@@ -18,21 +19,6 @@ use smb_tree::{PlainTree, Tree, TreeFault};
 use std::alloc::Global;
 use std::io;
 use std::io::{Read, Write};
-
-/// How many bytes are written as hex at a time.
-const HEX_PART: usize = 512;
-
-/// Writes bytes as hex.
-pub(crate) fn write_hex<W: Write>(bytes: &[u8], output: &mut W) -> io::Result<()> {
-    let mut digits = [0u8; 1_024];
-    for part in bytes.chunks(HEX_PART) {
-        let length = 2 * part.len().min(HEX_PART);
-        if hex::encode_to_slice(part, &mut digits[..length]).is_ok() {
-            output.write_all(&digits[..length])?;
-        }
-    }
-    Ok(())
-}
 
 /// Writes an answer as a line.
 pub(crate) fn write_answer<W: Write>(answer: &Answer, output: &mut W) -> io::Result<()> {
@@ -163,12 +149,12 @@ fn replay<R: Read + Drop, W: Write, E: Write>(
 /// Replays a text on a share in which nothing has happened yet, and writes what the share answers.
 fn replay_on<A: Authenticator + Drop, R: Read + Drop, W: Write, E: Write, H: Hears>(
     alloc: Global,
-    mut share: Share<A, NodeTree, HandleTable>,
+    share: &mut Share<A, NodeTree, HandleTable>,
     input: R,
     mut playing: Playing<'_, W, E, H>,
 ) -> Result<(), CommandFault> {
     let text = read_input(alloc, input)?;
-    run_text(alloc, &mut share, &text, &mut playing)
+    run_text(alloc, share, &text, &mut playing)
 }
 
 /// Replays a text on a new plain share, and writes what the share answers.
@@ -233,21 +219,21 @@ pub fn replay_in_detail<R: Read + Drop, W: Write, E: Write>(
 /// The same on a share that the caller made, with an authenticator of its own, in which nothing has happened yet.
 pub fn replay_on_share<A: Authenticator + Drop, R: Read + Drop, W: Write, E: Write>(
     alloc: Global,
-    share: Share<A, NodeTree, HandleTable>,
+    mut share: Share<A, NodeTree, HandleTable>,
     detail: Detail<'_>,
     input: R,
     output: &mut W,
     errors: &mut E,
 ) -> u8 {
     let words = ReplayWords::of(detail);
-    replay_heard(alloc, share, words, input, output, errors, &mut Deaf)
+    replay_heard(alloc, &mut share, words, input, output, errors, &mut Deaf)
 }
 
-/// The same, where `heard` hears each event that the share performs, with what it answers, before the next is performed. Words with
+/// The same, where `heard` observes the share, and hears each event with what is answered, before the next is performed. Words with
 /// reasons have them written as comments into `output`, each behind the answer that it is of, and not into `errors`.
 pub fn replay_heard<A: Authenticator + Drop, R: Read + Drop, W: Write, E: Write, H: Hears>(
     alloc: Global,
-    share: Share<A, NodeTree, HandleTable>,
+    share: &mut Share<A, NodeTree, HandleTable>,
     words: ReplayWords<'_>,
     input: R,
     output: &mut W,

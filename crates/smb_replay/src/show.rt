@@ -10,10 +10,10 @@ ghost use Rattle.smb_replay.specs.Show.{is_white, stream_of, command_name, calle
 
 use crate::fault::{CommandFault, Detail};
 use crate::input::read_input;
-use hex::FromHexError;
 use smb_body::{read_body, read_smb1_negotiate};
 use smb_frame::{FrameBuffer, FrameFault};
 use smb_head::{Chain, Header, read_chain};
+use smb_journal::read_hex;
 use smb_wire::limits::LONGEST_PAYLOAD;
 use smb_wire::{Command, CommandCode};
 use std::alloc::{AllocError, Global};
@@ -45,11 +45,7 @@ pub(crate) fn read_stream(alloc: Global, mut text: Vec<u8>) -> Result<Option<Vec
     ensures { IfOk result (λ stream. option_map (λ bytes. bytes.items) stream ≡ stream_of text.items) }
 {
     drop_white(&mut text);
-    match hex::decode(alloc, text.as_slice()) {
-        Ok(stream) => Ok(Some(stream)),
-        Err(FromHexError::OutOfMemory) => Err(AllocError),
-        Err(_) => Ok(None),
-    }
+    read_hex(alloc, text.as_slice())
 }
 
 /// A command's name.

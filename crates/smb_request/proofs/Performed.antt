@@ -12,7 +12,7 @@ use Rattle.smb_request.specs.declared.call.Call.{Call}
 use Rattle.smb_request.specs.declared.context.Context.{Context}
 use Rattle.smb_request.specs.declared.response.NoReply.{NoReply}
 use Rattle.smb_request.specs.declared.response.Response.{Response}
-use Rattle.smb_request.specs.declared.response.Response.TheVariants.{Ready, Bytes, Listing}
+use Rattle.smb_request.specs.declared.response.Response.TheVariants.{Ready, Dialects, Token, Information, Bytes, Listing}
 use Rattle.smb_request.specs.Bodies.{is_listing, no_reply_of}
 use Rattle.smb_head.specs.Headers.{header_of}
 use Rattle.smb_request.specs.Charge.{charge_of}
@@ -55,7 +55,10 @@ call_read connection moment dialect context request = record {
 -- where no response could be written: a listing was not performed, and left the dialect
 dialect_unwritten : (response : Response) (no_reply : NoReply) (before after is : Option Dialect) → no_reply ≡ no_reply_of response → is ≡ after → (is_listing response ≡ true → is ≡ before) →
     is ≡ (if is_performed no_reply then after else before)
-dialect_unwritten (Ready answered body) no_reply before after is e f g = rw e f
+dialect_unwritten (Ready answered reply) no_reply before after is e f g = rw e f
+dialect_unwritten (Dialects dialect) no_reply before after is e f g = rw e f
+dialect_unwritten (Token answered flags token) no_reply before after is e f g = rw e f
+dialect_unwritten (Information answered bytes) no_reply before after is e f g = rw e f
 dialect_unwritten (Bytes range) no_reply before after is e f g = rw e f
 dialect_unwritten (Listing asked) no_reply before after is e f g = rw e (g refl)
 

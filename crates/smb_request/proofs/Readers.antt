@@ -62,7 +62,7 @@ use Rattle.smb_request.specs.Files.{file_created, file_closed}
 use Rattle.smb_request.specs.Parts.{file_asked, close_response, asks_unlock, needs_session, is_unsupported, is_cancel_command, has_tree, only_reads, owns, is_owned, check_session_tree_and_open, dialect_after, closed_for, setup_answered, without_connection, lock_asks, hello_of, performed_by, success, set_status, set_through, with_store, closed_with, file_locked, file_unlocked, negotiated}
 use Rattle.smb_request.specs.Held.{IsCallOf, opens_left}
 use Rattle.smb_request.specs.Laws.{NumbersInOrder, AllMayOnlyRead, ChangesNoFile}
-use Rattle.smb_request.specs.Needs.{needs_of}
+use Rattle.smb_body.specs.Needs.{needs_of}
 use Rattle.smb_request.specs.Negotiate.{negotiate_answer}
 use Rattle.smb_request.specs.Owners.{AreOwned}
 use Rattle.smb_request.specs.Request.{check_request, acted, performed}

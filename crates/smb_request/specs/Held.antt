@@ -7,13 +7,13 @@ use Rattle.smb_session.specs.declared.setup.SetupStatus.TheVariants.{Success, Mo
 use Rattle.smb_request.specs.declared.response.NoReply.{NoReply}
 use Rattle.smb_request.specs.declared.response.NoReply.TheVariants.{NotPerformed, Performed}
 use Rattle.std.specs.Option.{option_map_or, option_and_then}
-use Rattle.smb_body.specs.Requests.{RequestValue, file_id_of}
+use Rattle.smb_body.specs.Requests.{RequestValue, request_value, file_id_of}
 use Rattle.smb_request.specs.declared.call.Call.{Call}
 use Rattle.smb_request.specs.declared.context.HeaderIds.{HeaderIds}
-use Rattle.smb_request.specs.declared.response.Body.{Body}
-use Rattle.smb_request.specs.declared.response.Body.TheVariants.{Error, SessionSetup}
+use Rattle.smb_request.specs.declared.asked.Asked.{Asked}
+use Rattle.smb_body.specs.declared.reply.Reply.{Reply}
 use Rattle.smb_request.specs.declared.response.Response.{Response}
-use Rattle.smb_request.specs.declared.response.Response.TheVariants.{Ready}
+use Rattle.smb_request.specs.declared.response.Response.TheVariants.{Ready, Token}
 use Rattle.smb_request.specs.Parts.{named_open, number_named, is_unsupported}
 use Rattle.smb_wire.specs.declared.nt_status.NtStatus.{NtStatus}
 use Rattle.smb_refusals.specs.declared.refusal.Refusal.{Refusal}
@@ -50,11 +50,15 @@ pub record IsCallOf (call : Call) (body : Option RequestValue) : Type 0 where
   pub charged : 1 ≤ call.charge
   pub unsupported : option_map_or is_unsupported call.command false ≡ true → body ≡ None
 
+-- what a request asks
+abbrev pub asked_value : Asked → RequestValue
+asked_value asked = request_value asked.request
+
 -- the response to a SESSION_SETUP that was not refused
-abbrev pub setup_by : HeaderIds → SetupStatus → Body → Response
-setup_by ids Success body = Ready (record { status = NtStatus.Success; refusal = None; ids = ids }) body
-setup_by ids MoreProcessingRequired body = Ready (record { status = NtStatus.MoreProcessingRequired; refusal = None; ids = ids }) body
-setup_by ids LogonFailure body = Ready (record { status = NtStatus.LogonFailure; refusal = Some (Refusal.SessionSetup Denied); ids = ids }) Error
+abbrev pub setup_by : HeaderIds → SetupDone → SetupStatus → Response
+setup_by ids done Success = Token (record { status = NtStatus.Success; refusal = None; ids = ids }) (record { 0 = done.flags }) done.token
+setup_by ids done MoreProcessingRequired = Token (record { status = NtStatus.MoreProcessingRequired; refusal = None; ids = ids }) (record { 0 = done.flags }) done.token
+setup_by ids done LogonFailure = Ready (record { status = NtStatus.LogonFailure; refusal = Some (Refusal.SessionSetup Denied); ids = ids }) Reply.Error
 
 abbrev pub setup_response_of : HeaderIds → SetupDone → Response
-setup_response_of ids done = setup_by (record ids { session_id = done.session }) done.status (SessionSetup (record { 0 = done.flags }) done.token)
+setup_response_of ids done = setup_by (record ids { session_id = done.session }) done done.status

@@ -15,7 +15,6 @@ pub mod QueryInfo
 pub mod SetInfo
 pub mod QueryDirectory
 pub mod Files
-pub mod Needs
 pub mod Request
 pub mod Held
 pub mod Information

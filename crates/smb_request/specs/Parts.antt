@@ -37,8 +37,8 @@ use Rattle.smb_locks.specs.declared.ask.LockAsk.{LockAsk}
 use Rattle.smb_body.specs.declared.lock_element.LockElement.{LockElement}
 use Rattle.smb_wire.specs.declared.command.Command.{Command}
 use Rattle.smb_wire.specs.declared.command.Command.TheVariants.{Ioctl, Cancel, ChangeNotify, OplockBreak}
-use Rattle.smb_request.specs.declared.needs.Needs.{Needs}
-use Rattle.smb_request.specs.declared.needs.Needs.TheVariants.{Session as SessionNeed, Tree as TreeNeed, Open}
+use Rattle.smb_body.specs.declared.needs.Needs.{Needs}
+use Rattle.smb_body.specs.declared.needs.Needs.TheVariants.{Session as SessionNeed, Tree as TreeNeed, Open}
 use Rattle.smb_wire.specs.declared.dialect.Dialect.{Dialect}
 use Rattle.smb_wire.specs.declared.dialect.Dialect.TheVariants.{Smb202, Smb210}
 use Rattle.smb_session.specs.Numbers.{contains, without_number}
@@ -71,7 +71,7 @@ use Rattle.smb_wire.specs.Dialects.{revision_of}
 use Rattle.smb_request.specs.Negotiate.{negotiate_answer}
 use Rattle.smb_opens.specs.Locks.{lock_refusal, unlock_refusal, locked_through, unlocked_through}
 use Rattle.smb_body.specs.Requests.{RequestValue, asks_negotiate}
-use Rattle.smb_request.specs.Needs.{needs_of}
+use Rattle.smb_body.specs.Needs.{needs_of}
 use Rattle.smb_request.specs.Request.{acted, check_request}
 use Rattle.smb_body.specs.declared.tree_connect.TreeConnectResponse.{TreeConnectResponse}
 use Rattle.smb_session.specs.Sessions.{SetupStep}

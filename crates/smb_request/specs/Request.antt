@@ -24,8 +24,8 @@ use Rattle.smb_refusals.specs.declared.request.NegotiateRefusal.TheVariants.{NoD
 use Rattle.smb_request.specs.Call.{call_of}
 use Rattle.smb_wire.specs.Commands.{code_of}
 use Rattle.smb_request.specs.Context.{open_named, open_for_next_related, named_on}
-use Rattle.smb_request.specs.Needs.{needs_of}
-use Rattle.smb_request.specs.declared.needs.Needs.TheVariants.{Session, Tree, Open}
+use Rattle.smb_body.specs.Needs.{needs_of}
+use Rattle.smb_body.specs.declared.needs.Needs.TheVariants.{Session, Tree, Open}
 use Rattle.smb_request.specs.Negotiate.{negotiate_answer}
 use Rattle.smb_request.specs.State.{ServerState}
 use Rattle.smb_request.specs.Response.{CommandStep, Performed, with_body, refused, unless_refused}

@@ -12,14 +12,13 @@ ghost use Rattle.smb_request.specs.InPlace.{answer_held, answer_behind};
 ghost use Rattle.smb_request.specs.Parts.{success};
 
 use super::call::Call;
-use super::response::{Answered, Body, Response};
+use super::response::{Answered, Response, success};
 use super::server::Server;
-use smb_body::{ReadRequest, WriteRequest, WriteResponse, put_read_head};
+use smb_body::{ReadRequest, Reply, WriteRequest, WriteResponse, put_read_head};
 use smb_opens::{FilePart, Opens};
 use smb_refusals::{Refusal, RefusedBy};
 use smb_session::Authenticator;
 use smb_tree::Tree;
-use smb_wire::NtStatus;
 use std::alloc::AllocError;
 
 impl<A: Authenticator + Drop, T: Tree + Drop, O: Opens + Drop> Server<A, T, O> {
@@ -68,7 +67,7 @@ impl<A: Authenticator + Drop, T: Tree + Drop, O: Opens + Drop> Server<A, T, O> {
             call.moment,
         )?;
         let count = buffer.len() as u32;
-        Ok(Response::success(call.ids, Body::Write(WriteResponse { count })))
+        Ok(Response::success(call.ids, Reply::Write(WriteResponse { count })))
     }
 
     /// Adds the body of a READ response to `out`: its fixed part, and behind it the bytes of the file, which are copied
@@ -89,11 +88,7 @@ impl<A: Authenticator + Drop, T: Tree + Drop, O: Opens + Drop> Server<A, T, O> {
         let start = out.len();
         put_read_head(part.length, out)?;
         match self.store.add_part(part, out) {
-            Ok(()) => Ok(Answered {
-                status: NtStatus::Success,
-                refusal: None,
-                ids: call.ids,
-            }),
+            Ok(()) => Ok(success(call.ids)),
             Err(AllocError) => {
                 out.truncate(start);
                 Err(AllocError)

@@ -1,23 +1,26 @@
 //! A request as it was read: what its header, the requests before it in its chain and its body say ([MS-SMB2] 3.3.5.2).
 
-ghost use Rattle.std.specs.Prelude.{ℕ, List, ◌≡◌, ◌≤◌};
+ghost use Rattle.std.specs.Prelude.{ℕ, List, Option, ◌≡◌, ◌≤◌};
+ghost use Rattle.smb_wire.specs.declared.dialect.Dialect.{Dialect};
 ghost use Rattle.std.specs.Option.{option_map, option_and_then};
 ghost use Rattle.smb_wire.specs.Limits.{most_at_once, most_in_any_dialect};
 ghost use Rattle.smb_head.specs.Chains.{is_related};
 ghost use Rattle.smb_head.specs.Headers.{header_of};
 ghost use Rattle.smb_wire.specs.Commands.{known_command};
-ghost use Rattle.smb_body.specs.Requests.{request_value, file_id_of};
+ghost use Rattle.smb_body.specs.Requests.{file_id_of};
+ghost use Rattle.smb_request.specs.Held.{asked_value};
 ghost use Rattle.smb_request.specs.Call.{body_of, call_of};
 ghost use Rattle.smb_request.specs.Laws.{request_ids};
-ghost use Rattle.smb_request.specs.Parts.{inherited_open, named_open};
+ghost use Rattle.smb_request.specs.Parts.{inherited_open};
 ghost use Rattle.smb_request.specs.Context.{named_on, open_for_next_related};
 
+use super::asked::Asked;
 use super::charge::charge_of;
 use super::context::{
-    Context, ContextOpen, HeaderIds, named_by, named_on, number_named, open_for_next_related,
+    Context, ContextOpen, HeaderIds, named_on, open_for_next_related, open_number,
 };
 use bitflags::Flags;
-use smb_body::{Request, read_body};
+use smb_body::read_body;
 use smb_head::{Header, HeaderFlags};
 use smb_wire::{Command, Dialect, FileId, NtStatus, limits};
 
@@ -50,49 +53,58 @@ fn is_related(header: &Header) -> bool
     header.flags.contains(HeaderFlags::RELATED)
 }
 
-/// The session and the tree connect that a request acts under: its own, or of a related one the context's.
-fn request_ids(context: Context, header: &Header) -> HeaderIds
-    ensures { (request : List ℕ) → header.now ≡ header_of request → result ≡ request_ids context request }
+/// The session and the tree connect that a request acts under, its own, or of a related one the context's; and the open that
+/// it inherits, none where it is not related.
+fn inherited_by(context: Context, header: &Header) -> (HeaderIds, Option<ContextOpen>)
+    ensures ids { (request : List ℕ) → header.now ≡ header_of request → result.0 ≡ request_ids context request }
+    ensures inherited { (request : List ℕ) → header.now ≡ header_of request → result.1 ≡ inherited_open context request }
 {
     if is_related(header) {
-        context.ids
+        (context.ids, Some(context.last_open))
     } else {
-        HeaderIds {
+        let ids = HeaderIds {
             session_id: header.session_id,
             tree_id: header.tree_id,
-        }
-    }
-}
-
-/// The open that a request inherits; None where it is not related.
-fn inherited_open(context: Context, header: &Header) -> Option<ContextOpen>
-    ensures { (request : List ℕ) → header.now ≡ header_of request → result ≡ inherited_open context request }
-{
-    if is_related(header) {
-        Some(context.last_open)
-    } else {
-        None
+        };
+        (ids, None)
     }
 }
 
 /// What the body of a request of a command says; None where it says nothing, or the command is not known.
-pub(crate) fn body_of(command: Option<Command>, request: &[u8]) -> Option<Request<'_>>
-    ensures { option_map request_value result ≡ body_of command request.now }
+pub(crate) fn body_of(command: Option<Command>, request: &[u8]) -> Option<Asked<'_>>
+    ensures { option_map asked_value result ≡ body_of command request.now }
 {
     match read_body(command?.code().0, request) {
-        Ok(asked) => Some(asked),
+        Ok(request) => {
+            let facts = request.facts();
+            Some(Asked { request, facts })
+        }
         Err(_) => None,
     }
 }
 
 /// The FileId in a body, if it has one.
-fn file_id_in(body: &Option<Request<'_>>) -> Option<FileId>
-    ensures { result ≡ option_and_then file_id_of (option_map request_value body.now) }
+fn file_id_in(body: &Option<Asked<'_>>) -> Option<FileId>
+    ensures { result ≡ option_and_then file_id_of (option_map asked_value body.now) }
 {
     match body {
-        Some(request) => request.file_id(),
+        Some(asked) => asked.facts.file_id,
         None => None,
     }
+}
+
+/// What a request acts on that comes behind the requests of a context: the session and the tree connect, and the number of the
+/// open that it names, 0 where it names none.
+pub fn acting_on(context: Context, header: &Header, request: &[u8]) -> (HeaderIds, u64)
+    requires { header.now ≡ header_of request.now }
+    ensures { (connection moment : ℕ) (dialect : Option Dialect) →
+        (result.0 ≡ (call_of connection moment dialect context request.now).ids)
+        × (result.1 ≡ (call_of connection moment dialect context request.now).open_number) }
+{
+    let command = header.command.known();
+    let body = body_of(command, request);
+    let call = Call::of(0, 0, None, context, header, command, &body);
+    (call.ids, call.open_number)
 }
 
 impl Call {
@@ -103,24 +115,26 @@ impl Call {
         dialect: Option<Dialect>,
         context: Context,
         header: &Header,
-        body: &Option<Request<'_>>,
+        command: Option<Command>,
+        body: &Option<Asked<'_>>,
     ) -> Call
         ensures { (request : List ℕ) → header.now ≡ header_of request →
-            option_map request_value body.now ≡ body_of (known_command header.now.command.0) request →
+            command ≡ known_command header.now.command.0 →
+            option_map asked_value body.now ≡ body_of command request →
             result ≡ call_of connection moment dialect context request }
     {
-        let inherited = inherited_open(context, header);
+        let (ids, inherited) = inherited_by(context, header);
         let file_id = file_id_in(body);
         Call {
             connection,
             moment,
             dialect,
             charge: charge_of(dialect, header.credit_charge),
-            command: header.command.known(),
-            ids: request_ids(context, header),
+            command,
+            ids,
             inherited,
             file_id,
-            open_number: number_named(named_by(inherited, file_id)),
+            open_number: open_number(inherited, file_id),
         }
     }
 
@@ -130,13 +144,6 @@ impl Call {
         ensures most { result ≤ most_in_any_dialect }
     {
         limits::most_at_once(self.dialect)
-    }
-
-    /// The open that it names.
-    pub(crate) fn named_open(self) -> Option<ContextOpen>
-        ensures { result ≡ named_open self }
-    {
-        named_by(self.inherited, self.file_id)
     }
 
     /// What it hands on where it has no response.

@@ -56,7 +56,7 @@ fn is_all_ones(id: FileId) -> bool
 }
 
 /// The open that a FileId names, by the open that its request inherits.
-fn open_named(inherited: Option<ContextOpen>, id: FileId) -> ContextOpen
+pub(crate) fn open_named(inherited: Option<ContextOpen>, id: FileId) -> ContextOpen
     ensures { result ≡ open_named inherited id }
 {
     match inherited {
@@ -65,20 +65,16 @@ fn open_named(inherited: Option<ContextOpen>, id: FileId) -> ContextOpen
     }
 }
 
-/// The open that a request names by its FileId, if it has one.
-pub(crate) fn named_by(inherited: Option<ContextOpen>, id: Option<FileId>) -> Option<ContextOpen>
-    ensures { result ≡ option_map (open_named inherited) id }
+/// The number of the open that a request names by its FileId; 0, which no open has, where it names none.
+pub(crate) fn open_number(inherited: Option<ContextOpen>, id: Option<FileId>) -> u64
+    ensures { result ≡ number_named (option_map (open_named inherited) id) }
 {
-    Some(open_named(inherited, id?))
-}
-
-/// The number of a named open; 0, which no open has, where none is named.
-pub(crate) fn number_named(named: Option<ContextOpen>) -> u64
-    ensures { result ≡ number_named named }
-{
-    match named {
-        Some(ContextOpen::Named(id)) => id.persistent,
-        _ => 0,
+    let Some(id) = id else {
+        return 0;
+    };
+    match open_named(inherited, id) {
+        ContextOpen::Named(id) => id.persistent,
+        ContextOpen::Nothing | ContextOpen::Refused(_) => 0,
     }
 }
 

@@ -11,9 +11,9 @@ ghost use Rattle.smb_request.specs.Bodies.{response_step, result_step, IsReadyAf
 
 use super::call::Call;
 use super::context::HeaderIds;
-use super::response::{Body, Response};
+use super::response::Response;
 use super::server::Server;
-use smb_body::{CloseFlags, CloseResponse, CreateRequest, CreateResponse, OplockLevel};
+use smb_body::{CloseFlags, CloseResponse, CreateRequest, CreateResponse, OplockLevel, Reply};
 use smb_opens::{CreateAsk, Created, Opens, Owner, View};
 use smb_refusals::{Refusal, RefusedBy};
 use smb_session::Authenticator;
@@ -120,7 +120,7 @@ impl<A: Authenticator + Drop, T: Tree + Drop, O: Opens + Drop> Server<A, T, O> {
         let read_only = self.may_only_read(call);
         let ask = file_asked(call.ids, request, read_only);
         let done = self.store.create_by_row(&ask, call.moment)?;
-        Ok(Response::success(call.ids, Body::Create(create_response(&done))))
+        Ok(Response::success(call.ids, Reply::Create(create_response(&done))))
     }
 
     /// CLOSE ([MS-SMB2] 3.3.5.10).
@@ -133,6 +133,6 @@ impl<A: Authenticator + Drop, T: Tree + Drop, O: Opens + Drop> Server<A, T, O> {
     {
         let closed = self.store.close(call.open_number);
         let response = close_response(flags, &closed.view);
-        Response::success(call.ids, Body::Close(response))
+        Response::success(call.ids, Reply::Close(response))
     }
 }

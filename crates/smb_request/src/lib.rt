@@ -14,6 +14,7 @@
 //! before it. What was in the vector is kept, and more may be behind it.
 #![tactic(auto)]
 
+mod asked;
 mod bytes;
 mod call;
 mod charge;
@@ -34,6 +35,7 @@ mod session;
 mod set_info;
 pub mod smb1;
 
+pub use call::acting_on;
 pub use charge::charge_of;
 pub use config::Config;
 pub use context::{Context, ContextOpen, HeaderIds};

@@ -10,10 +10,10 @@ ghost use Rattle.smb_request.specs.Bodies.{result_step, IsReadyAfter};
 ghost use Rattle.smb_refusals.specs.declared.refused_by.RefusedBy.TheVariants.{NoMemory};
 
 use super::call::Call;
-use super::response::{Body, Response};
+use super::response::Response;
 use super::server::Server;
 use bitflags::Flags;
-use smb_body::{LockElement, LockList, LockRequest};
+use smb_body::{LockElement, LockList, LockRequest, Reply};
 use smb_locks::LockAsk;
 use smb_opens::Opens;
 use smb_refusals::{Refusal, RefusedBy};
@@ -71,7 +71,7 @@ impl<A: Authenticator + Drop, T: Tree + Drop, O: Opens + Drop> Server<A, T, O> {
         ensures known { self.new.sessions.table.connections ≡ self.old.sessions.table.connections }
     {
         self.store.lock_by_row(call.open_number, asks)?;
-        Ok(Response::success(call.ids, Body::Lock))
+        Ok(Response::success(call.ids, Reply::Lock))
     }
 
     /// A LOCK that unlocks ([MS-SMB2] 3.3.5.14.1). It takes no memory.
@@ -87,7 +87,7 @@ impl<A: Authenticator + Drop, T: Tree + Drop, O: Opens + Drop> Server<A, T, O> {
         ensures known { self.new.sessions.table.connections ≡ self.old.sessions.table.connections }
     {
         self.store.unlock_by_row(call.open_number, asks)?;
-        Ok(Response::success(call.ids, Body::Lock))
+        Ok(Response::success(call.ids, Reply::Lock))
     }
 
     /// LOCK ([MS-SMB2] 3.3.5.14). After a refusal by a status, the elements before that which was refused stay unlocked.

@@ -11,7 +11,7 @@ ghost use Rattle.smb_request.specs.QueryDirectory.{has_room_for_fields, listing_
 ghost use Rattle.smb_request.specs.Parts.{list_asked_by, view_refusal, listed_as_asked, listing_refused, directory_refusal};
 
 use super::call::Call;
-use super::response::{Answered, failure, put_response};
+use super::response::{Answered, failure, put_response, success};
 use super::server::Server;
 use bitflags::Flags;
 use smb_body::{QueryDirectoryRequest, Reply, close_query_response, open_query_response};
@@ -20,7 +20,7 @@ use smb_opens::{Opens, Scan, View};
 use smb_refusals::{QueryDirectoryRefusal, Refusal};
 use smb_session::Authenticator;
 use smb_tree::{Kind, Tree};
-use smb_wire::{Access, NtStatus};
+use smb_wire::Access;
 use std::alloc::AllocError;
 
 /// What a refusal of a listing comes to.
@@ -148,11 +148,7 @@ impl<A: Authenticator + Drop, T: Tree + Drop, O: Opens + Drop> Server<A, T, O> {
             Ok(scan) => {
                 close_query_response(start, out);
                 self.store.set_scan(call.open_number, scan);
-                Ok(Answered {
-                    status: NtStatus::Success,
-                    refusal: None,
-                    ids: call.ids,
-                })
+                Ok(success(call.ids))
             }
             Err(fault) => {
                 out.truncate(start);

@@ -10,7 +10,7 @@ ghost use Rattle.smb_request.specs.Parts.{open_information, volume_of, informati
 
 use super::call::Call;
 use super::information::{query_info_refused, written_status};
-use super::response::{Answered, Body, Response};
+use super::response::{Answered, Response};
 use super::server::Server;
 use smb_body::{InfoType, QueryInfoRequest};
 use smb_info::{InfoFault, Truncation, file_info, fs_info};
@@ -122,6 +122,6 @@ impl<A: Authenticator + Drop, T: Tree + Drop, O: Opens + Drop> Server<A, T, O> {
             refusal: None,
             ids: call.ids,
         };
-        Ok(Response::Ready(answered, Body::QueryInfo(information.bytes)))
+        Ok(Response::Information(answered, information.bytes))
     }
 }

@@ -2,7 +2,7 @@
 
 ghost use Rattle.std.specs.Prelude.{◌≡◌, ◌≤◌, ◌+◌, true, IfOk, IfErr, IfSome, IfNone, IsSome, is_some, Some, None, OnOk, OnErr, length, take, if◌then◌else◌};
 ghost use Rattle.std.specs.Option.{is_none, option_map, option_map_or};
-ghost use Rattle.smb_refusals.specs.declared.request.RequestRefusal.TheVariants.{UnknownCommand, BodyUnreadable};
+ghost use Rattle.smb_refusals.specs.declared.request.RequestRefusal.TheVariants.{UnknownCommand, BodyUnreadable, UnknownSession, UnknownTreeConnect};
 ghost use Rattle.smb_wire.specs.Limits.{longest_body};
 ghost use Rattle.smb_head.specs.Headers.{header_of};
 ghost use Rattle.smb_body.specs.Dialects.{dialects_of};
@@ -11,20 +11,21 @@ ghost use Rattle.smb_session.specs.Negotiate.{best_of};
 ghost use Rattle.smb_session.specs.Table.{knows_session, knows_tree};
 ghost use Rattle.smb_access.specs.Opens.{open_of};
 ghost use Rattle.smb_request.specs.Bodies.{result_step, is_listing, IsReadyAfter};
-ghost use Rattle.smb_request.specs.Held.{is_performed, IsCallOf};
+ghost use Rattle.smb_request.specs.Held.{is_performed, IsCallOf, asked_value};
 ghost use Rattle.smb_request.specs.InPlace.{answer_held, answer_behind, performed_behind};
-ghost use Rattle.smb_request.specs.Needs.{needs_of};
+ghost use Rattle.smb_body.specs.Needs.{needs_of};
 ghost use Rattle.smb_request.specs.Parts.{needs_session, needs_tree, dialect_after, check_session_tree_and_open, open_refusal, performed_by, negotiated};
 ghost use Rattle.smb_request.specs.Request.{acted, check_request, performed};
 ghost use Rattle.smb_refusals.specs.declared.refused_by.RefusedBy.TheVariants.{NoMemory};
 
+use super::asked::Asked;
 use super::call::{Call, body_of};
 use super::charge::due_of;
-use super::context::{Context, ContextOpen, HeaderIds};
-use super::needs::{is_cancel_command, is_unsupported, needs_of};
-use super::response::{Answered, Body, NoReply, Response};
+use super::context::{Context, ContextOpen, HeaderIds, open_named};
+use super::needs::{is_cancel_command, is_unsupported};
+use super::response::{Answered, NoReply, Response};
 use super::server::Server;
-use smb_body::{Dialects, Request, payload};
+use smb_body::{Dialects, Needs, Reply, Request};
 use smb_head::Header;
 use smb_opens::Opens;
 use smb_refusals::{NegotiateRefusal, Refusal, RefusedBy, RequestRefusal};
@@ -60,38 +61,55 @@ impl<A: Authenticator + Drop, T: Tree + Drop, O: Opens + Drop> Server<A, T, O> {
     fn check_session_tree_and_open(
         &self,
         call: Call,
-        request: &Request<'_>,
+        asked: &Asked<'_>,
     ) -> Result<(), RequestRefusal>
-        ensures ok { OnOk result (check_session_tree_and_open self.now call (request_value request.now) ≡ None) }
-        ensures err { IfErr result (λ refusal. check_session_tree_and_open self.now call (request_value request.now) ≡ Some refusal) }
+        ensures ok { OnOk result (check_session_tree_and_open self.now call (asked_value asked.now) ≡ None) }
+        ensures err { IfErr result (λ refusal. check_session_tree_and_open self.now call (asked_value asked.now) ≡ Some refusal) }
     {
-        let needs = needs_of(request);
-        let (connection, session_id) = (call.connection, call.ids.session_id);
-        // A tree connect that exists has its session, which needs no look-up of its own.
-        let tree_id = Some(call.ids.tree_id);
-        if !needs.has_tree() || !self.sessions.knows(connection, session_id, tree_id) {
-            if needs.has_session() && !self.sessions.knows(connection, session_id, None) {
-                return Err(RequestRefusal::UnknownSession);
+        let (connection, ids) = (call.connection, call.ids);
+        match asked.facts.needs {
+            Needs::Nothing => {}
+            Needs::Session => {
+                if !self.sessions.knows(connection, ids.session_id, None) {
+                    return Err(RequestRefusal::UnknownSession);
+                }
             }
-            if needs.has_tree() {
-                return Err(RequestRefusal::UnknownTreeConnect);
+            // A tree connect that exists has its session, which needs no look-up of its own.
+            Needs::Tree | Needs::Open => {
+                if !self
+                    .sessions
+                    .knows(connection, ids.session_id, Some(ids.tree_id))
+                {
+                    return Err(self.absent_tree(connection, ids.session_id));
+                }
             }
         }
-        match call.named_open() {
-            Some(named) => self.check_open(call.ids, named),
+        match call.file_id {
+            Some(id) => self.check_open(ids, open_named(call.inherited, id)),
             None => Ok(()),
         }
     }
 
-    /// Checks that a request takes as many MessageIds as it has to, and that what it needs exists.
-    fn check_request(&self, call: Call, request: &Request<'_>) -> Result<(), RequestRefusal>
-        ensures ok { OnOk result (check_request self.now call (request_value request.now) ≡ None) }
-        ensures err { IfErr result (λ refusal. check_request self.now call (request_value request.now) ≡ Some refusal) }
+    /// Why a request is refused that needs a tree connect which does not exist.
+    fn absent_tree(&self, connection: u64, session_id: u64) -> RequestRefusal
+        ensures { result ≡ (if knows_session self.now.sessions.table connection session_id then UnknownTreeConnect else UnknownSession) }
     {
-        if u32::from(call.charge) < due_of(payload(request)) {
+        if self.sessions.knows(connection, session_id, None) {
+            RequestRefusal::UnknownTreeConnect
+        } else {
+            RequestRefusal::UnknownSession
+        }
+    }
+
+    /// Checks that a request takes as many MessageIds as it has to, and that what it needs exists.
+    fn check_request(&self, call: Call, asked: &Asked<'_>) -> Result<(), RequestRefusal>
+        ensures ok { OnOk result (check_request self.now call (asked_value asked.now) ≡ None) }
+        ensures err { IfErr result (λ refusal. check_request self.now call (asked_value asked.now) ≡ Some refusal) }
+    {
+        if u32::from(call.charge) < due_of(asked.facts.payload) {
             return Err(RequestRefusal::ChargeTooSmall);
         }
-        self.check_session_tree_and_open(call, request)
+        self.check_session_tree_and_open(call, asked)
     }
 
     /// The greatest dialect of the server that a list has.
@@ -121,7 +139,7 @@ impl<A: Authenticator + Drop, T: Tree + Drop, O: Opens + Drop> Server<A, T, O> {
             return Err(RefusedBy::from(NegotiateRefusal::NoDialect));
         };
         *dialect = Some(best);
-        Ok(Response::success(call.ids, Body::Negotiate(best)))
+        Ok(Response::Dialects(best))
     }
 
     /// Performs a request that passed its checks.
@@ -152,12 +170,12 @@ impl<A: Authenticator + Drop, T: Tree + Drop, O: Opens + Drop> Server<A, T, O> {
             Request::Close(asked) => Ok(self.close_file(call, asked.flags)),
             Request::Flush(_) => {
                 self.store.flush(call.open_number);
-                Ok(Response::success(call.ids, Body::Flush))
+                Ok(Response::success(call.ids, Reply::Flush))
             }
             Request::Read(asked) => self.read_file(call, asked),
             Request::Write(asked) => self.write_file(call, asked),
             Request::Lock(asked) => self.change_locks(call, asked),
-            Request::Echo(_) => Ok(Response::success(call.ids, Body::Echo)),
+            Request::Echo(_) => Ok(Response::success(call.ids, Reply::Echo)),
             Request::QueryDirectory(asked) => Ok(Response::Listing(*asked)),
             Request::QueryInfo(asked) => self.query_info(call, asked),
             Request::SetInfo(asked) => self.set_info(call, asked),
@@ -170,11 +188,11 @@ impl<A: Authenticator + Drop, T: Tree + Drop, O: Opens + Drop> Server<A, T, O> {
         &mut self,
         call: Call,
         dialect: &mut Option<Dialect>,
-        body: &Option<Request<'a>>,
+        body: &Option<Asked<'a>>,
     ) -> Result<Response<'a>, RefusedBy<Refusal>>
-        requires { IsCallOf call (option_map request_value body.now) }
-        ensures ok { IfSome (result_step A.meaning self.new call result) (λ step. step ≡ performed_by A.meaning self.old call (option_map request_value body.now)) }
-        ensures dialect { dialect.new ≡ option_map_or (dialect_after dialect.old) (option_map request_value body.now) dialect.old }
+        requires { IsCallOf call (option_map asked_value body.now) }
+        ensures ok { IfSome (result_step A.meaning self.new call result) (λ step. step ≡ performed_by A.meaning self.old call (option_map asked_value body.now)) }
+        ensures dialect { dialect.new ≡ option_map_or (dialect_after dialect.old) (option_map asked_value body.now) dialect.old }
         ensures put { IfOk result (IsReadyAfter self.old self.new call) }
         ensures err { IfErr result (λ refusal. refusal ≡ NoMemory → self.new ≡ self.old) }
         ensures memory { IfErr result (λ refusal. refusal ≡ NoMemory → dialect.new ≡ dialect.old) }
@@ -188,11 +206,11 @@ impl<A: Authenticator + Drop, T: Tree + Drop, O: Opens + Drop> Server<A, T, O> {
             }
             _ => {}
         }
-        let Some(request) = body else {
+        let Some(asked) = body else {
             return Err(RefusedBy::from(unread_refusal(call)));
         };
-        self.check_request(call, request)?;
-        self.act(call, dialect, request)
+        self.check_request(call, asked)?;
+        self.act(call, dialect, &asked.request)
     }
 
     /// Performs a request other than CANCEL, and adds the body of its response to `out`.
@@ -200,19 +218,19 @@ impl<A: Authenticator + Drop, T: Tree + Drop, O: Opens + Drop> Server<A, T, O> {
         &mut self,
         call: Call,
         dialect: &mut Option<Dialect>,
-        body: &Option<Request<'_>>,
+        body: &Option<Asked<'_>>,
         out: &mut Vec<u8>,
     ) -> Result<Answered, NoReply>
-        requires { IsCallOf call (option_map request_value body.now) }
-        ensures server { OnOk result (self.new ≡ (performed_by A.meaning self.old call (option_map request_value body.now)).server) }
+        requires { IsCallOf call (option_map asked_value body.now) }
+        ensures server { OnOk result (self.new ≡ (performed_by A.meaning self.old call (option_map asked_value body.now)).server) }
         ensures ok { IfOk result (λ r. answer_held r out.new.items
-            ≡ answer_behind out.old.items (performed_by A.meaning self.old call (option_map request_value body.now)).response) }
-        ensures dialect { OnOk result (dialect.new ≡ option_map_or (dialect_after dialect.old) (option_map request_value body.now) dialect.old) }
+            ≡ answer_behind out.old.items (performed_by A.meaning self.old call (option_map asked_value body.now)).response) }
+        ensures dialect { OnOk result (dialect.new ≡ option_map_or (dialect_after dialect.old) (option_map asked_value body.now) dialect.old) }
         ensures len { OnOk result (length out.new.items ≤ length out.old.items + longest_body) }
         ensures err { IfErr result (λ no_reply. self.new
-            ≡ (if is_performed no_reply then (performed_by A.meaning self.old call (option_map request_value body.now)).server else self.old)) }
+            ≡ (if is_performed no_reply then (performed_by A.meaning self.old call (option_map asked_value body.now)).server else self.old)) }
         ensures err_dialect { IfErr result (λ no_reply. dialect.new
-            ≡ (if is_performed no_reply then option_map_or (dialect_after dialect.old) (option_map request_value body.now) dialect.old else dialect.old)) }
+            ≡ (if is_performed no_reply then option_map_or (dialect_after dialect.old) (option_map asked_value body.now) dialect.old else dialect.old)) }
         ensures kept { take (length out.old.items) out.new.items ≡ out.old.items }
         ensures known { self.new.sessions.table.connections ≡ self.old.sessions.table.connections }
     {
@@ -253,8 +271,11 @@ impl<A: Authenticator + Drop, T: Tree + Drop, O: Opens + Drop> Server<A, T, O> {
         ensures kept { take (length out.old.items) out.new.items ≡ out.old.items }
         ensures known { self.new.sessions.table.connections ≡ self.old.sessions.table.connections }
     {
-        let body = body_of(header.command.known(), request);
-        let call = Call::of(connection, moment, *dialect, *context, header, &body);
+        let command = header.command.known();
+        let body = body_of(command, request);
+        let call = Call::of(
+            connection, moment, *dialect, *context, header, command, &body,
+        );
         if is_cancel_command(call.command) {
             *context = call.context_without_response();
             return Ok(None);

@@ -3,7 +3,7 @@
 ghost use Rattle.std.specs.Prelude.{◌≡◌, ◌≤◌, ◌+◌, ◌++◌, None, Some, OnOk, OnErr, IfOk, IfErr, length, take};
 ghost use Rattle.smb_wire.specs.Limits.{longest_body};
 ghost use Rattle.smb_body.specs.Replies.{reply_value, reply_length, reply_spelling};
-ghost use Rattle.smb_request.specs.Bodies.{body_value, response_of, response_step, IsShort, CanBePut, no_reply_of};
+ghost use Rattle.smb_request.specs.Bodies.{response_of, response_step, CanBePut, no_reply_of};
 ghost use Rattle.smb_refusals.specs.Refusals.{refusal_status};
 ghost use Rattle.smb_request.specs.InPlace.{answer_held, answer_behind};
 
@@ -11,8 +11,7 @@ use super::call::Call;
 use super::context::HeaderIds;
 use super::server::Server;
 use smb_body::{
-    CloseResponse, CreateResponse, QueryDirectoryRequest, QueryResponse, Reply, SessionFlags,
-    SessionSetupResponse, TreeConnectResponse, WriteResponse, write_reply,
+    QueryDirectoryRequest, QueryResponse, Reply, SessionFlags, SessionSetupResponse, write_reply,
 };
 use smb_opens::{FilePart, Opens};
 use smb_refusals::Refusal;
@@ -42,31 +41,17 @@ pub enum NoReply {
     Performed,
 }
 
-/// What the body of a response is made of.
-#[derive(Drop)]
-pub(crate) enum Body {
-    Error,
-    Negotiate(Dialect),
-    SessionSetup { flags: SessionFlags, token: Vec<u8> },
-    Logoff,
-    TreeConnect(TreeConnectResponse),
-    TreeDisconnect,
-    Create(CreateResponse),
-    Close(CloseResponse),
-    Flush,
-    Write(WriteResponse),
-    Lock,
-    Echo,
-    /// As many bytes of an information class as there is room for.
-    QueryInfo(Vec<u8>),
-    SetInfo,
-}
-
 /// The response to a request, whose body is still to be written.
 #[derive(Drop)]
 pub(crate) enum Response<'a> {
-    /// A status and ids, with a body.
-    Ready(Answered, Body),
+    /// A status and ids, with a body that borrows nothing of the server.
+    Ready(Answered, Reply<'a>),
+    /// Success with a dialect that was negotiated, and the authenticator's hello.
+    Dialects(Dialect),
+    /// The response to a SESSION_SETUP that is no failure, with a token of the authenticator.
+    Token(Answered, SessionFlags, Vec<u8>),
+    /// As many bytes of an information class as there is room for.
+    Information(Answered, Vec<u8>),
     /// Success with bytes of a file, which go from the file tree straight into the response.
     Bytes(FilePart),
     /// A query of a directory, which is performed where its listing is written.
@@ -76,21 +61,27 @@ pub(crate) enum Response<'a> {
 impl<'a> Response<'a> {
     /// A refusal by a row, under these ids.
     pub(crate) fn refused(ids: HeaderIds, refusal: Refusal) -> Response<'a>
-        ensures { result ≡ Response.Ready (record { status = refusal_status refusal; refusal = Some refusal; ids = ids }) Body.Error }
+        ensures { result ≡ Response.Ready (record { status = refusal_status refusal; refusal = Some refusal; ids = ids }) Reply.Error }
     {
-        Response::Ready(failure(ids, refusal), Body::Error)
+        Response::Ready(failure(ids, refusal), Reply::Error)
     }
 
     /// A success under these ids.
-    pub(crate) fn success(ids: HeaderIds, body: Body) -> Response<'a>
-        ensures { result ≡ Response.Ready (record { status = NtStatus.Success; refusal = None; ids = ids }) body }
+    pub(crate) fn success(ids: HeaderIds, reply: Reply<'a>) -> Response<'a>
+        ensures { result ≡ Response.Ready (record { status = NtStatus.Success; refusal = None; ids = ids }) reply.entry }
     {
-        let answered = Answered {
-            status: NtStatus::Success,
-            refusal: None,
-            ids,
-        };
-        Response::Ready(answered, body)
+        Response::Ready(success(ids), reply)
+    }
+}
+
+/// A response to a request that succeeds, but for its body.
+pub(crate) fn success(ids: HeaderIds) -> Answered
+    ensures { result ≡ record { status = NtStatus.Success; refusal = None; ids = ids } }
+{
+    Answered {
+        status: NtStatus::Success,
+        refusal: None,
+        ids,
     }
 }
 
@@ -124,39 +115,6 @@ pub(crate) fn put_response(
 }
 
 impl<A: Authenticator + Drop, T: Tree + Drop, O: Opens + Drop> Server<A, T, O> {
-    /// The reply that a body is.
-    fn reply_of<'a>(&'a self, call: Call, body: &'a Body) -> Reply<'a>
-        requires { IsShort body.now }
-        ensures value { reply_value result ≡ body_value A.meaning self.now call body.now }
-        ensures short { reply_length (reply_value result) ≤ longest_body }
-    {
-        match body {
-            Body::Error => Reply::Error,
-            Body::Negotiate(dialect) => self.negotiate_response(
-                call.moment,
-                Some(*dialect),
-                dialect.revision(),
-            ),
-            Body::SessionSetup { flags, token } => Reply::SessionSetup(SessionSetupResponse {
-                session_flags: *flags,
-                security_buffer: token,
-            }),
-            Body::Logoff => Reply::Logoff,
-            Body::TreeConnect(response) => Reply::TreeConnect(*response),
-            Body::TreeDisconnect => Reply::TreeDisconnect,
-            Body::Create(response) => Reply::Create(*response),
-            Body::Close(response) => Reply::Close(*response),
-            Body::Flush => Reply::Flush,
-            Body::Write(response) => Reply::Write(*response),
-            Body::Lock => Reply::Lock,
-            Body::Echo => Reply::Echo,
-            Body::QueryInfo(bytes) => Reply::QueryInfo(QueryResponse {
-                output_buffer: bytes,
-            }),
-            Body::SetInfo => Reply::SetInfo,
-        }
-    }
-
     /// Adds the body of a response to `out`. After an error `out` is as it was, and so is the server.
     pub(crate) fn put(
         &mut self,
@@ -175,22 +133,40 @@ impl<A: Authenticator + Drop, T: Tree + Drop, O: Opens + Drop> Server<A, T, O> {
         ensures kept { take (length out.old.items) out.new.items ≡ out.old.items }
         ensures known { self.new.sessions.table.connections ≡ self.old.sessions.table.connections }
     {
-        match response {
-            Response::Ready(answered, body) => {
-                let reply = self.reply_of(call, body);
-                match put_response(*answered, &reply, out) {
-                    Ok(answered) => Ok(answered),
-                    Err(_) => Err(NoReply::Performed),
-                }
+        let put = match response {
+            Response::Ready(answered, reply) => put_response(*answered, reply, out),
+            Response::Dialects(dialect) => {
+                let reply = self.negotiate_response(
+                    call.moment,
+                    Some(*dialect),
+                    dialect.revision(),
+                );
+                put_response(success(call.ids), &reply, out)
             }
-            Response::Bytes(part) => match self.put_bytes(call, part, out) {
-                Ok(answered) => Ok(answered),
-                Err(_) => Err(NoReply::Performed),
-            },
-            Response::Listing(asked) => match self.query_directory(call, asked, out) {
-                Ok(answered) => Ok(answered),
-                Err(_) => Err(NoReply::NotPerformed),
-            },
+            Response::Token(answered, session_flags, token) => {
+                let response = SessionSetupResponse {
+                    session_flags: *session_flags,
+                    security_buffer: token,
+                };
+                put_response(*answered, &Reply::SessionSetup(response), out)
+            }
+            Response::Information(answered, bytes) => {
+                let response = QueryResponse {
+                    output_buffer: bytes,
+                };
+                put_response(*answered, &Reply::QueryInfo(response), out)
+            }
+            Response::Bytes(part) => self.put_bytes(call, part, out),
+            Response::Listing(asked) => {
+                return match self.query_directory(call, asked, out) {
+                    Ok(answered) => Ok(answered),
+                    Err(_) => Err(NoReply::NotPerformed),
+                };
+            }
+        };
+        match put {
+            Ok(answered) => Ok(answered),
+            Err(_) => Err(NoReply::Performed),
         }
     }
 }

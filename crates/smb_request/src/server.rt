@@ -1,11 +1,14 @@
 //! What all connections share ([MS-SMB2] 3.3.1.5).
 
-ghost use Rattle.std.specs.Prelude.{◌≡◌, ◌<◌, ◌≤◌, ◌+◌, ◌-◌, [], ◌++◌, true, OnOk, OnErr, IfOk, length, take};
+ghost use Rattle.std.specs.Prelude.{◌≡◌, ◌==◌, ◌<◌, ◌≤◌, ◌+◌, ◌-◌, [], ◌++◌, true, None, Some, if◌then◌else◌, OnOk, OnErr, IfOk, IfSome, length, take, option_and_then};
+ghost use Rattle.std.specs.Option.{option_map};
 ghost use Rattle.std.specs.Bool.{OnTrue, OnFalse};
 ghost use Rattle.smb_wire.specs.Limits.{longest_body, longest_token};
 ghost use Rattle.smb_wire.specs.Number.{spelling};
 ghost use Rattle.smb_wire.specs.Pairs.{unit_bytes, AreUnits};
-ghost use Rattle.smb_session.specs.Table.{numbers_on};
+ghost use Rattle.smb_session.specs.Table.{numbers_on, session_at};
+ghost use Rattle.smb_access.specs.Opens.{open_of};
+ghost use Rattle.smb_tree.specs.WholeNames.{entry_copied};
 ghost use Rattle.smb_body.specs.Replies.{reply_value, reply_spelling};
 ghost use Rattle.smb_session.specs.Good.{GoodTable};
 ghost use Rattle.smb_session.specs.Sessions.{new_sessions};
@@ -20,6 +23,7 @@ ghost use Rattle.smb_request.specs.State.{new_server, connection_added, connecti
 ghost use Rattle.smb_request.specs.Owners.{AreOwned};
 
 use super::config::Config;
+use super::context::HeaderIds;
 use super::negotiate;
 use super::smb1::Smb1Answer;
 use smb_body::{Reply, write_reply};
@@ -124,6 +128,41 @@ impl<A: Authenticator + Drop, T: Tree + Drop, O: Opens + Drop> Server<A, T, O> {
     /// Why the authenticator denied the client of the last SESSION_SETUP, where it keeps that.
     pub fn denial(&self) -> Option<Denial<'_>> {
         self.sessions.denial()
+    }
+
+    /// The user of a finished session of the connection, as the authenticator named it; None where the number is that of none.
+    pub fn user(&self, connection: u64, session_id: u64) -> Option<&[u8]>
+        ensures { option_map (λ user. user.now) result ≡ option_and_then
+            (λ state. if state.connection == connection then state.user else None)
+            (session_at self.now.sessions.table session_id) }
+    {
+        self.sessions.user(connection, session_id)
+    }
+
+    /// The whole name of the file of the open of a number, as it is spelled now; None where no open of this session and tree
+    /// connect has the number, or an allocation is refused.
+    pub fn file_name(&self, ids: HeaderIds, open_number: u64) -> Option<Vec<u8>>
+        ensures { IfSome result (λ name. option_and_then (λ row. option_map (λ copy. copy.name) (entry_copied self.now.store.tree.rows row.entry)) (open_of self.now.store.opens open_number) ≡ Some name.items) }
+    {
+        let row = self.store.opens().get(open_number)?;
+        if !Owner::Tree(ids.session_id, ids.tree_id).holds(row) {
+            return None;
+        }
+        self.store.open_name(self.alloc, open_number)
+    }
+
+    /// How many sessions there are, those that are not finished among them.
+    pub fn session_count(&self) -> usize
+        ensures { result ≡ length self.now.sessions.table.sessions }
+    {
+        self.sessions.len()
+    }
+
+    /// How many opens there are.
+    pub fn open_count(&self) -> usize
+        ensures { result ≡ length self.now.store.opens }
+    {
+        self.store.open_count()
     }
 
     /// How much the share holds. It takes no time that grows with it.

@@ -13,11 +13,12 @@ ghost use Rattle.smb_refusals.specs.declared.refused_by.RefusedBy.TheVariants.{N
 
 use super::call::Call;
 use super::context::HeaderIds;
-use super::response::{Answered, Body, Response};
+use super::response::{Answered, Response};
 use super::server::Server;
 use smb_access::most_allowed;
 use smb_body::{
-    Capabilities, SessionFlags, SessionSetupRequest, ShareFlags, ShareType, TreeConnectResponse,
+    Capabilities, Reply, SessionFlags, SessionSetupRequest, ShareFlags, ShareType,
+    TreeConnectResponse,
 };
 use smb_opens::{Opens, Owner, Store};
 use smb_refusals::{Refusal, RefusedBy, SetupRefusal};
@@ -39,16 +40,6 @@ fn tree_response(read_only: bool) -> TreeConnectResponse
     }
 }
 
-/// The body of a SESSION_SETUP's response that is no failure.
-fn setup_body(flags: u16, token: Vec<u8>) -> Body
-    ensures { result ≡ Body.SessionSetup (record { 0 = flags }) token }
-{
-    Body::SessionSetup {
-        flags: SessionFlags(flags),
-        token,
-    }
-}
-
 /// The response to a SESSION_SETUP that was not refused ([MS-SMB2] 2.2.6).
 fn setup_response_of<'a>(ids: HeaderIds, done: SetupDone) -> Response<'a>
     ensures { result ≡ setup_response_of ids done }
@@ -57,24 +48,19 @@ fn setup_response_of<'a>(ids: HeaderIds, done: SetupDone) -> Response<'a>
         session_id: done.session,
         ..ids
     };
-    let (status, body) = match done.status {
+    let status = match done.status {
         SetupStatus::LogonFailure => {
             return Response::refused(ids, Refusal::SessionSetup(SetupRefusal::Denied));
         }
-        SetupStatus::Success => (NtStatus::Success, setup_body(done.flags, done.token)),
-        SetupStatus::MoreProcessingRequired => {
-            (
-                NtStatus::MoreProcessingRequired,
-                setup_body(done.flags, done.token),
-            )
-        }
+        SetupStatus::Success => NtStatus::Success,
+        SetupStatus::MoreProcessingRequired => NtStatus::MoreProcessingRequired,
     };
     let answered = Answered {
         status,
         refusal: None,
         ids,
     };
-    Response::Ready(answered, body)
+    Response::Token(answered, SessionFlags(done.flags), done.token)
 }
 
 /// Closes the opens of a session that ended, where one did.
@@ -125,7 +111,7 @@ impl<A: Authenticator + Drop, T: Tree + Drop, O: Opens + Drop> Server<A, T, O> {
         self.sessions
             .logoff_by_row(call.connection, call.ids.session_id)?;
         self.store.close_all(Owner::Session(call.ids.session_id));
-        Ok(Response::success(call.ids, Body::Logoff))
+        Ok(Response::success(call.ids, Reply::Logoff))
     }
 
     /// Whether the session that a request acts under may only read.
@@ -158,7 +144,7 @@ impl<A: Authenticator + Drop, T: Tree + Drop, O: Opens + Drop> Server<A, T, O> {
             session_id,
             tree_id,
         };
-        Ok(Response::success(ids, Body::TreeConnect(response)))
+        Ok(Response::success(ids, Reply::TreeConnect(response)))
     }
 
     /// TREE_DISCONNECT ([MS-SMB2] 3.3.5.8).
@@ -179,6 +165,6 @@ impl<A: Authenticator + Drop, T: Tree + Drop, O: Opens + Drop> Server<A, T, O> {
         self.sessions
             .tree_disconnect_by_row(call.connection, session_id, tree_id)?;
         self.store.close_all(Owner::Tree(session_id, tree_id));
-        Ok(Response::success(call.ids, Body::TreeDisconnect))
+        Ok(Response::success(call.ids, Reply::TreeDisconnect))
     }
 }

@@ -12,9 +12,9 @@ ghost use Rattle.smb_request.specs.Parts.{set_type_refusal, set_as_asked, set_re
 
 use super::call::Call;
 use super::information::set_info_refusal;
-use super::response::{Body, Response};
+use super::response::Response;
 use super::server::Server;
-use smb_body::{InfoType, SetInfoRequest};
+use smb_body::{InfoType, Reply, SetInfoRequest};
 use smb_info::{SetAsk, read_set_info};
 use smb_opens::{Opens, Store};
 use smb_refusals::{Refusal, RefusedBy, SetInfoRefusal};
@@ -93,7 +93,7 @@ impl<A: Authenticator + Drop, T: Tree + Drop, O: Opens + Drop> Server<A, T, O> {
         ensures known { self.new.sessions.table.connections ≡ self.old.sessions.table.connections }
     {
         set_through(&mut self.store, call.open_number, call.moment, ask)?;
-        Ok(Response::success(call.ids, Body::SetInfo))
+        Ok(Response::success(call.ids, Reply::SetInfo))
     }
 
     /// SET_INFO ([MS-SMB2] 3.3.5.21).

@@ -17,7 +17,7 @@ use Rattle.smb_request.specs.declared.context.ContextOpen.{ContextOpen}
 use Rattle.smb_request.specs.declared.context.ContextOpen.TheVariants.{Nothing, Named, Refused}
 use Rattle.smb_request.specs.Call.{body_of, call_of}
 use Rattle.smb_request.specs.Context.{named_on, open_named, open_for_next_related}
-use Rattle.smb_request.specs.Needs.{needs_of}
+use Rattle.smb_body.specs.Needs.{needs_of}
 use Rattle.smb_request.specs.Parts.{needs_session, needs_tree, is_unsupported, is_cancel_command, dialect_after}
 use Rattle.smb_request.specs.Request.{acted, performed}
 use Rattle.smb_request.specs.Response.{CommandStep, Performed, refused, unless_refused}

@@ -30,7 +30,7 @@ use Rattle.smb_request.specs.declared.context.ContextOpen.TheVariants.{Nothing, 
 use Rattle.smb_request.specs.Call.{body_of, call_of}
 use Rattle.smb_request.specs.Context.{named_on, open_named, open_for_next_related}
 use Rattle.smb_request.specs.Laws.{request_ids}
-use Rattle.smb_request.specs.Needs.{needs_of}
+use Rattle.smb_body.specs.Needs.{needs_of}
 use Rattle.smb_request.specs.Parts.{needs_session, needs_tree, is_unsupported, is_cancel_command, dialect_after, open_refusal, performed_by, set_refusal}
 use Rattle.smb_request.specs.Request.{check_request, acted, performed}
 use Rattle.smb_request.specs.Response.{CommandStep, Performed, ResponseState, refused, through_open, unless_refused}

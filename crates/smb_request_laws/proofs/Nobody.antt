@@ -14,7 +14,7 @@ use Rattle.smb_request.specs.declared.context.Context.{Context}
 use Rattle.smb_request.specs.declared.context.HeaderIds.{HeaderIds}
 use Rattle.smb_request.specs.Call.{call_of}
 use Rattle.smb_request.specs.Laws.{request_ids}
-use Rattle.smb_request.specs.Needs.{needs_of}
+use Rattle.smb_body.specs.Needs.{needs_of}
 use Rattle.smb_request.specs.Parts.{needs_session}
 use Rattle.smb_request.specs.Request.{check_request, acted, performed}
 use Rattle.smb_request.specs.Response.{CommandStep, ResponseState, refused}

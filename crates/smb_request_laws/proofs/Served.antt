@@ -36,7 +36,7 @@ use Rattle.smb_request.specs.Call.{body_of, call_of}
 use Rattle.smb_request.specs.Charge.{charge_of}
 use Rattle.smb_request.specs.Context.{open_named}
 use Rattle.smb_request.specs.Laws.{request_ids}
-use Rattle.smb_request.specs.Needs.{needs_of}
+use Rattle.smb_body.specs.Needs.{needs_of}
 use Rattle.smb_request.specs.Parts.{needs_session, needs_tree, is_unsupported, is_cancel_command, open_refusal, number_named, performed_by}
 use Rattle.smb_request.specs.Request.{check_request, acted, performed}
 use Rattle.smb_request.specs.Response.{CommandStep, refused, through_open, unless_refused}

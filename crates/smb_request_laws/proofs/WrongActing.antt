@@ -21,7 +21,7 @@ use Rattle.smb_request.specs.Bytes.{file_read, file_written}
 use Rattle.smb_request.specs.Call.{call_of}
 use Rattle.smb_request.specs.Context.{first_context}
 use Rattle.smb_request.specs.Laws.{request_ids}
-use Rattle.smb_request.specs.Needs.{needs_of}
+use Rattle.smb_body.specs.Needs.{needs_of}
 use Rattle.smb_request.specs.Parts.{needs_session, needs_tree}
 use Rattle.smb_request.specs.Request.{performed}
 use Rattle.smb_request.specs.Response.{Performed}

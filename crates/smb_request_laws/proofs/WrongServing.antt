@@ -21,7 +21,7 @@ use Rattle.smb_session.specs.Setup.{setup_refusal}
 use Rattle.smb_opens.specs.Bytes.{read_status, write_status}
 use Rattle.smb_request.specs.Context.{first_context}
 use Rattle.smb_request.specs.Laws.{request_ids}
-use Rattle.smb_request.specs.Needs.{needs_of}
+use Rattle.smb_body.specs.Needs.{needs_of}
 use Rattle.smb_request.specs.Parts.{needs_session}
 use Rattle.smb_request.specs.Response.{Performed, refused}
 use Rattle.smb_request.specs.Session.{session_set_up}

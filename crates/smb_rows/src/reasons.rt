@@ -12,7 +12,7 @@ use std::alloc::Global;
 /// What a replay of a row's events on a share gives, with the reasons among the answers.
 fn play_on<A: Authenticator + Drop>(
     alloc: Global,
-    share: Share<A, NodeTree, HandleTable>,
+    mut share: Share<A, NodeTree, HandleTable>,
     row: &Row,
 ) -> Vec<u8> {
     let mut output = Vec::new(alloc);
@@ -23,7 +23,9 @@ fn play_on<A: Authenticator + Drop>(
     };
     let input = row.input.as_bytes();
     let (output_of, errors_of) = (&mut output, &mut errors);
-    let _ = replay_heard(alloc, share, words, input, output_of, errors_of, &mut Deaf);
+    let _ = replay_heard(
+        alloc, &mut share, words, input, output_of, errors_of, &mut Deaf,
+    );
     output
 }
 

@@ -96,19 +96,19 @@ module _ (P : StoreState → StoreStep → Type 0) where
     left_with n moment served d (inl same) = with_none served.before.store served.after.store (sym same)
     left_with n moment served d (inr locking) = record { all = record { steps = locking.0 ∷ []; succeed = (locking.2, tt); leads = sym locking.3 }; each = (of_asked n moment served d locking.0 locking.1 locking.4, tt) }
 
-    request_with : (n moment : ℕ) (before after : ServerState S) (dialect : Option Dialect) (context : Context) (response : Option ResponseState) (request : Option (List ℕ)) →
-        (let served : PerformedRequest S = record { before = before; dialect = dialect; context = context; request = request; after = after; response = response } in
+    request_with : (n moment : ℕ) (before after : ServerState S) (dialect : Option Dialect) (context : Context) (response : Option ResponseState) (credits : ℕ) (request : Option (List ℕ)) →
+        (let served : PerformedRequest S = record { before = before; dialect = dialect; context = context; request = request; after = after; response = response; credits = credits } in
         IsAsDefined m (serves n moment served) → D (serves n moment served) → With before.store after.store)
-    request_with n moment before after dialect context response None done d = with_none before.store after.store (ap (λ s. s.store) (sym done))
-    request_with n moment before after dialect context response (Some request) done d =
-        left_with n moment (record { before = before; dialect = dialect; context = context; request = Some request; after = after; response = response }) d done.3
+    request_with n moment before after dialect context response credits None done d = with_none before.store after.store (ap (λ s. s.store) (sym done))
+    request_with n moment before after dialect context response credits (Some request) done d =
+        left_with n moment (record { before = before; dialect = dialect; context = context; request = Some request; after = after; response = response; credits = credits }) d done.3
 
     ends_with : (state : StoreState) (sessions : List ℕ) → Each state (map (λ session. closes_all (Session session)) sessions)
     ends_with state [] = tt
     ends_with state (session ∷ sessions) = (of_ended state session, ends_with (closed_all state (Session session)) sessions)
 
     action_with : (action : Action S) → IsAsDefined m action → D action → With (before action).store (after action).store
-    action_with (serves n moment served) done d = request_with n moment served.before served.after served.dialect served.context served.response served.request done d
+    action_with (serves n moment served) done d = request_with n moment served.before served.after served.dialect served.context served.response served.credits served.request done d
     action_with (disconnects server n) done d = record { all = done_steps m (disconnects server n) done; each = ends_with server.store (numbers_on server.sessions.table.sessions n) }
 
     pub actions_with : (one : StoreState) (actions : List (Action S)) (two : StoreState) → Lead m one actions two → AllByRecursion D actions → With one two

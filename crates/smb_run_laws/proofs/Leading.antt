@@ -4,7 +4,9 @@ use Rattle.std.proofs.lemmas.List.{append-nil}
 use Rattle.std.specs.Option.{option_map_or}
 use Rattle.smb_wire.specs.Limits.{most_in_any_dialect}
 use Rattle.smb_body.specs.declared.smb1.Smb1Dialects.{Smb1Dialects}
+use Rattle.smb_head.specs.Headers.{header_of}
 use Rattle.smb_session.specs.Authenticator.{Meaning}
+use Rattle.smb_session.specs.Window.{credits_granted}
 use Rattle.smb_session.specs.Table.{numbers_on}
 use Rattle.smb_access.specs.declared.open_row.Owner.TheVariants.{Session}
 use Rattle.smb_opens.specs.Close.{closed_all}
@@ -70,7 +72,7 @@ module _ {S : Type 0} (m : Meaning S) (n : ℕ) (moment : ℕ) where
           same,
           refl,
           fair,
-          subst (λ (server : ServerState S). (let served : PerformedRequest S = record { before = chain.server; dialect = chain.connection.dialect; context = chain.context; request = Some request; after = server; response = done.response } in
+          subst (λ (server : ServerState S). (let served : PerformedRequest S = record { before = chain.server; dialect = chain.connection.dialect; context = chain.context; request = Some request; after = server; response = done.response; credits = credits_granted chain.connection.window (header_of request).credits } in
               IsLeftBy (AsksFor n moment served) (IsAnsweredBySuccess served) chain.server.store server.store))
               (sym same)
               (request_left m n moment chain.server chain.connection.dialect chain.context request),
@@ -209,13 +211,13 @@ ends_succeed store [] = tt
 ends_succeed store (session ∷ sessions) = (tt, ends_succeed (closed_all store (Session session)) sessions)
 
 -- of a request, by its bytes
-pub request_steps : {S : Type 0} (m : Meaning S) (n moment : ℕ) (before after : ServerState S) (dialect : Option Dialect) (context : Context) (response : Option ResponseState) (request : Option (List ℕ)) →
-    IsAsDefined m (serves n moment (record { before = before; dialect = dialect; context = context; request = request; after = after; response = response })) → Steps before.store after.store
-request_steps m n moment before after dialect context response None done = no_steps before.store after.store (ap (λ s. s.store) (sym done))
-request_steps m n moment before after dialect context response (Some request) done = left_steps _ _ before.store after.store done.3
+pub request_steps : {S : Type 0} (m : Meaning S) (n moment : ℕ) (before after : ServerState S) (dialect : Option Dialect) (context : Context) (response : Option ResponseState) (credits : ℕ) (request : Option (List ℕ)) →
+    IsAsDefined m (serves n moment (record { before = before; dialect = dialect; context = context; request = request; after = after; response = response; credits = credits })) → Steps before.store after.store
+request_steps m n moment before after dialect context response credits None done = no_steps before.store after.store (ap (λ s. s.store) (sym done))
+request_steps m n moment before after dialect context response credits (Some request) done = left_steps _ _ before.store after.store done.3
 
 abbrev pub done_steps : {S : Type 0} (m : Meaning S) (action : Action S) → IsAsDefined m action → Steps (before action).store (after action).store
-done_steps m (serves n moment served) done = request_steps m n moment served.before served.after served.dialect served.context served.response served.request done
+done_steps m (serves n moment served) done = request_steps m n moment served.before served.after served.dialect served.context served.response served.credits served.request done
 done_steps m (disconnects server n) done = record {
   steps = end_steps server n;
   succeed = ends_succeed server.store (numbers_on server.sessions.table.sessions n);

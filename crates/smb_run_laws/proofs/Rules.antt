@@ -1,5 +1,5 @@
 -- The connection of a client who keeps the rules stays open.
-use Rattle.std.proofs.Common.{◌≡◌, ◌≢◌, ◌⊎◌, inl, inr, ℕ, eqb, Bool, true, false, ◌&&◌, ◌||◌, if◌then◌else◌, List, [], ◌∷◌, ◌++◌, Option, None, Some, is_some, is_eq, refl, sym, ap, subst, ◌∙◌}
+use Rattle.std.proofs.Common.{◌≡◌, ◌≢◌, ℕ, eqb, Bool, true, false, ◌||◌, List, [], ◌∷◌, ◌++◌, Option, None, Some, is_some, is_eq, refl, sym, ap, subst, ◌∙◌}
 use Rattle.std.specs.Option.{option_map_or}
 use Rattle.std.specs.declared.cmp.Ordering.{Ordering}
 use Rattle.std.specs.declared.cmp.Ordering.TheVariants.{Less, Equal, Greater}
@@ -19,12 +19,12 @@ use Rattle.smb_engine.specs.declared.connection.Connection.{Connection}
 use Rattle.smb_engine.specs.declared.fault.ServeFault.{ServeFault}
 use Rattle.smb_engine.specs.Parts.{added_payloads, and_then, settled, first_negotiate, refused_step, framed_chain, chain_begun, refused_at_once, then_ran}
 use Rattle.smb_engine.specs.Refusals.{stopped}
-use Rattle.smb_engine.specs.Run.{Step, admitted, smb1_step, chain_step, payload_step, payload_steps, piece_step, bytes_step, event_step, event_refusal}
+use Rattle.smb_engine.specs.Run.{Step, admitted, smb1_step, chain_step, payload_step, payload_steps, piece_step, bytes_step, event_refusal}
 use Rattle.smb_engine.specs.State.{StreamState, ShareState, stream_of, is_open, opened, ended, new_stream}
 use Rattle.smb_request.proofs.Numbered.{at_same}
 use Rattle.smb_engine.proofs.Order.{lookup-set, other_set, other_without, other_insert}
 use Rattle.smb_engine.proofs.Streams.{arrived, bytes_step-none, bytes_step-some}
-use Rattle.smb_run_laws.specs.Rules.{is_allowed, AreAllowed, IsAllowedPiece, LetsGoOn, LetGoOn, WhoKeepsTheRulesIsServedOn}
+use Rattle.smb_run_laws.specs.Rules.{is_allowed, AreAllowed, IsAllowedPiece, LetsGoOn, LetGoOn}
 
 open_by : (o : Option StreamState) → is_some o ≡ true → (stream : StreamState) × (o ≡ Some stream)
 open_by None e = cc

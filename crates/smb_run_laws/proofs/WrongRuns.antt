@@ -78,6 +78,7 @@ module _ {S : Type 0} (accounts : S) where
     request = Some request;
     after = after;
     response = Some (answer body);
+    credits = 1;
   }
 
   abbrev later : ServerState S

@@ -1,22 +1,18 @@
 -- The actions of a run: the requests that it performed and the connections that it ended; and what each does to the
 -- files, as steps of the store ([MS-SMB2] 3.3.5.2, 3.3.7.1).
-use Rattle.std.specs.Prelude.{◌≡◌, ◌≢◌, ◌⊎◌, ℕ, ◌==◌, bit_and, Bool, true, false, List, [], ◌∷◌, ◌++◌, map, None, Some, MatchOption, if◌then◌else◌}
+use Rattle.std.specs.Prelude.{◌≡◌, ◌≢◌, ◌⊎◌, ℕ, Bool, true, false, List, [], ◌∷◌, ◌++◌, map, None, Some, MatchOption, if◌then◌else◌}
 use Rattle.std.specs.Option.{option_map_or}
 use Rattle.smb_wire.specs.Limits.{most_in_any_dialect}
-use Rattle.smb_wire.specs.LockFlags.{UNLOCK}
 use Rattle.smb_wire.specs.declared.nt_status.NtStatus.TheVariants.{Success}
 use Rattle.smb_body.specs.Requests.{RequestValue, asks_negotiate, asks_session_setup, asks_logoff, asks_tree_connect, asks_tree_disconnect, asks_create, asks_close, asks_flush, asks_read, asks_write, asks_lock, asks_cancel, asks_echo, asks_query_directory, asks_query_info, asks_set_info}
-use Rattle.smb_body.specs.Lock.{LockAsked}
-use Rattle.smb_body.specs.declared.lock_element.LockElement.{LockElement}
-use Rattle.smb_locks.specs.declared.ask.LockAsk.{LockAsk}
 use Rattle.smb_session.specs.Authenticator.{Meaning}
 use Rattle.smb_session.specs.Table.{numbers_on}
 use Rattle.smb_access.specs.declared.open_row.Owner.TheVariants.{Session, Tree}
 use Rattle.smb_access.specs.declared.scan.Scan.{Scan}
-use Rattle.smb_info.specs.SetInformation.{SetAsked, asks_basic, asks_rename, asks_mark, asks_allocation, asks_end, set_class, asked_of}
+use Rattle.smb_info.specs.SetInformation.{set_class, asked_of}
 use Rattle.smb_info.specs.declared.set_info.SetInformationClass.{SetInformationClass}
 use Rattle.smb_opens.specs.State.{StoreState}
-use Rattle.smb_opens.specs.Steps.{StoreStep, creates, writes, locks, unlocks, sets_delete, sets_size, sets_basic, renames, sets_scan, closes, closes_all, stepped, stepped_all}
+use Rattle.smb_opens.specs.Steps.{StoreStep, creates, writes, locks, unlocks, sets_scan, closes, closes_all, stepped, stepped_all}
 use Rattle.smb_request.specs.declared.context.HeaderIds.{HeaderIds}
 use Rattle.smb_request.specs.Call.{body_of, call_of}
 use Rattle.smb_request.specs.declared.context.ContextOpen.TheVariants.{Refused}

@@ -169,7 +169,7 @@ fn end_peer<A: Authenticator + Drop, T: Tree + Drop, O: Opens + Drop>(
     }
 }
 
-/// The next event of the peers, which hear before it how much the share holds.
+/// The next event of the peers, which hear before it how much the share holds, where they want to know.
 fn next_event<A: Authenticator + Drop, T: Tree + Drop, O: Opens + Drop, P: Peers>(
     share: &Share<A, T, O>,
     peers: &mut P,
@@ -178,7 +178,9 @@ fn next_event<A: Authenticator + Drop, T: Tree + Drop, O: Opens + Drop, P: Peers
         (P.calls peers.new ≡ P.calls peers.old ++ call_of result (P.piece_of peers.new) ∷ []) }
     ensures once { OpensOnce result (P.opened peers.old) (P.opened peers.new) }
 {
-    peers.note_usage(share.usage());
+    if peers.wants_usage() {
+        peers.note_usage(share.usage());
+    }
     peers.next()
 }
 
@@ -344,7 +346,7 @@ pub fn serve_until<
     serve_until_observed(share, peers, clock, turns, &mut ())
 }
 
-/// The same as [`serve_until`], and an observer hears what is refused, and which rules end connections.
+/// The same as [`serve_until`], and an observer hears which requests are performed, how they are responded to, and which rules end connections.
 pub fn serve_until_observed<
     A: Authenticator + Drop,
     T: Tree + Drop,

@@ -5,7 +5,7 @@ use Rattle.smb_wire.specs.Limits.{most_tree_connects, most_sessions}
 use Rattle.smb_wire.specs.Counters.{is_spent}
 use Rattle.smb_session.specs.Numbers.{without_number, contains}
 use Rattle.smb_session.specs.Session.{SessionState}
-use Rattle.std.specs.Option.{option_map_or, option_eq}
+use Rattle.std.specs.Option.{option_map_or, option_eq, option_and_then}
 use Rattle.smb_refusals.specs.declared.session.SetupRefusal.{SetupRefusal}
 use Rattle.smb_refusals.specs.declared.session.SetupRefusal.TheVariants.{SessionFinished}
 use Rattle.smb_session.specs.Table.{TableState, session_at, numbers_on, session_ended, session_changed}
@@ -36,6 +36,11 @@ without_tree tree session = record session { trees = without_number session.tree
 -- a session that can be given no tree more: it has 16, or the numbers are spent
 abbrev pub has_all_trees : SessionState → Bool
 has_all_trees session = nat_le most_tree_connects (length session.trees) || is_spent 32 session.next_tree
+
+-- the user of a finished session of a connection
+abbrev pub user_on : TableState → ℕ → ℕ → Option (List ℕ)
+user_on table connection session =
+    option_and_then (λ state. if state.connection == connection then state.user else None) (session_at table session)
 
 -- a session more, which has begun on a connection and has the next number
 abbrev pub begun : TableState → ℕ → TableState

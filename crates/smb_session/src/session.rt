@@ -1,7 +1,7 @@
 //! A session and its trees.
 
 ghost use Rattle.std.specs.Prelude.{◌≡◌, ◌<◌, ◌≤◌, ◌+◌, ◌++◌, ◌∷◌, [], ◌==◌, ◌&&◌, Some, is_some, false};
-ghost use Rattle.std.specs.Option.{option_eq};
+ghost use Rattle.std.specs.Option.{option_eq, option_map};
 ghost use Rattle.std.specs.Str.{bytes_eq};
 ghost use Rattle.smb_session.specs.Numbers.{contains, without_number};
 ghost use Rattle.smb_session.specs.Parts.{fresh_session, finished_by, with_tree, without_tree, has_all_trees};
@@ -60,6 +60,16 @@ impl Session {
         ensures { result ≡ is_some self.now.user }
     {
         self.user.is_some()
+    }
+
+    /// The user of the session, where it is finished.
+    pub(crate) fn user(&self) -> Option<&[u8]>
+        ensures { option_map (λ user. user.now) result ≡ self.now.user }
+    {
+        match &self.user {
+            Some(user) => Some(user.as_slice()),
+            None => None,
+        }
     }
 
     /// Whether the session is finished, by this user.

@@ -1,7 +1,7 @@
 //! The sessions over an authenticator.
 
-ghost use Rattle.std.specs.Prelude.{◌≡◌, ◌≤◌, ◌+◌, ◌++◌, ◌∷◌, [], true, false, Some, None, OnOk, OnErr, IfOk, IfErr, length, if◌then◌else◌};
-ghost use Rattle.std.specs.Option.{option_map, option_map_or};
+ghost use Rattle.std.specs.Prelude.{◌≡◌, ◌==◌, ◌≤◌, ◌+◌, ◌++◌, ◌∷◌, [], true, false, Some, None, OnOk, OnErr, IfOk, IfErr, length, if◌then◌else◌};
+ghost use Rattle.std.specs.Option.{option_map, option_map_or, option_and_then};
 ghost use Rattle.smb_wire.specs.Limits.{longest_token};
 ghost use Rattle.smb_wire.specs.Pairs.{units_in};
 ghost use Rattle.smb_wire.specs.Units.{units_of};
@@ -119,6 +119,22 @@ impl<A: Authenticator + Drop> Sessions<A> {
         ensures { result ≡ read_only_of self.now.table connection session }
     {
         self.table.read_only(connection, session)
+    }
+
+    /// The user of a finished session of the connection, as the authenticator named it; None where the number is that of none.
+    pub fn user(&self, connection: u64, session: u64) -> Option<&[u8]>
+        ensures { option_map (λ user. user.now) result ≡ option_and_then
+            (λ state. if state.connection == connection then state.user else None)
+            (session_at self.now.table session) }
+    {
+        self.table.user(connection, session)
+    }
+
+    /// How many sessions there are, those that are not finished among them. They are kept, and not counted.
+    pub fn len(&self) -> usize
+        ensures { result ≡ length self.now.table.sessions }
+    {
+        self.table.len()
     }
 
     /// Asks the authenticator about a session, and performs its answer.

@@ -1,12 +1,12 @@
 //! The table of sessions, with their trees ([MS-SMB2] 3.3.1.5).
 
 ghost use Rattle.std.specs.Prelude.{◌≡◌, ◌<◌, ◌≤◌, ◌++◌, ◌∷◌, [], true, false, Some, None, OnOk, OnErr, IfOk, is_some, length};
-ghost use Rattle.std.specs.Option.{ForSome, option_map_or};
+ghost use Rattle.std.specs.Option.{ForSome, option_map, option_map_or};
 ghost use Rattle.std.specs.BTreeMap.{insert_entry, is_at};
 ghost use Rattle.std.specs.Map.{lookup, remove_entry};
 ghost use Rattle.std.specs.Ordering.{nat_cmp};
 ghost use Rattle.smb_session.specs.Numbers.{without_number};
-ghost use Rattle.smb_session.specs.Parts.{fresh_session, finished_by, with_tree, without_tree, has_all_trees, begun, next_tree_of, has_all_sessions, is_of_user, known_session_refusal, accepted, tree_disconnected, tree_connected};
+ghost use Rattle.smb_session.specs.Parts.{fresh_session, finished_by, with_tree, without_tree, has_all_trees, begun, next_tree_of, has_all_sessions, is_of_user, known_session_refusal, accepted, tree_disconnected, tree_connected, user_on};
 ghost use Rattle.smb_session.specs.Table.{no_sessions, session_at, connected, session_ended, session_changed, changed_at, knows, read_only_of, end_connection_step};
 ghost use Rattle.smb_session.specs.Setup.{setup_refusal, previous_ended};
 ghost use Rattle.smb_session.specs.Good.{GoodTable};
@@ -290,6 +290,23 @@ impl Table {
             }
             _ => None,
         }
+    }
+
+    /// The user of a finished session of the connection; None where the number is that of none.
+    pub(crate) fn user(&self, connection: u64, number: u64) -> Option<&[u8]>
+        ensures { option_map (λ user. user.now) result ≡ user_on self.now connection number }
+    {
+        match self.sessions.get(&number) {
+            Some(session) if session.connection() == connection => session.user(),
+            _ => None,
+        }
+    }
+
+    /// How many sessions there are.
+    pub(crate) fn len(&self) -> usize
+        ensures { result ≡ length self.now.sessions }
+    {
+        self.sessions.len()
     }
 
     /// Whether a session can be given no tree more, or does not stand.

@@ -1,13 +1,12 @@
 //! What a log says that no replay brings about: ends of all kinds, users of all names, moments, a write that fails, and peers.
 
 use smb_engine::{Config, HandleTable, NodeTree, Share, Tokens, User};
-use smb_log::{
-    Ending, Level, Log, LogObserver, LoggedLogin, LoggedPeers, NoFacts, Reasons, Refusal, Visitors,
-};
+use smb_log::{ConnectionFacts, Ending, Level, Log, LogObserver, LoggedPeers};
 use smb_log_text::{put_moment, put_user};
-use smb_peers::ListClock;
+use smb_peers::{ListClock, Usage};
 use smb_serving::{MemoryPeers, PeerStep, SendStep, serve_until_observed};
 use std::alloc::{AllocError, Global};
+use std::cell::RefCell;
 use std::io;
 use std::io::{Error, ErrorKind, Write};
 
@@ -24,17 +23,28 @@ fn is_same(text: Option<String>, wanted: &str) -> bool {
     text.is_some_and(|text| text.as_str() == wanted)
 }
 
+/// How much a share holds that has a session with two opens.
+const USAGE: Usage = Usage {
+    entries: 3,
+    used: 4_096,
+    sessions: 1,
+    opens: 2,
+};
+
 /// The log of connections that end in each way.
 fn endings(alloc: Global) -> Option<String> {
-    let mut log = Log::new(alloc, Vec::new(alloc), Level::Sessions);
-    log.begin();
-    log.opened(3, "", NOW);
+    let mut log = Log::new(alloc, Vec::new(alloc), Level::Sessions, NOW);
+    for connection in 1..4u64 {
+        log.opened(connection, "");
+    }
     log.ran_out(3);
-    log.ended(1, NOW, Ending::Owed);
-    log.ended(2, NOW, Ending::Silence);
-    log.ended(3, NOW, Ending::ByShare);
-    log.refused("192.0.2.8:1", NOW, Refusal::Full);
-    log.minute(NOW, None);
+    log.end(1, Ending::Owed);
+    log.end(2, Ending::Silence);
+    log.end(3, Ending::ByShare);
+    log.end(3, Ending::ByClient);
+    log.refused("192.0.2.8:1");
+    log.minute(USAGE, false);
+    log.minute(USAGE, true);
     text_of(log)
 }
 
@@ -44,12 +54,15 @@ fn shows_ends(rt: HostRuntime) {
     let is_right = is_same(
         endings(rt.alloc()),
         "moment\tconnection\tpeer\tuser\tevent\tstatus\tmicroseconds\n\
+         2025-12-08 06:11:07.123\t1\t-\t-\topened\t-\t-\n\
+         2025-12-08 06:11:07.123\t2\t-\t-\topened\t-\t-\n\
          2025-12-08 06:11:07.123\t3\t-\t-\topened\t-\t-\n\
          2025-12-08 06:11:07.123\t1\t-\t-\tended: owed more than 33,554,432 bytes\t-\t-\n\
          2025-12-08 06:11:07.123\t2\t-\t-\tended: silence\t-\t-\n\
          2025-12-08 06:11:07.123\t3\t-\t-\tended: memory\t-\t-\n\
-         2025-12-08 06:11:07.123\t-\t192.0.2.8:1\t-\trefused: 64 connections are open\t-\t-\n\
-         2025-12-08 06:11:07.123\t-\t-\t-\tminute connections=0 sessions=0 opens=0 requests=0 bytes_in=0 bytes_out=0 out_of_memory=1\t-\t-\n",
+         2025-12-08 06:11:07.123\t-\t192.0.2.8:1\t-\trefused: memory\t-\t-\n\
+         2025-12-08 06:11:07.123\t-\t-\t-\tminute connections=0 sessions=1 opens=2 requests=0 bytes_in=0 bytes_out=0 out_of_memory=2\t-\t-\n\
+         2025-12-08 06:11:07.123\t-\t-\t-\tminute connections=0 sessions=1 opens=2 requests=0 bytes_in=0 bytes_out=0 out_of_memory=0 files=3 used_bytes=4096\t-\t-\n",
     );
     assert!(rt; is_right);
 }
@@ -109,13 +122,19 @@ fn shows_dates(rt: HostRuntime) {
     assert!(rt; is_right);
 }
 
-/// A writer that fails.
+/// A writer that takes one write, and then fails.
 #[derive(Drop)]
-struct Full;
+struct Full {
+    has_room: bool,
+}
 
 impl Write for Full {
-    fn write(&mut self, _bytes: &[u8]) -> io::Result<usize> {
-        Err(Error::from(ErrorKind::StorageFull))
+    fn write(&mut self, bytes: &[u8]) -> io::Result<usize> {
+        if !self.has_room {
+            return Err(Error::from(ErrorKind::StorageFull));
+        }
+        self.has_room = false;
+        Ok(bytes.len())
     }
 
     fn flush(&mut self) -> io::Result<()> {
@@ -126,9 +145,9 @@ impl Write for Full {
 /// A write that fails is noted.
 #[test]
 fn notes_a_failed_write(rt: HostRuntime) {
-    let mut log = Log::new(rt.alloc(), Full, Level::Requests);
+    let mut log = Log::new(rt.alloc(), Full { has_room: true }, Level::Requests, NOW);
     let before = log.has_failed();
-    log.opened(1, "", NOW);
+    log.opened(1, "");
     assert!(rt; !before && log.has_failed());
 }
 
@@ -161,14 +180,11 @@ fn ann(alloc: Global) -> Result<Tokens, AllocError> {
     Tokens::new(alloc, b"", false, false, vec![in alloc; ann]?)
 }
 
-/// A share which ann may use, and whose log hears whom it lets in.
-fn new_share(
-    alloc: Global,
-    visitors: &Visitors,
-) -> Option<Share<LoggedLogin<'_, Tokens>, NodeTree, HandleTable>> {
+/// A share which ann may use.
+fn new_share(alloc: Global) -> Option<Share<Tokens, NodeTree, HandleTable>> {
     let config = config(alloc).ok()?;
     let users = ann(alloc).ok()?;
-    Share::in_memory(alloc, config, LoggedLogin::new(users, visitors)).ok()
+    Share::in_memory(alloc, config, users).ok()
 }
 
 /// Peers that bring this client, and take the first bytes for it in two parts.
@@ -184,63 +200,67 @@ fn client(alloc: Global) -> Result<MemoryPeers, AllocError> {
     MemoryPeers::new(alloc, script, sends, 16, 4_096)
 }
 
-/// Peers whose events and answers are logged.
-type Logged<'a> = LoggedPeers<'a, MemoryPeers, NoFacts, ListClock, Vec<u8>>;
+/// Nothing is known of any connection.
+struct NoFacts;
 
-/// A client whose events and answers are logged.
-fn logged_client<'a>(
-    alloc: Global,
-    visitors: &'a Visitors,
-    reasons: &'a Reasons,
-) -> Option<Logged<'a>> {
+impl ConnectionFacts for NoFacts {
+    fn put_address(&self, _number: u64, _text: &mut String) -> Result<(), AllocError> {
+        Ok(())
+    }
+
+    fn was_silent(&self, _number: u64) -> bool {
+        false
+    }
+}
+
+/// Serves this client a new share, of which all is logged: the events at these moments, and the rest at the last of them.
+fn serve_logged(alloc: Global, log: &RefCell<Log<Vec<u8>>>, moments: &[u64]) -> Option<()> {
+    let mut share = new_share(alloc)?;
     let client = client(alloc).ok()?;
-    let clock = ListClock::new(alloc, &[NOW]).ok()?;
-    let log = Log::new(alloc, Vec::new(alloc), Level::Requests);
-    Some(LoggedPeers::new(
-        alloc,
-        client,
-        &NoFacts,
-        clock,
-        visitors,
-        reasons,
-        Some(log),
-        false,
-        1,
-    ))
+    let clock = ListClock::new(alloc, moments).ok()?;
+    let mut peers = LoggedPeers::new(alloc, client, &NoFacts, clock, Some(log), false, 1);
+    let mut clock = ListClock::new(alloc, &[NOW]).ok()?;
+    let mut observer = LogObserver::new(Some(log), ListClock::new(alloc, &[NOW + 520]).ok()?);
+    let _ = serve_until_observed(&mut share, &mut peers, &mut clock, 5, &mut observer);
+    let _ = peers.finish(share.usage());
+    Some(())
 }
 
-/// Serves these peers a new share, and gives them back.
-fn served_to<'a>(
-    alloc: Global,
-    visitors: &'a Visitors,
-    reasons: &'a Reasons,
-    mut peers: Logged<'a>,
-    mut clock: ListClock,
-) -> Option<Logged<'a>> {
-    let mut share = new_share(alloc, visitors)?;
-    let mut observer = LogObserver::new(reasons);
-    serve_until_observed(&mut share, &mut peers, &mut clock, 5, &mut observer);
-    Some(peers)
-}
-
-/// The log of the share that this client is served.
-fn served(alloc: Global) -> Option<String> {
-    let visitors = Visitors::new(alloc);
-    let clock = ListClock::new(alloc, &[NOW]).ok()?;
-    let reasons = Reasons::new(alloc);
-    let peers = logged_client(alloc, &visitors, &reasons)?;
-    text_of(served_to(alloc, &visitors, &reasons, peers, clock)?.into_log()?)
+/// The log of the share that this client is served, whose events have these moments.
+fn served(alloc: Global, level: Level, moments: &[u64]) -> Option<String> {
+    let log = RefCell::new(Log::new(alloc, Vec::new(alloc), level, 0));
+    serve_logged(alloc, &log, moments)?;
+    text_of(log.into_inner())
 }
 
 /// What a share does is what its log says.
 #[test]
 fn logs_a_served_share(rt: HostRuntime) {
     let is_right = is_same(
-        served(rt.alloc()),
-        "2025-12-08 06:11:07.123\t1\t-\t-\topened\t-\t-\n\
-         2025-12-08 06:11:07.123\t1\t-\t-\tNEGOTIATE 2.0.2\tSTATUS_SUCCESS\t0\n\
+        served(rt.alloc(), Level::Requests, &[NOW]),
+        "moment\tconnection\tpeer\tuser\tevent\tstatus\tmicroseconds\n\
+         2025-12-08 06:11:07.123\t1\t-\t-\topened\t-\t-\n\
+         2025-12-08 06:11:07.123\t1\t-\t-\tNEGOTIATE 2.0.2\tSTATUS_SUCCESS\t52\n\
+         2025-12-08 06:11:07.123\t1\t-\tann\tSESSION_SETUP\tSTATUS_SUCCESS\t52\n\
+         2025-12-08 06:11:07.123\t1\t-\tann\tended: by the client\t-\t-\n\
+         2025-12-08 06:11:07.123\t-\t-\t-\tminute connections=0 sessions=0 opens=0 requests=2 bytes_in=199 bytes_out=208 out_of_memory=0 files=0 used_bytes=0\t-\t-\n\
+         2025-12-08 06:11:07.123\t-\t-\t-\tstopped\t-\t-\n",
+    );
+    assert!(rt; is_right);
+}
+
+/// Where a minute has passed, a line says what there is, and what happened since the last; a minute after `NOW` is 06:12:07.123.
+#[test]
+fn counts_each_minute(rt: HostRuntime) {
+    let is_right = is_same(
+        served(rt.alloc(), Level::Refusals, &[NOW, NOW + 600_000_000]),
+        "moment\tconnection\tpeer\tuser\tevent\tstatus\tmicroseconds\n\
+         2025-12-08 06:11:07.123\t1\t-\t-\topened\t-\t-\n\
          2025-12-08 06:11:07.123\t1\t-\tann\tSESSION_SETUP\tSTATUS_SUCCESS\t0\n\
-         2025-12-08 06:11:07.123\t1\t-\tann\tended: by the client\t-\t-\n",
+         2025-12-08 06:12:07.123\t-\t-\t-\tminute connections=1 sessions=1 opens=0 requests=2 bytes_in=199 bytes_out=70 out_of_memory=0 files=0 used_bytes=0\t-\t-\n\
+         2025-12-08 06:12:07.123\t1\t-\tann\tended: by the client\t-\t-\n\
+         2025-12-08 06:12:07.123\t-\t-\t-\tminute connections=0 sessions=0 opens=0 requests=0 bytes_in=0 bytes_out=138 out_of_memory=0 files=0 used_bytes=0\t-\t-\n\
+         2025-12-08 06:12:07.123\t-\t-\t-\tstopped\t-\t-\n",
     );
     assert!(rt; is_right);
 }

@@ -5,7 +5,7 @@ use clap::ArgMatches;
 use clap::error::ErrorKind as WordFault;
 use smb_command_line::{CommandLine, Login, Texts, command, login_of};
 use smb_commands::{
-    Fault, Form, Heard, KeepWords, Level, LogWords, ServeWords, check, compact, extract,
+    Fault, Form, KeepWords, Level, LogWords, ServeWords, TcpFacts, check, compact, extract,
     print_recording, replay_input, serve_share,
 };
 use smb_config::BUILT_IN;
@@ -158,14 +158,9 @@ fn serve_clients(
     login: Login,
     words: &ArgMatches<'_>,
 ) -> ExitCode {
-    let Ok(heard) = Heard::new(rt.alloc()) else {
+    let Ok(facts) = TcpFacts::new(rt.alloc()) else {
         return report(rt, CommandFault::NoMemory, Detail::Brief);
     };
-    let log = log_words_of(words, words.get_flag("log-must"));
-    if log.is_none() {
-        heard.visitors.close();
-        heard.reasons.close();
-    }
     let serve_words = ServeWords {
         texts,
         login,
@@ -176,8 +171,8 @@ fn serve_clients(
         record: record_of(words),
         from: words.get_str("from"),
         clock: words.get_one("clock"),
-        log,
-        heard: &heard,
+        log: log_words_of(words, words.get_flag("log-must")),
+        facts: &facts,
         writes_anew: true,
     };
     let ended = serve_share(rt, &serve_words);

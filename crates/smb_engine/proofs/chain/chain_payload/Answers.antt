@@ -56,8 +56,8 @@ loop-i-preserved g c = record {
   order = c.perform_one.ensures.order;
   within = c.in-Ok-perform_one.ensures.within;
   kept = kept_on _ _ _ _ _ c.loop-i.invariant.base c.perform_one.ensures.kept c.loop-i.invariant.kept;
-  observed = chain_heard_more g.A.Authenticator.meaning _ _ _ _ _ _ _ _ _ _ _ _ c.request_at.ensures.request
-      (chain_heard_one g.A.Authenticator.meaning _ _ _ _ _ _ _ c.loop-i.invariant.so_far) c.loop-i.invariant.observed c.in-Ok-perform_one.ensures.observed;
+  observed = chain_heard_more g.A.Authenticator.meaning _ c.args.payload.now _ _ _ _ _ _ _ _ _ _ _ c.request_at.ensures.request
+      (chain_heard_one g.A.Authenticator.meaning _ _ c.args.payload.now _ _ _ _ _ c.loop-i.invariant.so_far) c.loop-i.invariant.observed c.in-Ok-perform_one.ensures.observed;
   room = omega (arith, c.in-Ok-perform_one.ensures.len, c.loop-i.invariant.room, c.loop-i.invariant.base);
 }
 

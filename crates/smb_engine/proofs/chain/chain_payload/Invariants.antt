@@ -16,6 +16,6 @@ invariant-loop-i g l = record {
   within : l.progress.writer.last ≤ length l.out.items;
   kept : take (length l.initial.out.items) l.out.items ≡ l.initial.out.items;
   observed : Keeping (g.W.Observer.keeps l.fn.observer) (g.W.Observer.keeps l.observer)
-      (g.W.Observer.observed l.observer ≡ g.W.Observer.observed l.fn.observer ++ chain_observed g.A.Authenticator.meaning l.arrival (first_chain l.initial.server l.initial.connection) l.chain l.i);
+      (g.W.Observer.observed l.observer ≡ g.W.Observer.observed l.fn.observer ++ chain_observed g.A.Authenticator.meaning l.arrival l.payload (first_chain l.initial.server l.initial.connection) l.chain l.i);
   room : rounded_up (length l.out.items - length l.initial.out.items) ≤ longest_response * l.i;
 }

@@ -1,6 +1,15 @@
+use Rattle.std.proofs.Common.{◌≡◌, [], drop, arith}
+use Rattle.std.proofs.lemmas.List.{drop_all}
 use Rattle.smb_engine.proofs.SoFar.{none_held, tail_is, taken_then, stopped_then}
 use Rattle.smb_engine.proofs.Observed.{back_heard}
 use Rattle.smb_engine.proofs.stream.take_back.Goals as goal
+
+-- nothing is behind the whole frames
+pub returns-then-used-back-clause-taken : goal.returns-then-used-back-clause-taken
+returns-then-used-back-clause-taken g c =
+    let e = none_held c.args.buffer.now.bytes (c.is_empty.ensures.0 c.if-not-is_empty.false) in
+    let none : drop c.in-Ok.taken.2 c.args.back.now ≡ [] = drop_all c.in-Ok.taken.2 c.args.back.now (omega arith) in
+    rw e (rw (none, c.if-not-open_still.false) at c.in-Ok.ensures.taken)
 
 pub returns-in-Ok-take_held-clause-taken : goal.returns-in-Ok-take_held-clause-taken
 returns-in-Ok-take_held-clause-taken g c =

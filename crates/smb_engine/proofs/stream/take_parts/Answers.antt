@@ -14,8 +14,8 @@ returns-then-not-open_still-clause-taken g c =
     parts_over g.A.Authenticator.meaning g.K.Sink.hears c.args.arrival _ _ _ c.args.buffer.now.bytes _ _ c.args.piece.now _ _ _ _ _ _
     (split_is c.args.piece.now c.min-count.result) c.if-not-open_still.true c.in-Ok.ensures.taken
 
-pub take_back-requires-clause-sound : goal.take_back-requires-clause-sound
-take_back-requires-clause-sound g c =
+pub take_back-requires-2-clause-sound : goal.take_back-requires-2-clause-sound
+take_back-requires-2-clause-sound g c =
     let count : length (take c.min-count.result c.args.piece.now) ≤ lacking c.args.buffer.now.bytes =
     omega (arith, length-take-le c.min-count.result c.args.piece.now (omega arith)) in
     let left = taken_rest g.A.Authenticator.meaning g.K.Sink.hears c.args.arrival _ _ _ _ _ _ _ _ _ _ c.in-Ok.ensures.taken c.if-not-open_still.false in

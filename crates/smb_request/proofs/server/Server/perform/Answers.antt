@@ -2,7 +2,7 @@ use Rattle.std.proofs.Common.{◌≡◌, ◌∙◌, Option, false, sym, ap}
 use Rattle.std.specs.Option.{option_map}
 use Rattle.smb_wire.specs.Commands.{known_command}
 use Rattle.smb_wire.specs.declared.command.Command.{Command}
-use Rattle.smb_body.specs.Requests.{request_value}
+use Rattle.smb_request.specs.Held.{asked_value}
 use Rattle.smb_request.specs.declared.call.Call.{Call}
 use Rattle.smb_request.specs.declared.context.Context.{Context}
 use Rattle.smb_request.specs.Context.{open_for_next_related}
@@ -17,9 +17,9 @@ use Rattle.smb_request.proofs.server.Server.perform.Goals as goal
 pub answer-requires : goal.answer-requires
 answer-requires g c =
     let request = c.args.request.now in
-    let body = option_map request_value c.body_of-body.result in
-    let read : body ≡ body_of (known_command c.args.header.now.command.0) request = c.body_of-body.ensures ∙ ap (λ (command : Option Command). body_of command request) c.known.ensures in
-    let is : c.of-call.result ≡ call_of c.args.connection c.args.moment c.args.dialect.now c.args.context.now request = c.of-call.ensures request c.requires read in
+    let body = option_map asked_value c.body_of-body.result in
+    let read : body ≡ body_of (known_command c.args.header.now.command.0) request = c.body_of-body.ensures ∙ ap (λ (command : Option Command). body_of command request) c.known-command.ensures in
+    let is : c.of-call.result ≡ call_of c.args.connection c.args.moment c.args.dialect.now c.args.context.now request = c.of-call.ensures request c.requires c.known-command.ensures c.body_of-body.ensures in
     let whole : body ≡ body_of (call_of c.args.connection c.args.moment c.args.dialect.now c.args.context.now request).command request = read ∙ ap (λ h. body_of (known_command h.command.0) request) c.requires in
     rw (is, whole) (call_read c.args.connection c.args.moment c.args.dialect.now c.args.context.now request)
 
@@ -27,9 +27,9 @@ pub returns-clause-ok : goal.returns-clause-ok
 returns-clause-ok g c =
     let request = c.args.request.now in
     let call = c.of-call.result in
-    let body = option_map request_value c.body_of-body.result in
-    let read : body ≡ body_of (known_command c.args.header.now.command.0) request = c.body_of-body.ensures ∙ ap (λ (command : Option Command). body_of command request) c.known.ensures in
-    let is : call ≡ call_of c.args.connection c.args.moment c.args.dialect.now c.args.context.now request = c.of-call.ensures request c.requires read in
+    let body = option_map asked_value c.body_of-body.result in
+    let read : body ≡ body_of (known_command c.args.header.now.command.0) request = c.body_of-body.ensures ∙ ap (λ (command : Option Command). body_of command request) c.known-command.ensures in
+    let is : call ≡ call_of c.args.connection c.args.moment c.args.dialect.now c.args.context.now request = c.of-call.ensures request c.requires c.known-command.ensures c.body_of-body.ensures in
     let named : body ≡ body_of call.command request =
     read ∙ ap (λ h. body_of (known_command h.command.0) request) c.requires ∙ ap (λ (x : Call). body_of x.command request) (sym is) in
     let other : is_cancel_command call.command ≡ false = sym c.is_cancel_command.ensures ∙ c.if-is_cancel_command.false in

@@ -1,6 +1,6 @@
 use Rattle.std.proofs.Common.{◌≡◌, ◌<◌, drop}
-use Rattle.smb_replay.specs.Script.{decimal_from}
-use Rattle.smb_replay.proofs.script.spelled.Given as goal
+use Rattle.smb_journal.specs.Lines.{decimal_from}
+use Rattle.smb_journal.proofs.text.spelled.Given as goal
 
 abbrev pub invariant-loop-digit : goal.invariant-loop-digit
 invariant-loop-digit l = record {

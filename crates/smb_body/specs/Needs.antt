@@ -1,7 +1,7 @@
 -- What a request needs to exist ([MS-SMB2] 3.3.5.2.9 to 3.3.5.2.11).
 use Rattle.smb_body.specs.Requests.{RequestValue, asks_negotiate, asks_session_setup, asks_logoff, asks_tree_connect, asks_tree_disconnect, asks_create, asks_close, asks_flush, asks_read, asks_write, asks_lock, asks_cancel, asks_echo, asks_query_directory, asks_query_info, asks_set_info}
-use Rattle.smb_request.specs.declared.needs.Needs.{Needs}
-use Rattle.smb_request.specs.declared.needs.Needs.TheVariants.{Nothing, Session, Tree, Open}
+use Rattle.smb_body.specs.declared.needs.Needs.{Needs}
+use Rattle.smb_body.specs.declared.needs.Needs.TheVariants.{Nothing, Session, Tree, Open}
 
 -- what each request needs
 abbrev pub needs_of : RequestValue → Needs

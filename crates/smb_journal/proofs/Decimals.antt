@@ -3,7 +3,7 @@ use Rattle.std.proofs.Common.{◌≡◌, ℕ, ◌+◌, ◌-◌, ◌*◌, ◌≤�
 use Rattle.std.specs.Prelude.{nat_lt}
 use Rattle.std.proofs.lemmas.List.{drop_more, drop_all}
 use Rattle.std.proofs.lemmas.Bool.{le-ltb, lt-ltb}
-use Rattle.smb_replay.specs.Script.{decimal_from}
+use Rattle.smb_journal.specs.Lines.{decimal_from}
 
 -- more digits make no smaller number
 pub decimal_from-grows : (digits : List ℕ) (n : ℕ) → n ≤ decimal_from n digits
