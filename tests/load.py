@@ -26,8 +26,9 @@ ALL_CREDITS, LARGEST, CHARGE, AT_ONCE, ROUNDS, MANY = 256, 524_288, 8, 32, 5, 10
 # How much more memory the program may have behind the load than behind the warm-up.
 MOST_MORE = 16 * MIB
 # How much memory the program may take beside what it has at its start, where it is to run out; and how many clients
-# at work meet it there, how many that want to be owed much, and for how many seconds.
-ROOMS, AT_WORK, HUNGRY, SHORT = (8 * MIB, 12 * MIB), 28, 6, 5
+# at work meet it there, how many that want to be owed much, and for how many seconds; and how many more on a slow
+# machine, until one of them was ended.
+ROOMS, AT_WORK, HUNGRY, SHORT, LONGER = (8 * MIB, 12 * MIB), 28, 6, 5, 60
 
 
 class Load:
@@ -48,12 +49,16 @@ class Load:
             with self.lock:
                 self.faults.append(repr(error))
 
-    def is_well(self):
-        """Runs all threads, in an order by chance, and prints what went wrong."""
+    def is_well(self, until_one_is_ended=False):
+        """Runs all threads, in an order by chance, and prints what went wrong. Where one has to be ended the load goes on
+        until the share ended one."""
         random.Random(self.seed).shuffle(self.threads)
         for thread in self.threads:
             thread.start()
         time.sleep(self.seconds)
+        deadline = time.monotonic() + LONGER
+        while until_one_is_ended and not self.ended and time.monotonic() < deadline:
+            time.sleep(0.1)
         self.is_over.set()
         for thread in self.threads:
             thread.join()
@@ -336,7 +341,7 @@ def runs_out(share, seed, seconds):
         load.begin(works_again, number)
     for number in range(PLACES - HUNGRY, PLACES):
         load.begin(is_hungry, number)
-    is_well = load.is_well()
+    is_well = load.is_well(until_one_is_ended=True)
     print(f'  {load.answered:,} answers were checked; clients that were ended: {load.ended}', flush=True)
     return load if is_well and load.ended and load.answered > 0 else None
 
