@@ -58,31 +58,6 @@ pub fn first_payload(limit: u32, bytes: &[u8]) -> Option<&[u8]>
     }
 }
 
-/// What is wrong with the first frame, as far as it goes.
-fn first_fault(limit: u32, bytes: &[u8]) -> Option<FrameFault>
-    ensures { result ≡ fault_of limit bytes.now }
-{
-    match bytes {
-        [] => None,
-        [kind, high, middle, low, ..] => {
-            if *kind != 0 {
-                Some(FrameFault::FirstByte)
-            } else if payload_length(*high, *middle, *low) > limit as usize {
-                Some(FrameFault::TooLong)
-            } else {
-                None
-            }
-        }
-        [kind, ..] => {
-            if *kind == 0 {
-                None
-            } else {
-                Some(FrameFault::FirstByte)
-            }
-        }
-    }
-}
-
 impl FrameBuffer {
     /// An empty buffer, which takes payloads of up to `limit` bytes. It allocates nothing yet.
     pub fn new(alloc: Global, limit: u32) -> Self
@@ -149,7 +124,7 @@ impl FrameBuffer {
     pub fn is_empty(&self) -> bool
         ensures { IsTrue result ↔ (length self.now.bytes ≡ 0) }
     {
-        self.len() == 0
+        self.start == self.bytes.len()
     }
 
     /// The payload of the first frame, where it is whole.
@@ -180,7 +155,25 @@ impl FrameBuffer {
     pub fn fault(&self) -> Option<FrameFault>
         ensures { result ≡ fault_of self.now.limit self.now.bytes }
     {
-        first_fault(self.limit, &self.bytes[self.start..])
+        match &self.bytes[self.start..] {
+            [] => None,
+            [kind, high, middle, low, ..] => {
+                if *kind != 0 {
+                    Some(FrameFault::FirstByte)
+                } else if payload_length(*high, *middle, *low) > self.limit as usize {
+                    Some(FrameFault::TooLong)
+                } else {
+                    None
+                }
+            }
+            [kind, ..] => {
+                if *kind == 0 {
+                    None
+                } else {
+                    Some(FrameFault::FirstByte)
+                }
+            }
+        }
     }
 }
 

@@ -110,11 +110,6 @@ impl Connection {
         !self.answered && !self.ended
     }
 
-    /// Notes that bytes of it came.
-    pub(crate) fn hear(&mut self, now: Duration) {
-        self.heard = now;
-    }
-
     /// Notes that it took so many bytes of what was sent to it.
     pub(crate) fn take(&mut self, now: Duration, count: usize) {
         if count > 0 {

@@ -39,11 +39,6 @@ impl FrameCursor {
         }
     }
 
-    /// Whether no byte of a frame has come.
-    fn is_between(&self) -> bool {
-        self.head_bytes == 0 && self.left == 0
-    }
-
     /// Takes a byte of a frame's length, and tells whether it was the last one.
     fn take_head(&mut self, byte: u8) -> bool {
         self.head = self.head << 8 | u32::from(byte);
@@ -103,17 +98,19 @@ impl FrameCursor {
     fn lend(&mut self, bytes: &[u8], is_dear: bool) -> (usize, bool)
         ensures { result.0 ≤ length bytes.now }
     {
-        let begins = self.is_between();
+        let begins = self.head_bytes == 0 && self.left == 0;
         let Some(first) = self.end_of_frame(bytes) else {
             return (bytes.len(), false);
         };
-        let others = first < bytes.len();
+        if first == bytes.len() {
+            return (first, false);
+        }
         let behind_first = *self;
         if is_dear || begins && asks_for_much(&bytes[..first]) || self.has_much(&bytes[first..]) {
             *self = behind_first;
-            return (first, others);
+            return (first, true);
         }
-        (bytes.len(), others)
+        (bytes.len(), true)
     }
 }
 
@@ -146,7 +143,6 @@ pub(crate) struct Lending {
     bytes: Vec<u8>,
     lent: usize,
     is_dear: bool,
-    is_timed: bool,
     ghost few: { vec_len bytes ≤ 262144 },
     ghost within: { lent ≤ vec_len bytes },
 }
@@ -159,19 +155,12 @@ impl Lending {
             bytes: Vec::new(alloc),
             lent: 0,
             is_dear: false,
-            is_timed: false,
         }
     }
 
     /// Whether bytes are kept back.
     pub(crate) fn has_more(&self) -> bool {
         self.lent < self.bytes.len()
-    }
-
-    /// Whether it is to be seen how long the turn takes in which the bytes are that were lent last: so it is where several frames
-    /// were there, or the peer is dear. A frame that comes alone is lent alone in any case.
-    pub(crate) fn is_timed(&self) -> bool {
-        self.is_timed
     }
 
     /// Notes whether a turn of the peer took long.
@@ -187,17 +176,18 @@ impl Lending {
     }
 
     /// Makes the next frame of the bytes that are kept back the piece, or what is there of it, at most as much as a piece may have.
-    /// These bytes are lent one frame at a time without another look at what the frames are: so each of them is gone over once.
-    pub(crate) fn lend_next(&mut self, piece: &mut Piece) {
+    /// These bytes are lent one frame at a time without another look at what the frames are: so each of them is gone over once. Tells
+    /// whether the turn is to be timed: so it is where others are left, or the peer is dear.
+    pub(crate) fn lend_next(&mut self, piece: &mut Piece) -> bool {
         let bytes = &self.bytes[self.lent..];
         let bytes = &bytes[..bytes.len().min(PIECE_SIZE)];
         let (count, _) = self.cursor.lend(bytes, true);
         piece.fill(&bytes[..count]);
         self.lent += count;
-        self.is_timed = self.is_dear || self.has_more();
         if self.lent == self.bytes.len() {
             self.give_up();
         }
+        self.is_dear || self.has_more()
     }
 
     /// Keeps back these bytes, and tells whether there was memory for that.
@@ -210,19 +200,21 @@ impl Lending {
     }
 
     /// Cuts a piece that came to what is lent of it at once, and keeps the rest back, with the bytes that wait behind it. Where there
-    /// is no memory for that, all of it is lent.
-    pub(crate) fn keep_back(&mut self, piece: &mut Piece) {
+    /// is no memory for that, all of it is lent. Tells whether the turn is to be timed: so it is where several frames were there, or the
+    /// peer is dear. A frame that comes alone is lent alone in any case.
+    pub(crate) fn keep_back(&mut self, piece: &mut Piece) -> bool {
         let bytes = piece.bytes();
         let (count, others) = self.cursor.lend(bytes, self.is_dear);
-        self.is_timed = self.is_dear || others || piece.waits();
+        let is_timed = self.is_dear || others || piece.waits();
         if count == bytes.len() {
-            return;
+            return is_timed;
         }
         if self.keep(piece.rest(count)) {
             piece.cut(count);
         } else {
             let _ = self.cursor.has_much(&bytes[count..]);
         }
+        is_timed
     }
 
     /// Keeps back the bytes that wait behind a piece, which was lent, and tells whether there was memory for that.

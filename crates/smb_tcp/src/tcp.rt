@@ -2,6 +2,7 @@
 
 ghost use Rattle.std.specs.Prelude.{◌≡◌, ◌<◌, ◌≤◌, ◌+◌, true, IfSome, IfNone, vec_len};
 ghost use Rattle.smb_peers.specs.Peers.{OpensOnce};
+ghost use Rattle.smb_peers.specs.declared.peers.PeerEvent.TheVariants.{Opened};
 ghost use Rattle.smb_tcp.specs.Numbers.{numbers_to};
 
 use super::connection::{Connection, LISTENER, SilenceLimits, mark_all};
@@ -164,25 +165,20 @@ impl<'a, R: Net + Clock> TcpPeers<'a, R> {
         PeerEvent::Ended(number)
     }
 
-    /// Ends a connection for which a limit of silence has passed.
-    fn end_silent(&mut self) -> Option<PeerEvent>
-        ensures opened { self.new.opened ≡ self.old.opened }
-        ensures once { IfSome result (λ event. OpensOnce event (numbers_to self.old.opened) (numbers_to self.old.opened)) }
-    {
-        let place = self.silent_place()?;
-        Some(self.end(place))
-    }
-
     /// Whether as many connections go on as a share may have.
     fn is_full(&self) -> bool {
         let going_on = self.connections.iter().filter(|it| !it.ended).count();
         going_on + 1 >= MOST_STREAMS
     }
 
-    /// The place of the connection that makes room for another: of those that were never answered the one that is silent longest.
+    /// Where all places are taken, that of the connection that makes room for another: of those that were never answered the one that is
+    /// silent longest.
     fn place_to_clear(&self) -> Option<usize>
         ensures { IfSome result (λ i. i < vec_len self.now.connections) }
     {
+        if !self.is_full() {
+            return None;
+        }
         let mut found = None;
         let mut since = Duration::MAX;
         for (place, connection) in self.connections.iter().enumerate() {
@@ -194,43 +190,18 @@ impl<'a, R: Net + Clock> TcpPeers<'a, R> {
         found
     }
 
-    /// Ends a connection that was never answered, where a newcomer waits and all places are taken.
-    fn make_room(&mut self) -> Option<PeerEvent>
-        ensures opened { self.new.opened ≡ self.old.opened }
-        ensures once { IfSome result (λ event. OpensOnce event (numbers_to self.old.opened) (numbers_to self.old.opened)) }
-    {
-        if !self.door.has_newcomer() || !self.is_full() {
-            return None;
-        }
-        let place = self.place_to_clear()?;
-        Some(self.end(place))
-    }
-
-    /// Whether so few bytes that are owed to a peer are not sent yet, since more of its requests wait.
-    fn holds_back(&self, number: u64, count: usize) -> bool {
-        number == self.turn && count < SHORT_SEND && self.piece.waits()
-    }
-
-    /// Whether something is left to do without a wait.
-    fn is_busy(&self) -> bool {
-        self.door.has_newcomer()
-            || self.door.may_accept() && self.has_room()
-            || self
-                .connections
-                .iter()
-                .any(|connection| connection.may_be_read())
-    }
-
-    /// Asks the system what is ready, and waits where nothing was left to do. Where no connection behind the turn may be read, a
+    /// Asks the system what is ready, and waits where nothing is left to do without a wait. Where no connection behind the turn may be read, a
     /// new round begins.
     fn look(&mut self)
         ensures opened { self.new.opened ≡ self.old.opened }
     {
-        let wait = if self.is_busy() {
-            Duration::ZERO
-        } else {
-            self.wait
-        };
+        let is_busy = self.door.has_newcomer()
+            || self.door.may_accept() && self.has_room()
+            || self
+                .connections
+                .iter()
+                .any(|connection| connection.may_be_read());
+        let wait = if is_busy { Duration::ZERO } else { self.wait };
         if self.poll.poll(&mut self.events, Some(wait)).is_err() {
             self.failures = self.failures.saturating_add(1);
         }
@@ -246,33 +217,37 @@ impl<'a, R: Net + Clock> TcpPeers<'a, R> {
         }
     }
 
-    /// Takes in one connection as the newcomer, where one waits and there is room.
-    fn accept(&mut self)
-        ensures opened { self.new.opened ≡ self.old.opened }
+    /// Takes in one connection as the newcomer, where one waits and there is room, and gives a newcomer the next number. Where all places
+    /// are taken, one that was never answered ends for it.
+    fn take_newcomer(&mut self) -> Option<PeerEvent>
+        ensures none { IfNone result (self.new.opened ≡ self.old.opened) }
+        ensures once { IfSome result (λ event. OpensOnce event (numbers_to self.old.opened) (numbers_to self.new.opened)) }
     {
         if self.door.may_accept() && self.has_room() && !self.door.accept() {
             self.failures = self.failures.saturating_add(1);
         }
-    }
-
-    /// Gives the newcomer the next number, where there is one.
-    fn admit_newcomer(&mut self) -> Option<u64>
-        ensures none { IfNone result (self.new.opened ≡ self.old.opened) }
-        ensures some { IfSome result (λ number. (number ≡ self.old.opened + 1) × (self.new.opened ≡ self.old.opened + 1)) }
-    {
+        if !self.door.has_newcomer() {
+            return None;
+        }
+        if let Some(place) = self.place_to_clear() {
+            return Some(self.end(place));
+        }
         if !self.has_room() {
             return None;
         }
         let stream = self.door.take()?;
-        self.admit(stream)
+        let number = self.admit(stream)?;
+        Some(PeerEvent::Opened(number))
     }
 
     /// Gives a stream the next number.
+    #[tactic(auto, using(crate::proofs::Numbering::counted))]
     fn admit(&mut self, mut stream: TcpStream) -> Option<u64>
         requires number { self.old.opened < 0xffff_ffff_ffff_fffe }
         requires free { vec_len self.old.connections < 65 }
         ensures none { IfNone result (self.new.opened ≡ self.old.opened) }
         ensures some { IfSome result (λ number. (number ≡ self.old.opened + 1) × (self.new.opened ≡ self.old.opened + 1)) }
+        ensures once { IfSome result (λ number. OpensOnce (Opened number) (numbers_to self.old.opened) (numbers_to self.new.opened)) }
     {
         let number = self.opened + 1;
         if stream.set_nodelay(true).is_err() {
@@ -339,31 +314,26 @@ impl<'a, R: Net + Clock> TcpPeers<'a, R> {
         }
     }
 
-    /// Notes that the peer at a place is lent bytes now, where its turn is to be timed.
-    fn note_lent(&mut self, place: usize)
-        requires { place < vec_len self.old.connections }
-        ensures opened { self.new.opened ≡ self.old.opened }
-    {
-        let connection = &self.connections[place];
-        if !connection.lending.is_timed() {
-            return;
-        }
-        if let Ok(now) = self.system.monotonic() {
-            self.lent = Some((connection.number, now));
-        }
-    }
-
-    /// Lends the next piece of the bytes that were read last, to the peer at a place, of which they came.
-    fn lend_part(&mut self, place: usize) -> PeerEvent
+    /// Lends the peer at a place its next piece: of the bytes that were read last, where some of them wait, else of those that are kept
+    /// back. Where its turn is to be timed, it is noted when that began.
+    fn lend(&mut self, place: usize) -> PeerEvent
         requires { place < vec_len self.old.connections }
         ensures opened { self.new.opened ≡ self.old.opened }
         ensures once { OpensOnce result (numbers_to self.old.opened) (numbers_to self.old.opened) }
     {
-        self.piece.step();
         let connection = &mut self.connections[place];
         let number = connection.number;
-        connection.lending.keep_back(&mut self.piece);
-        self.note_lent(place);
+        let is_timed = if self.piece.waits() {
+            self.piece.step();
+            connection.lending.keep_back(&mut self.piece)
+        } else {
+            connection.lending.lend_next(&mut self.piece)
+        };
+        if is_timed {
+            if let Ok(now) = self.system.monotonic() {
+                self.lent = Some((number, now));
+            }
+        }
         PeerEvent::Bytes(number)
     }
 
@@ -381,7 +351,7 @@ impl<'a, R: Net + Clock> TcpPeers<'a, R> {
         if connection.blocked && connection.lending.keep_waiting(&mut self.piece) {
             return None;
         }
-        Some(self.lend_part(place))
+        Some(self.lend(place))
     }
 
     /// Reads from the connection at a place, or lends what came of it before.
@@ -394,9 +364,7 @@ impl<'a, R: Net + Clock> TcpPeers<'a, R> {
         let number = connection.number;
         self.turn = number;
         if connection.lending.has_more() {
-            connection.lending.lend_next(&mut self.piece);
-            self.note_lent(place);
-            return Some(PeerEvent::Bytes(number));
+            return Some(self.lend(place));
         }
         match self.piece.read(&mut connection.stream) {
             Ok(0) => {
@@ -404,11 +372,11 @@ impl<'a, R: Net + Clock> TcpPeers<'a, R> {
                 Some(PeerEvent::Ended(number))
             }
             Ok(count) => {
-                connection.hear(self.time);
+                connection.heard = self.time;
                 if count < READ_SIZE && !connection.closing {
                     connection.readable = false;
                 }
-                Some(self.lend_part(place))
+                Some(self.lend(place))
             }
             Err(error) if error.kind() == ErrorKind::WouldBlock => {
                 connection.readable = false;
@@ -450,15 +418,11 @@ impl<R: Net + Clock> Peers for TcpPeers<'_, R> {
         self.piece.clear();
         if self.next_place().is_none() {
             self.look();
-            self.accept();
-            if let Some(event) = self.make_room() {
+            if let Some(event) = self.take_newcomer() {
                 return event;
             }
-            if let Some(number) = self.admit_newcomer() {
-                return PeerEvent::Opened(number);
-            }
-            if let Some(event) = self.end_silent() {
-                return event;
+            if let Some(place) = self.silent_place() {
+                return self.end(place);
             }
         }
         self.read_on()
@@ -472,7 +436,8 @@ impl<R: Net + Clock> Peers for TcpPeers<'_, R> {
         let Some(place) = self.place_of(number) else {
             return Ok(0);
         };
-        if self.failures == u64::MAX || self.holds_back(number, bytes.len()) {
+        let waits_for_more = number == self.turn && bytes.len() < SHORT_SEND && self.piece.waits();
+        if self.failures == u64::MAX || waits_for_more {
             return Ok(0);
         }
         let connection = &mut self.connections[place];
