@@ -76,7 +76,7 @@ good_changed f content n row k h good = record {
   counted = good.counted;
   few = omega (arith, good.few, length-changed f content.rows n);
   shallow = all_changed (λ r. length r.0 ≤ 32) f content.rows n (λ r p. p) good.shallow;
-  small = all_changed (λ r. length r.1.bytes ≤ 16777216) f content.rows n (λ r p. omega (arith, p, k.bytes r.1)) good.small;
+  small = all_changed (λ r. length r.1.bytes ≤ content.limits.file_bytes) f content.rows n (λ r p. omega (arith, p, k.bytes r.1)) good.small;
   bare = all_changed (λ r. is_folder_kind r.1.kind ≡ true → length r.1.bytes ≡ 0) f content.rows n (λ r p t. omega (arith, k.bytes r.1, p (ap is_folder_kind (sym (k.kind r.1)) ∙ t))) good.bare;
   fits = omega (arith, good.fits, space_shrunk f content.rows n row k h);
 }
@@ -91,7 +91,7 @@ pub record IsFree (content : Content) (path : Path) : Type 0 where
   pub above : is_folder (entry_at content.rows (parent path)) ≡ true
   pub absent : entry_at content.rows path ≡ None
   pub shallow : length path ≤ 32
-  pub few : length content.rows - 1 < 4096
+  pub few : length content.rows - 1 < content.limits.entries
   pub next : content.next < 2 ^ 64 - 1
 
 pub free_path : (content : Content) (path : Path) → length path ≤ 32 → add_fault content path ≡ None → IsFree content path
@@ -123,7 +123,7 @@ good_push content path entry free number bytes good = record {
   counted = omega (arith, free.next);
   few = omega (arith, free.few, length-append content.rows ((path, entry) ∷ []));
   shallow = all_push (λ r. length r.0 ≤ 32) content.rows (path, entry) good.shallow free.shallow;
-  small = all_push (λ r. length r.1.bytes ≤ 16777216) content.rows (path, entry) good.small (omega (arith, bytes));
+  small = all_push (λ r. length r.1.bytes ≤ content.limits.file_bytes) content.rows (path, entry) good.small (omega (arith, bytes));
   bare = all_push (λ r. is_folder_kind r.1.kind ≡ true → length r.1.bytes ≡ 0) content.rows (path, entry) good.bare (λ _. bytes);
   fits = (let none : allocation_size (length entry.bytes) ≡ 0 = rw bytes refl in omega (arith, good.fits, space_more content.rows (path, entry), none));
 }

@@ -82,7 +82,7 @@ good_removed content n row h d good =
       counted = good.counted;
       few = omega (arith, good.few, length-removed content.rows n row h);
       shallow = all_removed (λ r. length r.0 ≤ 32) content.rows n good.shallow;
-      small = all_removed (λ r. length r.1.bytes ≤ 16777216) content.rows n good.small;
+      small = all_removed (λ r. length r.1.bytes ≤ content.limits.file_bytes) content.rows n good.small;
       bare = all_removed (λ r. is_folder_kind r.1.kind ≡ true → length r.1.bytes ≡ 0) content.rows n good.bare;
       fits = omega (arith, good.fits, space_without content.rows n row h);
     }

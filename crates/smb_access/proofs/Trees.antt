@@ -115,12 +115,12 @@ target_seen rows path number a e =
       | Some entry ↦ λ at f. (let k : numbered rows entry.number ≡ Some (path, entry) = numbered-from_at rows path entry a at in let same : entry.number ≡ number = cc in ap (λ (n : ℕ). option_map seen_target (entry_shown rows n)) (sym same) ∙ ap (λ (o : Option Row). option_map seen_target (option_map (row_shown rows) o)) k)
     ] refl e
 
--- an entry that is shown is within the limit of a file
-pub shown_small : (content : Content) → GoodContent content → (number : ℕ) (seen : Shown) → Some seen ≡ entry_shown content.rows number → seen.size ≤ 16777216
+-- an entry that is shown is within the greatest limit of a file
+pub shown_small : (content : Content) → GoodContent content → (number : ℕ) (seen : Shown) → Some seen ≡ entry_shown content.rows number → seen.size ≤ 8796093022208
 shown_small content good number seen e =
-    elim (numbered content.rows number) as (λ o. numbered content.rows number ≡ o → Some seen ≡ option_map (row_shown content.rows) o → seen.size ≤ 16777216) [
+    elim (numbered content.rows number) as (λ o. numbered content.rows number ≡ o → Some seen ≡ option_map (row_shown content.rows) o → seen.size ≤ 8796093022208) [
       | None ↦ λ _ f. cc
-      | Some row ↦ λ n f. (let small : length row.1.bytes ≤ 16777216 = of_number (λ row. length row.1.bytes ≤ 16777216) content.rows number row good.small n in let same : seen ≡ row_shown content.rows row = cc in let size : seen.size ≡ length row.1.bytes = ap (λ (s : Shown). s.size) same in omega (arith, size, small))
+      | Some row ↦ λ n f. (let small : length row.1.bytes ≤ content.limits.file_bytes = of_number (λ row. length row.1.bytes ≤ content.limits.file_bytes) content.rows number row good.small n in let same : seen ≡ row_shown content.rows row = cc in let size : seen.size ≡ length row.1.bytes = ap (λ (s : Shown). s.size) same in omega (arith, size, small, content.limits.few_bytes))
     ] refl e
 
 -- the row of an entry that a tree shows

@@ -2,7 +2,7 @@
 
 ghost use Rattle.std.specs.Prelude.{◌≡◌, ◌≤◌, length};
 ghost use Rattle.std.specs.Option.{option_map};
-ghost use Rattle.smb_wire.specs.Limits.{most_file_bytes};
+ghost use Rattle.smb_wire.specs.Greatest.{greatest_file_bytes};
 ghost use Rattle.smb_wire.specs.Paths.{folded_path};
 ghost use Rattle.smb_wire.specs.PathViews.{parts_of};
 ghost use Rattle.smb_tree.specs.Content.{entry_at, numbered, parent};
@@ -81,7 +81,7 @@ pub fn find_with_above<T: Tree>(tree: &T, path: &PathView<'_>) -> (Option<Target
 
 // An entry through an open with this access.
 fn view_of(entry: &EntryView<'_>, access: Access) -> View
-    requires { entry.now.size ≤ most_file_bytes }
+    requires { entry.now.size ≤ greatest_file_bytes }
     ensures { result ≡ view_shown access (shown entry.now) }
 {
     View {

@@ -6,7 +6,7 @@ use crate::notices::{Entrance, say_notices};
 use smb_command_line::{Login, Texts};
 use smb_config::{Accounts, Configuration};
 use smb_replay::CommandFault;
-use smb_wire::limits::{MOST_CONNECTIONS, MOST_ENTRIES, MOST_FILE_BYTES, MOST_OPENS};
+use smb_wire::limits::Limits;
 use std::io::{BufWriter, Write};
 use std::{io, str};
 
@@ -21,10 +21,11 @@ fn write_share<W: Write>(configuration: &Configuration, output: &mut W) -> io::R
     writeln!(output, "share: {}", config.share)?;
     writeln!(output, "label: {}", config.label)?;
     writeln!(output, "capacity: {} bytes", config.capacity)?;
+    let limits = Limits::profile();
     writeln!(
         output,
         "limits: {} clients, {} opens, {} files and folders, {} bytes a file",
-        MOST_CONNECTIONS, MOST_OPENS, MOST_ENTRIES, MOST_FILE_BYTES,
+        limits.connections, limits.opens, limits.entries, limits.file_bytes,
     )
 }
 

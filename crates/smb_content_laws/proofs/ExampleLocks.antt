@@ -1,5 +1,5 @@
 -- An example: a file with one lock, or two, of its first ten bytes.
-use Rattle.std.proofs.Common.{ℕ, true, false, List, [], ◌∷◌, bit_or, refl, lit<, lit≤}
+use Rattle.std.proofs.Common.{ℕ, true, false, List, [], ◌∷◌, bit_or, refl, lit<}
 use Rattle.smb_wire.specs.LockFlags.{SHARED_LOCK, EXCLUSIVE_LOCK, UNLOCK, FAIL_IMMEDIATELY}
 use Rattle.smb_locks.specs.declared.ask.LockAsk.{LockAsk}
 use Rattle.smb_locks.specs.declared.lock.Lock.{Lock}
@@ -52,7 +52,7 @@ pub one_lock_is_good : GoodLockTable one_lock
 one_lock_is_good = record {
   rising = (tt, tt);
   listed = (lit< tt, tt);
-  good = (record { compatible = (tt, tt); few = lit≤ tt; within = (refl, tt) }, tt);
+  good = (record { compatible = (tt, tt); within = (refl, tt) }, tt);
 }
 
 pub two_locks_are_good : GoodLockTable two_locks
@@ -62,7 +62,6 @@ two_locks_are_good = record {
   good = (
     record {
       compatible = (((λ others. absurd (others refl)), tt), (tt, tt));
-      few = lit≤ tt;
       within = (refl, (refl, tt));
     },
     tt,

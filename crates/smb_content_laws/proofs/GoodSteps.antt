@@ -86,6 +86,7 @@ begins_good content number tree = record {
   compatible = λ one other first second a b apart same. absurd (let e : None ≡ Some first = a in cc);
   marked = λ entry h. absurd (let none = tree.unmarked entry in cc);
   locked = record { rising = tt; listed = tt; good = tt };
+  few_locks = tt;
   held = λ file lock c. absurd (let l = c.1 in omega arith);
 }
 
@@ -160,7 +161,7 @@ no_fault : (o : Option TreeFault) → is_some o ≡ false → o ≡ None
 no_fault None h = refl
 no_fault (Some fault) h = absurd (let e : true ≡ false = h in cc)
 
-room_of : (tree : Content) (n offset : ℕ) (buffer : List ℕ) → offset + length buffer ≤ 16777216 → used_space (with_bytes tree n offset buffer).rows ≤ tree.capacity → has_no_room tree n offset buffer ≡ false
+room_of : (tree : Content) (n offset : ℕ) (buffer : List ℕ) → offset + length buffer ≤ tree.limits.file_bytes → used_space (with_bytes tree n offset buffer).rows ≤ tree.capacity → has_no_room tree n offset buffer ≡ false
 room_of tree n offset buffer small fits = grind (arith, nat_tests, small, fits)
 
 written_good : (most : ℕ) (state : StoreState) (number offset : ℕ) (buffer : List ℕ) (moment : ℕ) → GoodStore state → write_status state most number offset buffer ≡ Success → GoodStore (written_to state number offset buffer moment)
@@ -192,7 +193,7 @@ locked_good state number asks good h =
     let l = is_locked state number asks good.locked h in
     let s = shown_by state number l.view (sym l.shown) in
     let entry = entry_of state number l.view s in
-    let free : lock_all_fault (locks_on state.locks s.held.entry) number asks ≡ None = ap (λ (n : ℕ). lock_all_fault (locks_on state.locks n) number asks) (sym entry) ∙ l.free in
+    let free : lock_all_fault state.tree.limits.locks (locks_on state.locks s.held.entry) number asks ≡ None = ap (λ (n : ℕ). lock_all_fault state.tree.limits.locks (locks_on state.locks n) number asks) (sym entry) ∙ l.free in
     let kept = kept_locked state number s.held asks (length state.opens) (length state.tree.rows) (counted state good) s.opened free in
     let after : locked_through state number asks ≡ record state { locks = locked state.locks s.held.entry number asks } = l.after ∙ ap (λ (n : ℕ). let x : StoreState = record state { locks = locked state.locks n number asks } in x) entry in
     subst GoodStore (sym after) kept.good
@@ -223,7 +224,7 @@ based_good state number ask moment good h =
     let kept = kept_based state number s.view ask moment after (length state.opens) (length state.tree.rows) s.by refl (counted state good) in
     subst GoodStore (set_through (entry_set ask moment) state number s.view after s.by refl) kept.good
 
-space_of_size : (tree : Content) (n size : ℕ) → size ≤ 16777216 → used_space (with_size tree n size).rows ≤ tree.capacity → has_no_space tree n size ≡ false
+space_of_size : (tree : Content) (n size : ℕ) → size ≤ tree.limits.file_bytes → used_space (with_size tree n size).rows ≤ tree.capacity → has_no_space tree n size ≡ false
 space_of_size tree n size small fits = grind (arith, nat_tests, small, fits)
 
 sized_good : (state : StoreState) (number size : ℕ) (is_allocation : Bool) (moment : ℕ) → GoodStore state → size_status state number size ≡ Success → GoodStore (size_set_through state number size is_allocation moment)

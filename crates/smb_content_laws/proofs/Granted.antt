@@ -39,17 +39,17 @@ first_or_later x xs q c = place c.0 c.1 c.2
     place (suc k) l e = inr (k, omega arith, e)
 
 -- what is granted conflicts with nothing that was held
-conflict_at : (asked : Lock) (more locks : List Lock) (lock held : Lock) → lock_fault locks asked ≡ None → Contains locks held → conflicts lock held ≡ true → (asked ≡ lock) ⊎ Contains more lock → (Contains more lock → ⊥) → ⊥
-conflict_at asked more locks lock held first d t (inl e) later =
+conflict_at : (most : ℕ) (asked : Lock) (more locks : List Lock) (lock held : Lock) → lock_fault most locks asked ≡ None → Contains locks held → conflicts lock held ≡ true → (asked ≡ lock) ⊎ Contains more lock → (Contains more lock → ⊥) → ⊥
+conflict_at most asked more locks lock held first d t (inl e) later =
     let here : conflicts asked held ≡ true = ap (λ (l : Lock). conflicts l held) e ∙ t in
-    not_passed (conflicts asked) locks held (granted locks asked first).free d here
-conflict_at asked more locks lock held first d t (inr m) later = later m
+    not_passed (conflicts asked) locks held (granted most locks asked first).free d here
+conflict_at most asked more locks lock held first d t (inr m) later = later m
 
-no_conflict : (more locks : List Lock) (lock held : Lock) → locks_fault locks more ≡ None → Contains more lock → Contains locks held → conflicts lock held ≡ true → ⊥
-no_conflict [] locks lock held h c d t = let l = c.1 in absurd (omega arith)
-no_conflict (asked ∷ more) locks lock held h c d t =
-    let parts = both_none (lock_fault locks asked) (locks_fault (locks ++ asked ∷ []) more) h in
-    conflict_at asked more locks lock held parts.0 d t (first_or_later asked more lock c) (λ m. no_conflict more (locks ++ asked ∷ []) lock held parts.1 m (Contains-append_left locks (asked ∷ []) held d) t)
+no_conflict : (most : ℕ) (more locks : List Lock) (lock held : Lock) → locks_fault most locks more ≡ None → Contains more lock → Contains locks held → conflicts lock held ≡ true → ⊥
+no_conflict most [] locks lock held h c d t = let l = c.1 in absurd (omega arith)
+no_conflict most (asked ∷ more) locks lock held h c d t =
+    let parts = both_none (lock_fault most locks asked) (locks_fault most (locks ++ asked ∷ []) more) h in
+    conflict_at most asked more locks lock held parts.0 d t (first_or_later asked more lock c) (λ m. no_conflict most more (locks ++ asked ∷ []) lock held parts.1 m (Contains-append_left locks (asked ∷ []) held d) t)
 
 all_own : (holder : ℕ) (asks : List LockAsk) → AllByRecursion (λ lock. lock.holder ≡ holder) (locks_asked holder asks)
 all_own holder [] = tt
@@ -58,9 +58,9 @@ all_own holder (ask ∷ asks) = (refl, all_own holder asks)
 pub own : (holder : ℕ) (asks : List LockAsk) (lock : Lock) → Contains (locks_asked holder asks) lock → lock.holder ≡ holder
 own holder asks lock c = at_member (λ lock. lock.holder ≡ holder) (locks_asked holder asks) lock (all_own holder asks) c
 
-module _ (table : Table) (file holder : ℕ) (asks : List LockAsk) (lock : Lock) (good : GoodLockTable table) (none : lock_all_fault (locks_on table file) holder asks ≡ None) (asked : Contains (locks_asked holder asks) lock) where
+module _ (most : ℕ) (table : Table) (file holder : ℕ) (asks : List LockAsk) (lock : Lock) (good : GoodLockTable table) (none : lock_all_fault most (locks_on table file) holder asks ≡ None) (asked : Contains (locks_asked holder asks) lock) where
   free : (held : Lock) → Contains (locks_on table file) held → conflicts lock held ≡ true → ⊥
-  free held c t = no_conflict (locks_asked holder asks) (locks_on table file) lock held (locks_granted (locks_on table file) holder asks none) asked c t
+  free held c t = no_conflict most (locks_asked holder asks) (locks_on table file) lock held (locks_granted most (locks_on table file) holder asks none) asked c t
 
   pub reads_locked : is_read_barred (locks_on (locked table file holder asks) file) holder lock.range ≡ false
   reads_locked =

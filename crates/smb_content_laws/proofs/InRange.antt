@@ -4,7 +4,6 @@ use Rattle.std.proofs.lemmas.Bool.{or_parts, leb-false}
 use Rattle.std.specs.List.{AllByRecursion}
 use Rattle.std.specs.Option.{option_map_or}
 use Rattle.smb_wire.specs.Counters.{is_spent}
-use Rattle.smb_wire.specs.Limits.{most_opens}
 use Rattle.smb_wire.specs.Paths.{path_spelled}
 use Rattle.smb_wire.specs.declared.nt_status.NtStatus.TheVariants.{Success}
 use Rattle.smb_tree.specs.Content.{Content, changed_in}
@@ -55,7 +54,7 @@ Counted state = (1 ≤ state.next) × (state.next < 2 ^ 64) × AreFromOne state.
 -- a CREATE
 not_spent : (state : StoreState) → has_all_opens state ≡ false → state.next + 1 < 2 ^ 64
 not_spent state h =
-    let free : is_spent 64 state.next ≡ false = (or_parts (nat_le most_opens (length state.opens)) (is_spent 64 state.next) h).1 in
+    let free : is_spent 64 state.next ≡ false = (or_parts (nat_le state.tree.limits.opens (length state.opens)) (is_spent 64 state.next) h).1 in
     let low = leb-false (2 ^ 64 - 1) state.next free in
     omega (arith, low)
 

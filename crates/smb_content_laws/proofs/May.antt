@@ -123,18 +123,18 @@ access_to : (view : View) (offset : ℕ) → WritesAt view offset → may_not_wr
 access_to view offset (inl w) = writes_to (has_any view.access.0 FILE_WRITE_DATA) (has_any view.access.0 FILE_APPEND_DATA) (nat_lt offset view.size) (inl w)
 access_to view offset (inr a) = writes_to (has_any view.access.0 FILE_WRITE_DATA) (has_any view.access.0 FILE_APPEND_DATA) (nat_lt offset view.size) (inr (a.0, le-ltb offset view.size a.1))
 
-room_from : (count end used capacity : ℕ) → (nat_lt 0 count && (nat_lt 16777216 end || nat_lt capacity used)) ≡ false → 0 < count → (end ≤ 16777216) × (used ≤ capacity)
-room_from count end used capacity h c =
-    elim (and_cases (nat_lt 0 count) (nat_lt 16777216 end || nat_lt capacity used) h) [
+room_from : (most count end used capacity : ℕ) → (nat_lt 0 count && (nat_lt most end || nat_lt capacity used)) ≡ false → 0 < count → (end ≤ most) × (used ≤ capacity)
+room_from most count end used capacity h c =
+    elim (and_cases (nat_lt 0 count) (nat_lt most end || nat_lt capacity used) h) [
       | inl e ↦ absurd (let none = ltb-false 0 count e in omega arith)
-      | inr e ↦ (let parts = or_parts (nat_lt 16777216 end) (nat_lt capacity used) e in (ltb-false 16777216 end parts.0, ltb-false capacity used parts.1))
+      | inr e ↦ (let parts = or_parts (nat_lt most end) (nat_lt capacity used) e in (ltb-false most end parts.0, ltb-false capacity used parts.1))
     ]
 
-room_to : (count end used capacity : ℕ) → (0 < count → end ≤ 16777216) → (0 < count → used ≤ capacity) → (nat_lt 0 count && (nat_lt 16777216 end || nat_lt capacity used)) ≡ false
-room_to count end used capacity h k =
+room_to : (most count end used capacity : ℕ) → (0 < count → end ≤ most) → (0 < count → used ≤ capacity) → (nat_lt 0 count && (nat_lt most end || nat_lt capacity used)) ≡ false
+room_to most count end used capacity h k =
     elim (cases_lt 0 count) [
-      | inl some ↦ and_right (nat_lt 0 count) (nat_lt 16777216 end || nat_lt capacity used) (or_from (nat_lt 16777216 end) (nat_lt capacity used) (le-ltb 16777216 end (h some)) (le-ltb capacity used (k some)))
-      | inr none ↦ and_left (nat_lt 0 count) (nat_lt 16777216 end || nat_lt capacity used) (le-ltb 0 count none)
+      | inl some ↦ and_right (nat_lt 0 count) (nat_lt most end || nat_lt capacity used) (or_from (nat_lt most end) (nat_lt capacity used) (le-ltb most end (h some)) (le-ltb capacity used (k some)))
+      | inr none ↦ and_left (nat_lt 0 count) (nat_lt most end || nat_lt capacity used) (le-ltb 0 count none)
     ]
 
 pub write_succeeds : (state : StoreState) (most number offset : ℕ) (buffer : List ℕ) (view : View) → open_view state number ≡ Some view →
@@ -142,7 +142,7 @@ pub write_succeeds : (state : StoreState) (most number offset : ℕ) (buffer : L
 write_succeeds state most number offset buffer view shown = (
   λ h. (
       let rows = pass_all (table view) ((λ q. cc), ((λ q. cc), ((λ q. cc), ((λ q. cc), ((λ q. cc), tt))))) (status_shown state number view table shown h) in
-      let room = room_from (length buffer) (offset + length buffer) (used_space (with_bytes state.tree view.entry offset buffer).rows) state.tree.capacity rows.1.1.1.1.0 in
+      let room = room_from state.tree.limits.file_bytes (length buffer) (offset + length buffer) (used_space (with_bytes state.tree view.entry offset buffer).rows) state.tree.capacity rows.1.1.1.1.0 in
       record {
         within = ltb-false most (length buffer) rows.0;
         file = rows.1.0;
@@ -161,7 +161,7 @@ write_succeeds state most number offset buffer view shown = (
         (
           m.free,
           (
-            room_to (length buffer) (offset + length buffer) (used_space (with_bytes state.tree view.entry offset buffer).rows) state.tree.capacity m.small m.fits,
+            room_to state.tree.limits.file_bytes (length buffer) (offset + length buffer) (used_space (with_bytes state.tree view.entry offset buffer).rows) state.tree.capacity m.small m.fits,
             tt,
           ),
         ),
@@ -178,10 +178,10 @@ status_free : (view : View) (fault : Option LockFault) → is_folder_kind view.k
 status_free view fault file free = rw (file, free) refl
 
 pub lock_succeeds : (state : StoreState) (number : ℕ) (view : View) → open_view state number ≡ Some view → (asks : List LockAsk) →
-    (lock_status state number asks ≡ Success) ↔ ((is_folder_kind view.kind ≡ false) × (lock_all_fault (locks_on state.locks view.entry) number asks ≡ None))
+    (lock_status state number asks ≡ Success) ↔ ((is_folder_kind view.kind ≡ false) × (lock_all_fault state.tree.limits.locks (locks_on state.locks view.entry) number asks ≡ None))
 lock_succeeds state number view shown asks = (
   λ h. lock_free state number asks view shown h,
-  λ free. ap (λ (v : Option View). lock_status_by v (lock_all_fault (locks_shown state.locks v) number asks)) shown ∙ status_free view (lock_all_fault (locks_on state.locks view.entry) number asks) free.0 free.1,
+  λ free. ap (λ (v : Option View). lock_status_by v (lock_all_fault state.tree.limits.locks (locks_shown state.locks v) number asks)) shown ∙ status_free view (lock_all_fault state.tree.limits.locks (locks_on state.locks view.entry) number asks) free.0 free.1,
 )
 
 pub unlock_succeeds : (state : StoreState) (number : ℕ) (view : View) → open_view state number ≡ Some view → (asks : List LockAsk) →
@@ -232,11 +232,11 @@ pub size_succeeds : (state : StoreState) (number size : ℕ) (view : View) → o
 size_succeeds state number size view shown = (
   λ h. (
       let rows = pass_all (table view) ((λ q. cc), ((λ q. cc), ((λ q. cc), tt))) (status_shown state number view table shown h) in
-      let room = or_parts (nat_lt 16777216 size) (nat_lt state.tree.capacity (used_space (with_size state.tree view.entry size).rows)) rows.1.1.0 in
+      let room = or_parts (nat_lt state.tree.limits.file_bytes size) (nat_lt state.tree.capacity (used_space (with_size state.tree view.entry size).rows)) rows.1.1.0 in
       record {
         file = rows.0;
         access = not-false (has_any view.access.0 FILE_WRITE_DATA) rows.1.0;
-        small = ltb-false 16777216 size room.0;
+        small = ltb-false state.tree.limits.file_bytes size room.0;
         fits = ltb-false state.tree.capacity (used_space (with_size state.tree view.entry size).rows) room.1;
       }
       ),
@@ -245,7 +245,7 @@ size_succeeds state number size view shown = (
     (
       not_from_true (has_any view.access.0 FILE_WRITE_DATA) m.access,
       (
-        or_from (nat_lt 16777216 size) (nat_lt state.tree.capacity (used_space (with_size state.tree view.entry size).rows)) (le-ltb 16777216 size m.small) (le-ltb state.tree.capacity (used_space (with_size state.tree view.entry size).rows) m.fits),
+        or_from (nat_lt state.tree.limits.file_bytes size) (nat_lt state.tree.capacity (used_space (with_size state.tree view.entry size).rows)) (le-ltb state.tree.limits.file_bytes size m.small) (le-ltb state.tree.capacity (used_space (with_size state.tree view.entry size).rows) m.fits),
         tt,
       ),
     ),

@@ -65,10 +65,10 @@ granted_by (Some view) fault memory h = at_kind (is_folder_kind view.kind) refl 
     at_kind true t e = absurd (let f : InvalidDeviceRequest ≡ Success = e in cc)
     at_kind false t e = record { shown = view; is = refl; file = t; free = no_fault fault memory e }
 
-lock_memory : (locks : List Lock) (holder : ℕ) (asks : List LockAsk) → lock_all_fault locks holder asks ≡ Some NoMemory → ⊥
-lock_memory locks holder asks h =
-    elim (are_locks asks) as (λ b. (if not b then Some BadFlags else locks_fault locks (locks_asked holder asks)) ≡ Some NoMemory → ⊥) [
-      | true ↦ no_memory locks (locks_asked holder asks)
+lock_memory : (most : ℕ) (locks : List Lock) (holder : ℕ) (asks : List LockAsk) → lock_all_fault most locks holder asks ≡ Some NoMemory → ⊥
+lock_memory most locks holder asks h =
+    elim (are_locks asks) as (λ b. (if not b then Some BadFlags else locks_fault most locks (locks_asked holder asks)) ≡ Some NoMemory → ⊥) [
+      | true ↦ no_memory most locks (locks_asked holder asks)
       | false ↦ λ e. cc
     ] h
 
@@ -96,11 +96,11 @@ through_is table state view shown is file = ap (with_locks_of table state) is �
 same_shown : (state : StoreState) (number : ℕ) (view shown : View) → open_view state number ≡ Some view → open_view state number ≡ Some shown → shown ≡ view
 same_shown state number view shown one other = let both : Some shown ≡ Some view = sym other ∙ one in cc
 
-pub lock_free : (state : StoreState) (number : ℕ) (asks : List LockAsk) (view : View) → open_view state number ≡ Some view → lock_status state number asks ≡ Success → (is_folder_kind view.kind ≡ false) × (lock_all_fault (locks_on state.locks view.entry) number asks ≡ None)
+pub lock_free : (state : StoreState) (number : ℕ) (asks : List LockAsk) (view : View) → open_view state number ≡ Some view → lock_status state number asks ≡ Success → (is_folder_kind view.kind ≡ false) × (lock_all_fault state.tree.limits.locks (locks_on state.locks view.entry) number asks ≡ None)
 lock_free state number asks view shown h =
-    let g = granted_by (open_view state number) (lock_all_fault (locks_shown state.locks (open_view state number)) number asks) (lock_memory (locks_shown state.locks (open_view state number)) number asks) h in (
+    let g = granted_by (open_view state number) (lock_all_fault state.tree.limits.locks (locks_shown state.locks (open_view state number)) number asks) (lock_memory state.tree.limits.locks (locks_shown state.locks (open_view state number)) number asks) h in (
       ap (λ (v : View). is_folder_kind v.kind) (sym (same_shown state number view g.shown shown g.is)) ∙ g.file,
-      ap (λ (v : Option View). lock_all_fault (locks_shown state.locks v) number asks) (sym shown) ∙ g.free,
+      ap (λ (v : Option View). lock_all_fault state.tree.limits.locks (locks_shown state.locks v) number asks) (sym shown) ∙ g.free,
     )
 
 pub unlock_free : (state : StoreState) (number : ℕ) (asks : List LockAsk) (view : View) → open_view state number ≡ Some view → unlock_status state number asks ≡ Success → (is_folder_kind view.kind ≡ false) × (unlock_all_error (locks_on state.locks view.entry) number asks ≡ None)
@@ -116,17 +116,17 @@ module _ (state : StoreState) (number : ℕ) (asks : List LockAsk) (good : GoodL
     pub view : View
     pub shown : open_view state number ≡ Some view
     pub file : is_folder_kind view.kind ≡ false
-    pub free : lock_all_fault (locks_on state.locks view.entry) number asks ≡ None
+    pub free : lock_all_fault state.tree.limits.locks (locks_on state.locks view.entry) number asks ≡ None
     pub after : locked_through state number asks ≡ record state { locks = locked state.locks view.entry number asks }
 
   pub is_locked : lock_status state number asks ≡ Success → IsLocked
   is_locked h =
-      let g = granted_by (open_view state number) (lock_all_fault (locks_shown state.locks (open_view state number)) number asks) (lock_memory (locks_shown state.locks (open_view state number)) number asks) h in
+      let g = granted_by (open_view state number) (lock_all_fault state.tree.limits.locks (locks_shown state.locks (open_view state number)) number asks) (lock_memory state.tree.limits.locks (locks_shown state.locks (open_view state number)) number asks) h in
       record {
         view = g.shown;
         shown = g.is;
         file = g.file;
-        free = ap (λ (v : Option View). lock_all_fault (locks_shown state.locks v) number asks) (sym g.is) ∙ g.free;
+        free = ap (λ (v : Option View). lock_all_fault state.tree.limits.locks (locks_shown state.locks v) number asks) (sym g.is) ∙ g.free;
         after = through_is (λ entry. locked state.locks entry number asks) state (open_view state number) g.shown g.is g.file;
       }
 
@@ -207,7 +207,7 @@ read_locked state number most minimum asks lock good h c e =
     let l = is_locked state number asks good h in
     let table : Table = locked state.locks l.view.entry number asks in
     let after : StoreState = record state { locks = table } in
-    let free : keeps_from_reading table number l.view lock.range.offset lock.range.length ≡ false = reads_locked state.locks l.view.entry number asks lock good l.free c in
+    let free : keeps_from_reading table number l.view lock.range.offset lock.range.length ≡ false = reads_locked state.tree.limits.locks state.locks l.view.entry number asks lock good l.free c in
     let status : read_status (locked_through state number asks) most number lock.range.offset lock.range.length minimum ≡ first_status (with_statuses (λ refusal. Refusal.Read refusal) (read_rows most l.view false lock.range.offset lock.range.length minimum)) =
     ap (λ (s : StoreState). read_status s most number lock.range.offset lock.range.length minimum) l.after
     ∙ ap (λ (v : Option View). option_map_or (λ view. first_status (with_statuses (λ refusal. Refusal.Read refusal) (read_rows most view (keeps_from_reading table number view lock.range.offset lock.range.length) lock.range.offset lock.range.length minimum))) v FileClosed) l.shown
@@ -222,7 +222,7 @@ write_locked state number most buffer asks lock good h c exclusive alone long e 
     let table : Table = locked state.locks l.view.entry number asks in
     let offset : ℕ = lock.range.offset in
     let full : Bool = has_no_room state.tree l.view.entry offset buffer in
-    let barred : is_write_barred (locks_on table l.view.entry) number lock.range ≡ false = writes_locked state.locks l.view.entry number asks lock good l.free c exclusive alone in
+    let barred : is_write_barred (locks_on table l.view.entry) number lock.range ≡ false = writes_locked state.tree.limits.locks state.locks l.view.entry number asks lock good l.free c exclusive alone in
     let free : keeps_from_writing table number l.view offset (length buffer) ≡ false =
     ap (λ (n : ℕ). is_write_barred (locks_on table l.view.entry) number (record { offset = offset; length = n })) (sym long) ∙ barred in
     let status : write_status (locked_through state number asks) most number offset buffer ≡ first_status (with_statuses (λ refusal. Refusal.Write refusal) (write_rows most l.view false offset (length buffer) full)) =

@@ -113,7 +113,7 @@ write_room state most number offset buffer held opened h some =
         let rows = pass_all (with_statuses (λ refusal. Refusal.Write refusal) (write_rows most view (keeps_from_writing state.locks number view offset (length buffer)) offset (length buffer) (has_no_room state.tree view.entry offset buffer))) ((λ q. cc), ((λ q. cc), ((λ q. cc), ((λ q. cc), ((λ q. cc), tt))))) s in
         let long : nat_lt 0 (length buffer) ≡ true = grind (arith, nat_tests, some) in
         let room : has_no_room state.tree view.entry offset buffer ≡ false = ap (λ (b : Bool). b && has_no_room state.tree view.entry offset buffer) (sym long) ∙ rows.1.1.1.1.0 in
-        let parts = or_parts (nat_lt 16777216 (offset + length buffer)) (nat_lt state.tree.capacity (used_space (with_bytes state.tree view.entry offset buffer).rows)) room in
+        let parts = or_parts (nat_lt state.tree.limits.file_bytes (offset + length buffer)) (nat_lt state.tree.capacity (used_space (with_bytes state.tree view.entry offset buffer).rows)) room in
         let own : view.entry ≡ held.entry = number-from_numbered state.tree.rows row held.entry e in
         let fits = ltb-false state.tree.capacity (used_space (with_bytes state.tree view.entry offset buffer).rows) parts.1 in
         (row, e, subst (λ (n : ℕ). used_space (with_bytes state.tree n offset buffer).rows ≤ state.tree.capacity) own fits)
@@ -131,7 +131,7 @@ size_room state number size held opened h =
     at_row (Some row) e s =
         let view : View = view_of held.access row.1 in
         let rows = pass_all (with_statuses (λ refusal. Refusal.SetSize refusal) (size_rows view (has_no_space state.tree view.entry size))) ((λ q. cc), ((λ q. cc), ((λ q. cc), tt))) s in
-        let parts = or_parts (nat_lt 16777216 size) (nat_lt state.tree.capacity (used_space (with_size state.tree view.entry size).rows)) rows.1.1.0 in
+        let parts = or_parts (nat_lt state.tree.limits.file_bytes size) (nat_lt state.tree.capacity (used_space (with_size state.tree view.entry size).rows)) rows.1.1.0 in
         let own : view.entry ≡ held.entry = number-from_numbered state.tree.rows row held.entry e in
         let fits = ltb-false state.tree.capacity (used_space (with_size state.tree view.entry size).rows) parts.1 in
         (row, e, subst (λ (n : ℕ). used_space (with_size state.tree n size).rows ≤ state.tree.capacity) own fits)

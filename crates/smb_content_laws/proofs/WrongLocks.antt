@@ -5,7 +5,6 @@ use Rattle.std.proofs.Common.{◌≡◌, ◌≢◌, ℕ, ◌==◌, ◌&&◌, Boo
 use Rattle.std.proofs.Common.{List, [], ◌∷◌, ◌++◌, length, Option, None, Some, is_some, Contains, refl, arith}
 use Rattle.std.specs.List.{list_any}
 use Rattle.std.specs.Option.{option_or, option_map_or}
-use Rattle.smb_wire.specs.Limits.{most_locks}
 use Rattle.smb_wire.specs.declared.nt_status.NtStatus.{NtStatus}
 use Rattle.smb_wire.specs.declared.nt_status.NtStatus.TheVariants.{Success, FileLockConflict}
 use Rattle.smb_tree.specs.Entries.{is_folder_kind}
@@ -79,30 +78,31 @@ a_lock_without_others_touches_them law =
     let same : 0 ≡ 1 = ap length (law (two_opens one_lock) 2 2 asks_shared one_lock_is_good).0 in omega (arith, same)
 
 -- why a LOCK is refused, by what conflicts: a lock that is asked for with one that is held
-abbrev lock_fault_by : (Lock → Lock → Bool) → List Lock → Lock → Option LockFault
-lock_fault_by rule locks asked =
+abbrev lock_fault_by : (Lock → Lock → Bool) → ℕ → List Lock → Lock → Option LockFault
+lock_fault_by rule most locks asked =
     if is_past_the_end asked.range then Some BadRange else
-    if nat_le most_locks (length locks) then Some Full else
+    if nat_le most (length locks) then Some Full else
     if list_any (rule asked) locks then Some NotGranted else None
 
-abbrev locks_fault_by : (Lock → Lock → Bool) → List Lock → List Lock → Option LockFault
-locks_fault_by rule locks [] = None
-locks_fault_by rule locks (asked ∷ later) =
-    option_or (lock_fault_by rule locks asked) (locks_fault_by rule (locks ++ asked ∷ []) later)
+abbrev locks_fault_by : (Lock → Lock → Bool) → ℕ → List Lock → List Lock → Option LockFault
+locks_fault_by rule most locks [] = None
+locks_fault_by rule most locks (asked ∷ later) =
+    option_or (lock_fault_by rule most locks asked) (locks_fault_by rule most (locks ++ asked ∷ []) later)
 
-abbrev fault_by : (Lock → Lock → Bool) → List Lock → ℕ → List LockAsk → Option LockFault
-fault_by rule locks holder asks =
-    if not (are_locks asks) then Some BadFlags else locks_fault_by rule locks (locks_asked holder asks)
+abbrev fault_by : (Lock → Lock → Bool) → ℕ → List Lock → ℕ → List LockAsk → Option LockFault
+fault_by rule most locks holder asks =
+    if not (are_locks asks) then Some BadFlags else locks_fault_by rule most locks (locks_asked holder asks)
 
 -- by the right rule it is that of smb_locks
 right_fault : lock_all_fault ≡ fault_by conflicts
 right_fault = refl
 
 -- the status of a LOCK, by why it is refused
-abbrev lock_status_with : (List Lock → ℕ → List LockAsk → Option LockFault) → StoreState → ℕ → List LockAsk → NtStatus
+abbrev lock_status_with : (ℕ → List Lock → ℕ → List LockAsk → Option LockFault) → StoreState → ℕ → List LockAsk → NtStatus
 lock_status_with fault state number asks =
     lock_status_by (open_view state number)
-    (fault (option_map_or (λ (view : View). locks_on state.locks view.entry) (open_view state number) []) number asks)
+    (fault state.tree.limits.locks
+    (option_map_or (λ (view : View). locks_on state.locks view.entry) (open_view state number) []) number asks)
 
 -- by the right one it is that of smb_opens
 right_status : lock_status ≡ lock_status_with lock_all_fault

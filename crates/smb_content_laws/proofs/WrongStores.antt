@@ -63,6 +63,7 @@ nearly_spent_is_good = record {
   compatible = example_is_good.compatible;
   marked = example_is_good.marked;
   locked = example_is_good.locked;
+  few_locks = example_is_good.few_locks;
   held = example_is_good.held;
 }
 

@@ -4,7 +4,6 @@ use Rattle.std.specs.Prelude.{length, None, Some}
 use Rattle.std.specs.List.{AllByRecursion, list_any}
 use Rattle.smb_wire.specs.Access.{has_any, FILE_WRITE_DATA, FILE_APPEND_DATA, FILE_WRITE_ATTRIBUTES}
 use Rattle.smb_wire.specs.Attributes.{FILE_ATTRIBUTE_DIRECTORY, FILE_ATTRIBUTE_READONLY}
-use Rattle.smb_wire.specs.Limits.{most_file_bytes}
 use Rattle.smb_wire.specs.declared.nt_status.NtStatus.{NtStatus}
 use Rattle.smb_wire.specs.declared.nt_status.NtStatus.TheVariants.{Success}
 use Rattle.smb_tree.specs.Content.{used_space, numbered, changed_in, resized, written}
@@ -71,7 +70,7 @@ pub record MayWrite (state : StoreState) (most number offset : ℕ) (buffer : Li
       ⊎ ((has_any view.access.0 FILE_APPEND_DATA ≡ true) × (view.size ≤ offset))
   pub free :
       is_write_barred (locks_on state.locks view.entry) number (record { offset = offset; length = length buffer }) ≡ false
-  pub small : 0 < length buffer → offset + length buffer ≤ most_file_bytes
+  pub small : 0 < length buffer → offset + length buffer ≤ state.tree.limits.file_bytes
   pub fits : 0 < length buffer →
       let after = changed_in (λ entry. record entry { bytes = written offset buffer entry.bytes }) state.tree view.entry in
       used_space after.rows ≤ state.tree.capacity
@@ -91,7 +90,7 @@ pub record MayMark (state : StoreState) (is_deleted : Bool) (view : View) : Type
 pub record MaySetSize (state : StoreState) (size : ℕ) (view : View) : Type 0 where
   pub file : is_folder_kind view.kind ≡ false
   pub access : has_any view.access.0 FILE_WRITE_DATA ≡ true
-  pub small : size ≤ most_file_bytes
+  pub small : size ≤ state.tree.limits.file_bytes
   pub fits :
       let after = changed_in (λ entry. record entry { bytes = resized size entry.bytes }) state.tree view.entry in
       used_space after.rows ≤ state.tree.capacity
@@ -120,6 +119,6 @@ RequestsSucceedWhereTheyMay =
     × ((size : ℕ) → (size_status state number size ≡ Success) ↔ MaySetSize state size view)
     × ((ask : BasicAsk) → (basic_status state number ask ≡ Success) ↔ MaySetTimes ask view)
     × ((asks : List LockAsk) → (lock_status state number asks ≡ Success)
-    ↔ ((is_folder_kind view.kind ≡ false) × (lock_all_fault held number asks ≡ None)))
+    ↔ ((is_folder_kind view.kind ≡ false) × (lock_all_fault state.tree.limits.locks held number asks ≡ None)))
     × ((asks : List LockAsk) → (unlock_status state number asks ≡ Success)
     ↔ ((is_folder_kind view.kind ≡ false) × (unlock_all_error held number asks ≡ None)))

@@ -1,5 +1,5 @@
 -- How streams are cut into pieces, and events into runs, does not matter.
-use Rattle.std.proofs.Common.{◌≡◌, ℕ, suc, ◌+◌, ◌<◌, ◌&&◌, ltb, Bool, true, false, List, [], ◌∷◌, ◌++◌, length, Option, None, Some, is_none, refl, sym, ap, ◌∙◌, append_assoc, arith}
+use Rattle.std.proofs.Common.{◌≡◌, ℕ, suc, ◌+◌, ◌<◌, ◌&&◌, ltb, Bool, true, false, List, [], ◌∷◌, ◌++◌, length, Option, None, Some, is_none, refl, sym, ap, subst, ◌∙◌, append_assoc, arith}
 use Rattle.std.specs.Option.{option_map, option_map_or}
 use Rattle.std.specs.BTreeMap.{is_at}
 use Rattle.std.specs.Ordering.{nat_cmp}
@@ -364,12 +364,18 @@ alike_more k r r' e = rw e (record { state = refl; outputs = refl; reason = reas
 module _ {S : Type 0} (m : Meaning S) (n moment : ℕ) where
   whole : (s : ShareState S) → StreamsInOrder s → (before after : List EventText) (piece : List ℕ) (pieces : List (List ℕ)) →
       AreAlike (run m s (before ++ brings n moment piece ∷ (pieces_on n moment pieces ++ after))) (run m s (before ++ brings n moment (piece ++ bytes_of_pieces pieces) ∷ after))
-  whole s h before after piece [] = rw append-nil (alike_same (run m s (before ++ brings n moment piece ∷ after)))
+  whole s h before after piece [] =
+      let P : List ℕ → Type 0 = λ bytes. AreAlike (run m s (before ++ brings n moment piece ∷ after)) (run m s (before ++ brings n moment bytes ∷ after)) in
+      subst P (sym (append-nil piece)) (alike_same (run m s (before ++ brings n moment piece ∷ after)))
   whole s h before after piece (next ∷ pieces) =
+      let first = run m s (before ++ brings n moment piece ∷ (brings n moment next ∷ (pieces_on n moment pieces ++ after))) in
       let one = run m s (before ++ brings n moment (piece ++ next) ∷ (pieces_on n moment pieces ++ after)) in
-      let all = alike_trans _ one _
-      (alike_more (length before) _ one (cuts_do_not_matter m s h before (pieces_on n moment pieces ++ after) n moment piece next)) (whole s h before after (piece ++ next) pieces) in
-      rw append_assoc at all
+      let all = run m s (before ++ brings n moment ((piece ++ next) ++ bytes_of_pieces pieces) ∷ after) in
+      let P : List ℕ → Type 0 = λ bytes. AreAlike first (run m s (before ++ brings n moment bytes ∷ after)) in
+      subst P (append_assoc piece next (bytes_of_pieces pieces))
+      (alike_trans first one all
+      (alike_more (length before) first one (cuts_do_not_matter m s h before (pieces_on n moment pieces ++ after) n moment piece next))
+      (whole s h before after (piece ++ next) pieces))
 
   pub however_cut : (s : ShareState S) → StreamsInOrder s → (before after : List EventText) (pieces others : List (List ℕ)) → 0 < length pieces → 0 < length others → bytes_of_pieces pieces ≡ bytes_of_pieces others →
       AreAlike (run m s (before ++ (pieces_on n moment pieces ++ after))) (run m s (before ++ (pieces_on n moment others ++ after)))

@@ -1,7 +1,7 @@
 -- A good share: what holds of it between any two calls, and what the laws about later calls take as their premise.
 use Rattle.std.specs.Prelude.{◌≡◌, ◌+◌, ◌≤◌, ◌<◌, true, false, length, map}
 use Rattle.std.specs.List.{AllByRecursion}
-use Rattle.smb_wire.specs.Limits.{longest_payload, most_connections}
+use Rattle.smb_wire.specs.Limits.{longest_payload, default_limits}
 use Rattle.smb_session.specs.Window.{GoodWindow}
 use Rattle.smb_session.specs.Good.{GoodTable}
 use Rattle.smb_opens.specs.Good.{GoodStore}
@@ -23,7 +23,7 @@ pub record GoodState {S : Type 0} (s : ShareState S) : Type 0 where
   pub lawful : is_lawful s.server.settings ≡ true
   pub named : s.server.sessions.share ≡ s.server.settings.share
   pub room : s.server.store.tree.capacity ≡ s.server.settings.capacity
-  pub few : length s.streams ≤ most_connections
+  pub few : length s.streams ≤ default_limits.connections
   pub given : AllByRecursion (λ entry. (0 < entry.0) × (entry.0 < s.next)) s.streams
   pub next : 0 < s.next
   pub good : AllByRecursion (λ entry. IsGoodStream entry.1) s.streams

@@ -7,7 +7,7 @@ use Rattle.smb_peers.specs.Observed.{Observed, performed}
 use Rattle.smb_request.specs.declared.response.Answered.{Answered}
 use Rattle.smb_engine.specs.Observed.{response_observed}
 use Rattle.std.specs.List.{AllByRecursion}
-use Rattle.smb_wire.specs.Limits.{longest_payload, most_connections}
+use Rattle.smb_wire.specs.Limits.{longest_payload, default_limits}
 use Rattle.smb_frame.specs.Reading.{first, fault_of, rest}
 use Rattle.smb_session.specs.Window.{GoodWindow}
 use Rattle.smb_request.specs.State.{ServerState}
@@ -30,7 +30,7 @@ AllWait = AllByRecursion (λ entry. Waits entry.1)
 -- 1 on, and these connections may have sessions
 pub record AreKept (connections : List ℕ) (streams : List (ℕ × StreamState)) (next : ℕ) : Type 0 where
   pub waits : AllWait streams
-  pub few : length streams ≤ most_connections
+  pub few : length streams ≤ default_limits.connections
   pub given : AllByRecursion (λ entry. entry.0 < next) streams
   pub from_one : (0 < next) × AllByRecursion (λ entry. 0 < entry.0) streams
   pub known : connections ≡ map (λ entry. entry.0) streams

@@ -6,7 +6,7 @@ use Rattle.std.specs.List.{list_any, list_all, find, fold, starts_with}
 use Rattle.std.specs.Map.{set_value}
 use Rattle.std.specs.BTreeMap.{is_at}
 use Rattle.std.specs.Ordering.{nat_cmp}
-use Rattle.smb_wire.specs.Limits.{longest_payload, most_connections}
+use Rattle.smb_wire.specs.Limits.{longest_payload, default_limits}
 use Rattle.smb_wire.specs.Commands.{code_of}
 use Rattle.smb_wire.specs.Counters.{is_spent}
 use Rattle.smb_wire.specs.declared.command.Command.TheVariants.{Negotiate, Cancel}
@@ -359,7 +359,7 @@ event_step authenticator s (ends connection) = record { state = ended s connecti
 abbrev pub event_refusal : {S : Type 0} → ShareState S → EventText → Option ServeFault
 event_refusal s (opens connection) =
     if connection == s.next then
-    (if nat_le most_connections (length s.streams) || is_spent 64 s.next then Some TooManyConnections else None)
+    (if nat_le default_limits.connections (length s.streams) || is_spent 64 s.next then Some TooManyConnections else None)
     else Some BadEvent
 event_refusal s (brings connection moment piece) =
     if nat_lt 0 connection && nat_lt connection s.next then None else Some BadEvent

@@ -4,7 +4,7 @@ ghost use Rattle.std.specs.Prelude.{◌≡◌, ◌<◌, ◌+◌, ◌-◌, ◌^�
 ghost use Rattle.std.specs.Bool.{OnTrue};
 ghost use Rattle.std.specs.Option.{option_map};
 ghost use Rattle.std.specs.List.{flat_map};
-ghost use Rattle.smb_wire.specs.Limits.{most_connections};
+ghost use Rattle.smb_wire.specs.Limits.{default_limits};
 ghost use Rattle.smb_tree.specs.Content.{new_content, used_space};
 ghost use Rattle.smb_opens.specs.Readers.{LeavesFiles};
 ghost use Rattle.smb_request.specs.Settings.{settings_of, is_lawful};
@@ -32,7 +32,7 @@ use smb_peers::{Answer, Event, Fate, Observer, Usage};
 use smb_request::{Config, Server};
 use smb_session::Authenticator;
 use smb_tree::Tree;
-use smb_wire::limits::MOST_CONNECTIONS;
+use smb_wire::limits::Limits;
 use std::alloc::Global;
 use std::collections::BTreeMap;
 use std::fmt;
@@ -146,10 +146,10 @@ impl<A: Authenticator + Drop, T: Tree + Drop, O: Opens + Drop> Share<A, T, O> {
     /// Whether the share has room for another connection, and a number.
     pub fn has_room(&self) -> bool
         ensures refusal { opening_refusal self.now ≡ (if result then None else Some ServeFault.TooManyConnections) }
-        ensures few { result ≡ true → length self.now.streams < most_connections }
+        ensures few { result ≡ true → length self.now.streams < default_limits.connections }
         ensures next { result ≡ true → self.now.next < 2 ^ 64 - 1 }
     {
-        self.streams.len() < MOST_CONNECTIONS && self.next < u64::MAX
+        self.streams.len() < Limits::profile().connections && self.next < u64::MAX
     }
 
     /// Opens a connection, and gives its number: 1, 2, 3 and so on, none twice.

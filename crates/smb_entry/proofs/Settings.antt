@@ -52,18 +52,18 @@ space_sized content n size row h =
 less_or_more : (capacity used old new after : ℕ) → used ≤ capacity → old ≤ used → after + old ≡ used + new → nat_lt capacity (used - old + new) ≡ nat_lt capacity after
 less_or_more capacity used old new after fits within same = grind (arith, nat_tests, fits, within, same)
 
-pub no_space_told : (content : Content) (n size used : ℕ) (seen : Shown) → Some seen ≡ entry_shown content.rows n → GoodContent content → size ≤ 16777216 → used ≡ used_space content.rows →
+pub no_space_told : (content : Content) (n size used : ℕ) (seen : Shown) → Some seen ≡ entry_shown content.rows n → GoodContent content → size ≤ content.limits.file_bytes → used ≡ used_space content.rows →
     nat_lt content.capacity (used - allocation_size seen.size + allocation_size size) ≡ has_no_space content n size
 no_space_told content n size used seen e good small is =
     let r = row_of_shown content.rows n seen e in
     let same : allocation_size (length r.0.1.bytes) ≡ allocation_size seen.size = sym (ap (λ (s : Shown). allocation_size s.size) r.2) in
     let after : used_space (with_size content n size).rows + allocation_size seen.size ≡ used_space content.rows + allocation_size size = ap (λ (m : ℕ). used_space (with_size content n size).rows + m) (sym same) ∙ space_sized content n size r.0 r.1 in
     let less = less_or_more content.capacity (used_space content.rows) (allocation_size seen.size) (allocation_size size) (used_space (with_size content n size).rows) good.fits (space_shown content n seen e) after in
-    let low : nat_lt 16777216 size ≡ false = grind (arith, nat_tests, small) in
+    let low : nat_lt content.limits.file_bytes size ≡ false = grind (arith, nat_tests, small) in
     ap (λ (u : ℕ). nat_lt content.capacity (u - allocation_size seen.size + allocation_size size)) is ∙ less
     ∙ ap (λ (b : Bool). b || nat_lt content.capacity (used_space (with_size content n size).rows)) (sym low)
 
-pub no_space_over : (content : Content) (n size : ℕ) → nat_lt 16777216 size ≡ true → true ≡ has_no_space content n size
+pub no_space_over : (content : Content) (n size : ℕ) → nat_lt content.limits.file_bytes size ≡ true → true ≡ has_no_space content n size
 no_space_over content n size over = ap (λ (b : Bool). b || nat_lt content.capacity (used_space (with_size content n size).rows)) (sym over)
 
 -- an entry exists still when its times are set

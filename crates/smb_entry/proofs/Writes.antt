@@ -38,7 +38,7 @@ all_at P f (x ∷ rows) n row e k h =
 
 -- a good tree stays good where a file gets other bytes for which there is room
 pub good_within : (f : Entry → Entry) (content : Content) (n : ℕ) (row : Row) → Keeps f → numbered content.rows n ≡ Some row → is_folder_kind row.1.kind ≡ false →
-    length (f row.1).bytes ≤ 16777216 → used_space (changed f content.rows n) ≤ content.capacity → GoodContent content → GoodContent (record content { rows = changed f content.rows n })
+    length (f row.1).bytes ≤ content.limits.file_bytes → used_space (changed f content.rows n) ≤ content.capacity → GoodContent content → GoodContent (record content { rows = changed f content.rows n })
 good_within f content n row k h file small fits good = record {
   root = folder_changed f content.rows n [] k ∙ good.root;
   parents = all_changed (λ r. is_folder (entry_at (changed f content.rows n) (parent r.0)) ≡ true) f content.rows n (λ r p. p)
@@ -49,14 +49,14 @@ good_within f content n row k h file small fits good = record {
   counted = good.counted;
   few = omega (arith, good.few, length-changed f content.rows n);
   shallow = all_changed (λ r. length r.0 ≤ 32) f content.rows n (λ r p. p) good.shallow;
-  small = all_at (λ r. length r.1.bytes ≤ 16777216) f content.rows n row h small good.small;
+  small = all_at (λ r. length r.1.bytes ≤ content.limits.file_bytes) f content.rows n row h small good.small;
   bare = all_at (λ r. is_folder_kind r.1.kind ≡ true → length r.1.bytes ≡ 0) f content.rows n row h (λ t. (let other : is_folder_kind row.1.kind ≡ true = ap is_folder_kind (sym (k.kind row.1)) ∙ t in absurd (cc))) good.bare;
   fits = fits;
 }
 
 -- of a file for whose bytes there is room: its size, and the space that is used afterwards
 pub record HasRoom (content : Content) (n offset : ℕ) (buffer : List ℕ) (moment : ℕ) (row : Row) : Type 0 where
-  pub small : length (written_file offset buffer moment row.1).bytes ≤ 16777216
+  pub small : length (written_file offset buffer moment row.1).bytes ≤ content.limits.file_bytes
   pub fits : used_space (changed (written_file offset buffer moment) content.rows n) ≤ content.capacity
 
 same_space : (content : Content) (n offset size : ℕ) (buffer : List ℕ) (moment : ℕ) (row : Row) → numbered content.rows n ≡ Some row → length (written offset buffer row.1.bytes) ≡ size →
@@ -79,7 +79,7 @@ space_of_bytes content n offset buffer row h =
     let same : allocation_size (length (written offset buffer row.1.bytes)) ≡ allocation_size (length (resized size row.1.bytes)) = ap allocation_size (long ∙ sym (length-resized size row.1.bytes)) in
     omega (arith, one, other, same)
 
-room_at : (content : Content) (n size : ℕ) (row : Row) → numbered content.rows n ≡ Some row → size_fault content n size ≡ None → (size ≤ 16777216) × (used_space (with_size content n size).rows ≤ content.capacity)
+room_at : (content : Content) (n size : ℕ) (row : Row) → numbered content.rows n ≡ Some row → size_fault content n size ≡ None → (size ≤ content.limits.file_bytes) × (used_space (with_size content n size).rows ≤ content.capacity)
 room_at content n size row h e = (grind (arith, nat_tests, common_steps, h, e), grind (arith, nat_tests, common_steps, h, e))
 
 pub has_room : (content : Content) (n offset : ℕ) (buffer : List ℕ) (moment : ℕ) (row : Row) → numbered content.rows n ≡ Some row → write_fault content n offset (length buffer) ≡ None → HasRoom content n offset buffer moment row

@@ -1,7 +1,6 @@
 -- For the proofs; nothing here need be believed.
 -- The tables of smb_opens by what the code looks at, and what is changed, step by step.
 use Rattle.std.specs.Prelude.{ℕ, ◌+◌, ◌-◌, ◌||◌, ◌&&◌, Bool, not, min, nat_lt, nat_le, List, [], ◌∷◌, length, ◌==◌, false, if◌then◌else◌, slice_index, Option, None, Some, is_some}
-use Rattle.smb_wire.specs.Limits.{most_file_bytes}
 use Rattle.smb_wire.specs.Access.{has_any, FILE_WRITE_DATA}
 use Rattle.smb_tree.specs.declared.fault.TreeFault.{TreeFault}
 use Rattle.smb_tree.specs.declared.fault.TreeFault.TheVariants.{Absent, ParentAbsent, Exists, NotEmpty, TooDeep, Full}
@@ -91,11 +90,11 @@ write_rows most view is_barred offset count is_full =
     ∷ (nat_lt 0 count && is_full, WriteRefusal.NoSpaceLeft)
     ∷ []
 
--- there is no room for these bytes at an offset of a file: it would be longer than 16,777,216 bytes, or the space that
--- files use pass the capacity
+-- there is no room for these bytes at an offset of a file: it would be longer than the limits let a file be, or the
+-- space that files use pass the capacity
 abbrev pub has_no_room : Content → ℕ → ℕ → List ℕ → Bool
 has_no_room tree entry offset buffer =
-    nat_lt most_file_bytes (offset + length buffer)
+    nat_lt tree.limits.file_bytes (offset + length buffer)
     || nat_lt tree.capacity (used_space (with_bytes tree entry offset buffer).rows)
 
 -- a lock of its file bars an open from writing so many bytes at an offset
@@ -149,11 +148,11 @@ delete_rows view is_occupied is_deleted =
 abbrev pub delete_set : Bool → Entry → Entry
 delete_set is_deleted entry = record entry { mark = is_deleted }
 
--- there is no room for a file of a number with this size: it is over 16,777,216 bytes, or the space that files use would
--- pass the capacity
+-- there is no room for a file of a number with this size: it is over the limit of a file, or the space that files use
+-- would pass the capacity
 abbrev pub has_no_space : Content → ℕ → ℕ → Bool
 has_no_space tree entry size =
-    nat_lt most_file_bytes size || nat_lt tree.capacity (used_space (with_size tree entry size).rows)
+    nat_lt tree.limits.file_bytes size || nat_lt tree.capacity (used_space (with_size tree entry size).rows)
 
 -- the rows, by what the open shows, and whether there is no room
 abbrev pub size_rows : View → Bool → List (RefusalRow SetSizeRefusal)

@@ -2,6 +2,7 @@
 
 ghost use Rattle.std.specs.Prelude.{◌≡◌, ◌≤◌, ◌+◌, nat_lt, true, false, None, Some, IfErr, OnOk, OnErr, is_some};
 ghost use Rattle.std.specs.Option.{option_map};
+ghost use Rattle.smb_wire.specs.Greatest.{greatest_file_bytes};
 ghost use Rattle.smb_tree.specs.Content.{numbered, changed_in};
 ghost use Rattle.smb_tree.specs.Parts.{with_mark};
 ghost use Rattle.smb_tree.specs.Entries.{is_folder_kind, allocation_size, kept_basic};
@@ -19,7 +20,6 @@ use smb_access::access::{is_deleting, is_writing_attributes};
 use smb_access::found::ROOT;
 use smb_refusals::{RefusedBy, SetBasicRefusal, SetDispositionRefusal, SetSizeRefusal};
 use smb_tree::{Basic, EntryNo, Tree, allocation_size};
-use smb_wire::limits::MOST_FILE_BYTES;
 use smb_wire::{Access, FileAttributes};
 
 /// The greatest time, in units of 100 ns since 1601.
@@ -85,7 +85,7 @@ pub fn mark_entry<T: Tree>(tree: &mut T, entry: EntryNo, mark: bool)
 /// Whether a file of this size passes the capacity beside the others.
 fn passes_capacity(capacity: u64, others: u64, size: u64) -> bool
     requires others { others ≤ capacity }
-    requires small { size ≤ MOST_FILE_BYTES }
+    requires small { size ≤ greatest_file_bytes }
     ensures { result ≡ nat_lt capacity (others + allocation_size size) }
 {
     capacity - others < allocation_size(size)
@@ -100,7 +100,8 @@ pub fn has_no_space<T: Tree>(tree: &T, entry: EntryNo, size: u64) -> bool
     let Some(seen) = tree.entry(entry) else {
         unreachable!();
     };
-    if size > MOST_FILE_BYTES {
+    let limits = tree.limits();
+    if size > limits.file_bytes {
         return true;
     }
     let others = tree.used() - allocation_size(seen.size);

@@ -2,7 +2,7 @@
 
 use super::fault::{FolderRule, Trouble};
 use smb_reason::Shown;
-use smb_wire::limits::MOST_ENTRIES;
+use smb_wire::limits::Limits;
 use std::alloc::{AllocError, Global};
 use std::fs::Files;
 use std::io::Read;
@@ -51,11 +51,12 @@ pub(crate) fn shown(alloc: Global, base: &str, relative: &[u8]) -> Result<String
 
 /// Adds the names that were read, but for `.` and `..`.
 fn add_names(alloc: Global, read: &[u8], names: &mut Vec<Vec<u8>>) -> Result<(), Trouble> {
+    let most = Limits::profile().entries;
     for name in read.split(|byte| *byte == 0) {
         if name.is_empty() || name == b".".as_slice() || name == b"..".as_slice() {
             continue;
         }
-        if names.len() >= MOST_ENTRIES {
+        if names.len() >= most {
             return Err(Trouble::Rule(FolderRule::TooMany));
         }
         names.push(Vec::from_slice(alloc, name)?)?;

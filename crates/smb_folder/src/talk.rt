@@ -11,7 +11,7 @@ use smb_client::{
     Request, SecurityFlags, SetInfoRequest, ShareAccess, SmbCreateFlags, Status, Units, units_of,
 };
 use smb_wire::NtStatus;
-use smb_wire::limits::{MOST_COMPONENTS, MOST_FILE_BYTES};
+use smb_wire::limits::{Limits, MOST_COMPONENTS};
 use std::alloc::Global;
 
 /// How many bytes one request writes, reads or lists at most: with its head it stays below 65,536 bytes.
@@ -111,7 +111,7 @@ fn rule_of_create(path: &[u8], status: Status) -> FolderRule {
 /// The rule that a WRITE breaks, up to this end, which is refused by a status.
 fn rule_of_write(end: u64, status: Status) -> FolderRule {
     match NtStatus::from(status.0) {
-        NtStatus::DiskFull if end > MOST_FILE_BYTES => FolderRule::TooLong,
+        NtStatus::DiskFull if end > Limits::profile().file_bytes => FolderRule::TooLong,
         NtStatus::DiskFull => FolderRule::NoRoom,
         _ => FolderRule::Refused(status),
     }

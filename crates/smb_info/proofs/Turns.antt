@@ -63,14 +63,15 @@ holds_numbered P (x ∷ rows) number row h e =
       | false ↦ λ q. holds_numbered P rows number row h.1 q
     ] e
 
-pub size_small : (content : Content) (number : ℕ) (entry : Shown) → GoodContent content → Some entry ≡ entry_shown content.rows number → entry.size ≤ 16777216
+pub size_small : (content : Content) (number : ℕ) (entry : Shown) → GoodContent content → Some entry ≡ entry_shown content.rows number → entry.size ≤ 8796093022208
 size_small content number entry good e =
-    elim (numbered content.rows number) as (λ o. numbered content.rows number ≡ o → Some entry ≡ option_map (row_shown content.rows) o → entry.size ≤ 16777216) [
+    elim (numbered content.rows number) as (λ o. numbered content.rows number ≡ o → Some entry ≡ option_map (row_shown content.rows) o → entry.size ≤ 8796093022208) [
       | None ↦ λ q f. cc
       | Some row ↦ λ q f.
-          let small : length row.1.bytes ≤ 16777216 = holds_numbered (λ row. length row.1.bytes ≤ 16777216) content.rows number row good.small q in
+          let within : length row.1.bytes ≤ content.limits.file_bytes = holds_numbered (λ row. length row.1.bytes ≤ content.limits.file_bytes) content.rows number row good.small q in
+          let small : length row.1.bytes ≤ 8796093022208 = omega (arith, within, content.limits.few_bytes) in
           let same : row_shown content.rows row ≡ entry = cc in
-          subst (λ (s : Shown). s.size ≤ 16777216) same small
+          subst (λ (s : Shown). s.size ≤ 8796093022208) same small
     ] refl e
 
 -- the folder around a folder is there

@@ -1,7 +1,7 @@
 //! An entry that may be listed.
 
 ghost use Rattle.std.specs.Prelude.{◌≡◌, ◌≤◌, length};
-ghost use Rattle.smb_wire.specs.Limits.{most_file_bytes};
+ghost use Rattle.smb_wire.specs.Greatest.{greatest_file_bytes};
 ghost use Rattle.smb_wire.specs.Units.{units_of};
 ghost use Rattle.smb_info.specs.Places.{behind_of};
 
@@ -27,7 +27,7 @@ pub struct CandidateView<'a> {
     /// The name under which it is listed.
     pub name: Units<'a>,
     pub entry: EntryView<'a>,
-    pub ghost few: { entry.size ≤ most_file_bytes },
+    pub ghost few: { entry.size ≤ greatest_file_bytes },
     pub ghost short: { length (units_of name) ≤ 255 },
 }
 

@@ -35,14 +35,14 @@ either_apart : (one others : Option LockFault) → one ≢ Some NoMemory → oth
 either_apart None others p q h = q h
 either_apart (Some fault) others p q h = p h
 
-pub no_memory : (locks more : List Lock) → locks_fault locks more ≢ Some NoMemory
-no_memory locks [] h = cc
-no_memory locks (asked ∷ more) h =
-    either_apart (lock_fault locks asked) (locks_fault (locks ++ asked ∷ []) more)
-    (one_apart (is_past_the_end asked.range) (nat_le 256 (length locks)) (list_any (conflicts asked) locks))
-    (no_memory (locks ++ asked ∷ []) more) h
+pub no_memory : (most : ℕ) (locks more : List Lock) → locks_fault most locks more ≢ Some NoMemory
+no_memory most locks [] h = cc
+no_memory most locks (asked ∷ more) h =
+    either_apart (lock_fault most locks asked) (locks_fault most (locks ++ asked ∷ []) more)
+    (one_apart (is_past_the_end asked.range) (nat_le most (length locks)) (list_any (conflicts asked) locks))
+    (no_memory most (locks ++ asked ∷ []) more) h
 
 -- the refusal of a row, or out of memory where there is none
-pub none_or : (locks more : List Lock) (o : Option LockFault) (fault : LockFault) → o ≡ locks_fault locks more → unwrap_or o fault ≡ NoMemory → locks_fault locks more ≡ None
-none_or locks more None fault e h = sym e
-none_or locks more (Some told) fault e h = absurd (no_memory locks more (sym e ∙ ap Some h))
+pub none_or : (most : ℕ) (locks more : List Lock) (o : Option LockFault) (fault : LockFault) → o ≡ locks_fault most locks more → unwrap_or o fault ≡ NoMemory → locks_fault most locks more ≡ None
+none_or most locks more None fault e h = sym e
+none_or most locks more (Some told) fault e h = absurd (no_memory most locks more (sym e ∙ ap Some h))

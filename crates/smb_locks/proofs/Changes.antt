@@ -61,18 +61,18 @@ locked_nothing table file holder asks new found e none =
     sym (ap (with_locks table file) all ∙ removed-none file table found)
 
 -- why a request that locks is refused, by the locks that are found
-pub lock_refusal : (table : Table) (file holder : ℕ) (asks : List LockAsk) (old : List Lock) (o : Option LockFault) → are_locks asks ≡ true → locks_on table file ≡ old → locks_fault old (locks_asked holder asks) ≡ o → lock_all_fault (locks_on table file) holder asks ≡ o
-lock_refusal table file holder asks old o flags e h = rw (flags, e) h
+pub lock_refusal : (most : ℕ) (table : Table) (file holder : ℕ) (asks : List LockAsk) (old : List Lock) (o : Option LockFault) → are_locks asks ≡ true → locks_on table file ≡ old → locks_fault most old (locks_asked holder asks) ≡ o → lock_all_fault most (locks_on table file) holder asks ≡ o
+lock_refusal most table file holder asks old o flags e h = rw (flags, e) h
 
 -- a request that locks, granted or not
 pub written_back : (table : Table) (file : ℕ) (old new : List Lock) → lookup (is_at (nat_cmp file)) table ≡ Some old → new ≡ old → set_value (is_at (nat_cmp file)) table new ≡ table
 written_back table file old new found e = ap (set_value (is_at (nat_cmp file)) table) e ∙ set_value_same (is_at (nat_cmp file)) table old found
 
-pub good_tried : {T E : Type 0} (r : Result T E) (table : Table) (file holder : ℕ) (asks : List LockAsk) (old new : List Lock) → GoodLockTable table → are_locks asks ≡ true → lookup (is_at (nat_cmp file)) table ≡ Some old →
-    OnOk r (new ≡ old ++ locks_asked holder asks) → OnOk r (locks_fault old (locks_asked holder asks) ≡ None) → OnErr r (new ≡ old) → GoodLockTable (set_value (is_at (nat_cmp file)) table new)
-good_tried (Ok x) table file holder asks old new good flags found ok lawful err =
-    rw (locked_found table file holder asks old new good found ok) (good_locked table file holder asks good (lock_refusal table file holder asks old None flags (found_on table file old found) lawful))
-good_tried (Err x) table file holder asks old new good flags found ok lawful err = rw (written_back table file old new found err) good
+pub good_tried : {T E : Type 0} (most : ℕ) (r : Result T E) (table : Table) (file holder : ℕ) (asks : List LockAsk) (old new : List Lock) → GoodLockTable table → are_locks asks ≡ true → lookup (is_at (nat_cmp file)) table ≡ Some old →
+    OnOk r (new ≡ old ++ locks_asked holder asks) → OnOk r (locks_fault most old (locks_asked holder asks) ≡ None) → OnErr r (new ≡ old) → GoodLockTable (set_value (is_at (nat_cmp file)) table new)
+good_tried most (Ok x) table file holder asks old new good flags found ok lawful err =
+    rw (locked_found table file holder asks old new good found ok) (good_locked most table file holder asks good (lock_refusal most table file holder asks old None flags (found_on table file old found) lawful))
+good_tried most (Err x) table file holder asks old new good flags found ok lawful err = rw (written_back table file old new found err) good
 
 -- unlocking
 nothing_left_at : (holder : ℕ) (ask : LockAsk) (asks : List LockAsk) (b : Bool) → is_past_the_end (range_asked ask) ≡ b → left_by holder [] (ask ∷ asks) ≡ []

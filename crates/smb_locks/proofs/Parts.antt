@@ -21,15 +21,15 @@ no_row false false true h = cc
 no_row false false false h = (refl, refl, refl)
 
 -- a lock that is not refused
-pub record IsGranted (locks : List Lock) (asked : Lock) : Type 0 where
+pub record IsGranted (most : ℕ) (locks : List Lock) (asked : Lock) : Type 0 where
   pub within : is_past_the_end asked.range ≡ false
-  pub room : length locks < 256
+  pub room : length locks < most
   pub free : list_any (conflicts asked) locks ≡ false
 
-pub granted : (locks : List Lock) (asked : Lock) → lock_fault locks asked ≡ None → IsGranted locks asked
-granted locks asked h =
-    let rows = no_row (is_past_the_end asked.range) (nat_le 256 (length locks)) (list_any (conflicts asked) locks) h in
-    record { within = rows.0; room = leb-false 256 (length locks) rows.1; free = rows.2 }
+pub granted : (most : ℕ) (locks : List Lock) (asked : Lock) → lock_fault most locks asked ≡ None → IsGranted most locks asked
+granted most locks asked h =
+    let rows = no_row (is_past_the_end asked.range) (nat_le most (length locks)) (list_any (conflicts asked) locks) h in
+    record { within = rows.0; room = leb-false most (length locks) rows.1; free = rows.2 }
 
 pub both_none : (o p : Option LockFault) → option_or o p ≡ None → (o ≡ None) × (p ≡ None)
 both_none None p h = (refl, h)
@@ -39,8 +39,8 @@ flags_first : (b : Bool) (o : Option LockFault) → (if not b then Some BadFlags
 flags_first true o h = h
 flags_first false o h = cc
 
-pub locks_granted : (locks : List Lock) (holder : ℕ) (asks : List LockAsk) → lock_all_fault locks holder asks ≡ None → locks_fault locks (locks_asked holder asks) ≡ None
-locks_granted locks holder asks h = flags_first (are_locks asks) (locks_fault locks (locks_asked holder asks)) h
+pub locks_granted : (most : ℕ) (locks : List Lock) (holder : ℕ) (asks : List LockAsk) → lock_all_fault most locks holder asks ≡ None → locks_fault most locks (locks_asked holder asks) ≡ None
+locks_granted most locks holder asks h = flags_first (are_locks asks) (locks_fault most locks (locks_asked holder asks)) h
 
 -- a lock that does not conflict may be held besides
 beside : (asked held : Lock) → conflicts asked held ≡ false → AreCompatible held asked

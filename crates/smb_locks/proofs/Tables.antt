@@ -1,5 +1,5 @@
 -- Tables stay good, and what is found in them.
-use Rattle.std.proofs.Common.{◌≡◌, ◌≢◌, ◌⊎◌, inl, inr, ℕ, zero, suc, ◌<◌, Bool, true, false, List, [], ◌∷◌, ◌++◌, length, map, get_or, nat_lt, Option, None, Some, unwrap_or, Contains, refl, sym, ap, ◌∙◌, subst, arith}
+use Rattle.std.proofs.Common.{◌≡◌, ◌≢◌, ◌⊎◌, inl, inr, ℕ, zero, suc, ◌<◌, ◌≤◌, Bool, true, false, List, [], ◌∷◌, ◌++◌, length, map, get_or, nat_lt, Option, None, Some, unwrap_or, Contains, refl, sym, ap, ◌∙◌, subst, arith}
 use Rattle.std.proofs.lemmas.Bool.{eqb-true, ne_eqb, ltb-true, ltb-false}
 use Rattle.std.proofs.lemmas.List.{nil_from_length}
 use Rattle.std.proofs.lemmas.List.Elements.{All-from_recursion, All-contains}
@@ -11,14 +11,14 @@ use Rattle.smb_locks.specs.declared.ask.LockAsk.{LockAsk}
 use Rattle.smb_locks.specs.declared.lock.Lock.{Lock}
 use Rattle.smb_locks.specs.Asks.{locks_asked}
 use Rattle.smb_locks.specs.Parts.{are_unlocks, AreCompatible, AreAllCompatible, IsAscending, left_by}
-use Rattle.smb_locks.specs.Good.{GoodLocks, GoodLockTable}
+use Rattle.smb_locks.specs.Good.{GoodLocks, GoodLockTable, FewLocks}
 use Rattle.smb_locks.specs.Laws.{others_locks}
 use Rattle.smb_locks.specs.Locking.{lock_all_fault}
 use Rattle.smb_locks.specs.Ranges.{Overlap}
 use Rattle.smb_locks.specs.Table.{Table, locks_on, with_locks, locked, unlocked, without_holder}
 use Rattle.smb_locks.proofs.Ends.{overlap_from_ends, ends_from_overlap, overlap_turned}
 use Rattle.smb_locks.proofs.Entries.{same_number, all-inserted, all-removed, rising-inserted, rising-removed, lookup-above, found-inserted, other-inserted, found-removed, other-removed, found-all}
-use Rattle.smb_locks.proofs.Keeping.{good_none, good_more, good_left, good_others}
+use Rattle.smb_locks.proofs.Keeping.{good_none, good_more, good_left, good_others, few_more, few_left, few_others}
 use Rattle.smb_locks.proofs.Parts.{locks_granted}
 use Rattle.smb_locks.proofs.Unlocked.{table_is}
 
@@ -55,10 +55,10 @@ pub on_other : (table : Table) (file other : ℕ) (locks : List Lock) → other 
 on_other table file other [] apart = ap (λ (o : Option (List Lock)). unwrap_or o []) (other-removed file other table (ne_eqb other file apart))
 on_other table file other (lock ∷ locks) apart = ap (λ (o : Option (List Lock)). unwrap_or o []) (other-inserted file other (lock ∷ locks) table (ne_eqb other file apart))
 
-pub good_locked : (table : Table) (file holder : ℕ) (asks : List LockAsk) → GoodLockTable table → lock_all_fault (locks_on table file) holder asks ≡ None → GoodLockTable (locked table file holder asks)
-good_locked table file holder asks good h =
+pub good_locked : (most : ℕ) (table : Table) (file holder : ℕ) (asks : List LockAsk) → GoodLockTable table → lock_all_fault most (locks_on table file) holder asks ≡ None → GoodLockTable (locked table file holder asks)
+good_locked most table file holder asks good h =
     good_with table file (locks_on table file ++ locks_asked holder asks) good
-    (good_more (locks_asked holder asks) (locks_on table file) (good_on table file good) (locks_granted (locks_on table file) holder asks h))
+    (good_more most (locks_asked holder asks) (locks_on table file) (good_on table file good) (locks_granted most (locks_on table file) holder asks h))
 
 unlocked_at : (table : Table) (file holder : ℕ) (asks : List LockAsk) (b : Bool) → are_unlocks asks ≡ b → GoodLockTable table → GoodLockTable (unlocked table file holder asks)
 unlocked_at table file holder asks true t good =
@@ -67,6 +67,31 @@ unlocked_at table file holder asks false t good = rw (table_is table file holder
 
 pub good_unlocked : (table : Table) (file holder : ℕ) (asks : List LockAsk) → GoodLockTable table → GoodLockTable (unlocked table file holder asks)
 good_unlocked table file holder asks good = unlocked_at table file holder asks (are_unlocks asks) refl good
+
+-- no file has more locks than there may be
+few_found : (most : ℕ) (table : Table) (file : ℕ) (found : Option (List Lock)) → FewLocks most table → lookup (is_at (nat_cmp file)) table ≡ found → length (unwrap_or found []) ≤ most
+few_found most table file None few h = omega arith
+few_found most table file (Some locks) few h = found-all (λ locks. length locks ≤ most) file locks table few h
+
+few_on : (most : ℕ) (table : Table) (file : ℕ) → FewLocks most table → length (locks_on table file) ≤ most
+few_on most table file few = few_found most table file (lookup (is_at (nat_cmp file)) table) few refl
+
+few_with : (most : ℕ) (table : Table) (file : ℕ) (locks : List Lock) → FewLocks most table → length locks ≤ most → FewLocks most (with_locks table file locks)
+few_with most table file [] few own = all-removed (λ locks. length locks ≤ most) file table few
+few_with most table file (lock ∷ locks) few own = all-inserted (λ locks. length locks ≤ most) file (lock ∷ locks) table own few
+
+pub few_locked : (most : ℕ) (table : Table) (file holder : ℕ) (asks : List LockAsk) → FewLocks most table → lock_all_fault most (locks_on table file) holder asks ≡ None → FewLocks most (locked table file holder asks)
+few_locked most table file holder asks few h =
+    few_with most table file (locks_on table file ++ locks_asked holder asks) few
+    (few_more most (locks_asked holder asks) (locks_on table file) (few_on most table file few) (locks_granted most (locks_on table file) holder asks h))
+
+few_unlocked_at : (most : ℕ) (table : Table) (file holder : ℕ) (asks : List LockAsk) (b : Bool) → are_unlocks asks ≡ b → FewLocks most table → FewLocks most (unlocked table file holder asks)
+few_unlocked_at most table file holder asks true t few =
+    rw (table_is table file holder asks, t) (few_with most table file (left_by holder (locks_on table file) asks) few (omega (arith, few_left holder asks (locks_on table file), few_on most table file few)))
+few_unlocked_at most table file holder asks false t few = rw (table_is table file holder asks, t) few
+
+pub few_unlocked : (most : ℕ) (table : Table) (file holder : ℕ) (asks : List LockAsk) → FewLocks most table → FewLocks most (unlocked table file holder asks)
+few_unlocked most table file holder asks few = few_unlocked_at most table file holder asks (are_unlocks asks) refl few
 
 -- an open is dropped
 module _ (holder : ℕ) where
@@ -100,6 +125,10 @@ module _ (holder : ℕ) where
   all_dropped : (table : Table) → AllByRecursion (λ e. GoodLocks e.1) table → AllByRecursion (λ e. GoodLocks e.1) (without_holder holder table)
   all_dropped [] h = tt
   all_dropped (entry ∷ table) h = all_at GoodLocks entry table (nat_lt 0 (length (others_locks holder entry.1))) refl (λ l. good_others holder entry.1 h.0) (all_dropped table h.1)
+
+  pub few_dropped : (most : ℕ) (table : Table) → FewLocks most table → FewLocks most (without_holder holder table)
+  few_dropped most [] h = tt
+  few_dropped most (entry ∷ table) h = all_at (λ locks. length locks ≤ most) entry table (nat_lt 0 (length (others_locks holder entry.1))) refl (λ l. omega (arith, few_others holder entry.1, h.0)) (few_dropped most table h.1)
 
   pub good_dropped : (table : Table) → GoodLockTable table → GoodLockTable (without_holder holder table)
   good_dropped table good = record {

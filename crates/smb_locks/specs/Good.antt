@@ -1,7 +1,6 @@
 -- What holds of the locks between calls.
-use Rattle.std.specs.Prelude.{◌≡◌, ◌≢◌, ◌<◌, ◌≤◌, false, List, [], ◌∷◌, length, map, true}
+use Rattle.std.specs.Prelude.{ℕ, ◌≡◌, ◌≢◌, ◌<◌, ◌≤◌, false, List, [], ◌∷◌, length, map, true}
 use Rattle.std.specs.List.{AllByRecursion}
-use Rattle.smb_wire.specs.Limits.{most_locks}
 use Rattle.smb_locks.specs.declared.lock.Lock.{Lock}
 use Rattle.smb_locks.specs.Ranges.{is_past_the_end, overlaps}
 use Rattle.smb_locks.specs.Table.{Table}
@@ -11,12 +10,10 @@ abbrev pub EachToLater : {A : Type 0} → (A → A → Type 0) → List A → Ty
 EachToLater Holds [] = Unit {0}
 EachToLater Holds (one ∷ others) = AllByRecursion (Holds one) others × EachToLater Holds others
 
--- the locks of a file: of two overlapping ones of different opens neither is exclusive; at most 256; no range reaches past
--- the end
+-- the locks of a file: of two overlapping ones of different opens neither is exclusive; no range reaches past the end
 pub record GoodLocks (locks : List Lock) : Type 0 where
   pub compatible : EachToLater
       (λ a b. a.holder ≢ b.holder → overlaps a.range b.range ≡ true → (a.exclusive ≡ false) × (b.exclusive ≡ false)) locks
-  pub few : length locks ≤ most_locks
   pub within : AllByRecursion (λ lock. is_past_the_end lock.range ≡ false) locks
 
 -- a table: its files in rising number, each with some locks, which are good
@@ -24,3 +21,7 @@ pub record GoodLockTable (table : Table) : Type 0 where
   pub rising : EachToLater (λ number later. number < later) (map (λ entry. entry.0) table)
   pub listed : AllByRecursion (λ entry. 0 < length entry.1) table
   pub good : AllByRecursion (λ entry. GoodLocks entry.1) table
+
+-- no file has more locks than there may be
+abbrev pub FewLocks : ℕ → Table → Type 0
+FewLocks most = AllByRecursion (λ entry. length entry.1 ≤ most)

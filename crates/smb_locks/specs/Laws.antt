@@ -4,7 +4,7 @@ use Rattle.smb_locks.specs.declared.ask.LockAsk.{LockAsk}
 use Rattle.smb_locks.specs.declared.lock.Lock.{Lock}
 use Rattle.smb_locks.specs.declared.range.ByteRange.{ByteRange}
 use Rattle.smb_locks.specs.Conflicts.{Conflicts, conflicts, BarsRead, BarsWrite, is_read_barred, is_write_barred}
-use Rattle.smb_locks.specs.Good.{GoodLockTable}
+use Rattle.smb_locks.specs.Good.{GoodLockTable, FewLocks}
 use Rattle.smb_locks.specs.Locking.{lock_all_fault}
 use Rattle.smb_locks.specs.Ranges.{Overlap, overlaps}
 use Rattle.smb_locks.specs.Table.{Table, locks_on, with_locks, locked, unlocked, without_holder}
@@ -53,10 +53,13 @@ OtherLocksStay =
     × (GoodLockTable table → locks_on (without_holder holder table) file ≡ others_locks holder (locks_on table file))
 
 -- a table without locks is good, and a good one stays so: after a request that locks and is not refused, after one that
--- unlocks, and once an open is dropped
+-- unlocks, and once an open is dropped; and no file gets more locks than there may be
 abbrev pub TablesStayGood : Type 0
 TablesStayGood =
     GoodLockTable []
-    × ((table : Table) (file holder : ℕ) (asks : List LockAsk) → GoodLockTable table →
-    (lock_all_fault (locks_on table file) holder asks ≡ None → GoodLockTable (locked table file holder asks))
+    × ((most : ℕ) (table : Table) (file holder : ℕ) (asks : List LockAsk) → GoodLockTable table →
+    (lock_all_fault most (locks_on table file) holder asks ≡ None → GoodLockTable (locked table file holder asks))
     × GoodLockTable (unlocked table file holder asks) × GoodLockTable (without_holder holder table))
+    × ((most : ℕ) (table : Table) (file holder : ℕ) (asks : List LockAsk) → FewLocks most table →
+    (lock_all_fault most (locks_on table file) holder asks ≡ None → FewLocks most (locked table file holder asks))
+    × FewLocks most (unlocked table file holder asks) × FewLocks most (without_holder holder table))

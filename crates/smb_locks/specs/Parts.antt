@@ -7,7 +7,6 @@ use Rattle.smb_locks.specs.declared.ask.LockAsk.{LockAsk}
 use Rattle.smb_locks.specs.declared.lock.Lock.{Lock}
 use Rattle.smb_locks.specs.declared.range.ByteRange.{ByteRange}
 use Rattle.smb_locks.specs.Ranges.{overlaps, is_past_the_end}
-use Rattle.smb_wire.specs.Limits.{most_locks}
 use Rattle.smb_locks.specs.declared.fault.LockFault.{LockFault}
 use Rattle.smb_locks.specs.declared.fault.LockFault.TheVariants.{BadRange, Full, NotGranted, NotLocked}
 use Rattle.smb_locks.specs.Conflicts.{conflicts}
@@ -66,12 +65,12 @@ bars_read holder range lock = overlaps lock.range range && lock.exclusive && not
 abbrev pub bars_write : ℕ → ByteRange → Lock → Bool
 bars_write holder range lock = overlaps lock.range range && (not lock.exclusive || not (lock.holder == holder))
 
--- why a lock is refused, the first that holds: its range reaches past the end, 256 locks are held on the file, or one of
--- them conflicts with it
-abbrev pub lock_fault : List Lock → Lock → Option LockFault
-lock_fault locks asked =
+-- why a lock is refused, the first that holds: its range reaches past the end, as many locks as there may be are held on
+-- the file, or one of them conflicts with it
+abbrev pub lock_fault : ℕ → List Lock → Lock → Option LockFault
+lock_fault most locks asked =
     if is_past_the_end asked.range then Some BadRange else
-    if nat_le most_locks (length locks) then Some Full else
+    if nat_le most (length locks) then Some Full else
     if list_any (conflicts asked) locks then Some NotGranted else None
 
 -- two locks may be held at once: if they are of different opens and overlap, neither is exclusive

@@ -12,7 +12,6 @@ use super::ask::LockAsk;
 use super::fault::{LockFault, UnlockError};
 use super::lock::Lock;
 use super::range::ByteRange;
-use smb_wire::limits::MOST_LOCKS;
 use std::alloc::Global;
 use std::marker::Model;
 
@@ -75,20 +74,20 @@ impl FileLocks {
     }
 
     // Whether the file has as many locks as it may have.
-    fn is_full(&self) -> bool
-        ensures { result ≡ nat_le 256 (length self.now) }
+    fn is_full(&self, most: usize) -> bool
+        ensures { result ≡ nat_le most (length self.now) }
     {
-        self.locks.len() >= MOST_LOCKS
+        self.locks.len() >= most
     }
 
     // Why a lock can't be added.
-    fn fault(&self, asked: Lock) -> Option<LockFault>
-        ensures { result ≡ lock_fault self.now asked }
+    fn fault(&self, most: usize, asked: Lock) -> Option<LockFault>
+        ensures { result ≡ lock_fault most self.now asked }
     {
         if asked.range.is_past_the_end() {
             return Some(LockFault::BadRange);
         }
-        if self.is_full() {
+        if self.is_full(most) {
             return Some(LockFault::Full);
         }
         if self.has_conflict(asked) {
@@ -98,13 +97,13 @@ impl FileLocks {
     }
 
     // Adds a lock, which is the newest.
-    fn lock(&mut self, asked: Lock) -> Result<(), LockFault>
+    fn lock(&mut self, most: usize, asked: Lock) -> Result<(), LockFault>
         ensures ok { OnOk result (self.new ≡ self.old ++ asked ∷ []) }
-        ensures lawful { OnOk result (lock_fault self.old asked ≡ None) }
+        ensures lawful { OnOk result (lock_fault most self.old asked ≡ None) }
         ensures err { OnErr result (self.new ≡ self.old) }
-        ensures why { IfErr result (λ fault. fault ≢ NoMemory → lock_fault self.old asked ≡ Some fault) }
+        ensures why { IfErr result (λ fault. fault ≢ NoMemory → lock_fault most self.old asked ≡ Some fault) }
     {
-        if let Some(fault) = self.fault(asked) {
+        if let Some(fault) = self.fault(most, asked) {
             return Err(fault);
         }
         self.locks.push(asked).map_err(|_| LockFault::NoMemory)?;
@@ -133,13 +132,19 @@ impl FileLocks {
     }
 
     // Why a lock can't be added behind those that some elements ask for.
-    fn fault_behind(&self, holder: u64, asks: &[LockAsk], asked: Lock) -> Option<LockFault>
-        ensures { result ≡ lock_fault (self.now ++ locks_asked holder asks.now) asked }
+    fn fault_behind(
+        &self,
+        most: usize,
+        holder: u64,
+        asks: &[LockAsk],
+        asked: Lock,
+    ) -> Option<LockFault>
+        ensures { result ≡ lock_fault most (self.now ++ locks_asked holder asks.now) asked }
     {
         if asked.range.is_past_the_end() {
             return Some(LockFault::BadRange);
         }
-        if self.locks.len() + asks.len() >= MOST_LOCKS {
+        if self.locks.len() + asks.len() >= most {
             return Some(LockFault::Full);
         }
         if self.has_conflict_behind(holder, asks, asked) {
@@ -149,12 +154,12 @@ impl FileLocks {
     }
 
     // Why the locks that the elements ask for can't be added. It takes no memory; each element costs a pass over the locks
-    // and the elements before it, of which there are at most 256.
-    fn fault_of_all(&self, holder: u64, asks: &[LockAsk]) -> Option<LockFault>
-        ensures { result ≡ locks_fault self.now (locks_asked holder asks.now) }
+    // and the elements before it, of which there are at most as many as there may be locks.
+    fn fault_of_all(&self, most: usize, holder: u64, asks: &[LockAsk]) -> Option<LockFault>
+        ensures { result ≡ locks_fault most self.now (locks_asked holder asks.now) }
     {
         for (before, ask) in asks.iter().enumerate() {
-            let fault = self.fault_behind(holder, &asks[..before], ask.lock(holder));
+            let fault = self.fault_behind(most, holder, &asks[..before], ask.lock(holder));
             if fault.is_some() {
                 return fault;
             }
@@ -164,30 +169,41 @@ impl FileLocks {
 
     // The refusal of a request that locks, by that of its first element which is not done. Where memory ran out at it, a row
     // that refuses a later element comes first.
-    fn refusal_before_memory(&self, fault: LockFault, holder: u64, asks: &[LockAsk]) -> LockFault
-        requires { fault ≢ NoMemory → locks_fault self.now (locks_asked holder asks.now) ≡ Some fault }
-        ensures why { result ≢ NoMemory → locks_fault self.now (locks_asked holder asks.now) ≡ Some result }
-        ensures memory { result ≡ NoMemory → locks_fault self.now (locks_asked holder asks.now) ≡ None }
+    fn refusal_before_memory(
+        &self,
+        most: usize,
+        fault: LockFault,
+        holder: u64,
+        asks: &[LockAsk],
+    ) -> LockFault
+        requires { fault ≢ NoMemory → locks_fault most self.now (locks_asked holder asks.now) ≡ Some fault }
+        ensures why { result ≢ NoMemory → locks_fault most self.now (locks_asked holder asks.now) ≡ Some result }
+        ensures memory { result ≡ NoMemory → locks_fault most self.now (locks_asked holder asks.now) ≡ None }
     {
         if fault != LockFault::NoMemory {
             return fault;
         }
-        self.fault_of_all(holder, asks).unwrap_or(fault)
+        self.fault_of_all(most, holder, asks).unwrap_or(fault)
     }
 
     // Adds the locks that the elements ask for, in turn: all of them or none.
-    pub(crate) fn lock_all(&mut self, holder: u64, asks: &[LockAsk]) -> Result<(), LockFault>
+    pub(crate) fn lock_all(
+        &mut self,
+        most: usize,
+        holder: u64,
+        asks: &[LockAsk],
+    ) -> Result<(), LockFault>
         ensures ok { OnOk result (self.new ≡ self.old ++ locks_asked holder asks.now) }
-        ensures lawful { OnOk result (locks_fault self.old (locks_asked holder asks.now) ≡ None) }
+        ensures lawful { OnOk result (locks_fault most self.old (locks_asked holder asks.now) ≡ None) }
         ensures err { OnErr result (self.new ≡ self.old) }
-        ensures why { IfErr result (λ fault. fault ≢ NoMemory → locks_fault self.old (locks_asked holder asks.now) ≡ Some fault) }
-        ensures memory { IfErr result (λ fault. fault ≡ NoMemory → locks_fault self.old (locks_asked holder asks.now) ≡ None) }
+        ensures why { IfErr result (λ fault. fault ≢ NoMemory → locks_fault most self.old (locks_asked holder asks.now) ≡ Some fault) }
+        ensures memory { IfErr result (λ fault. fault ≡ NoMemory → locks_fault most self.old (locks_asked holder asks.now) ≡ None) }
     {
         let before = self.len();
         for ask in asks {
-            if let Err(fault) = self.lock(ask.lock(holder)) {
+            if let Err(fault) = self.lock(most, ask.lock(holder)) {
                 self.truncate(before);
-                return Err(self.refusal_before_memory(fault, holder, asks));
+                return Err(self.refusal_before_memory(most, fault, holder, asks));
             }
         }
         Ok(())

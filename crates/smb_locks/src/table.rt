@@ -4,6 +4,7 @@ ghost use Rattle.std.specs.Prelude.{◌≡◌, ◌≢◌, [], None, Some, OnOk, 
 ghost use Rattle.std.specs.BTreeMap.{insert_entry, is_at};
 ghost use Rattle.std.specs.Map.{remove_entry};
 ghost use Rattle.std.specs.Ordering.{nat_cmp};
+ghost use Rattle.smb_wire.specs.Limits.{default_limits};
 ghost use Rattle.smb_locks.specs.Conflicts.{is_read_barred, is_write_barred};
 ghost use Rattle.smb_locks.specs.Good.{GoodLockTable};
 ghost use Rattle.smb_locks.specs.Locking.{lock_all_fault};
@@ -15,6 +16,7 @@ use super::ask::{LockAsk, are_locks, are_unlocks};
 use super::fault::{LockFault, UnlockError};
 use super::file_locks::FileLocks;
 use super::range::ByteRange;
+use smb_wire::limits::Limits;
 use std::alloc::{AllocError, Global};
 use std::collections::BTreeMap;
 use std::marker::Model;
@@ -22,8 +24,7 @@ use std::marker::Model;
 /// The locks of all files: for each file that has some, in rising number, its locks, oldest first. A file is named by
 /// its entry's number, and an open by its own.
 ///
-/// A file's locks are found in logarithmic time, and a file has at most 256 of them, which a call goes
-/// through.
+/// A file's locks are found in logarithmic time, and a call goes through them.
 #[derive(Drop)]
 pub struct LockTable {
     files: BTreeMap<u64, FileLocks>,
@@ -73,25 +74,43 @@ impl LockTable {
     /// [`BadFlags`](LockFault::BadFlags) where some element's flags are not SHARED_LOCK or EXCLUSIVE_LOCK with
     /// FAIL_IMMEDIATELY, or in an only element without it. Then, at an element in its turn,
     /// [`BadRange`](LockFault::BadRange) where its range reaches past 2^64, [`Full`](LockFault::Full) where the file
-    /// has 256 locks, [`NotGranted`](LockFault::NotGranted) where one of them conflicts with it, those of the elements
-    /// before it among them. [`NoMemory`](LockFault::NoMemory) where an allocation is refused, and none of these holds.
+    /// has as many locks as the default limits let it have, [`NotGranted`](LockFault::NotGranted) where one of them
+    /// conflicts with it, those of the elements before it among them. [`NoMemory`](LockFault::NoMemory) where an
+    /// allocation is refused, and none of these holds.
     ///
     /// Each element costs a pass over the file's locks.
     pub fn lock_all(&mut self, file: u64, holder: u64, asks: &[LockAsk]) -> Result<(), LockFault>
         ensures ok { OnOk result (self.new ≡ locked self.old file holder asks.now) }
-        ensures lawful { OnOk result (lock_all_fault (locks_on self.old file) holder asks.now ≡ None) }
+        ensures lawful { OnOk result (lock_all_fault default_limits.locks (locks_on self.old file) holder asks.now ≡ None) }
         ensures err { OnErr result (self.new ≡ self.old) }
-        ensures why { IfErr result (λ fault. fault ≢ NoMemory → lock_all_fault (locks_on self.old file) holder asks.now ≡ Some fault) }
-        ensures memory { IfErr result (λ fault. fault ≡ NoMemory → lock_all_fault (locks_on self.old file) holder asks.now ≡ None) }
+        ensures why { IfErr result (λ fault. fault ≢ NoMemory → lock_all_fault default_limits.locks (locks_on self.old file) holder asks.now ≡ Some fault) }
+        ensures memory { IfErr result (λ fault. fault ≡ NoMemory → lock_all_fault default_limits.locks (locks_on self.old file) holder asks.now ≡ None) }
+    {
+        self.lock_all_within(Limits::profile().locks, file, holder, asks)
+    }
+
+    /// [`lock_all`](Self::lock_all) where a file may have so many locks.
+    pub fn lock_all_within(
+        &mut self,
+        most: usize,
+        file: u64,
+        holder: u64,
+        asks: &[LockAsk],
+    ) -> Result<(), LockFault>
+        ensures ok { OnOk result (self.new ≡ locked self.old file holder asks.now) }
+        ensures lawful { OnOk result (lock_all_fault most (locks_on self.old file) holder asks.now ≡ None) }
+        ensures err { OnErr result (self.new ≡ self.old) }
+        ensures why { IfErr result (λ fault. fault ≢ NoMemory → lock_all_fault most (locks_on self.old file) holder asks.now ≡ Some fault) }
+        ensures memory { IfErr result (λ fault. fault ≡ NoMemory → lock_all_fault most (locks_on self.old file) holder asks.now ≡ None) }
     {
         if !are_locks(asks) {
             return Err(LockFault::BadFlags);
         }
         if let Some(locks) = self.files.get_mut(&file) {
-            return locks.lock_all(holder, asks);
+            return locks.lock_all(most, holder, asks);
         }
         let mut locks = FileLocks::new(self.alloc);
-        locks.lock_all(holder, asks)?;
+        locks.lock_all(most, holder, asks)?;
         if locks.is_empty() {
             return Ok(());
         }
@@ -158,7 +177,7 @@ impl LockTable {
 
     /// Takes out all locks of an open, on whichever files it holds them. It takes no memory.
     ///
-    /// A pass over the locks of all files that have some: at most 256 for each of them.
+    /// A pass over the locks of all files that have some.
     pub fn drop_open(&mut self, holder: u64)
         ensures { self.new ≡ without_holder holder self.old }
     {
@@ -167,7 +186,7 @@ impl LockTable {
 
     /// Takes out all locks of an open that holds none on any file but this one. It takes no memory.
     ///
-    /// The file is found in logarithmic time, and then its locks are gone through once: at most 256.
+    /// The file is found in logarithmic time, and then its locks are gone through once.
     pub fn drop_open_on(&mut self, file: u64, holder: u64)
         requires { HoldsNoneElsewhere self.old file holder }
         ensures { self.new ≡ without_holder holder self.old }
@@ -181,7 +200,7 @@ impl LockTable {
     }
 
     /// What holds of every table between calls: no two overlapping locks of different opens of a file have an exclusive
-    /// one among them, and a file has at most 256. (The body does nothing.)
+    /// one among them. (The body does nothing.)
     pub fn good(&self)
         ensures { GoodLockTable self.now }
     {

@@ -8,7 +8,7 @@ use smb_head::read_header;
 use smb_log_text::{Lines, Outcome, Subject};
 use smb_peers::{Acting, Answer, Event, Observer, Responded, Usage};
 use smb_refusals::LoginRefusal;
-use smb_wire::limits::MOST_CONNECTIONS;
+use smb_wire::limits::Limits;
 use smb_wire::{Command, CommandCode, NtStatus};
 use std::alloc::{AllocError, Global};
 use std::collections::BTreeMap;
@@ -109,7 +109,7 @@ impl<W: Write + Drop> Log<W> {
 
     /// Takes note that no connection was opened to a peer of this address: too many are open, or memory ran out.
     pub fn refused(&mut self, address: &str) {
-        let is_full = self.connections.len() >= MOST_CONNECTIONS;
+        let is_full = self.connections.len() >= Limits::profile().connections;
         let event = if is_full {
             "refused: 64 connections are open"
         } else {

@@ -2,6 +2,7 @@
 -- one open.
 use Rattle.std.proofs.Common.{lit<, lit≤, ◌≡◌, ℕ, List, [], ◌∷◌, true, is_some, refl, arith}
 use Rattle.smb_tree.specs.declared.entry.Kind.TheVariants.{File, Folder}
+use Rattle.smb_wire.specs.Limits.{default_limits}
 use Rattle.smb_tree.specs.Content.{Path, Row, Content, numbered}
 use Rattle.smb_tree.specs.Entries.{Entry, new_entry}
 use Rattle.smb_tree.specs.Good.{GoodContent}
@@ -45,7 +46,7 @@ four_rows =
     ([], new_entry 1 [] Folder 0 0) ∷ (path_a, file_a) ∷ (path_b, file_b) ∷ (path_c, folder_c) ∷ (path_d, file_d) ∷ []
 
 abbrev four : Content
-four = record { rows = four_rows; next = 6; capacity = 4096 }
+four = record { rows = four_rows; next = 6; capacity = 4096; limits = default_limits }
 
 -- an open of the entry of a number, which may read and delete it, and shares that; it has number 2
 abbrev pub open_on : ℕ → OpenRow
@@ -97,5 +98,6 @@ is_good_with_open_on entry there = record {
   compatible = compatible_pushed [] (open_on entry) none_compatible refl;
   marked = λ n h. absurd (let u = unmarked_rows four_rows n (refl, (refl, (refl, (refl, (refl, tt))))) in cc);
   locked = good_empty;
+  few_locks = tt;
   held = λ f lock h. absurd (grind (arith, h));
 }

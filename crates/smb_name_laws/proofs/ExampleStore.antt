@@ -5,7 +5,7 @@ use Rattle.std.specs.List.{AllByRecursion}
 use Rattle.std.specs.Option.{option_map_or}
 use Rattle.smb_wire.specs.Access.{FILE_READ_DATA, DELETE, FILE_SHARE_ALL}
 use Rattle.smb_wire.specs.Dispositions.{disposition_code}
-use Rattle.smb_wire.specs.Limits.{most_opens}
+use Rattle.smb_wire.specs.Limits.{default_limits}
 use Rattle.smb_wire.specs.declared.disposition.CreateDisposition.{CreateDisposition}
 use Rattle.smb_tree.specs.declared.entry.Kind.TheVariants.{File, Folder}
 use Rattle.smb_tree.specs.Content.{Path, Row, Content, numbered}
@@ -45,6 +45,7 @@ content = record {
   rows = ([], new_entry 1 [] Folder 0 0) ∷ (path, file) ∷ [];
   next = 3;
   capacity = 8192;
+  limits = default_limits;
 }
 
 -- an open of the file by session 1, which may read and delete it: its number, what it shares, and whether it was made
@@ -133,7 +134,7 @@ unmarked_rows (x ∷ rows) number none =
 
 -- the store is good, by what has to hold of its opens
 is_good_with : (opens : List OpenRow) → ArePresent content.rows opens → AreRising (open_numbers opens) →
-    AreAllBelow 3 opens → length opens ≤ most_opens → AreMasked opens → AreCompatible opens →
+    AreAllBelow 3 opens → length opens ≤ content.limits.opens → AreMasked opens → AreCompatible opens →
     GoodStore (with_opens opens)
 is_good_with opens present rising below few masked compatible = record {
   tree = good_content;
@@ -146,6 +147,7 @@ is_good_with opens present rising below few masked compatible = record {
   compatible = compatible;
   marked = λ n h. absurd (let u = unmarked_rows content.rows n (refl, (refl, tt)) in cc);
   locked = good_empty;
+  few_locks = tt;
   held = λ f lock h. absurd (grind (arith, h));
 }
 

@@ -270,8 +270,8 @@ after_close state ask entry number row good e h s own d others left =
     let next : after.next ≡ state.next = ap (λ (x : StoreState). x.next) (sym (closed_is state number row s)) in
     let fewer = length-without number state.opens good.rising (ap is_some s) in
     let few = good.few in
-    let short : nat_le 1024 (length (without_open number state.opens)) ≡ false = grind (arith, nat_tests, fewer, few) in
-    let room : has_all_opens after ≡ false = (λ i. nat_le 1024 (length (opens i)) || is_spent 64 (next i)) ∙ rw (short, left) refl in
+    let short : nat_le state.tree.limits.opens (length (without_open number state.opens)) ≡ false = grind (arith, nat_tests, fewer, few) in
+    let room : has_all_opens after ≡ false = (λ i. nat_le (tree i).limits.opens (length (opens i)) || is_spent 64 (next i)) ∙ rw (short, left) refl in
     ap (λ (o : Option Entry). first_status (create_rows after ask o)) found
     ∙ ap (λ (rs : List StatusRow). first_status (rs ++ last_rows after ask (Some entry))) rows
     ∙ none_before (front_rows state ask (Some entry)) (last_rows after ask (Some entry)) front

@@ -1,14 +1,14 @@
 -- A CREATE of a plain name that is absent succeeds.
-use Rattle.std.proofs.Common.{◌≡◌, ◌⊎◌, inl, inr, ℕ, ◌-◌, ◌==◌, nat_le, nat_lt, List, [], ◌∷◌, length, bit_and, Bool, true, false, not, ◌&&◌, ◌||◌, Option, None, Some, refl, sym, ap, subst, arith, ◌∙◌}
+use Rattle.std.proofs.Common.{◌≡◌, ◌<◌, ◌⊎◌, inl, inr, ℕ, ◌-◌, ◌==◌, nat_le, nat_lt, List, [], ◌∷◌, length, bit_and, Bool, true, false, not, ◌&&◌, ◌||◌, Option, None, Some, refl, sym, ap, subst, arith, ◌∙◌}
 use Rattle.std.proofs.lemmas.Bool.Decides.{nat_tests}
 use Rattle.std.specs.List.{AllByRecursion, list_any}
 use Rattle.smb_wire.specs.Access.{has_any}
 use Rattle.smb_wire.specs.CreateOptions.{FILE_DELETE_ON_CLOSE}
 use Rattle.smb_wire.specs.Counters.{is_spent}
 use Rattle.smb_wire.specs.Dispositions.{overwrites_by, must_exist_by, must_be_new_by}
-use Rattle.smb_wire.specs.Limits.{most_opens, most_entries}
 use Rattle.smb_wire.specs.declared.nt_status.NtStatus.TheVariants.{Success}
-use Rattle.smb_tree.specs.Entries.{Entry, is_folder_kind}
+use Rattle.smb_tree.specs.Content.{Row, entry_at}
+use Rattle.smb_tree.specs.Entries.{Entry, is_folder, is_folder_kind}
 use Rattle.smb_access.specs.Asked.{FileAsked}
 use Rattle.smb_access.specs.declared.open_row.OpenRow.{OpenRow}
 use Rattle.smb_access.specs.Access.{granted}
@@ -41,6 +41,11 @@ kind_off a b c (inr e) k = and_off_by a (b || c) (or_off b c e k)
 access_off : (z r d x : Bool) → z ≡ false → r ≡ true → d ≡ false → (z || not r || d && x) ≡ false
 access_off z r d x h k l = rw (h, k, l) refl
 
+-- a good tree has its root
+some_rows : (rows : List Row) → is_folder (entry_at rows []) ≡ true → 0 < length rows
+some_rows [] h = absurd (let e : false ≡ true = h in cc)
+some_rows (x ∷ rows) h = omega arith
+
 none_hold : (state : StoreState) (ask : FileAsked) → GoodStore state → AsksToMake ask → NamesPlainly state ask.name → entry_asked state ask ≡ None → HasRoom state →
     AllByRecursion (λ row. row.0 ≡ false) (create_rows state ask None)
 none_hold state ask good asks names absent room =
@@ -50,6 +55,7 @@ none_hold state ask good asks names absent room =
     let opens = room.opens in
     let open_numbers = room.open_numbers in
     let entries = room.entries in
+    let some_entries = some_rows state.tree.rows good.tree.root in
     let entry_numbers = room.entry_numbers in (
       makes.known,
       (
@@ -85,9 +91,9 @@ none_hold state ask good asks names absent room =
                                     (
                                       refl,
                                       (
-                                        or_off (nat_le most_opens (length state.opens)) (is_spent 64 state.next) (grind (arith, nat_tests, opens)) (grind (arith, nat_tests, open_numbers)),
+                                        or_off (nat_le state.tree.limits.opens (length state.opens)) (is_spent 64 state.next) (grind (arith, nat_tests, opens)) (grind (arith, nat_tests, open_numbers)),
                                         (
-                                          or_off (nat_le most_entries (length state.tree.rows - 1)) (is_spent 64 state.tree.next) (grind (arith, nat_tests, entries)) (grind (arith, nat_tests, entry_numbers)),
+                                          or_off (nat_le state.tree.limits.entries (length state.tree.rows - 1)) (is_spent 64 state.tree.next) (grind (arith, nat_tests, entries, some_entries)) (grind (arith, nat_tests, entry_numbers)),
                                           tt,
                                         ),
                                       ),
@@ -174,7 +180,7 @@ opens_free state ask file good asks names there free few numbers =
                                     (
                                       none_against state.opens file.number (λ row. is_conflict (use_asked ask (granted ask.access ask.read_only (is_read_only_file (Some file)))) (row.access, row.share)) free.unopened,
                                       (
-                                        or_off (nat_le most_opens (length state.opens)) (is_spent 64 state.next) (grind (arith, nat_tests, few)) (grind (arith, nat_tests, numbers)),
+                                        or_off (nat_le state.tree.limits.opens (length state.opens)) (is_spent 64 state.next) (grind (arith, nat_tests, few)) (grind (arith, nat_tests, numbers)),
                                         (refl, tt),
                                       ),
                                     ),

@@ -7,7 +7,6 @@ use Rattle.smb_wire.specs.Access.{FILE_SHARE_ALL}
 use Rattle.smb_wire.specs.declared.disposition.CreateDisposition.TheVariants.{Create, Open}
 use Rattle.smb_wire.specs.declared.nt_status.NtStatus.{NtStatus}
 use Rattle.smb_wire.specs.declared.nt_status.NtStatus.TheVariants.{Success, ObjectNameInvalid, TooManyOpenedFiles, SharingViolation}
-use Rattle.smb_wire.specs.Limits.{most_opens}
 use Rattle.smb_wire.specs.Paths.{joined_by_separators, path_spelled, folded_path}
 use Rattle.smb_tree.specs.Content.{Path, entry_at}
 use Rattle.smb_tree.specs.Entries.{Entry}
@@ -84,7 +83,7 @@ abbrev AFreeFileIsOpenedBy : (StoreState → FileAsked → NtStatus) → Type 0
 AFreeFileIsOpenedBy status =
     (state : StoreState) (ask : FileAsked) (file : Entry) → GoodStore state → AsksToOpen ask →
     NamesPlainly state ask.name → entry_asked state ask ≡ Some file → IsFree state file →
-    length state.opens < most_opens → state.next < 2 ^ 64 - 1 → status state ask ≡ Success
+    length state.opens < state.tree.limits.opens → state.next < 2 ^ 64 - 1 → status state ask ≡ Success
 
 a_free_file_is_opened : AFreeFileIsOpened ≡ AFreeFileIsOpenedBy create_status
 a_free_file_is_opened = refl

@@ -8,7 +8,7 @@ use Rattle.smb_wire.specs.Attributes.{FILE_ATTRIBUTE_READONLY}
 use Rattle.smb_wire.specs.CreateOptions.{FILE_DIRECTORY_FILE, FILE_NON_DIRECTORY_FILE, FILE_DELETE_ON_CLOSE}
 use Rattle.smb_wire.specs.CreateOptions.{FILE_OPEN_BY_FILE_ID}
 use Rattle.smb_wire.specs.Dispositions.{disposition_code}
-use Rattle.smb_wire.specs.Limits.{most_opens, most_entries, most_components}
+use Rattle.smb_wire.specs.Limits.{most_components}
 use Rattle.smb_wire.specs.Paths.{joined_by_separators, folded_path}
 use Rattle.smb_wire.specs.declared.disposition.CreateDisposition.TheVariants.{Open, Create, OpenIf}
 use Rattle.smb_wire.specs.declared.nt_status.NtStatus.TheVariants.{Success}
@@ -64,9 +64,9 @@ pub record NamesPlainly (state : StoreState) (name : List ℕ) : Type 0 where
 
 -- a store has room for an open and for an entry more, and numbers for them
 pub record HasRoom (state : StoreState) : Type 0 where
-  pub opens : length state.opens < most_opens
+  pub opens : length state.opens < state.tree.limits.opens
   pub open_numbers : state.next < 2 ^ 64 - 1
-  pub entries : length state.tree.rows ≤ most_entries
+  pub entries : length state.tree.rows ≤ state.tree.limits.entries
   pub entry_numbers : state.tree.next < 2 ^ 64 - 1
 
 -- such a CREATE succeeds: no plain name is refused, and none where there is room ([MS-SMB2] 3.3.5.9, [MS-FSCC] 2.1.5)
@@ -102,7 +102,7 @@ abbrev pub AFreeFileIsOpened : Type 0
 AFreeFileIsOpened =
     (state : StoreState) (ask : FileAsked) (file : Entry) → GoodStore state → AsksToOpen ask →
     NamesPlainly state ask.name → entry_asked state ask ≡ Some file → IsFree state file →
-    length state.opens < most_opens → state.next < 2 ^ 64 - 1 → create_status state ask ≡ Success
+    length state.opens < state.tree.limits.opens → state.next < 2 ^ 64 - 1 → create_status state ask ≡ Success
 
 -- names of plain parts find the same, in every store, where they have the same parts with a to z as A to Z, and every
 -- other unit as it is; and only such names are of one path ([MS-FSCC] 2.1.5)

@@ -35,8 +35,8 @@ pub record IsLawful (look : Path → Option Entry) (q : Path) : Type 0 where
   pub vacant : is_some (look q) ≡ false
   pub short : length q ≤ 32
 
-pub lawful : (look : Path → Option Entry) (count next : ℕ) (q : Path) → add_fault_by look count next q ≡ None → length q ≤ 32 → IsLawful look q
-lawful look count next q h k = record { above = grind (arith, h); vacant = grind (arith, h); short = k }
+pub lawful : (look : Path → Option Entry) (most count next : ℕ) (q : Path) → add_fault_by look most count next q ≡ None → length q ≤ 32 → IsLawful look q
+lawful look most count next q h k = record { above = grind (arith, h); vacant = grind (arith, h); short = k }
 
 pub short_path : (parts : List (List ℕ)) (n : ℕ) → length parts ≡ n → n ≤ 32 → length (folded_path parts) ≤ 32
 short_path parts n e h = let long = length-map parts folded in omega (arith, long, e, h)

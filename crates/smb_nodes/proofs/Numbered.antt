@@ -6,6 +6,7 @@ use Rattle.std.proofs.lemmas.List.{length-map}
 use Rattle.smb_tree.specs.Entries.{Entry}
 use Rattle.smb_tree.specs.Content.{Path, numbered, number_at}
 use Rattle.smb_tree.specs.Faults.{add_fault}
+use Rattle.smb_wire.specs.declared.limits.share.Limits.{Limits}
 use Rattle.smb_tree.specs.Parts.{add_fault_by}
 use Rattle.smb_nodes.specs.Nodes.{TreeNode, Heap, entry_in, path_to, entry_down, levels, blank, row_in, rows_in, slot_of, Live, Numbers, IsTree}
 use Rattle.smb_nodes.proofs.Walks.{is_some-Some, at-looked}
@@ -52,9 +53,9 @@ pub number_down : (g : Heap) (es : List (ℕ × ℕ)) (next : ℕ) (q : Path) �
 number_down g es next q t = ap (λ (l : Path → Option Entry). option_map (λ (entry : Entry). entry.number) (l q)) (at-looked g es next t)
 
 -- the fault of an addition, by walks
-pub add_fault_down : (g : Heap) (es : List (ℕ × ℕ)) (next capacity : ℕ) (q : Path) → IsTree g es next → add_fault (record { rows = rows_in g levels es; next = next; capacity = capacity }) q ≡ add_fault_by (entry_down g) (length es) next q
-add_fault_down g es next capacity q t =
-    ap (λ (l : Path → Option Entry). add_fault_by l (length (rows_in g levels es)) next q) (at-looked g es next t) ∙ ap (λ (n : ℕ). add_fault_by (entry_down g) n next q) (length-map es (λ e. row_in g levels e.1))
+pub add_fault_down : (g : Heap) (es : List (ℕ × ℕ)) (next capacity : ℕ) (limits : Limits) (q : Path) → IsTree g es next → add_fault (record { rows = rows_in g levels es; next = next; capacity = capacity; limits = limits }) q ≡ add_fault_by (entry_down g) limits.entries (length es) next q
+add_fault_down g es next capacity limits q t =
+    ap (λ (l : Path → Option Entry). add_fault_by l limits.entries (length (rows_in g levels es)) next q) (at-looked g es next t) ∙ ap (λ (n : ℕ). add_fault_by (entry_down g) limits.entries n next q) (length-map es (λ e. row_in g levels e.1))
 
 -- the path and the row of a slot that has a node
 pub path_of_live : (g : Heap) (es : List (ℕ × ℕ)) (next s : ℕ) → IsTree g es next → is_some (g s) ≡ true → path_to g levels s ≡ Some (row_in g levels s).0

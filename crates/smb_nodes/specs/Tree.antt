@@ -8,12 +8,13 @@ use Rattle.smb_nodes.specs.Nodes.{rows_in, levels, IsTree}
 use Rattle.smb_nodes.specs.Seen.{heap_of}
 use Rattle.smb_nodes.specs.declared.tree.NodeTree.TheInside.{Inside}
 
--- the entries of the index at their paths, the next number and the capacity
+-- the entries of the index at their paths, the next number, the capacity and the limits
 abbrev pub content_kept : Inside → Content
 content_kept tree = record {
   rows = rows_in (heap_of tree.nodes) levels tree.index.entries;
   next = tree.next;
   capacity = tree.capacity;
+  limits = tree.limits;
 }
 
 -- no path of the rows has more components than so many, which are at most 32

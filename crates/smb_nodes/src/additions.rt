@@ -18,7 +18,6 @@ use super::node::Node;
 use slab::Slab;
 use smb_tree::{EntryNo, TreeFault};
 use smb_wire::PathView;
-use smb_wire::limits::MOST_ENTRIES;
 use std::alloc::AllocError;
 use std::collections::BTreeMap;
 
@@ -33,22 +32,23 @@ fn is_taken(nodes: &Slab<Node>, slot: Option<usize>) -> bool
 }
 
 // Whether no entry can be added to so many, the root among them, because of their number or the next one's.
-fn is_full(count: usize, next: EntryNo) -> bool
-    ensures { result ≡ (nat_le MOST_ENTRIES (count - 1) || is_spent 64 next) }
+fn is_full(most: usize, count: usize, next: EntryNo) -> bool
+    ensures { result ≡ (nat_le most (count - 1) || is_spent 64 next) }
 {
-    count > MOST_ENTRIES || next == EntryNo::MAX
+    count.saturating_sub(1) >= most || next == EntryNo::MAX
 }
 
 // The first fault of an entry that would be added at a path, around which a slot is found: one look-up there.
 pub fn add_fault(
     nodes: &Slab<Node>,
+    most: usize,
     count: usize,
     next: EntryNo,
     folder: usize,
     path: &PathView<'_>,
 ) -> Option<TreeFault>
     requires { walk (heap_of nodes.now) (Some 0) (parent (folded_path (parts_of path.now))) ≡ Some folder }
-    ensures { result ≡ add_fault_by (entry_down (heap_of nodes.now)) count next (folded_path (parts_of path.now)) }
+    ensures { result ≡ add_fault_by (entry_down (heap_of nodes.now)) most count next (folded_path (parts_of path.now)) }
 {
     if !has_folder(nodes, folder) {
         return Some(TreeFault::ParentAbsent);
@@ -56,7 +56,7 @@ pub fn add_fault(
     if is_taken(nodes, target_in(nodes, folder, path)) {
         return Some(TreeFault::Exists);
     }
-    if is_full(count, next) {
+    if is_full(most, count, next) {
         return Some(TreeFault::Full);
     }
     None

@@ -1,7 +1,7 @@
 //! Changes of the entry of one node.
 
 ghost use Rattle.std.specs.Prelude.{◌≡◌, ◌+◌, ◌≤◌, true, is_some, OnOk, OnErr, length};
-ghost use Rattle.smb_wire.specs.Limits.{most_file_bytes};
+ghost use Rattle.smb_wire.specs.Greatest.{greatest_file_bytes};
 ghost use Rattle.smb_tree.specs.Content.{resized, written};
 ghost use Rattle.smb_tree.specs.Entries.{kept_basic};
 ghost use Rattle.smb_nodes.specs.Changes.{Altered};
@@ -31,7 +31,7 @@ pub fn put_mark(nodes: &mut Slab<Node>, slot: usize, mark: bool)
 // Gives a file another size. This takes no memory and is never refused.
 pub fn resize(nodes: &mut Slab<Node>, slot: usize, size: u64)
     requires live { is_some (heap_of nodes.old slot) ≡ true }
-    requires small { size ≤ most_file_bytes }
+    requires small { size ≤ greatest_file_bytes }
     ensures { Altered (heap_of nodes.old) (heap_of nodes.new) slot (λ entry. record entry { bytes = resized size entry.bytes }) }
 {
     nodes[slot].bytes.resize(size);
@@ -45,7 +45,7 @@ pub fn overwrite(
     buffer: &[u8],
 ) -> Result<(), AllocError>
     requires live { is_some (heap_of nodes.old slot) ≡ true }
-    requires small { offset + length buffer.now ≤ most_file_bytes }
+    requires small { offset + length buffer.now ≤ greatest_file_bytes }
     ensures ok { OnOk result (Altered (heap_of nodes.old) (heap_of nodes.new) slot (λ entry. record entry { bytes = written offset buffer.now entry.bytes })) }
     ensures err { OnErr result (SameHeap nodes.old nodes.new) }
 {

@@ -1,7 +1,7 @@
 //! A node of the tree.
 
 ghost use Rattle.std.specs.Prelude.{◌≡◌, ◌≤◌, ◌%◌, length};
-ghost use Rattle.smb_wire.specs.Limits.{most_file_bytes};
+ghost use Rattle.smb_wire.specs.Greatest.{greatest_file_bytes};
 ghost use Rattle.smb_wire.specs.Pairs.{units_in};
 
 use smb_pages::Pages;
@@ -25,5 +25,5 @@ pub struct Node {
     pub bytes: Pages,
     pub ghost even: { length spelling.items % 2 ≡ 0 },
     pub ghost short: { length (units_in spelling.items) ≤ 255 },
-    pub ghost few: { length bytes ≤ most_file_bytes },
+    pub ghost few: { length bytes ≤ greatest_file_bytes },
 }

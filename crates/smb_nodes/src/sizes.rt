@@ -1,6 +1,7 @@
 //! The sizes of files, and the space that they use.
 
-ghost use Rattle.std.specs.Prelude.{◌≡◌, ◌+◌, ◌-◌, ◌^◌, ◌||◌, true, is_some, None, Some, if◌then◌else◌, nat_lt, max, min, length};
+ghost use Rattle.std.specs.Prelude.{◌≡◌, ◌≤◌, ◌+◌, ◌-◌, ◌^◌, ◌||◌, true, is_some, None, Some, if◌then◌else◌, nat_lt, max, min, length};
+ghost use Rattle.smb_wire.specs.Greatest.{greatest_file_bytes};
 ghost use Rattle.smb_tree.specs.Entries.{allocation_size, is_folder_kind};
 ghost use Rattle.smb_tree.specs.declared.fault.TreeFault.TheVariants.{Absent, Full};
 ghost use Rattle.smb_nodes.specs.Nodes.{entry_of_slot};
@@ -9,7 +10,6 @@ ghost use Rattle.smb_nodes.specs.Seen.{heap_of};
 use super::node::Node;
 use slab::Slab;
 use smb_tree::{TreeFault, allocation_size};
-use smb_wire::limits::MOST_FILE_BYTES;
 
 // The space that the file in a slot uses.
 pub fn space_of(nodes: &Slab<Node>, slot: usize) -> u64
@@ -23,17 +23,19 @@ pub fn space_of(nodes: &Slab<Node>, slot: usize) -> u64
 pub fn size_fault(
     nodes: &Slab<Node>,
     slot: usize,
+    most: u64,
     others: u64,
     capacity: u64,
     size: u64,
 ) -> Option<TreeFault>
-    requires { is_some (heap_of nodes.now slot) ≡ true }
-    ensures { result ≡ (if is_folder_kind (entry_of_slot (heap_of nodes.now) slot).kind then Some Absent else if nat_lt MOST_FILE_BYTES size || nat_lt capacity (others + allocation_size size) then Some Full else None) }
+    requires live { is_some (heap_of nodes.now slot) ≡ true }
+    requires lawful { most ≤ greatest_file_bytes }
+    ensures { result ≡ (if is_folder_kind (entry_of_slot (heap_of nodes.now) slot).kind then Some Absent else if nat_lt most size || nat_lt capacity (others + allocation_size size) then Some Full else None) }
 {
     if nodes[slot].kind.is_folder() {
         return Some(TreeFault::Absent);
     }
-    if size > MOST_FILE_BYTES || capacity < others || capacity - others < allocation_size(size) {
+    if size > most || capacity < others || capacity - others < allocation_size(size) {
         return Some(TreeFault::Full);
     }
     None

@@ -1,7 +1,7 @@
 //! The tree of nodes.
 
 ghost use Rattle.std.specs.Prelude.{◌≡◌, IfOk, IfErr};
-ghost use Rattle.smb_tree.specs.Content.{new_content};
+ghost use Rattle.smb_tree.specs.Content.{new_content, new_content_within};
 ghost use Rattle.smb_tree.specs.declared.fault.TreeFault.TheVariants.{NoMemory};
 
 use super::additions::{add_fault, place};
@@ -22,6 +22,7 @@ use smb_pages::Pages;
 use smb_tree::{
     Basic, Children, EntryCopy, EntryNo, EntryView, Kind, Tree, TreeFault, allocation_size,
 };
+use smb_wire::limits::Limits;
 use smb_wire::{FileAttributes, FoldedName, PathView};
 use std::alloc::{AllocError, Global};
 use std::collections::BTreeMap;
@@ -67,6 +68,7 @@ pub struct NodeTree {
     next: EntryNo,
     used: u64,
     capacity: u64,
+    limits: Limits,
     // No path has more components.
     deepest: usize,
     alloc: Global,
@@ -102,6 +104,19 @@ impl NodeTree {
         ensures ok { IfOk result (λ tree. tree ≡ new_content created capacity) }
         ensures err { IfErr result (λ fault. fault ≡ NoMemory) }
     {
+        NodeTree::within(alloc, Limits::profile(), created, capacity)
+    }
+
+    /// [`new`](Self::new) under these limits.
+    pub fn within(
+        alloc: Global,
+        limits: Limits,
+        created: u64,
+        capacity: u64,
+    ) -> Result<NodeTree, TreeFault>
+        ensures ok { IfOk result (λ tree. tree ≡ new_content_within limits created capacity) }
+        ensures err { IfErr result (λ fault. fault ≡ NoMemory) }
+    {
         let nodes = rooted(alloc, created)?;
         let index = indexed(alloc)?;
         Ok(NodeTree {
@@ -110,6 +125,7 @@ impl NodeTree {
             next: 2,
             used: 0,
             capacity,
+            limits,
             deepest: 0,
             alloc,
         })
@@ -191,6 +207,10 @@ impl Tree for NodeTree {
         self.capacity
     }
 
+    fn limits(&self) -> Limits {
+        self.limits
+    }
+
     fn add(
         &mut self,
         path: &PathView<'_>,
@@ -201,7 +221,15 @@ impl Tree for NodeTree {
         let Some(parent) = walk_down(&self.nodes, &around(path)) else {
             return Err(TreeFault::ParentAbsent);
         };
-        if let Some(fault) = add_fault(&self.nodes, self.index.len(), self.next, parent, path) {
+        let most = self.limits.entries;
+        if let Some(fault) = add_fault(
+            &self.nodes,
+            most,
+            self.index.len(),
+            self.next,
+            parent,
+            path,
+        ) {
             return Err(fault);
         }
         let number = self.next;
@@ -227,7 +255,8 @@ impl Tree for NodeTree {
             return Err(TreeFault::Absent);
         };
         let others = self.used - space_of(&self.nodes, slot);
-        if let Some(fault) = size_fault(&self.nodes, slot, others, self.capacity, size) {
+        let most = self.limits.file_bytes;
+        if let Some(fault) = size_fault(&self.nodes, slot, most, others, self.capacity, size) {
             return Err(fault);
         }
         resize(&mut self.nodes, slot, size);
@@ -275,7 +304,8 @@ impl Tree for NodeTree {
         };
         let others = self.used - space_of(&self.nodes, slot);
         let new_size = size_written(&self.nodes, slot, offset, buffer);
-        if let Some(fault) = size_fault(&self.nodes, slot, others, self.capacity, new_size) {
+        let most = self.limits.file_bytes;
+        if let Some(fault) = size_fault(&self.nodes, slot, most, others, self.capacity, new_size) {
             return Err(fault);
         }
         overwrite(&mut self.nodes, slot, offset, buffer)?;

@@ -350,6 +350,7 @@ kept_moved state n parts row opens_count entries_count after_count moving either
     compatible = kept.good.compatible;
     marked = marks_moved state.tree state.opens n parts row moving either kept.good.marked;
     locked = kept.good.locked;
+    few_locks = kept.good.few_locks;
     held = kept.good.held;
   };
   opens_counted = kept.opens_counted;

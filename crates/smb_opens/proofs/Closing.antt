@@ -7,7 +7,7 @@ use Rattle.smb_tree.specs.Content.{Row, Content, numbered, without}
 use Rattle.smb_tree.specs.Parts.{with_mark, removed, AreLawful}
 use Rattle.smb_tree.specs.Laws.{AreApart}
 use Rattle.smb_locks.specs.Table.{Table, without_holder}
-use Rattle.smb_locks.proofs.Tables.{good_dropped}
+use Rattle.smb_locks.proofs.Tables.{good_dropped, few_dropped}
 use Rattle.smb_tree.proofs.Apart.{numbered-changed}
 use Rattle.smb_access.specs.declared.open_row.OpenRow.{OpenRow}
 use Rattle.smb_access.specs.declared.view.View.{View}
@@ -48,6 +48,7 @@ pub record IsMarked (before after : Content) (entry : ℕ) : Type 0 where
   pub present : (m : ℕ) → is_some (numbered after.rows m) ≡ is_some (numbered before.rows m)
   pub long : length after.rows ≡ length before.rows
   pub lawful : AreLawful before.rows → AreLawful after.rows
+  pub limits : after.limits ≡ before.limits
 
 marks : Shrinks (λ entry. record entry { mark = true })
 marks = record { number = λ _. refl; kind = λ _. refl; bytes = λ e. omega arith }
@@ -69,6 +70,7 @@ with_mark_marked tree entry good d =
       present = λ m. ap is_some (numbered-changed f tree.rows entry m (λ _. refl)) ∙ present_by (m == entry) (numbered tree.rows m);
       long = length-changed f tree.rows entry;
       lawful = lawful_changed f tree.rows entry (record { number = λ _. refl; spelling = λ _. refl; attributes = λ _ h. h });
+      limits = refl;
     }
 
 same_marked : (tree : Content) (opens : List OpenRow) (row : OpenRow) → GoodContent tree → AreMarksDue tree.rows opens → IsMarked tree tree row.entry
@@ -80,6 +82,7 @@ same_marked tree opens row good due = record {
   present = λ _. refl;
   long = refl;
   lawful = λ l. l;
+  limits = refl;
 }
 
 pub tree_marked_marked : (tree : Content) (opens : List OpenRow) (row : OpenRow) → GoodContent tree → AreMarksDue tree.rows opens → IsMarked tree (tree_marked tree row) row.entry
@@ -130,26 +133,27 @@ gone_marked state row tree good k s m h =
     ] refl (sym (mark_removed tree.rows row.entry m k.good.apart) ∙ h)
 
 -- the store with the open taken out, its entry there or not
-good_by : (state : StoreState) (row : OpenRow) (tree : Content) → GoodStore state → open_of state.opens row.number ≡ Some row → GoodContent tree → AreLawful tree.rows → ArePresent tree.rows (without_open row.number state.opens) → AreMarksDue tree.rows (without_open row.number state.opens) → GoodStore (record { tree = tree; opens = without_open row.number state.opens; locks = without_holder row.number state.locks; next = state.next })
-good_by state row tree good s t l p m = record {
+good_by : (state : StoreState) (row : OpenRow) (tree : Content) → tree.limits ≡ state.tree.limits → GoodStore state → open_of state.opens row.number ≡ Some row → GoodContent tree → AreLawful tree.rows → ArePresent tree.rows (without_open row.number state.opens) → AreMarksDue tree.rows (without_open row.number state.opens) → GoodStore (record { tree = tree; opens = without_open row.number state.opens; locks = without_holder row.number state.locks; next = state.next })
+good_by state row tree same good s t l p m = record {
   tree = t;
   lawful = l;
   present = p;
   rising = rising_without row.number state.opens good.rising;
   below = below_without state.next row.number state.opens good.below;
-  few = omega (arith, good.few, length-without row.number state.opens good.rising (ap is_some s));
+  few = rw same (omega (arith, good.few, length-without row.number state.opens good.rising (ap is_some s)));
   masked = all_without IsMasked row.number state.opens good.masked;
   compatible = compatible_without row.number state.opens good.compatible;
   marked = m;
   locked = good_dropped row.number state.locks good.locked;
+  few_locks = rw same (few_dropped row.number state.tree.limits.locks state.locks good.few_locks);
   held = held_dropped state.locks state.opens row.number good.locked good.held;
 }
 
 cleared_good : (state : StoreState) (row : OpenRow) (tree : Content) → GoodStore state → IsMarked state.tree tree row.entry → open_of state.opens row.number ≡ Some row → GoodStore (record { tree = tree_cleared tree (without_open row.number state.opens) row.entry; opens = without_open row.number state.opens; locks = without_holder row.number state.locks; next = state.next })
 cleared_good state row tree good k s =
     elim (is_due tree (without_open row.number state.opens) row.entry) as (λ b. is_due tree (without_open row.number state.opens) row.entry ≡ b → GoodStore (record { tree = if b then removed tree row.entry else tree; opens = without_open row.number state.opens; locks = without_holder row.number state.locks; next = state.next })) [
-      | true ↦ λ e. (let both = goes (has_mark tree.rows row.entry) (has_open (without_open row.number state.opens) row.entry) e in let d = deletable_row tree.rows row.entry (k.here both.0) in good_by state row (removed tree row.entry) good s (good_removed tree row.entry d.0 d.1 d.2 k.good) (lawful_without tree.rows row.entry (k.lawful good.lawful)) (gone_present tree.rows (without_open row.number state.opens) row.entry k.good.apart (left_present state row tree good k) both.1) (gone_marked state row tree good k s))
-      | false ↦ λ e. good_by state row tree good s k.good (k.lawful good.lawful) (left_present state row tree good k) (left_marked state row tree good k s e)
+      | true ↦ λ e. (let both = goes (has_mark tree.rows row.entry) (has_open (without_open row.number state.opens) row.entry) e in let d = deletable_row tree.rows row.entry (k.here both.0) in good_by state row (removed tree row.entry) k.limits good s (good_removed tree row.entry d.0 d.1 d.2 k.good) (lawful_without tree.rows row.entry (k.lawful good.lawful)) (gone_present tree.rows (without_open row.number state.opens) row.entry k.good.apart (left_present state row tree good k) both.1) (gone_marked state row tree good k s))
+      | false ↦ λ e. good_by state row tree k.limits good s k.good (k.lawful good.lawful) (left_present state row tree good k) (left_marked state row tree good k s e)
     ] refl
 
 pub good_closed_open : (state : StoreState) (row : OpenRow) → GoodStore state → open_of state.opens row.number ≡ Some row → GoodStore (closed_open state row)

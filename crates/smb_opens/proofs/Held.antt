@@ -7,12 +7,12 @@ use Rattle.std.specs.List.{AllByRecursion}
 use Rattle.std.specs.Option.{option_map}
 use Rattle.smb_locks.specs.declared.ask.LockAsk.{LockAsk}
 use Rattle.smb_locks.specs.declared.lock.Lock.{Lock}
-use Rattle.smb_locks.specs.Good.{GoodLockTable}
+use Rattle.smb_locks.specs.Good.{GoodLockTable, FewLocks}
 use Rattle.smb_locks.specs.Locking.{lock_all_fault}
 use Rattle.smb_locks.specs.Table.{Table, HoldsNoneElsewhere, locks_on, locked, unlocked, without_holder}
 use Rattle.smb_locks.specs.Laws.{others_locks}
 use Rattle.smb_locks.proofs.Members.{member_locked, member_unlocked, member_dropped, others_kept}
-use Rattle.smb_locks.proofs.Tables.{good_locked, good_unlocked}
+use Rattle.smb_locks.proofs.Tables.{good_locked, good_unlocked, few_locked, few_unlocked}
 use Rattle.smb_access.specs.declared.open_row.OpenRow.{OpenRow}
 use Rattle.smb_opens.specs.Good.{GoodStore, IsKept}
 use Rattle.smb_opens.specs.Parts.{AreLocksHeld}
@@ -89,8 +89,8 @@ pub held_unlocked : (locks : Table) (rows : List OpenRow) (holder file : ℕ) (a
 held_unlocked locks rows holder file asks good h other lock c = h other lock (member_unlocked locks file other holder asks lock good c)
 
 -- a good store with other locks
-good_with : (state : StoreState) (locks : Table) → GoodStore state → GoodLockTable locks → AreLocksHeld locks state.opens → GoodStore (record state { locks = locks })
-good_with state locks good table held = record {
+good_with : (state : StoreState) (locks : Table) → GoodStore state → GoodLockTable locks → FewLocks state.tree.limits.locks locks → AreLocksHeld locks state.opens → GoodStore (record state { locks = locks })
+good_with state locks good table few held = record {
   tree = good.tree;
   lawful = good.lawful;
   present = good.present;
@@ -101,25 +101,26 @@ good_with state locks good table held = record {
   compatible = good.compatible;
   marked = good.marked;
   locked = table;
+  few_locks = few;
   held = held;
 }
 
-kept_with : (state : StoreState) (locks : Table) (opens_count entries_count : ℕ) → IsKept state.tree state.opens state.locks state.next opens_count entries_count → GoodLockTable locks → AreLocksHeld locks state.opens →
+kept_with : (state : StoreState) (locks : Table) (opens_count entries_count : ℕ) → IsKept state.tree state.opens state.locks state.next opens_count entries_count → GoodLockTable locks → FewLocks state.tree.limits.locks locks → AreLocksHeld locks state.opens →
     IsKept state.tree state.opens locks state.next opens_count entries_count
-kept_with state locks opens_count entries_count kept table held = record {
-  good = good_with state locks kept.good table held;
+kept_with state locks opens_count entries_count kept table few held = record {
+  good = good_with state locks kept.good table few held;
   opens_counted = kept.opens_counted;
   entries_counted = kept.entries_counted;
 }
 
 pub kept_locked : (state : StoreState) (number : ℕ) (row : OpenRow) (asks : List LockAsk) (opens_count entries_count : ℕ) → IsKept state.tree state.opens state.locks state.next opens_count entries_count →
-    open_of state.opens number ≡ Some row → lock_all_fault (locks_on state.locks row.entry) number asks ≡ None → IsKept state.tree state.opens (locked state.locks row.entry number asks) state.next opens_count entries_count
+    open_of state.opens number ≡ Some row → lock_all_fault state.tree.limits.locks (locks_on state.locks row.entry) number asks ≡ None → IsKept state.tree state.opens (locked state.locks row.entry number asks) state.next opens_count entries_count
 kept_locked state number row asks opens_count entries_count kept opened lawful =
-    kept_with state (locked state.locks row.entry number asks) opens_count entries_count kept (good_locked state.locks row.entry number asks kept.good.locked lawful)
+    kept_with state (locked state.locks row.entry number asks) opens_count entries_count kept (good_locked state.tree.limits.locks state.locks row.entry number asks kept.good.locked lawful) (few_locked state.tree.limits.locks state.locks row.entry number asks kept.good.few_locks lawful)
     (held_locked state.locks state.opens number row asks kept.good.locked kept.good.held opened)
 
 pub kept_unlocked : (state : StoreState) (number file : ℕ) (asks : List LockAsk) (opens_count entries_count : ℕ) → IsKept state.tree state.opens state.locks state.next opens_count entries_count →
     IsKept state.tree state.opens (unlocked state.locks file number asks) state.next opens_count entries_count
 kept_unlocked state number file asks opens_count entries_count kept =
-    kept_with state (unlocked state.locks file number asks) opens_count entries_count kept (good_unlocked state.locks file number asks kept.good.locked)
+    kept_with state (unlocked state.locks file number asks) opens_count entries_count kept (good_unlocked state.locks file number asks kept.good.locked) (few_unlocked state.tree.limits.locks state.locks file number asks kept.good.few_locks)
     (held_unlocked state.locks state.opens number file asks kept.good.locked kept.good.held)

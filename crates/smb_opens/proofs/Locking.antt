@@ -28,12 +28,12 @@ use Rattle.smb_opens.proofs.Shows.{ShownBy, entry_of}
 
 -- a store is kept good over a LOCK that locks, whether it is refused or not
 pub kept_lock : {X : Type 0} (r : Result X LockFault) (state : StoreState) (number : ℕ) (view : View) (asks : List LockAsk) (after : Table) (opens_count entries_count : ℕ) → ShownBy state number view →
-    OnOk r (after ≡ locked state.locks view.entry number asks) → OnOk r (lock_all_fault (locks_on state.locks view.entry) number asks ≡ None) → OnErr r (after ≡ state.locks) →
+    OnOk r (after ≡ locked state.locks view.entry number asks) → OnOk r (lock_all_fault state.tree.limits.locks (locks_on state.locks view.entry) number asks ≡ None) → OnErr r (after ≡ state.locks) →
     IsKept state.tree state.opens state.locks state.next opens_count entries_count → IsKept state.tree state.opens after state.next opens_count entries_count
 kept_lock (Ok x) state number view asks after opens_count entries_count s ok lawful err kept =
     let entry = entry_of state number view s in
     let is : after ≡ locked state.locks s.held.entry number asks = ok ∙ ap (λ (n : ℕ). locked state.locks n number asks) entry in
-    let free : lock_all_fault (locks_on state.locks s.held.entry) number asks ≡ None = ap (λ (n : ℕ). lock_all_fault (locks_on state.locks n) number asks) (sym entry) ∙ lawful in
+    let free : lock_all_fault state.tree.limits.locks (locks_on state.locks s.held.entry) number asks ≡ None = ap (λ (n : ℕ). lock_all_fault state.tree.limits.locks (locks_on state.locks n) number asks) (sym entry) ∙ lawful in
     subst (λ (locks : Table). IsKept state.tree state.opens locks state.next opens_count entries_count) (sym is) (kept_locked state number s.held asks opens_count entries_count kept s.opened free)
 kept_lock (Err e) state number view asks after opens_count entries_count s ok lawful err kept =
     subst (λ (locks : Table). IsKept state.tree state.opens locks state.next opens_count entries_count) (sym err) kept
@@ -48,11 +48,11 @@ refusal_told told NotLocked why memory = rw (why (λ e. cc)) refl
 
 -- a LOCK that locks is refused as the lock table refuses it
 pub why_lock : (state : StoreState) (number : ℕ) (view : View) (asks : List LockAsk) (fault : LockFault) (refused : RefusedBy LockRefusal) → open_view state number ≡ Some view → is_folder_kind view.kind ≡ false →
-    (fault ≢ NoLockMemory → lock_all_fault (locks_on state.locks view.entry) number asks ≡ Some fault) →
-    (fault ≡ NoLockMemory → lock_all_fault (locks_on state.locks view.entry) number asks ≡ None) →
+    (fault ≢ NoLockMemory → lock_all_fault state.tree.limits.locks (locks_on state.locks view.entry) number asks ≡ Some fault) →
+    (fault ≡ NoLockMemory → lock_all_fault state.tree.limits.locks (locks_on state.locks view.entry) number asks ≡ None) →
     IsRefusedBy (lock_refusal_of fault) refused → IsRefusedBy (lock_refusal state number asks) refused
 why_lock state number view asks fault refused v file why memory h =
-    let told = refusal_told (lock_all_fault (locks_on state.locks view.entry) number asks) fault why memory in
+    let told = refusal_told (lock_all_fault state.tree.limits.locks (locks_on state.locks view.entry) number asks) fault why memory in
     let named : lock_refusal state number asks ≡ lock_refusal_of fault = rw (v, file, told) refl in
     subst (λ (refusal : Option LockRefusal). IsRefusedBy refusal refused) (sym named) h
 

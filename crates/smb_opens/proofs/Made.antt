@@ -55,22 +55,23 @@ undone before with_one after next row b e f h = h ∙ ap (without_open next) f �
 pub kept_undone : (tree tree' : Content) (before after : List OpenRow) (locks : Table) (next opens_count entries_count : ℕ) → tree' ≡ tree → after ≡ before → IsKept tree before locks next opens_count entries_count → IsKept tree' after locks next opens_count entries_count
 kept_undone tree tree' before after locks next opens_count entries_count e f kept = rw (e, f) kept
 
-room_left : (state : StoreState) → has_all_opens state ≡ false → length state.opens < 1024
+room_left : (state : StoreState) → has_all_opens state ≡ false → length state.opens < state.tree.limits.opens
 room_left state e = grind (arith, nat_tests, common_steps, e)
 
 -- one more open, of an entry that stands
-pub good_opened : (state : StoreState) (tree : Content) (row : OpenRow) → GoodStore state → GoodContent tree → AreLawful tree.rows → IsMasked row → ArePresent tree.rows state.opens → is_some (numbered tree.rows row.entry) ≡ true → row.number ≡ state.next → has_all_opens state ≡ false → has_conflict state.opens row.entry (use_of row) ≡ false → AreMarksDue tree.rows (state.opens ++ row ∷ []) → GoodStore (record { tree = tree; opens = state.opens ++ row ∷ []; locks = state.locks; next = state.next + 1 })
-good_opened state tree row good fine lawful masked present stands number room alone due = record {
+pub good_opened : (state : StoreState) (tree : Content) (row : OpenRow) → tree.limits ≡ state.tree.limits → GoodStore state → GoodContent tree → AreLawful tree.rows → IsMasked row → ArePresent tree.rows state.opens → is_some (numbered tree.rows row.entry) ≡ true → row.number ≡ state.next → has_all_opens state ≡ false → has_conflict state.opens row.entry (use_of row) ≡ false → AreMarksDue tree.rows (state.opens ++ row ∷ []) → GoodStore (record { tree = tree; opens = state.opens ++ row ∷ []; locks = state.locks; next = state.next + 1 })
+good_opened state tree row same good fine lawful masked present stands number room alone due = record {
   tree = fine;
   lawful = lawful;
   present = all_push (λ (o : OpenRow). is_some (numbered tree.rows o.entry) ≡ true) state.opens row present stands;
   rising = rising_push state.opens row good.rising (rw number good.below);
   below = below_push state.next state.opens row good.below number;
-  few = omega (arith, room_left state room, length-append state.opens (row ∷ []));
+  few = rw same (omega (arith, room_left state room, length-append state.opens (row ∷ [])));
   masked = all_push IsMasked state.opens row good.masked masked;
   compatible = compatible_pushed state.opens row good.compatible alone;
   marked = due;
   locked = good.locked;
+  few_locks = rw same good.few_locks;
   held = held_pushed state.locks state.opens row good.held;
 }
 
@@ -108,7 +109,7 @@ kept_added state opens_count entries_count parts kind attributes moment row kept
     lawful_push state.tree.rows new kept.good.lawful (lawful_new state.tree.next parts kind attributes moment (above_zero state.tree.rows state.tree.next kept.good.tree.first kept.good.tree.below) names) in
     let fresh : has_conflict state.opens row.entry (use_of row) ≡ false = fresh_conflict state.tree.rows state.opens row.entry (use_of row) kept.good.present absent in
     record {
-      good = good_opened state (added state.tree parts kind attributes moment) row kept.good (good_added state.tree parts kind attributes moment kept.good.tree short free) lawful masked (present_push state.tree.rows new state.opens kept.good.present) last number room fresh (due_added state new row kept.good refl above);
+      good = good_opened state (added state.tree parts kind attributes moment) row refl kept.good (good_added state.tree parts kind attributes moment kept.good.tree short free) lawful masked (present_push state.tree.rows new state.opens kept.good.present) last number room fresh (due_added state new row kept.good refl above);
       opens_counted = omega (arith, kept.opens_counted, length-append state.opens (row ∷ []));
       entries_counted = omega (arith, kept.entries_counted, length-append state.tree.rows (new ∷ []));
     }
@@ -210,12 +211,16 @@ alone_opened opens ask n target access row g r h =
     let asked_for : has_conflict opens target.number (use_asked ask access) ≡ false = ap (λ (a : Access). has_conflict opens target.number (use_asked ask a)) g ∙ h in
     ap (λ (o : OpenRow). has_conflict opens o.entry (use_of o)) r ∙ alone_by opens ask target.number access asked_for
 
+limits_standing : (tree : Content) (ask : FileAsked) (moment number : ℕ) → (standing_tree tree ask moment number).limits ≡ tree.limits
+limits_standing tree ask moment number =
+    elim (overwrites_by ask.disposition) as (λ b. (let x : Content = cond b (overwritten_tree tree ask moment number) tree in x).limits ≡ tree.limits) [ true ↦ refl | false ↦ refl ]
+
 pub kept_standing : (state : StoreState) (ask : FileAsked) (moment opens_count entries_count : ℕ) (row : OpenRow) (number : ℕ) (path : Path) (entry : Entry) → IsKept state.tree state.opens state.locks state.next opens_count entries_count → IsMasked row → numbered state.tree.rows number ≡ Some (path, entry) → has_all_opens state ≡ false → has_conflict state.opens row.entry (use_of row) ≡ false → row.number ≡ state.next → row.entry ≡ number → IsKept (standing_tree state.tree ask moment number) (state.opens ++ row ∷ []) state.locks (state.next + 1) (opens_count + 1) entries_count
 kept_standing state ask moment opens_count entries_count row number path entry kept masked h room alone n e =
     let tree : Content = standing_tree state.tree ask moment number in
     let stands : is_some (numbered tree.rows row.entry) ≡ true = rw (e, numbered_standing state.tree ask moment number path entry h) refl in
     record {
-      good = good_opened state tree row kept.good (good_standing state.tree ask moment number (path, entry) h kept.good.tree) (lawful_standing state.tree ask moment number kept.good.lawful) masked (present_standing state.tree ask moment number state.opens kept.good.present) stands n room alone (due_standing state ask moment number row kept.good);
+      good = good_opened state tree row (limits_standing state.tree ask moment number) kept.good (good_standing state.tree ask moment number (path, entry) h kept.good.tree) (lawful_standing state.tree ask moment number kept.good.lawful) masked (present_standing state.tree ask moment number state.opens kept.good.present) stands n room alone (due_standing state ask moment number row kept.good);
       opens_counted = omega (arith, kept.opens_counted, length-append state.opens (row ∷ []));
       entries_counted = kept.entries_counted ∙ sym (length-standing state.tree ask moment number);
     }

@@ -2,9 +2,10 @@
 use Rattle.std.proofs.Common.{lit<, lit≤, ◌≡◌, ◌==◌, ℕ, [], true, false, cond, Option, None, Some, refl, arith}
 use Rattle.std.proofs.lemmas.Grind.{common_steps}
 use Rattle.std.specs.Option.{option_map_or}
+use Rattle.smb_wire.specs.declared.limits.share.Limits.{Limits}
 use Rattle.smb_tree.specs.declared.entry.Kind.TheVariants.{Folder}
 use Rattle.smb_tree.specs.Entries.{Entry, new_entry}
-use Rattle.smb_tree.specs.Content.{Path, Row, Content, entry_at, new_content}
+use Rattle.smb_tree.specs.Content.{Path, Row, Content, entry_at, new_content_within}
 use Rattle.smb_tree.proofs.Apart.{at-push}
 use Rattle.smb_wire.specs.Dispositions.{overwrites_by}
 use Rattle.smb_access.specs.Asked.{FileAsked}
@@ -16,25 +17,25 @@ use Rattle.smb_tree.specs.Good.{GoodContent}
 use Rattle.smb_opens.specs.Good.{UnmarkedTree}
 use Rattle.smb_opens.specs.State.{StoreState}
 
-good_new : (moment capacity : ℕ) → GoodContent (new_content moment capacity)
-good_new moment capacity = record {
+good_new : (limits : Limits) (moment capacity : ℕ) → GoodContent (new_content_within limits moment capacity)
+good_new limits moment capacity = record {
   root = refl;
   first = refl;
   parents = (refl, tt);
   apart = (refl, refl, tt);
   below = (lit< tt, tt);
   counted = lit< tt;
-  few = lit≤ tt;
+  few = omega arith;
   shallow = (lit≤ tt, tt);
-  small = (lit≤ tt, tt);
+  small = (omega arith, tt);
   bare = ((λ _. refl), tt);
   fits = omega arith;
 }
 
 -- a new tree is good, and its root is not marked
-pub new_tree : (moment capacity : ℕ) → UnmarkedTree (new_content moment capacity)
-new_tree moment capacity = record {
-  good = good_new moment capacity;
+pub new_tree : (limits : Limits) (moment capacity : ℕ) → UnmarkedTree (new_content_within limits moment capacity)
+new_tree limits moment capacity = record {
+  good = good_new limits moment capacity;
   lawful = (record { number = lit< tt; names = refl; same = refl; spelling = refl; attributes = refl }, tt);
   unmarked = λ number. elim (1 == number) as (λ b. option_map_or (λ (row : Row). row.1.mark) (cond b (Some (let root : Row = ([], new_entry 1 [] Folder 0 moment) in root)) None) false ≡ false) [ true ↦ refl | false ↦ refl ];
 }

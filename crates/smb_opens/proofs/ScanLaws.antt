@@ -109,6 +109,7 @@ good_scanned state n scan good = record {
   compatible = compatible_scanned n scan state.opens good.compatible;
   marked = λ number e. ((good.marked number e).0, has_scanned n scan state.opens number ∙ (good.marked number e).1);
   locked = good.locked;
+  few_locks = good.few_locks;
   held = λ file lock among. entry_of_open n scan state.opens lock.holder ∙ good.held file lock among;
 }
 

@@ -65,6 +65,7 @@ kept_changed f state n opens_count entries_count after is k l tree marked kept =
         compatible = kept.good.compatible;
         marked = marked;
         locked = kept.good.locked;
+        few_locks = kept.good.few_locks;
         held = kept.good.held;
       };
       opens_counted = kept.opens_counted;
@@ -138,7 +139,7 @@ kept_deleted state number view is_deleted after opens_count entries_count s is l
     )) kept.good.marked) kept
 
 -- a size for which there is room
-room_for : (content : Content) (n size : ℕ) → has_no_space content n size ≡ false → (size ≤ 16777216) × (used_space (with_size content n size).rows ≤ content.capacity)
+room_for : (content : Content) (n size : ℕ) → has_no_space content n size ≡ false → (size ≤ content.limits.file_bytes) × (used_space (with_size content n size).rows ≤ content.capacity)
 room_for content n size e = (grind (arith, nat_tests, e), grind (arith, nat_tests, e))
 
 space_resized : (content : Content) (n size moment : ℕ) (row : Row) → numbered content.rows n ≡ Some row → used_space (changed (resized_file size moment) content.rows n) ≡ used_space (with_size content n size).rows
@@ -155,7 +156,7 @@ kept_sized (Ok x) state number view size moment after opens_count entries_count 
     let k : Keeps f = record { number = λ _. refl; kind = λ _. refl } in
     let at = at_shown state number view s in
     let room = room_for state.tree view.entry size free in
-    let small : length (resized size s.row.1.bytes) ≤ 16777216 = omega (arith, length-resized size s.row.1.bytes, room.0) in
+    let small : length (resized size s.row.1.bytes) ≤ state.tree.limits.file_bytes = omega (arith, length-resized size s.row.1.bytes, room.0) in
     let fits : used_space (changed f state.tree.rows view.entry) ≤ state.tree.capacity = omega (arith, space_resized state.tree view.entry size moment s.row at, room.1) in
     kept_changed f state view.entry opens_count entries_count after ok k (keeps_kept f (λ _. refl) (λ _. refl) (λ e. kept_twice e.basic.attributes.0))
     (good_within f state.tree view.entry s.row k at (kind_shown state number view s file) small fits kept.good.tree)

@@ -72,6 +72,7 @@ kept_write (Ok x) before after opens locks next opens_count entries_count n offs
         compatible = kept.good.compatible;
         marked = marks_kept (written_file offset buffer moment) before.rows n opens (λ _. refl) (λ _. refl) kept.good.marked;
         locked = kept.good.locked;
+        few_locks = kept.good.few_locks;
         held = kept.good.held;
       };
       opens_counted = kept.opens_counted;
@@ -99,7 +100,7 @@ stored (Ok x) state after number offset buffer moment view s some ok =
 stored (Err e) state after number offset buffer moment view s some ok = tt
 
 -- what a tree refuses to write is that for which there is no room
-pub fault_room : (tree : Content) (n offset : ℕ) (buffer : List ℕ) (row : Row) → numbered tree.rows n ≡ Some row → is_folder_kind row.1.kind ≡ false → length row.1.bytes ≤ 16777216 →
+pub fault_room : (tree : Content) (n offset : ℕ) (buffer : List ℕ) (row : Row) → numbered tree.rows n ≡ Some row → is_folder_kind row.1.kind ≡ false → length row.1.bytes ≤ tree.limits.file_bytes →
     is_some (write_fault tree n offset (length buffer)) ≡ has_no_room tree n offset buffer
 fault_room tree n offset buffer row h file small =
     let size : ℕ = max (length row.1.bytes) (offset + length buffer) in
@@ -111,7 +112,7 @@ pub room_shown : (state : StoreState) (number : ℕ) (view : View) (offset : ℕ
     is_some (write_fault state.tree view.entry offset (length buffer)) ≡ has_no_room state.tree view.entry offset buffer
 room_shown state number view offset buffer good s file =
     let at : numbered state.tree.rows view.entry ≡ Some s.row = ap (numbered state.tree.rows) (entry_of state number view s) ∙ s.at_entry in
-    fault_room state.tree view.entry offset buffer s.row at (kind_shown state number view s file) (of_number (λ row. length row.1.bytes ≤ 16777216) state.tree.rows view.entry s.row good.small at)
+    fault_room state.tree view.entry offset buffer s.row at (kind_shown state number view s file) (of_number (λ row. length row.1.bytes ≤ state.tree.limits.file_bytes) state.tree.rows view.entry s.row good.small at)
 
 -- why a WRITE of an open that shows this is refused
 abbrev pub written_refusal : ℕ → Content → Table → ℕ → View → ℕ → List ℕ → Option WriteRefusal

@@ -17,7 +17,6 @@ use Rattle.smb_access.specs.declared.view.View.{View}
 use Rattle.smb_access.specs.Access.{is_writing, is_reading}
 use Rattle.smb_locks.specs.Table.{locks_on}
 use Rattle.smb_tree.specs.Entries.{is_folder_kind, kept_basic}
-use Rattle.smb_wire.specs.Limits.{most_file_bytes}
 use Rattle.smb_wire.specs.Access.{has_any, FILE_WRITE_DATA}
 use Rattle.smb_locks.specs.Conflicts.{is_read_barred, is_write_barred}
 
@@ -84,11 +83,11 @@ write_refusals state most number offset buffer view =
       is_write_barred (locks_on state.locks view.entry) number (record { offset = offset; length = length buffer }),
       WriteRefusal.RangeLocked,
     )
-    -- WR5. there are bytes, and no room for them: the file would be longer than 16,777,216 bytes, or the space that files
-    -- use pass the capacity ([MS-FSA] 2.1.5.3)
+    -- WR5. there are bytes, and no room for them: the file would be longer than the limits let a file be, or the space
+    -- that files use pass the capacity ([MS-FSA] 2.1.5.3)
     ∷ (
       nat_lt 0 (length buffer)
-          && (nat_lt most_file_bytes (offset + length buffer) || nat_lt state.tree.capacity (used_space after.rows)),
+          && (nat_lt state.tree.limits.file_bytes (offset + length buffer) || nat_lt state.tree.capacity (used_space after.rows)),
       WriteRefusal.NoSpaceLeft,
     )
     ∷ []

@@ -17,7 +17,6 @@ use Rattle.smb_opens.specs.Found.{entry_asked}
 use Rattle.smb_access.specs.Sharing.{use_asked, is_conflict}
 use Rattle.smb_opens.specs.State.{StoreState}
 use Rattle.smb_refusals.specs.Rows.{RefusalRow, first_refusal, StatusRow, first_status, with_statuses}
-use Rattle.smb_wire.specs.Limits.{most_opens, most_entries}
 use Rattle.smb_wire.specs.Counters.{is_spent}
 use Rattle.smb_wire.specs.Access.{has_any}
 use Rattle.smb_wire.specs.Attributes.{FILE_ATTRIBUTE_READONLY}
@@ -111,11 +110,11 @@ create_refusals state ask entry =
           entry false,
       OpenConflicts,
     )
-    -- C16. 1,024 opens exist, or their numbers are spent
-    ∷ (nat_le most_opens (length state.opens) || is_spent 64 state.next, NoOpenLeft)
-    -- C17. it is absent, and 4,096 entries exist besides the root, or their numbers are spent
+    -- C16. as many opens exist as the limits let be, or their numbers are spent
+    ∷ (nat_le state.tree.limits.opens (length state.opens) || is_spent 64 state.next, NoOpenLeft)
+    -- C17. it is absent, and as many entries exist besides the root as the limits let be, or their numbers are spent
     ∷ (
-      is_none entry && (nat_le most_entries (length state.tree.rows - 1) || is_spent 64 state.tree.next),
+      is_none entry && (nat_le state.tree.limits.entries (length state.tree.rows - 1) || is_spent 64 state.tree.next),
       NoEntryLeft,
     )
     ∷ []

@@ -2,11 +2,12 @@
 use Rattle.std.specs.Prelude.{◌≡◌, ◌≢◌, ◌⊎◌, ℕ, ◌-◌, ◌==◌, Bool, true, false, bit_and, min, if◌then◌else◌}
 use Rattle.std.specs.Prelude.{List, length, take, drop, replicate, Option, Some, Contains}
 use Rattle.std.specs.Option.{option_map}
+use Rattle.smb_wire.specs.declared.limits.share.Limits.{Limits}
 use Rattle.smb_wire.specs.declared.access.Access.{Access}
 use Rattle.smb_wire.specs.declared.access.ShareAccess.{ShareAccess}
 use Rattle.smb_wire.specs.declared.nt_status.NtStatus.TheVariants.{Success}
 use Rattle.smb_tree.specs.declared.entry.Kind.{Kind}
-use Rattle.smb_tree.specs.Content.{Row, number_at, numbered, new_content}
+use Rattle.smb_tree.specs.Content.{Row, number_at, numbered, new_content_within}
 use Rattle.smb_tree.specs.Entries.{Entry}
 use Rattle.smb_locks.specs.declared.lock.Lock.{Lock}
 use Rattle.smb_locks.specs.Ranges.{Overlap}
@@ -27,9 +28,9 @@ use Rattle.smb_opens.specs.SetInfo.{size_set_through}
 use Rattle.smb_opens.specs.State.{StoreState}
 use Rattle.smb_opens.specs.Views.{open_view}
 
--- a tree that has the root alone is good, and has no mark
+-- a tree that has the root alone is good, under all limits, and has no mark
 abbrev pub ANewTreeIsGood : Type 0
-ANewTreeIsGood = (moment capacity : ℕ) → UnmarkedTree (new_content moment capacity)
+ANewTreeIsGood = (limits : Limits) (moment capacity : ℕ) → UnmarkedTree (new_content_within limits moment capacity)
 
 -- a conflict is one both ways, and more access never removes it
 abbrev pub AConflictIsMutual : Type 0

@@ -21,14 +21,14 @@ use Rattle.smb_wire.specs.LockFlags.{UNLOCK}
 abbrev pub lock_refusal : StoreState → ℕ → List LockAsk → Option LockRefusal
 lock_refusal state number asks =
     lock_refusal_by (open_view state number)
-    (lock_all_fault
+    (lock_all_fault state.tree.limits.locks
     (option_map_or (λ (view : View). locks_on state.locks view.entry) (open_view state number) []) number asks)
 
 -- its status
 abbrev pub lock_status : StoreState → ℕ → List LockAsk → NtStatus
 lock_status state number asks =
     lock_status_by (open_view state number)
-    (lock_all_fault
+    (lock_all_fault state.tree.limits.locks
     (option_map_or (λ (view : View). locks_on state.locks view.entry) (open_view state number) []) number asks)
 
 -- why a LOCK that unlocks is refused, if it is: by its first element that is refused, and by the flags of all of them

@@ -15,7 +15,6 @@ use Rattle.smb_access.specs.Views.{view_of}
 use Rattle.smb_access.specs.declared.view.View.{View}
 use Rattle.smb_tree.specs.Entries.{is_folder_kind}
 use Rattle.smb_access.specs.Effect.{entry_after, tree_after}
-use Rattle.smb_wire.specs.Limits.{most_opens, most_entries}
 use Rattle.smb_wire.specs.Counters.{is_spent}
 use Rattle.std.specs.List.{AllByRecursion, list_any}
 use Rattle.smb_access.specs.Access.{granted}
@@ -76,13 +75,13 @@ with_locks_of table state view = option_map_or
     (λ (view : View). if is_folder_kind view.kind then state else record state { locks = table view.entry })
     view state
 
--- 1,024 opens exist, or their numbers are spent
+-- as many opens exist as the limits let be, or their numbers are spent
 abbrev pub has_all_opens : StoreState → Bool
-has_all_opens state = nat_le most_opens (length state.opens) || is_spent 64 state.next
+has_all_opens state = nat_le state.tree.limits.opens (length state.opens) || is_spent 64 state.next
 
--- 4,096 entries exist besides the root, or their numbers are spent
+-- as many entries exist besides the root as the limits let be, or their numbers are spent
 abbrev pub has_all_entries : StoreState → Bool
-has_all_entries state = nat_le most_entries (length state.tree.rows - 1) || is_spent 64 state.tree.next
+has_all_entries state = nat_le state.tree.limits.entries (length state.tree.rows - 1) || is_spent 64 state.tree.next
 
 -- each marked entry can be deleted, so is not the root, and has an open
 abbrev pub AreMarksDue : List Row → List OpenRow → Type 0

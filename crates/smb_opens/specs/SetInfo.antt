@@ -20,7 +20,6 @@ use Rattle.smb_refusals.specs.Rows.{RefusalRow, with_statuses}
 use Rattle.smb_access.specs.declared.view.View.{View}
 use Rattle.smb_access.specs.Access.{is_deleting}
 use Rattle.smb_tree.specs.Children.{is_child}
-use Rattle.smb_wire.specs.Limits.{most_file_bytes}
 use Rattle.smb_wire.specs.Access.{has_any, FILE_WRITE_DATA, FILE_WRITE_ATTRIBUTES}
 use Rattle.smb_tree.specs.Content.{changed}
 use Rattle.smb_wire.specs.Attributes.{FILE_ATTRIBUTE_READONLY, FILE_ATTRIBUTE_DIRECTORY}
@@ -76,9 +75,9 @@ size_refusals state size view =
     (is_folder_kind view.kind, SetSizeRefusal.EntryIsDirectory)
     -- SZ2. the open was not granted FILE_WRITE_DATA ([MS-FSA] 2.1.5.15.1, 2.1.5.15.4)
     ∷ (not (has_any view.access.0 FILE_WRITE_DATA), SetSizeRefusal.WriteNotGranted)
-    -- SZ3. there is no room: the size is over 16,777,216 bytes, or the space that files use would pass the capacity
+    -- SZ3. there is no room: the size is over the limit of a file, or the space that files use would pass the capacity
     -- ([MS-FSA] 2.1.5.15.1, 2.1.5.15.4)
-    ∷ (nat_lt most_file_bytes size || nat_lt state.tree.capacity (used_space after.rows), SetSizeRefusal.NoSpaceLeft)
+    ∷ (nat_lt state.tree.limits.file_bytes size || nat_lt state.tree.capacity (used_space after.rows), SetSizeRefusal.NoSpaceLeft)
     ∷ []
 
 -- why it is refused, if it is

@@ -18,7 +18,7 @@ use smb_wire::NtStatus;
 impl<T: Tree + Drop, O: Opens + Drop> Store<T, O> {
     /// Answers a LOCK through the open of a number, which exists, that locks ranges of its file ([MS-SMB2] 3.3.5.14.2):
     /// all that the elements ask for, or none. Each element costs a pass over the file's locks, of which there are at
-    /// most 256.
+    /// most as many as the limits let be.
     ///
     /// [`Row`](RefusedBy::Row) tells the first row of the table that holds, and [`NoMemory`](RefusedBy::NoMemory) that
     /// an allocation was refused where none does.
@@ -40,7 +40,11 @@ impl<T: Tree + Drop, O: Opens + Drop> Store<T, O> {
         if view.kind.is_folder() {
             return Err(RefusedBy::Row(LockRefusal::EntryIsDirectory));
         }
-        match self.locks.lock_all(view.entry, number, asks) {
+        let limits = self.tree.limits();
+        match self
+            .locks
+            .lock_all_within(limits.locks, view.entry, number, asks)
+        {
             Ok(()) => Ok(()),
             Err(fault) => Err(lock_refused_by(fault)),
         }
@@ -65,7 +69,7 @@ impl<T: Tree + Drop, O: Opens + Drop> Store<T, O> {
 
     /// Answers a LOCK through the open of a number, which exists, that unlocks ranges of its file ([MS-SMB2]
     /// 3.3.5.14.1): each element takes out the oldest of the open's locks over its very range. It takes no memory. An
-    /// element costs a pass over the file's locks, of which there are at most 256.
+    /// element costs a pass over the file's locks, of which there are at most as many as the limits let be.
     ///
     /// An error is the first row of the table that holds of an element; those before it stay unlocked.
     pub fn unlock_by_row(&mut self, number: OpenNo, asks: &[LockAsk]) -> Result<(), LockRefusal>

@@ -42,7 +42,6 @@ use smb_access::{Closed, CreateAsk, Created, OpenNo, Opens, Owner, StoreFault, V
 use smb_locks::LockTable;
 use smb_refusals::{CreateRefusal, Refusal, RefusedBy};
 use smb_tree::{EntryNo, Tree};
-use smb_wire::limits::{MOST_ENTRIES, MOST_OPENS};
 use smb_wire::{CreateAction, CreateDisposition, NtStatus, PathView};
 use std::alloc::Global;
 use std::marker::Model;
@@ -209,14 +208,14 @@ impl<T: Tree + Drop, O: Opens + Drop> Store<T, O> {
     fn has_all_opens(&self) -> bool
         ensures { result ≡ has_all_opens self.now }
     {
-        self.opens_count >= MOST_OPENS || self.next == OpenNo::MAX
+        self.opens_count >= self.tree.limits().opens || self.next == OpenNo::MAX
     }
 
     // Whether no entry can be added.
     fn has_all_entries(&self) -> bool
         ensures { result ≡ has_all_entries self.now }
     {
-        self.entries_count - 1 >= MOST_ENTRIES || self.tree.next_no().is_none()
+        self.entries_count - 1 >= self.tree.limits().entries || self.tree.next_no().is_none()
     }
 
     // Whether what was found lets a request pass, or why not.

@@ -15,22 +15,24 @@ use Rattle.smb_body.specs.declared.reply.Reply.{Reply}
 use Rattle.smb_request.specs.declared.response.Response.{Response}
 use Rattle.smb_request.specs.declared.response.Response.TheVariants.{Ready, Token}
 use Rattle.smb_request.specs.Parts.{named_open, number_named, is_unsupported}
+use Rattle.smb_wire.specs.declared.limits.share.Limits.{Limits}
 use Rattle.smb_wire.specs.declared.nt_status.NtStatus.{NtStatus}
 use Rattle.smb_refusals.specs.declared.refusal.Refusal.{Refusal}
 use Rattle.smb_refusals.specs.declared.session.SetupRefusal.TheVariants.{Denied}
 use Rattle.smb_session.specs.Table.{TableState}
+use Rattle.smb_tree.specs.Content.{Content}
 use Rattle.smb_access.specs.declared.open_row.OpenRow.{OpenRow}
 use Rattle.smb_access.specs.declared.open_row.Owner.TheVariants.{Session}
 use Rattle.smb_access.specs.Opens.{is_held_by}
 use Rattle.smb_request.specs.Settings.{Settings, is_lawful}
 use Rattle.smb_request.specs.Owners.{AreOwned}
 
--- what holds of a server between calls: the configuration keeps its rules, the share is named and has room as it
--- says, and each open is owned
-pub record IsServerKept (settings : Settings) (share : List ℕ) (table : TableState) (capacity : ℕ) (opens : List OpenRow) : Type 0 where
+-- what holds of a server between calls: the configuration keeps its rules, the share is named and has its room and
+-- its limits as it says, and each open is owned
+pub record IsServerKept (settings : Settings) (share : List ℕ) (table : TableState) (tree : Content) (opens : List OpenRow) : Type 0 where
   pub lawful : is_lawful settings ≡ true
   pub named : share ≡ settings.share
-  pub room : capacity ≡ settings.capacity
+  pub room : ◌≡◌ {A = ℕ × Limits} (tree.capacity, tree.limits) (settings.capacity, settings.limits)
   pub owned : AreOwned table opens
 
 -- the opens that are left where a session ended, or none

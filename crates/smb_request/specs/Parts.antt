@@ -448,9 +448,9 @@ is_share_name share = is_between 1 80 (length share) && list_all is_share_charac
 abbrev pub is_label : List ℕ → Bool
 is_label label = nat_le (length label) 32 && list_all (is_between 0x20 0x7E) label
 
--- a capacity: a multiple of 4,096 from 4,096 to 64 MiB
-abbrev pub is_capacity : ℕ → Bool
-is_capacity capacity = is_between 4096 67108864 capacity && (capacity % 4096 == 0)
+-- a capacity: a multiple of 4,096, from 4,096 to the greatest one
+abbrev pub is_capacity : ℕ → ℕ → Bool
+is_capacity greatest capacity = is_between 4096 greatest capacity && (capacity % 4096 == 0)
 
 -- a connection is gone, and its sessions with their trees (3.3.7.1)
 abbrev pub without_connection : TableState → ℕ → TableState

@@ -3,7 +3,7 @@ use Rattle.std.specs.Prelude.{ℕ, ◌==◌, not, [], filter}
 use Rattle.std.specs.List.{fold}
 use Rattle.smb_session.specs.Table.{connected, numbers_on}
 use Rattle.smb_session.specs.Sessions.{SessionsState, new_sessions}
-use Rattle.smb_tree.specs.Content.{new_content}
+use Rattle.smb_tree.specs.Content.{new_content_within}
 use Rattle.smb_access.specs.declared.open_row.Owner.TheVariants.{Session}
 use Rattle.smb_opens.specs.Close.{closed_all}
 use Rattle.smb_opens.specs.State.{StoreState}
@@ -21,7 +21,12 @@ abbrev pub new_server : {S : Type 0} → Settings → S → ServerState S
 new_server settings authenticator = record {
   settings = settings;
   sessions = new_sessions authenticator settings.share;
-  store = record { tree = new_content settings.created settings.capacity; opens = []; locks = []; next = 1 };
+  store = record {
+    tree = new_content_within settings.limits settings.created settings.capacity;
+    opens = [];
+    locks = [];
+    next = 1;
+  };
 }
 
 -- a connection may begin sessions from now on

@@ -2,8 +2,10 @@
 
 ghost use Rattle.std.specs.Prelude.{◌≡◌};
 ghost use Rattle.std.specs.List.{list_all};
-ghost use Rattle.smb_request.specs.Settings.{settings_of, is_lawful};
+ghost use Rattle.smb_request.specs.Settings.{settings_within, settings_of, is_lawful};
 ghost use Rattle.smb_request.specs.Parts.{is_share_character, is_share_name, is_label, is_capacity, is_between};
+
+use smb_wire::limits::Limits;
 
 /// What a share is told when it is made.
 #[derive(Debug, Drop)]
@@ -14,7 +16,8 @@ pub struct Config {
     pub label: String,
     /// The server's GUID, as it stands in a NEGOTIATE response.
     pub guid: [u8; 16],
-    /// The room for files in bytes: a multiple of 4,096 from 4,096 to 67,108,864.
+    /// The room for files in bytes: a multiple of 4,096, from 4,096 to what the share's limits let it be, which is
+    /// 67,108,864 by default.
     pub capacity: u64,
     /// When the share was made, in units of 100 ns since 1601.
     pub created: u64,
@@ -66,20 +69,27 @@ fn is_label(label: &[u8]) -> bool
     label.len() <= 32 && are_printable(label)
 }
 
-/// Whether the room is a multiple of 4,096 from 4,096 to 64 MiB.
-fn is_capacity(capacity: u64) -> bool
-    ensures { result ≡ is_capacity capacity }
+/// Whether the room is a multiple of 4,096, from 4,096 to the greatest one.
+fn is_capacity(greatest: u64, capacity: u64) -> bool
+    ensures { result ≡ is_capacity greatest capacity }
 {
-    is_between(4_096, 67_108_864, capacity) && capacity % 4_096 == 0
+    is_between(4_096, greatest, capacity) && capacity % 4_096 == 0
 }
 
 impl Config {
-    /// Whether the configuration keeps its rules.
+    /// Whether the configuration keeps its rules under the default limits.
     pub fn is_lawful(&self) -> bool
         ensures { result ≡ is_lawful (settings_of self.now) }
     {
+        self.is_lawful_within(Limits::profile())
+    }
+
+    /// Whether the configuration keeps its rules under these limits.
+    pub fn is_lawful_within(&self, limits: Limits) -> bool
+        ensures { result ≡ is_lawful (settings_within limits self.now) }
+    {
         is_share_name(self.share.as_bytes())
             && is_label(self.label.as_bytes())
-            && is_capacity(self.capacity)
+            && is_capacity(limits.capacity, self.capacity)
     }
 }

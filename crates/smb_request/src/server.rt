@@ -12,11 +12,11 @@ ghost use Rattle.smb_tree.specs.WholeNames.{entry_copied};
 ghost use Rattle.smb_body.specs.Replies.{reply_value, reply_spelling};
 ghost use Rattle.smb_session.specs.Good.{GoodTable};
 ghost use Rattle.smb_session.specs.Sessions.{new_sessions};
-ghost use Rattle.smb_tree.specs.Content.{new_content, used_space};
+ghost use Rattle.smb_tree.specs.Content.{new_content, new_content_within, used_space};
 ghost use Rattle.smb_info.specs.FileSystemInformation.{is_volume_label};
 ghost use Rattle.smb_info.specs.Volumes.{volume_facts};
 ghost use Rattle.smb_opens.specs.Good.{GoodStore};
-ghost use Rattle.smb_request.specs.Settings.{settings_of, is_lawful};
+ghost use Rattle.smb_request.specs.Settings.{settings_within, settings_of, is_lawful};
 ghost use Rattle.smb_request.specs.Negotiate.{negotiate_answer};
 ghost use Rattle.smb_request.specs.Parts.{volume_of, hello_of};
 ghost use Rattle.smb_request.specs.State.{new_server, connection_added, connection_ended};
@@ -31,6 +31,7 @@ use smb_info::Volume;
 use smb_opens::{Opens, Owner, Store};
 use smb_session::{Authenticator, Denial, Sessions};
 use smb_tree::{Tree, Usage};
+use smb_wire::limits::Limits;
 use smb_wire::{Dialect, Units, put_u16};
 use std::alloc::{AllocError, Global};
 use std::marker::Model;
@@ -39,21 +40,22 @@ use std::marker::Model;
 #[derive(Drop)]
 pub struct Server<A: Authenticator + Drop, T: Tree + Drop, O: Opens + Drop> {
     config: Config,
+    limits: Limits,
     pub(crate) sessions: Sessions<A>,
     pub(crate) store: Store<T, O>,
     alloc: Global,
 }
 
 impl<A: Authenticator + Drop, T: Tree + Drop, O: Opens + Drop> Model for Server<A, T, O> {
-    ghost use Rattle.smb_request.specs.Settings.{settings_of};
+    ghost use Rattle.smb_request.specs.Settings.{settings_within};
     ghost use Rattle.smb_request.specs.State.{ServerState};
     ghost use Rattle.smb_request.specs.Held.{IsServerKept};
 
     ghost Value = { ServerState A };
 
-    ghost view = { λ s. record { settings = settings_of s.config; sessions = s.sessions; store = s.store } };
+    ghost view = { λ s. record { settings = settings_within s.limits s.config; sessions = s.sessions; store = s.store } };
 
-    ghost invariant = { λ s. IsServerKept (settings_of s.config) s.sessions.share s.sessions.table s.store.tree.capacity s.store.opens };
+    ghost invariant = { λ s. IsServerKept (settings_within s.limits s.config) s.sessions.share s.sessions.table s.store.tree s.store.opens };
 }
 
 /// Adds the bytes of a unit.
@@ -97,8 +99,7 @@ fn sessions_of<A: Authenticator + Drop>(
 }
 
 impl<A: Authenticator + Drop, T: Tree + Drop, O: Opens + Drop> Server<A, T, O> {
-    /// What connections share at first: no session, and the root alone.
-    #[tactic(auto, using(smb_opens::proofs::OnePath::new_tree))]
+    /// What connections share at first, under the default limits: no session, and the root alone.
     pub fn new(
         alloc: Global,
         config: Config,
@@ -111,13 +112,39 @@ impl<A: Authenticator + Drop, T: Tree + Drop, O: Opens + Drop> Server<A, T, O> {
         requires opens { O.content opens ≡ [] }
         ensures { IfOk result (λ server. server ≡ new_server (settings_of config) authenticator) }
     {
+        Server::within(alloc, Limits::profile(), config, authenticator, tree, opens)
+    }
+
+    /// [`new`](Self::new) under these limits.
+    #[tactic(auto, using(smb_opens::proofs::OnePath::new_tree))]
+    pub fn within(
+        alloc: Global,
+        limits: Limits,
+        config: Config,
+        authenticator: A,
+        tree: T,
+        opens: O,
+    ) -> Result<Self, AllocError>
+        requires lawful { is_lawful (settings_within limits config) ≡ true }
+        requires tree { T.content tree ≡ new_content_within limits config.created config.capacity }
+        requires opens { O.content opens ≡ [] }
+        ensures { IfOk result (λ server. server ≡ new_server (settings_within limits config) authenticator) }
+    {
         let sessions = sessions_of(alloc, authenticator, config.share.as_bytes())?;
         Ok(Server {
             config,
+            limits,
             sessions,
             store: Store::new(alloc, tree, opens),
             alloc,
         })
+    }
+
+    /// The limits that the share is under.
+    pub fn limits(&self) -> Limits
+        ensures { result ≡ self.now.settings.limits }
+    {
+        self.limits
     }
 
     /// The allocator of what the share makes.
@@ -272,6 +299,7 @@ impl<A: Authenticator + Drop, T: Tree + Drop, O: Opens + Drop> Server<A, T, O> {
         ensures lawful { is_lawful self.now.settings ≡ true }
         ensures named { self.now.sessions.share ≡ self.now.settings.share }
         ensures room { self.now.store.tree.capacity ≡ self.now.settings.capacity }
+        ensures limits { self.now.store.tree.limits ≡ self.now.settings.limits }
         ensures sessions { GoodTable self.now.sessions.table }
         ensures store { GoodStore self.now.store }
         ensures owned { AreOwned self.now.sessions.table self.now.store.opens }

@@ -6,7 +6,7 @@ use Rattle.std.proofs.lemmas.List.{take_all}
 use Rattle.smb_wire.specs.Fields.{number_in}
 use Rattle.smb_wire.specs.Number.{number, spelling}
 use Rattle.smb_wire.proofs.Numbers.{number-spelling}
-use Rattle.smb_wire.specs.Limits.{most_at_once, most_file_bytes}
+use Rattle.smb_wire.specs.Limits.{most_at_once}
 use Rattle.smb_wire.specs.declared.access.Access.{Access}
 use Rattle.smb_wire.specs.declared.nt_status.NtStatus.TheVariants.{Success, BufferOverflow}
 use Rattle.smb_refusals.specs.declared.refusal.Refusal.{Refusal}
@@ -186,7 +186,7 @@ record IsSaidOf (class : FileInformationClass) (info : Information) (entry : Ent
   access : ℕ
   is : file_information_of class copy access ≡ info
   size : copy.size ≡ length entry.bytes
-  small : length entry.bytes ≤ 16777216
+  small : length entry.bytes ≤ 8796093022208
 
 said_of : (store : StoreState) (class : FileInformationClass) (info : Information) (o : Option OpenRow) → GoodStore store → said_by store class o ≡ Some info →
     (entry : Entry) × (option_and_then (λ (row : OpenRow). option_map (λ found. found.1) (numbered store.tree.rows row.entry)) o ≡ Some entry) × IsSaidOf class info entry
@@ -214,7 +214,9 @@ said_of store class info (Some row) good e = by_row (numbered store.tree.rows ro
             access = row.access.0;
             is = cc;
             size = refl;
-            small = holds_numbered (λ row. length row.1.bytes ≤ 16777216) store.tree.rows row.entry found good.tree.small is;
+            small =
+                let within : length found.1.bytes ≤ store.tree.limits.file_bytes = holds_numbered (λ row. length row.1.bytes ≤ store.tree.limits.file_bytes) store.tree.rows row.entry found good.tree.small is in
+                omega (arith, within, store.tree.limits.few_bytes);
           },
         )
 

@@ -2,6 +2,7 @@
 use Rattle.std.proofs.Common.{◌≡◌, ℕ, List, [], ◌∷◌, ◌++◌, false, Some, bit_or}
 use Rattle.smb_wire.specs.Access.{FILE_READ_DATA, FILE_WRITE_DATA}
 use Rattle.smb_wire.specs.Fields.{joined}
+use Rattle.smb_wire.specs.Limits.{default_limits}
 use Rattle.smb_wire.specs.declared.file_id.FileId.{FileId}
 use Rattle.smb_head.specs.Headers.{fields}
 use Rattle.smb_head.specs.declared.header.Header.{Header}
@@ -60,6 +61,7 @@ store = record {
     rows = ([], new_entry 1 [] Folder 0 0) ∷ ((65 ∷ []) ∷ [], file) ∷ [];
     next = 3;
     capacity = 8192;
+    limits = default_limits;
   };
   opens = opened ∷ [];
   locks = [];
@@ -74,7 +76,7 @@ session connection trees =
 -- a share with these sessions, and with the file and the open
 abbrev pub server : {S : Type 0} → S → List (ℕ × SessionState) → ServerState S
 server accounts sessions = record {
-  settings = record { share = []; label = []; guid = []; capacity = 8192; created = 0 };
+  settings = record { share = []; label = []; guid = []; capacity = 8192; created = 0; limits = default_limits };
   sessions = record {
     authenticator = accounts;
     share = 66 ∷ [];

@@ -4,6 +4,7 @@
 use Rattle.std.proofs.Common.{lit<, lit≤, ◌≡◌, ◌+◌, ◌||◌, ◌==◌, ℕ, true, false, List, [], ◌∷◌, ◌++◌, length, take, filter, fold, All, Option, None, Some, inl, refl, arith}
 use Rattle.std.proofs.lemmas.List.Elements.{All-from_recursion}
 use Rattle.smb_wire.specs.Access.{has_any}
+use Rattle.smb_wire.specs.Limits.{default_limits}
 use Rattle.smb_wire.specs.Number.{spelling}
 use Rattle.smb_wire.specs.QueryDirectoryFlags.{RESTART_SCANS, REOPEN}
 use Rattle.smb_patterns.specs.Patterns.{Matches, is_match}
@@ -66,11 +67,11 @@ abbrev file : ℕ → ℕ → Row
 file number unit = ((unit ∷ []) ∷ [], new_entry number ((unit ∷ []) ∷ []) File 0 0)
 
 abbrev both : Content
-both = record { rows = top ∷ file 2 65 ∷ file 3 66 ∷ []; next = 4; capacity = 0 }
+both = record { rows = top ∷ file 2 65 ∷ file 3 66 ∷ []; next = 4; capacity = 0; limits = default_limits }
 
 -- once `A` is deleted
 abbrev alone : Content
-alone = record { rows = top ∷ file 3 66 ∷ []; next = 4; capacity = 0 }
+alone = record { rows = top ∷ file 3 66 ∷ []; next = 4; capacity = 0; limits = default_limits }
 
 good_both : GoodContent both
 good_both = record {

@@ -35,7 +35,7 @@ use Rattle.smb_restart_laws.proofs.Runs.{ends_keep}
 -- a new share is good
 pub new_good : {S : Type 0} (settings : Settings) (accounts : S) → is_lawful settings ≡ true → GoodState (new_share settings accounts)
 new_good settings accounts lawful =
-    let tree = new_tree settings.created settings.capacity in
+    let tree = new_tree settings.limits settings.created settings.capacity in
     record {
       lawful = lawful;
       named = refl;
@@ -65,6 +65,7 @@ new_good settings accounts lawful =
         compatible = λ one other first second found. absurd (cc);
         marked = λ number mark. absurd (true≢false (sym mark ∙ tree.unmarked number));
         locked = record { rising = tt; listed = tt; good = tt };
+        few_locks = tt;
         held = λ file lock here. absurd (omega (arith, here.1));
       };
       owned = tt;

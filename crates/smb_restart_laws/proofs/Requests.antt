@@ -76,7 +76,7 @@ use Rattle.smb_request.specs.Response.{CommandStep, Performed, refused, through_
 use Rattle.smb_request.specs.Session.{may_only_read, session_set_up, session_logged_off, tree_joined, tree_left}
 use Rattle.smb_request.specs.State.{ServerState}
 use Rattle.smb_request.proofs.Apart.{acts_known, id_held}
-use Rattle.smb_request.proofs.Configured.{created_kept, closed_kept, all_kept, ended_kept, locks_kept, locks_opens, written_kept}
+use Rattle.smb_request.proofs.Configured.{room_of, created_kept, closed_kept, all_kept, ended_kept, locks_kept, locks_opens, written_kept}
 use Rattle.smb_request.proofs.Handed.{request_passed}
 use Rattle.smb_request.proofs.InfoApart.{set_opens, queried_left, info_set_left}
 use Rattle.smb_request.proofs.Listings.{owned_scanned, listed_left}
@@ -98,7 +98,7 @@ pub record IsServerHeld {S : Type 0} (server : ServerState S) : Type 0 where
 pub record Keeps {S : Type 0} (before after : ServerState S) : Type 0 where
   pub settings : after.settings ≡ before.settings
   pub share : after.sessions.share ≡ before.sessions.share
-  pub room : after.store.tree.capacity ≡ before.store.tree.capacity
+  pub room : room_of after.store.tree ≡ room_of before.store.tree
   pub connections : after.sessions.table.connections ≡ before.sessions.table.connections
   pub held : IsServerHeld after
 
@@ -170,13 +170,13 @@ opens_for : (table : TableState) (store : StoreState) (ended : Option ℕ) → N
 opens_for table store None o = refl
 opens_for table store (Some session) o = (others_left store (Session session) o.opens).opens
 
--- a SET_INFO leaves the capacity
-with_tree_room : (tree : OpenRow → Content) (store : StoreState) (found : Option OpenRow) → ((row : OpenRow) → (tree row).capacity ≡ store.tree.capacity) →
-    (option_map_or (λ (row : OpenRow). let x : StoreState = record store { tree = tree row } in x) found store).tree.capacity ≡ store.tree.capacity
+-- a SET_INFO leaves the capacity and the limits
+with_tree_room : (tree : OpenRow → Content) (store : StoreState) (found : Option OpenRow) → ((row : OpenRow) → room_of (tree row) ≡ room_of store.tree) →
+    room_of ((option_map_or (λ (row : OpenRow). let x : StoreState = record store { tree = tree row } in x) found store).tree) ≡ room_of store.tree
 with_tree_room tree store None same = refl
 with_tree_room tree store (Some row) same = same row
 
-set_room : (store : StoreState) (k moment : ℕ) (ask : SetAsked) → (set_through store k moment ask).tree.capacity ≡ store.tree.capacity
+set_room : (store : StoreState) (k moment : ℕ) (ask : SetAsked) → room_of ((set_through store k moment ask).tree) ≡ room_of store.tree
 set_room store k moment (asks_basic ask) = with_tree_room (λ row. changed_in (entry_set ask moment) store.tree row.entry) store (open_of store.opens k) (λ row. refl)
 set_room store k moment (asks_rename replace name) = with_tree_room (λ row. renamed_tree store.tree row.entry (path_spelled name) moment) store (open_of store.opens k) (λ row. refl)
 set_room store k moment (asks_mark mark) = with_tree_room (λ row. changed_in (delete_set mark) store.tree row.entry) store (open_of store.opens k) (λ row. refl)
@@ -203,7 +203,7 @@ module _ {S : Type 0} (call : _) (body : Option RequestValue) (read : IsCallOf c
   same = record { settings = refl; share = refl; room = refl; connections = refl; held = h }
 
   -- the store alone is another
-  stored : (store : StoreState) → store.tree.capacity ≡ server.store.tree.capacity → AreOwned table store.opens → Left (with_store server store)
+  stored : (store : StoreState) → room_of store.tree ≡ room_of server.store.tree → AreOwned table store.opens → Left (with_store server store)
   stored store room owned = record { settings = refl; share = refl; room = room; connections = refl; held = record { table = h.table; owned = owned } }
 
   by_row : (step : CommandStep S) (refusal : Option Refusal) → (refusal ≡ None → Left step.server) → Left (unless_refused server call.ids refusal step).server

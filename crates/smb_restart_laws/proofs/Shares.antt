@@ -191,7 +191,7 @@ sound_ended server n sound = record {
 held_ended_by : {S : Type 0} (s t : ShareState S) (n : ℕ) → t.server ≡ connection_ended s.server n → t.streams ≡ remove_entry (is_at (nat_cmp n)) s.streams → StreamsInOrder t → IsShareHeld s → IsShareHeld t
 unfolding connection_ended
 held_ended_by s t n e f order held =
-    let room = store_keeps (λ state. state.tree.capacity ≡ s.server.settings.capacity) (λ state number h. closed_kept state number ∙ h) s.server n held.room in
+    let room = store_keeps (λ state. state.tree.capacity ≡ s.server.settings.capacity) (λ state number h. ap (λ r. r.0) (closed_kept state number) ∙ h) s.server n held.room in
     record {
       streams = order;
       sound = subst IsSound (sym e) (sound_ended s.server n held.sound);
@@ -244,7 +244,7 @@ module _ {S : Type 0} (m : Meaning S) where
     sound = sound_then s.server server g;
     lawful = rw g.kept.settings held.lawful;
     named = g.kept.share ∙ held.named ∙ ap (λ t. t.share) (sym g.kept.settings);
-    room = g.kept.room ∙ held.room ∙ ap (λ t. t.capacity) (sym g.kept.settings);
+    room = ap (λ r. r.0) g.kept.room ∙ held.room ∙ ap (λ t. t.capacity) (sym g.kept.settings);
     known = g.kept.connections ∙ held.known;
   }
 

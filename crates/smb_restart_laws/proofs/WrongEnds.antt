@@ -1,5 +1,6 @@
 -- Wrong definitions of ends, which the laws refuse: with each the law is false.
 use Rattle.std.proofs.Common.{◌≡◌, true, None, List, [], ◌∷◌, take, refl, arith}
+use Rattle.smb_wire.specs.Limits.{default_limits}
 use Rattle.smb_session.specs.Authenticator.{Meaning}
 use Rattle.smb_request.specs.Settings.{Settings, is_lawful}
 use Rattle.smb_peers.specs.Event.{EventText, opens}
@@ -11,7 +12,7 @@ use Rattle.smb_restart_laws.proofs.Ended.{new_good}
 
 -- a configuration that keeps the rules: a share named A
 pub settings : Settings
-settings = record { share = 65 ∷ []; label = []; guid = 0 ∷ 0 ∷ 0 ∷ 0 ∷ 0 ∷ 0 ∷ 0 ∷ 0 ∷ 0 ∷ 0 ∷ 0 ∷ 0 ∷ 0 ∷ 0 ∷ 0 ∷ 0 ∷ []; capacity = 65536; created = 0 }
+settings = record { share = 65 ∷ []; label = []; guid = 0 ∷ 0 ∷ 0 ∷ 0 ∷ 0 ∷ 0 ∷ 0 ∷ 0 ∷ 0 ∷ 0 ∷ 0 ∷ 0 ∷ 0 ∷ 0 ∷ 0 ∷ 0 ∷ []; capacity = 65536; created = 0; limits = default_limits }
 
 pub lawful : is_lawful settings ≡ true
 unfolding settings

@@ -42,7 +42,6 @@ use Rattle.smb_tree.specs.Content.{used_space, written, changed_in}
 use Rattle.smb_tree.specs.Entries.{is_folder_kind}
 use Rattle.smb_access.specs.Access.{is_writing}
 use Rattle.smb_wire.specs.Access.{has_any, FILE_WRITE_DATA}
-use Rattle.smb_wire.specs.Limits.{most_file_bytes}
 use Rattle.smb_locks.specs.Table.{locks_on}
 use Rattle.smb_locks.specs.Conflicts.{is_write_barred}
 use Rattle.smb_locks.specs.declared.ask.LockAsk.{LockAsk}
@@ -112,7 +111,7 @@ rows_behind state number offset buffer view =
     )
     ∷ (
       nat_lt 0 (length buffer)
-          && (nat_lt most_file_bytes (offset + length buffer) || nat_lt state.tree.capacity (used_space after.rows)),
+          && (nat_lt state.tree.limits.file_bytes (offset + length buffer) || nat_lt state.tree.capacity (used_space after.rows)),
       DiskFull,
     )
     ∷ []

@@ -28,5 +28,5 @@ pub row_new : (items us bytes : List ℕ) (parts : List (List ℕ)) (basic : Bas
 row_new items us bytes parts basic number attributes moment kind e h f g k = rw (parts_read items us parts e h f, g, k) refl
 
 -- where nothing stands against it, a number is left
-pub number_left : (entry_at_path : Path → Option Entry) (count next : ℕ) (path : Path) → add_fault_by entry_at_path count next path ≡ None → next < 2 ^ 64 - 1
-number_left entry_at_path count next path h = grind (arith, nat_tests, h)
+pub number_left : (entry_at_path : Path → Option Entry) (most count next : ℕ) (path : Path) → add_fault_by entry_at_path most count next path ≡ None → next < 2 ^ 64 - 1
+number_left entry_at_path most count next path h = grind (arith, nat_tests, h)

@@ -42,10 +42,10 @@ sized_space xs n i x z size others p e f =
     sym (ap used_space (sized xs n i x z size p e)) ∙ would_use (rows_of xs) n size others (row_of x) (place_found xs n i x p) f
 
 -- the fault of a size, by what the other entries use
-pub size_fault_is : (content : Content) (n size others : ℕ) (row : Row) (fault : Option TreeFault) → numbered content.rows n ≡ Some row → others + allocation_size (length row.1.bytes) ≡ used_space content.rows → fault ≡ (if is_folder_kind row.1.kind then Some Absent else if nat_lt 16777216 size || nat_lt content.capacity (others + allocation_size size) then Some Full else None) → size_fault content n size ≡ fault
+pub size_fault_is : (content : Content) (n size others : ℕ) (row : Row) (fault : Option TreeFault) → numbered content.rows n ≡ Some row → others + allocation_size (length row.1.bytes) ≡ used_space content.rows → fault ≡ (if is_folder_kind row.1.kind then Some Absent else if nat_lt content.limits.file_bytes size || nat_lt content.capacity (others + allocation_size size) then Some Full else None) → size_fault content n size ≡ fault
 size_fault_is content n size others row fault h e f =
     let after = would_use content.rows n size others row h e in
-    ap (size_fault_of content n size) h ∙ ap (λ (u : ℕ). if is_folder_kind row.1.kind then Some Absent else if nat_lt 16777216 size || nat_lt content.capacity u then Some Full else None) after ∙ sym f
+    ap (size_fault_of content n size) h ∙ ap (λ (u : ℕ). if is_folder_kind row.1.kind then Some Absent else if nat_lt content.limits.file_bytes size || nat_lt content.capacity u then Some Full else None) after ∙ sym f
 
 -- the same entry has as many bytes, and uses the same space
 pub same_long : (xs : List Stored) (n i j : ℕ) (x y : Stored) → IsPlace xs n i x → IsPlace xs n j y → length x.bytes.items ≡ length y.bytes.items
@@ -76,27 +76,27 @@ put_space xs n i x z offset size others buffer p e s f =
     sym (ap used_space (put xs n i x z offset buffer p e)) ∙ omega (arith, after, long, f)
 
 -- a size that no file may have is refused whatever it is
-same_full : (size other others capacity : ℕ) → (size ≡ other) ⊎ ((16777216 < size) × (16777216 < other)) → (nat_lt 16777216 size || nat_lt capacity (others + allocation_size size)) ≡ (nat_lt 16777216 other || nat_lt capacity (others + allocation_size other))
-same_full size other others capacity (inl h) = ap (λ (n : ℕ). nat_lt 16777216 n || nat_lt capacity (others + allocation_size n)) h
-same_full size other others capacity (inr h) =
-    or_left (nat_lt 16777216 size) (nat_lt capacity (others + allocation_size size)) (lt-ltb 16777216 size h.0)
-    ∙ sym (or_left (nat_lt 16777216 other) (nat_lt capacity (others + allocation_size other)) (lt-ltb 16777216 other h.1))
+same_full : (most size other others capacity : ℕ) → (size ≡ other) ⊎ ((most < size) × (most < other)) → (nat_lt most size || nat_lt capacity (others + allocation_size size)) ≡ (nat_lt most other || nat_lt capacity (others + allocation_size other))
+same_full most size other others capacity (inl h) = ap (λ (n : ℕ). nat_lt most n || nat_lt capacity (others + allocation_size n)) h
+same_full most size other others capacity (inr h) =
+    or_left (nat_lt most size) (nat_lt capacity (others + allocation_size size)) (lt-ltb most size h.0)
+    ∙ sym (or_left (nat_lt most other) (nat_lt capacity (others + allocation_size other)) (lt-ltb most other h.1))
 
-written_end : (long end : ℕ) → (max long end ≡ max long (min end (2 ^ 64 - 1))) ⊎ ((16777216 < max long end) × (16777216 < max long (min end (2 ^ 64 - 1))))
-written_end long end = elim (cases_lt end (2 ^ 64)) [ inl h ↦ inl (omega arith) | inr h ↦ inr (omega arith, omega arith) ]
+written_end : (most long end : ℕ) → most ≤ 8796093022208 → (max long end ≡ max long (min end (2 ^ 64 - 1))) ⊎ ((most < max long end) × (most < max long (min end (2 ^ 64 - 1))))
+written_end most long end few = elim (cases_lt end (2 ^ 64)) [ inl h ↦ inl (omega arith) | inr h ↦ inr (omega arith, omega arith) ]
 
 -- the bytes of an entry that was found
 pub bytes_found : (rows : List Row) (n : ℕ) (row : Row) → numbered rows n ≡ Some row → bytes_of rows n ≡ row.1.bytes
 bytes_found rows n row h = ap (λ (o : Option Row). option_map_or (λ row. row.1.bytes) o []) h
 
 -- the fault of a write, by what the other entries use and the size as it is counted
-pub write_fault_is : (content : Content) (n offset count size others : ℕ) (row : Row) (fault : Option TreeFault) → numbered content.rows n ≡ Some row → others + allocation_size (length row.1.bytes) ≡ used_space content.rows → size ≡ max (length row.1.bytes) (min (offset + count) (2 ^ 64 - 1)) → fault ≡ (if is_folder_kind row.1.kind then Some Absent else if nat_lt 16777216 size || nat_lt content.capacity (others + allocation_size size) then Some Full else None) → write_fault content n offset count ≡ fault
+pub write_fault_is : (content : Content) (n offset count size others : ℕ) (row : Row) (fault : Option TreeFault) → numbered content.rows n ≡ Some row → others + allocation_size (length row.1.bytes) ≡ used_space content.rows → size ≡ max (length row.1.bytes) (min (offset + count) (2 ^ 64 - 1)) → fault ≡ (if is_folder_kind row.1.kind then Some Absent else if nat_lt content.limits.file_bytes size || nat_lt content.capacity (others + allocation_size size) then Some Full else None) → write_fault content n offset count ≡ fault
 write_fault_is content n offset count size others row fault h e s f =
     let here : bytes_of content.rows n ≡ row.1.bytes = bytes_found content.rows n row h in
     let end : ℕ = max (length row.1.bytes) (offset + count) in
-    let counted : (end ≡ size) ⊎ ((16777216 < end) × (16777216 < size)) = rw s (written_end (length row.1.bytes) (offset + count)) in
+    let counted : (end ≡ size) ⊎ ((content.limits.file_bytes < end) × (content.limits.file_bytes < size)) = rw s (written_end content.limits.file_bytes (length row.1.bytes) (offset + count) content.limits.few_bytes) in
     ap (λ (bytes : List ℕ). size_fault content n (max (length bytes) (offset + count))) here
-    ∙ size_fault_is content n end others row fault h e (f ∙ ap (λ (b : Bool). if is_folder_kind row.1.kind then Some Absent else if b then Some Full else None) (sym (same_full end size others content.capacity counted)))
+    ∙ size_fault_is content n end others row fault h e (f ∙ ap (λ (b : Bool). if is_folder_kind row.1.kind then Some Absent else if b then Some Full else None) (sym (same_full content.limits.file_bytes end size others content.capacity counted)))
 
 -- the entry at a place taken out
 pub removed_space : (xs : List Stored) (n i others : ℕ) (x : Stored) → IsPlace xs n i x → others + allocation_size (length x.bytes.items) ≡ used_space (rows_of xs) → used_space (rows_of (remove xs i)) ≡ others
@@ -105,8 +105,8 @@ removed_space xs n i others x p e =
     sym (ap used_space (place_without xs n i x p)) ∙ omega (arith, less, e)
 
 -- a size that is not refused is within the limit of a file
-pub within_limit : (size others capacity : ℕ) (folder : Bool) (fault : Option TreeFault) → fault ≡ (if folder then Some Absent else if nat_lt 16777216 size || nat_lt capacity (others + allocation_size size) then Some Full else None) → fault ≡ None → size ≤ 16777216
-within_limit size others capacity folder fault e h = grind (arith, nat_tests, e, h)
+pub within_limit : (most size others capacity : ℕ) (folder : Bool) (fault : Option TreeFault) → fault ≡ (if folder then Some Absent else if nat_lt most size || nat_lt capacity (others + allocation_size size) then Some Full else None) → fault ≡ None → size ≤ most
+within_limit most size others capacity folder fault e h = grind (arith, nat_tests, e, h)
 
 -- the fault of a read, and of a removal, of an entry that was found
 pub read_fault_is : (rows : List Row) (n : ℕ) (row : Row) (folder : Bool) → numbered rows n ≡ Some row → is_folder_kind row.1.kind ≡ folder → read_fault_of (numbered rows n) ≡ (if folder then Some Absent else None)

@@ -370,8 +370,8 @@ short_after from to (x ∷ rows) h k =
       short_after from to rows h.1 (grind (arith, k)),
     )
 
-small_after : (from : Path) (parts : List (List ℕ)) (x : Row) → length x.1.bytes ≤ 16777216 → length (moved_row from parts x).1.bytes ≤ 16777216
-small_after from parts x h = elim (is_same_path x.0 from) as (λ b. length (if b then record x.1 { spelling = last_part parts } else x.1).bytes ≤ 16777216) [ true ↦ h | false ↦ h ]
+small_after : (most : ℕ) (from : Path) (parts : List (List ℕ)) (x : Row) → length x.1.bytes ≤ most → length (moved_row from parts x).1.bytes ≤ most
+small_after most from parts x h = elim (is_same_path x.0 from) as (λ b. length (if b then record x.1 { spelling = last_part parts } else x.1).bytes ≤ most) [ true ↦ h | false ↦ h ]
 
 bare_after : (from : Path) (parts : List (List ℕ)) (x : Row) → (is_folder_kind x.1.kind ≡ true → length x.1.bytes ≡ 0) → is_folder_kind (moved_row from parts x).1.kind ≡ true → length (moved_row from parts x).1.bytes ≡ 0
 bare_after from parts x h = elim (is_same_path x.0 from) as (λ b. is_folder_kind (if b then record x.1 { spelling = last_part parts } else x.1).kind ≡ true → length (if b then record x.1 { spelling = last_part parts } else x.1).bytes ≡ 0) [ true ↦ h | false ↦ h ]
@@ -430,7 +430,7 @@ good_after content n parts from entry m =
       counted = g.counted;
       few = omega (arith, less.rows, g.few);
       shallow = all-map (λ row. length row.0 ≤ 32) (moved_row from parts) gone (all_gone (λ row. length (replaced from to row.0) ≤ 32) content.rows n (entry_at content.rows to) (short_after from to content.rows g.shallow f.short));
-      small = all-map (λ row. length row.1.bytes ≤ 16777216) (moved_row from parts) gone (all-more (λ row. length row.1.bytes ≤ 16777216) (λ row. length (moved_row from parts row).1.bytes ≤ 16777216) gone (small_after from parts) (all_gone (λ row. length row.1.bytes ≤ 16777216) content.rows n (entry_at content.rows to) g.small));
+      small = all-map (λ row. length row.1.bytes ≤ content.limits.file_bytes) (moved_row from parts) gone (all-more (λ row. length row.1.bytes ≤ content.limits.file_bytes) (λ row. length (moved_row from parts row).1.bytes ≤ content.limits.file_bytes) gone (small_after content.limits.file_bytes from parts) (all_gone (λ row. length row.1.bytes ≤ content.limits.file_bytes) content.rows n (entry_at content.rows to) g.small));
       bare = all-map (λ row. is_folder_kind row.1.kind ≡ true → length row.1.bytes ≡ 0) (moved_row from parts) gone (all-more (λ row. is_folder_kind row.1.kind ≡ true → length row.1.bytes ≡ 0) (λ row. is_folder_kind (moved_row from parts row).1.kind ≡ true → length (moved_row from parts row).1.bytes ≡ 0) gone (bare_after from parts) (all_gone (λ row. is_folder_kind row.1.kind ≡ true → length row.1.bytes ≡ 0) content.rows n (entry_at content.rows to) g.bare));
       fits = omega (arith, less.space, g.fits);
     }

@@ -2,6 +2,8 @@
 use Rattle.std.specs.Prelude.{ℕ, ◌+◌, ◌-◌, Bool, ◌==◌, nat_eq, if◌then◌else◌, List, [], ◌∷◌, ◌++◌, length, take, drop, sum_by, replicate, Option, None, Some}
 use Rattle.std.specs.Option.{option_map, option_map_or}
 use Rattle.std.specs.Cmp.Lexicographic.{pointwise}
+use Rattle.smb_wire.specs.declared.limits.share.Limits.{Limits}
+use Rattle.smb_wire.specs.Limits.{default_limits}
 use Rattle.smb_wire.specs.Counters.{is_spent}
 use Rattle.smb_wire.specs.Paths.{folded_path}
 use Rattle.smb_tree.specs.declared.entry.Kind.{Kind}
@@ -19,11 +21,12 @@ is_same_path = pointwise (pointwise nat_eq)
 abbrev pub Row : Type 0
 Row = Path × Entry
 
--- the entries, in the order of their numbers, the next number, and how many bytes of space there are
+-- the entries, in the order of their numbers, the next number, how many bytes of space there are, and the limits
 pub record Content : Type 0 where
   pub rows : List Row
   pub next : ℕ
   pub capacity : ℕ
+  pub limits : Limits
 
 -- the entry at a path
 abbrev pub entry_at : List Row → Path → Option Entry
@@ -51,13 +54,18 @@ next_number content = if is_spent 64 content.next then None else Some content.ne
 abbrev pub used_space : List Row → ℕ
 used_space = sum_by (λ row. allocation_size (length row.1.bytes))
 
--- the content of a new tree: the root alone, with no attributes
-abbrev pub new_content : ℕ → ℕ → Content
-new_content created capacity = record {
+-- the content of a new tree under some limits: the root alone, with no attributes
+abbrev pub new_content_within : Limits → ℕ → ℕ → Content
+new_content_within limits created capacity = record {
   rows = ([], new_entry 1 [] Folder 0 created) ∷ [];
   next = 2;
   capacity = capacity;
+  limits = limits;
 }
+
+-- the same under the default limits
+abbrev pub new_content : ℕ → ℕ → Content
+new_content = new_content_within default_limits
 
 -- a new entry at the path that these components spell, under the next number
 abbrev pub added : Content → List (List ℕ) → Kind → ℕ → ℕ → Content

@@ -2,7 +2,7 @@
 use Rattle.std.specs.Prelude.{ℕ, ◌+◌, ◌-◌, max, not, ◌&&◌, ◌||◌, ◌==◌, false, nat_le, nat_lt, is_some, if◌then◌else◌, length, Option, None, Some}
 use Rattle.std.specs.List.{list_any}
 use Rattle.std.specs.Option.{option_map_or}
-use Rattle.smb_wire.specs.Limits.{most_entries, most_file_bytes, most_components}
+use Rattle.smb_wire.specs.Limits.{most_components}
 use Rattle.smb_wire.specs.Counters.{is_spent}
 use Rattle.smb_tree.specs.declared.fault.TreeFault.{TreeFault}
 use Rattle.smb_tree.specs.declared.fault.TreeFault.TheVariants.{Absent, ParentAbsent, Exists, NotEmpty, TooDeep, Full}
@@ -11,22 +11,22 @@ use Rattle.smb_tree.specs.Content.{Path, Row, Content, entry_at, numbered, paren
 use Rattle.smb_tree.specs.Children.{is_child}
 use Rattle.smb_tree.specs.Moves.{is_within, replaced}
 
--- of an entry that would be added at a path: the folder around that is there, and no entry at it; 4,096 entries besides
--- the root are the most, and a number is left. (The path of a name has at most 32 components.)
+-- of an entry that would be added at a path: the folder around that is there, and no entry at it; besides the root there
+-- are fewer entries than the limits let be, and a number is left. (The path of a name has at most 32 components.)
 abbrev pub add_fault : Content → Path → Option TreeFault
 add_fault content path =
     if not (is_folder (entry_at content.rows (parent path))) then Some ParentAbsent else
     if is_some (entry_at content.rows path) then Some Exists else
-    if nat_le most_entries (length content.rows - 1) || is_spent 64 content.next then Some Full else None
+    if nat_le content.limits.entries (length content.rows - 1) || is_spent 64 content.next then Some Full else None
 
--- of a size that an entry would get: 16,777,216 bytes are the most, and the space used afterwards is within
--- the capacity; a folder has no bytes
+-- of a size that an entry would get: it is within the limit of a file, and the space used afterwards is within the
+-- capacity; a folder has no bytes
 abbrev pub size_fault : Content → ℕ → ℕ → Option TreeFault
 size_fault content number size = option_map_or
     (λ (row : Row).
     let after = changed_in (λ entry. record entry { bytes = resized size entry.bytes }) content number in
     if is_folder_kind row.1.kind then Some Absent else
-    if nat_lt most_file_bytes size || nat_lt content.capacity (used_space after.rows) then Some Full else None)
+    if nat_lt content.limits.file_bytes size || nat_lt content.capacity (used_space after.rows) then Some Full else None)
     (numbered content.rows number) (Some Absent)
 
 -- of times and attributes or a mark that an entry would get, and of an entry that would be copied

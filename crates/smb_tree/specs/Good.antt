@@ -2,7 +2,7 @@
 use Rattle.std.specs.Prelude.{◌≡◌, ◌<◌, ◌≤◌, ◌+◌, ◌^◌, true, [], length, Some}
 use Rattle.std.specs.List.{AllByRecursion, list_all}
 use Rattle.std.specs.Option.{option_map}
-use Rattle.smb_wire.specs.Limits.{most_entries, most_components, most_file_bytes}
+use Rattle.smb_wire.specs.Limits.{most_components}
 use Rattle.smb_wire.specs.Names.{folded}
 use Rattle.smb_wire.specs.Paths.{folded_path, is_lawful_component}
 use Rattle.smb_tree.specs.Entries.{is_folder, is_folder_kind, kept_attributes, last_part}
@@ -10,8 +10,9 @@ use Rattle.smb_tree.specs.Content.{Row, Content, entry_at, parent, used_space}
 use Rattle.smb_tree.specs.Laws.{AreApart}
 
 -- a good content: the root is a folder of number 1, and around each entry there is a folder; no path and no number is
--- there twice; the numbers are below the next; at most 4,096 entries besides the root, of at most 32 components;
--- files of at most 16,777,216 bytes, folders of none; and the space used is there
+-- there twice; the numbers are below the next; there are no more entries besides the root than the limits let be, of at
+-- most 32 components; files have no more bytes than the limits let a file have, folders none; and the space used is
+-- there
 pub record GoodContent (content : Content) : Type 0 where
   pub root : is_folder (entry_at content.rows []) ≡ true
   pub first : option_map (λ entry. entry.number) (entry_at content.rows []) ≡ Some 1
@@ -19,9 +20,9 @@ pub record GoodContent (content : Content) : Type 0 where
   pub apart : AreApart content.rows
   pub below : AllByRecursion (λ row. row.1.number < content.next) content.rows
   pub counted : content.next < 2 ^ 64
-  pub few : length content.rows ≤ most_entries + 1
+  pub few : length content.rows ≤ content.limits.entries + 1
   pub shallow : AllByRecursion (λ row. length row.0 ≤ most_components) content.rows
-  pub small : AllByRecursion (λ row. length row.1.bytes ≤ most_file_bytes) content.rows
+  pub small : AllByRecursion (λ row. length row.1.bytes ≤ content.limits.file_bytes) content.rows
   pub bare : AllByRecursion (λ row. is_folder_kind row.1.kind ≡ true → length row.1.bytes ≡ 0) content.rows
   pub fits : used_space content.rows ≤ content.capacity
 

@@ -4,7 +4,7 @@ use Rattle.std.specs.Prelude.{ℕ, ◌<◌, ◌-◌, Bool, true, false, not, ◌
 use Rattle.std.specs.List.{AllByRecursion, list_any}
 use Rattle.std.specs.Option.{option_map_or}
 use Rattle.smb_wire.specs.Counters.{is_spent}
-use Rattle.smb_wire.specs.Limits.{most_components, most_entries, most_file_bytes}
+use Rattle.smb_wire.specs.Limits.{most_components}
 use Rattle.smb_wire.specs.Pairs.{unit_bytes}
 use Rattle.smb_wire.specs.Paths.{folded_path, joined_by_separators}
 use Rattle.smb_tree.specs.declared.entry.Basic.{Basic}
@@ -130,18 +130,19 @@ row_copied rows row = record {
   name = unit_bytes (whole_name rows row.0);
 }
 
--- of an entry that would be added at a path, by what stands where, how many entries there are, and the next number
-abbrev pub add_fault_by : (Path → Option Entry) → ℕ → ℕ → Path → Option TreeFault
-add_fault_by entry_at_path count next path =
+-- of an entry that would be added at a path, by what stands where, how many entries there may be and are, and the next
+-- number
+abbrev pub add_fault_by : (Path → Option Entry) → ℕ → ℕ → ℕ → Path → Option TreeFault
+add_fault_by entry_at_path most count next path =
     if not (is_folder (entry_at_path (parent path))) then Some ParentAbsent else
     if is_some (entry_at_path path) then Some Exists else
-    if nat_le most_entries (count - 1) || is_spent 64 next then Some Full else None
+    if nat_le most (count - 1) || is_spent 64 next then Some Full else None
 
 -- of a size that an entry would get
 abbrev pub size_fault_of : Content → ℕ → ℕ → Option Row → Option TreeFault
 size_fault_of content number size found = option_map_or
     (λ (row : Row). if is_folder_kind row.1.kind then Some Absent else
-    if nat_lt most_file_bytes size || nat_lt content.capacity (used_space (with_size content number size).rows)
+    if nat_lt content.limits.file_bytes size || nat_lt content.capacity (used_space (with_size content number size).rows)
     then Some Full else None) found (Some Absent)
 
 -- of another mark that an entry would get

@@ -1,7 +1,7 @@
 //! The bytes of a stored file.
 
 ghost use Rattle.std.specs.Prelude.{◌≡◌, ◌+◌, ◌≤◌, ◌++◌, max, OnOk, OnErr, length, take, drop};
-ghost use Rattle.smb_wire.specs.Limits.{most_file_bytes};
+ghost use Rattle.smb_wire.specs.Greatest.{greatest_file_bytes};
 ghost use Rattle.smb_tree.specs.Content.{resized, written};
 ghost use Rattle.smb_tree.specs.Parts.{part};
 
@@ -44,7 +44,7 @@ fn set_bytes(bytes: &mut Vec<u8>, offset: usize, buffer: &[u8])
 
 // Puts bytes at an offset, behind zeros where it is past the end.
 pub fn put_at(bytes: &mut Vec<u8>, offset: usize, buffer: &[u8]) -> Result<(), AllocError>
-    requires { offset + length buffer.now ≤ most_file_bytes }
+    requires { offset + length buffer.now ≤ greatest_file_bytes }
     ensures ok { OnOk result (bytes.new.items ≡ written offset buffer.now bytes.old.items) }
     ensures err { OnErr result (bytes.new.items ≡ bytes.old.items) }
 {

@@ -1,7 +1,7 @@
 //! What an entry is.
 
 ghost use Rattle.std.specs.Prelude.{◌≡◌, ◌≤◌};
-ghost use Rattle.smb_wire.specs.Limits.{most_file_bytes};
+ghost use Rattle.smb_wire.specs.Greatest.{greatest_file_bytes};
 ghost use Rattle.smb_tree.specs.Entries.{allocation_size, is_folder_kind, kept_attributes, shown_attributes, kept_basic};
 
 use smb_wire::{FileAttributes, Units};
@@ -14,7 +14,7 @@ const CLUSTER: u64 = 4096;
 
 /// The space that a file of so many bytes takes: whole clusters of 4,096 bytes.
 pub fn allocation_size(size: u64) -> u64
-    requires { size ≤ most_file_bytes }
+    requires { size ≤ greatest_file_bytes }
     ensures { result ≡ allocation_size size }
 {
     size.div_ceil(CLUSTER) * CLUSTER

@@ -1,7 +1,7 @@
 //! An entry with its name, copied out of a tree.
 
 ghost use Rattle.std.specs.Prelude.{◌≤◌, length};
-ghost use Rattle.smb_wire.specs.Limits.{most_file_bytes};
+ghost use Rattle.smb_wire.specs.Greatest.{greatest_file_bytes};
 
 use super::entry::{Basic, EntryNo, Kind};
 
@@ -19,7 +19,7 @@ pub struct EntryCopy {
     /// The components of its path as they are spelled, with a separator between each two, two bytes a unit; the
     /// root's is empty.
     pub name: Vec<u8>,
-    pub ghost few: { size ≤ most_file_bytes },
+    pub ghost few: { size ≤ greatest_file_bytes },
     // 32 components of 255 units, and the separators between them.
     pub ghost short: { length name.items ≤ 16382 },
 }

@@ -16,10 +16,8 @@ use super::entry::{EntryNo, EntryView};
 use super::fault::TreeFault;
 use super::stored::Stored;
 use super::texts::{last_begin, text_of};
-use smb_wire::limits::MOST_ENTRIES;
 use smb_wire::{PathView, Units, same_name};
 
-// The most entries besides the root.
 // The entry at the path that a text spells.
 pub fn stored_at<'a>(entries: &'a Vec<Stored>, text: Units<'_>) -> Option<&'a Stored>
     ensures { option_map (λ stored. (row_of stored.now).1) result ≡ entry_at (rows_of entries.now.items) (folded_path (components (units_of text.entry))) }
@@ -93,15 +91,20 @@ pub fn view_of<'a>(entries: &Vec<Stored>, stored: &'a Stored) -> EntryView<'a>
 }
 
 // Whether no entry can be added to so many, the root among them, because of their number or the next one's.
-fn is_full(count: usize, next: EntryNo) -> bool
-    ensures { result ≡ (nat_le MOST_ENTRIES (count - 1) || is_spent 64 next) }
+fn is_full(most: usize, count: usize, next: EntryNo) -> bool
+    ensures { result ≡ (nat_le most (count - 1) || is_spent 64 next) }
 {
-    count > MOST_ENTRIES || next == EntryNo::MAX
+    count.saturating_sub(1) >= most || next == EntryNo::MAX
 }
 
 // The first fault of an entry that would be added.
-pub fn add_fault(entries: &Vec<Stored>, next: EntryNo, path: &PathView<'_>) -> Option<TreeFault>
-    ensures { result ≡ add_fault_by (entry_at (rows_of entries.now.items)) (length entries.now.items) next (folded_path (parts_of path.now)) }
+pub fn add_fault(
+    entries: &Vec<Stored>,
+    most: usize,
+    next: EntryNo,
+    path: &PathView<'_>,
+) -> Option<TreeFault>
+    ensures { result ≡ add_fault_by (entry_at (rows_of entries.now.items)) most (length entries.now.items) next (folded_path (parts_of path.now)) }
 {
     let around = path.front(path.len().saturating_sub(1));
     if !is_folder_at(entries, around.text()) {
@@ -110,7 +113,7 @@ pub fn add_fault(entries: &Vec<Stored>, next: EntryNo, path: &PathView<'_>) -> O
     if is_taken(entries, path.text()) {
         return Some(TreeFault::Exists);
     }
-    if is_full(entries.len(), next) {
+    if is_full(most, entries.len(), next) {
         return Some(TreeFault::Full);
     }
     None

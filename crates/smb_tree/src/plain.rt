@@ -2,7 +2,8 @@
 
 ghost use Rattle.std.specs.Prelude.{◌≡◌, ◌<◌, ◌≤◌, ◌+◌, ◌-◌, ◌^◌, ◌++◌, ◌∷◌, [], ◌||◌, Bool, None, Some, IfOk, IfErr, OnOk, OnErr, if◌then◌else◌, nat_lt, max, min, length};
 ghost use Rattle.std.specs.List.{remove};
-ghost use Rattle.smb_tree.specs.Content.{resized, written, new_content, used_space};
+ghost use Rattle.smb_wire.specs.Greatest.{greatest_file_bytes};
+ghost use Rattle.smb_tree.specs.Content.{resized, written, new_content, new_content_within, used_space};
 ghost use Rattle.smb_tree.specs.Entries.{allocation_size, kept_basic, is_folder_kind};
 ghost use Rattle.smb_tree.specs.Plain.{row_of, rows_of};
 ghost use Rattle.smb_tree.specs.declared.fault.TreeFault.TheVariants.{NoMemory, Absent, Full};
@@ -19,7 +20,7 @@ use super::stored::Stored;
 use super::texts::text_of;
 use super::tree::Tree;
 use super::whole_names::whole_name;
-use smb_wire::limits::MOST_FILE_BYTES;
+use smb_wire::limits::Limits;
 use smb_wire::{FileAttributes, FoldedName, PathView};
 use std::alloc::{AllocError, Global};
 use std::fmt;
@@ -38,6 +39,7 @@ pub struct PlainTree {
     next: EntryNo,
     used: u64,
     capacity: u64,
+    limits: Limits,
     alloc: Global,
 }
 
@@ -71,6 +73,19 @@ impl PlainTree {
         ensures ok { IfOk result (λ tree. tree ≡ new_content created capacity) }
         ensures err { IfErr result (λ fault. fault ≡ NoMemory) }
     {
+        PlainTree::within(alloc, Limits::profile(), created, capacity)
+    }
+
+    /// [`new`](Self::new) under these limits.
+    pub fn within(
+        alloc: Global,
+        limits: Limits,
+        created: u64,
+        capacity: u64,
+    ) -> Result<PlainTree, TreeFault>
+        ensures ok { IfOk result (λ tree. tree ≡ new_content_within limits created capacity) }
+        ensures err { IfErr result (λ fault. fault ≡ NoMemory) }
+    {
         let mut entries = Vec::new(alloc);
         let root = Stored {
             text: Vec::new(alloc),
@@ -86,6 +101,7 @@ impl PlainTree {
             next: 2,
             used: 0,
             capacity,
+            limits,
             alloc,
         })
     }
@@ -101,13 +117,20 @@ fn put(entries: &mut Vec<Stored>, stored: Stored) -> Result<(), AllocError>
 }
 
 // The first fault of a size that a stored entry would get, where the other entries use so much space.
-fn size_fault(stored: &Stored, others: u64, capacity: u64, size: u64) -> Option<TreeFault>
-    ensures { result ≡ (if is_folder_kind stored.now.kind then Some Absent else if nat_lt MOST_FILE_BYTES size || nat_lt capacity (others + allocation_size size) then Some Full else None) }
+fn size_fault(
+    stored: &Stored,
+    most: u64,
+    others: u64,
+    capacity: u64,
+    size: u64,
+) -> Option<TreeFault>
+    requires { most ≤ greatest_file_bytes }
+    ensures { result ≡ (if is_folder_kind stored.now.kind then Some Absent else if nat_lt most size || nat_lt capacity (others + allocation_size size) then Some Full else None) }
 {
     if stored.kind.is_folder() {
         return Some(TreeFault::Absent);
     }
-    if size > MOST_FILE_BYTES || capacity < others || capacity - others < allocation_size(size) {
+    if size > most || capacity < others || capacity - others < allocation_size(size) {
         return Some(TreeFault::Full);
     }
     None
@@ -115,7 +138,7 @@ fn size_fault(stored: &Stored, others: u64, capacity: u64, size: u64) -> Option<
 
 // Gives a stored entry another size.
 fn resize(stored: &mut Stored, size: u64) -> Result<(), AllocError>
-    requires { size ≤ MOST_FILE_BYTES }
+    requires { size ≤ greatest_file_bytes }
     ensures ok { OnOk result (row_of stored.new ≡ ((row_of stored.old).0, record (row_of stored.old).1 { bytes = resized size stored.old.bytes.items })) }
     ensures err { OnErr result (row_of stored.new ≡ row_of stored.old) }
 {
@@ -147,7 +170,7 @@ fn size_written(stored: &Stored, offset: u64, buffer: &[u8]) -> u64
 
 // Puts bytes into a stored file.
 fn overwrite(stored: &mut Stored, offset: u64, buffer: &[u8]) -> Result<(), AllocError>
-    requires { offset + length buffer.now ≤ MOST_FILE_BYTES }
+    requires { offset + length buffer.now ≤ greatest_file_bytes }
     ensures ok { OnOk result (row_of stored.new ≡ ((row_of stored.old).0, record (row_of stored.old).1 { bytes = written offset buffer.now stored.old.bytes.items })) }
     ensures err { OnErr result (row_of stored.new ≡ row_of stored.old) }
 {
@@ -231,6 +254,10 @@ impl Tree for PlainTree {
         self.capacity
     }
 
+    fn limits(&self) -> Limits {
+        self.limits
+    }
+
     fn add(
         &mut self,
         path: &PathView<'_>,
@@ -238,7 +265,7 @@ impl Tree for PlainTree {
         attributes: FileAttributes,
         moment: u64,
     ) -> Result<EntryNo, TreeFault> {
-        if let Some(fault) = add_fault(&self.entries, self.next, path) {
+        if let Some(fault) = add_fault(&self.entries, self.limits.entries, self.next, path) {
             return Err(fault);
         }
         let number = self.next;
@@ -262,7 +289,13 @@ impl Tree for PlainTree {
         };
         let stored = &self.entries[i];
         let others = self.used - allocation_size(stored.bytes.len() as u64);
-        if let Some(fault) = size_fault(stored, others, self.capacity, size) {
+        if let Some(fault) = size_fault(
+            stored,
+            self.limits.file_bytes,
+            others,
+            self.capacity,
+            size,
+        ) {
             return Err(fault);
         }
         resize(&mut self.entries[i], size)?;
@@ -342,7 +375,13 @@ impl Tree for PlainTree {
         let stored = &self.entries[i];
         let others = self.used - allocation_size(stored.bytes.len() as u64);
         let new_size = size_written(stored, offset, buffer);
-        if let Some(fault) = size_fault(stored, others, self.capacity, new_size) {
+        if let Some(fault) = size_fault(
+            stored,
+            self.limits.file_bytes,
+            others,
+            self.capacity,
+            new_size,
+        ) {
             return Err(fault);
         }
         overwrite(&mut self.entries[i], offset, buffer)?;

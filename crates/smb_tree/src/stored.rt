@@ -1,7 +1,7 @@
 //! An entry as a plain tree stores it.
 
 ghost use Rattle.std.specs.Prelude.{◌≤◌, length};
-ghost use Rattle.smb_wire.specs.Limits.{most_file_bytes};
+ghost use Rattle.smb_wire.specs.Greatest.{greatest_file_bytes};
 ghost use Rattle.smb_tree.specs.Texts.{SpellPath};
 
 use super::entry::{Basic, EntryNo, Kind};
@@ -17,7 +17,7 @@ pub struct Stored {
     pub basic: Basic,
     pub mark: bool,
     pub ghost path: { SpellPath text.items },
-    pub ghost few: { length bytes.items ≤ most_file_bytes },
+    pub ghost few: { length bytes.items ≤ greatest_file_bytes },
 }
 
 // The text of a path that an entry is to get.

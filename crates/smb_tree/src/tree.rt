@@ -18,6 +18,7 @@ use super::entry::{Basic, EntryNo, EntryView, Kind};
 use super::entry_copy::EntryCopy;
 use super::fault::TreeFault;
 use arrayvec::ArrayVec;
+use smb_wire::limits::Limits;
 use smb_wire::{FileAttributes, FoldedName, PathView};
 use std::alloc::Global;
 
@@ -100,13 +101,17 @@ pub trait Tree {
     fn capacity(&self) -> u64
         ensures { result ≡ (content self.now).capacity };
 
+    /// How much there may be of everything in the share. The tree keeps to those of entries and of a file's bytes.
+    fn limits(&self) -> Limits
+        ensures { result ≡ (content self.now).limits };
+
     /// Adds an entry with no bytes, its four times the moment (in units of 100 ns since 1601), with the kept
     /// ones of the attributes, and tells its number.
     ///
     /// [`ParentAbsent`](TreeFault::ParentAbsent) where no folder stands around the path,
-    /// [`Exists`](TreeFault::Exists) where an entry stands there, [`Full`](TreeFault::Full) where 4,096
-    /// entries stand besides the root or the numbers are spent, [`NoMemory`](TreeFault::NoMemory) where an
-    /// allocation is refused.
+    /// [`Exists`](TreeFault::Exists) where an entry stands there, [`Full`](TreeFault::Full) where there are as many
+    /// entries besides the root as the limits let be or the numbers are spent,
+    /// [`NoMemory`](TreeFault::NoMemory) where an allocation is refused.
     fn add(
         &mut self,
         path: &PathView<'_>,
@@ -123,8 +128,8 @@ pub trait Tree {
 
     /// Gives a file another size: its bytes are cut, or get zeros behind them.
     ///
-    /// [`Absent`](TreeFault::Absent) where no file has the number, [`Full`](TreeFault::Full) over 16,777,216
-    /// bytes or where the used space would pass the capacity, [`NoMemory`](TreeFault::NoMemory) where an
+    /// [`Absent`](TreeFault::Absent) where no file has the number, [`Full`](TreeFault::Full) over the limit
+    /// of a file or where the used space would pass the capacity, [`NoMemory`](TreeFault::NoMemory) where an
     /// allocation is refused.
     fn set_size(&mut self, number: EntryNo, size: u64) -> Result<(), TreeFault>
         ensures ok { OnOk result (content self.new ≡ changed_in (λ entry. record entry { bytes = resized size entry.bytes }) (content self.old) number) }
@@ -199,7 +204,7 @@ pub trait Tree {
     /// is filled with zeros, also where they are none. Times stay.
     ///
     /// [`Absent`](TreeFault::Absent) where no file has the number, [`Full`](TreeFault::Full) where the file
-    /// would have over 16,777,216 bytes or the used space would pass the capacity,
+    /// would pass the limit of a file or the used space would pass the capacity,
     /// [`NoMemory`](TreeFault::NoMemory) where an allocation is refused.
     fn write(&mut self, number: EntryNo, offset: u64, buffer: &[u8]) -> Result<(), TreeFault>
         ensures ok { OnOk result (content self.new ≡ changed_in (λ entry. record entry { bytes = written offset buffer.now entry.bytes }) (content self.old) number) }

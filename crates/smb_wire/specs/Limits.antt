@@ -1,5 +1,7 @@
--- The limits of the share, each once. Those of sizes are this server's choice ([MS-SMB2] 3.3.1, 3.3.5.4).
+-- The limits of the server, each once. Those of sizes are its own choice ([MS-SMB2] 3.3.1, 3.3.5.4).
 use Rattle.std.specs.Prelude.{ℕ, ◌+◌, Option, None, Some}
+use Rattle.std.proofs.Common.{lit≤}
+use Rattle.smb_wire.specs.declared.limits.share.Limits.{Limits}
 use Rattle.smb_wire.specs.declared.dialect.Dialect.{Dialect}
 use Rattle.smb_wire.specs.declared.dialect.Dialect.TheVariants.{Smb202, Smb210}
 
@@ -34,10 +36,6 @@ most_requests = 16
 abbrev pub most_credits : ℕ
 most_credits = 256
 
--- the most connections of a share
-abbrev pub most_connections : ℕ
-most_connections = 64
-
 -- the most sessions of a connection, finished or not
 abbrev pub most_sessions : ℕ
 most_sessions = 16
@@ -46,25 +44,9 @@ most_sessions = 16
 abbrev pub most_tree_connects : ℕ
 most_tree_connects = 16
 
--- the most opens of a share
-abbrev pub most_opens : ℕ
-most_opens = 1024
-
--- the most locks of a file
-abbrev pub most_locks : ℕ
-most_locks = 256
-
--- the most entries of a share, without its root
-abbrev pub most_entries : ℕ
-most_entries = 4096
-
 -- the most components of a path
 abbrev pub most_components : ℕ
 most_components = 32
-
--- the most bytes of a file
-abbrev pub most_file_bytes : ℕ
-most_file_bytes = 16777216
 
 -- the most bytes of a token of an authenticator
 abbrev pub longest_token : ℕ
@@ -73,3 +55,20 @@ longest_token = 4096
 -- the most bytes of a user's name
 abbrev pub longest_user_name : ℕ
 longest_user_name = 256
+
+-- the limits of a share where its configuration says nothing else
+abbrev pub default_limits : Limits
+default_limits = record {
+  connections = 64;
+  opens = 1024;
+  locks = 256;
+  entries = 4096;
+  file_bytes = 16777216;
+  capacity = 67108864;
+  few_connections = lit≤ tt;
+  few_opens = lit≤ tt;
+  few_locks = lit≤ tt;
+  few_entries = lit≤ tt;
+  few_bytes = lit≤ tt;
+  small = lit≤ tt;
+}

@@ -1,9 +1,13 @@
-//! The limits of the share, each once: what a message may hold, and how much there may be of everything.
+//! The limits of the server, each once: what a message may hold, and what there may be of a client's. How much there may
+//! be of what a share holds, `Limits` says.
+
+mod share;
 
 ghost use Rattle.std.specs.Prelude.{◌≡◌, ◌≤◌};
 ghost use Rattle.smb_wire.specs.Limits.{most_at_once, most_in_any_dialect};
 
 use super::dialect::Dialect;
+pub use share::Limits;
 
 /// The most bytes of a frame's payload, from a client.
 pub const LONGEST_PAYLOAD: u32 = 1_048_576;
@@ -14,29 +18,14 @@ pub const MOST_REQUESTS: usize = 16;
 /// The most MessageIds that a window holds.
 pub const MOST_CREDITS: usize = 256;
 
-/// The most connections of a share.
-pub const MOST_CONNECTIONS: usize = 64;
-
 /// The most sessions of a connection, finished or not.
 pub const MOST_SESSIONS: usize = 16;
 
 /// The most tree connects of a session.
 pub const MOST_TREE_CONNECTS: usize = 16;
 
-/// The most opens of a share.
-pub const MOST_OPENS: usize = 1_024;
-
-/// The most locks of a file.
-pub const MOST_LOCKS: usize = 256;
-
-/// The most entries of a share, without its root.
-pub const MOST_ENTRIES: usize = 4_096;
-
 /// The most components of a path.
 pub const MOST_COMPONENTS: usize = 32;
-
-/// The most bytes of a file.
-pub const MOST_FILE_BYTES: u64 = 16_777_216;
 
 /// The most bytes of a token of an authenticator.
 pub const LONGEST_TOKEN: usize = 4_096;

@@ -8,7 +8,7 @@ pub loop-number-init : goal.loop-number-init
 loop-number-init g c = sym (counted-none _)
 
 pub overflow_add-count : goal.overflow_add-count
-overflow_add-count g c = omega (arith, c.loop-number.invariant, counted-within (g.T.Tree.content c.args.tree.now).rows c.loop-number.number, c.requires.few)
+overflow_add-count g c = omega (arith, c.loop-number.invariant, counted-within (g.T.Tree.content c.args.tree.now).rows c.loop-number.number, c.requires.few, (g.T.Tree.content c.args.tree.now).limits.few_entries)
 
 pub loop-number-preserved : goal.loop-number-preserved
 loop-number-preserved g c =

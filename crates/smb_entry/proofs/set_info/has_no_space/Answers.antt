@@ -1,4 +1,5 @@
-use Rattle.std.proofs.Common.{◌+◌, ◌-◌, nat_lt, arith, ◌∙◌}
+use Rattle.std.proofs.Common.{◌+◌, ◌-◌, nat_lt, arith, ap, ◌∙◌}
+use Rattle.smb_wire.specs.declared.limits.share.Limits.{Limits}
 use Rattle.smb_tree.specs.Entries.{allocation_size}
 use Rattle.smb_tree.specs.Views.{shown}
 use Rattle.smb_entry.proofs.Settings.{space_shown, no_space_told}
@@ -20,9 +21,10 @@ passes_capacity-requires g c =
     let used = c.used.ensures in
     let fits = c.requires.good.fits in
     let there = c.capacity.ensures in
-    record { others = omega (arith, used, fits, there); small = c.if-size-gt-MOST_FILE_BYTES.false }
+    record { others = omega (arith, used, fits, there); small = omega (arith, c.if-size-limits.false, c.limits-limits.result.few_bytes) }
 
 pub returns : goal.returns
 returns g c =
+    let limit = ap (λ (l : Limits). l.file_bytes) c.limits-limits.ensures in
     c.passes_capacity.ensures ∙ (λ i. nat_lt (c.capacity.ensures i) (c.used.result - c.allocation_size.ensures i + allocation_size c.args.size))
-    ∙ no_space_told (g.T.Tree.content c.args.tree.now) c.args.entry c.args.size c.used.result (shown c.in-Some.seen) c.in-Some.ensures c.requires.good c.if-size-gt-MOST_FILE_BYTES.false c.used.ensures
+    ∙ no_space_told (g.T.Tree.content c.args.tree.now) c.args.entry c.args.size c.used.result (shown c.in-Some.seen) c.in-Some.ensures c.requires.good (omega (arith, limit, c.if-size-limits.false)) c.used.ensures

@@ -2,7 +2,7 @@ use Rattle.smb_locks.specs.Conflicts.{BarsRead, BarsWrite}
 use Rattle.smb_locks.specs.Parts.{bars_read, bars_write}
 use Rattle.smb_locks.proofs.Ends.{overlap_from_ends, ends_from_overlap, overlap_turned, empty_apart, conflict_from_test, test_from_conflict, bar_from_read_test, read_test_from_bar, bar_from_write_test, write_test_from_bar, some_from_test, test_from_some}
 use Rattle.smb_locks.proofs.Members.{others_kept}
-use Rattle.smb_locks.proofs.Tables.{good_empty, good_on, on_with, on_other, good_locked, good_unlocked, good_dropped, on_dropped, compatible_pair}
+use Rattle.smb_locks.proofs.Tables.{good_empty, good_on, on_with, on_other, good_locked, good_unlocked, good_dropped, few_locked, few_unlocked, few_dropped, on_dropped, compatible_pair}
 use Rattle.smb_locks.proofs.laws.laws_of_locks.Goals as goal
 
 pub returns-clause-ends : goal.returns-clause-ends
@@ -29,9 +29,14 @@ returns-clause-others c = λ table file holder. (λ other asks apart. others_kep
 pub returns-clause-good : goal.returns-clause-good
 returns-clause-good c = (
   good_empty,
-  λ table file holder asks good. (
-    λ free. good_locked table file holder asks good free,
+  λ most table file holder asks good. (
+    λ free. good_locked most table file holder asks good free,
     good_unlocked table file holder asks good,
     good_dropped holder table good,
+  ),
+  λ most table file holder asks few. (
+    λ free. few_locked most table file holder asks few free,
+    few_unlocked most table file holder asks few,
+    few_dropped holder most table few,
   ),
 )

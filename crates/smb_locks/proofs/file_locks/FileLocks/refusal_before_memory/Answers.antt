@@ -5,4 +5,4 @@ use Rattle.smb_locks.proofs.file_locks.FileLocks.refusal_before_memory.Goals as 
 
 pub returns-clause-memory : goal.returns-clause-memory
 returns-clause-memory c =
-    λ e. none_or c.args.self.now (locks_asked c.args.holder c.args.asks.now) c.fault_of_all.result c.args.fault c.fault_of_all.ensures (sym c.unwrap_or.ensures ∙ e)
+    λ e. none_or c.args.most c.args.self.now (locks_asked c.args.holder c.args.asks.now) c.fault_of_all.result c.args.fault c.fault_of_all.ensures (sym c.unwrap_or.ensures ∙ e)

@@ -20,18 +20,18 @@ use Rattle.smb_nodes.proofs.tree.NodeTreeTree.add.Goals as goal
 
 pub returns-in_default-clause-why : goal.returns-in_default-clause-why
 returns-in_default-clause-why c =
-    let n = add_fault_down (heap_of c.self.inside.nodes) c.self.inside.index.entries c.self.inside.next c.self.inside.capacity (folded_path (parts_of c.args.path.now)) c.self.invariant.is_tree in
+    let n = add_fault_down (heap_of c.self.inside.nodes) c.self.inside.index.entries c.self.inside.next c.self.inside.capacity c.self.inside.limits (folded_path (parts_of c.args.path.now)) c.self.invariant.is_tree in
     let none : walk (heap_of c.self.inside.nodes) (Some 0) (parent (folded_path (parts_of c.args.path.now))) ≡ None = ap (walk (heap_of c.self.inside.nodes) (Some 0)) (sym c.around.ensures) ∙ sym c.walk_down.ensures ∙ c.in_default.is in
     λ _. rw (← c.self.view_is, n, none) refl
 
 pub returns-in-Some-add_fault-clause-why : goal.returns-in-Some-add_fault-clause-why
 returns-in-Some-add_fault-clause-why c =
-    let n = add_fault_down (heap_of c.self.inside.nodes) c.self.inside.index.entries c.self.inside.next c.self.inside.capacity (folded_path (parts_of c.args.path.now)) c.self.invariant.is_tree in
+    let n = add_fault_down (heap_of c.self.inside.nodes) c.self.inside.index.entries c.self.inside.next c.self.inside.capacity c.self.inside.limits (folded_path (parts_of c.args.path.now)) c.self.invariant.is_tree in
     λ _. rw (← c.self.view_is, n, ← c.len.ensures.len, ← c.add_fault.ensures) c.in-Some-add_fault.is
 
 pub place-requires-clause-free : goal.place-requires-clause-free
 place-requires-clause-free c =
-    let w : IsLawful (entry_down (heap_of c.self.inside.nodes)) (folded_path (parts_of c.args.path.now)) = lawful (entry_down (heap_of c.self.inside.nodes)) c.len.result c.self.inside.next (folded_path (parts_of c.args.path.now)) (sym c.add_fault.ensures ∙ c.in_default-add_fault.is) (short_path (parts_of c.args.path.now) c.args.path.now.ends.count (ends_count _ _ _ c.args.path.now.kept.ends) c.args.path.now.kept.ends.few) in
+    let w : IsLawful (entry_down (heap_of c.self.inside.nodes)) (folded_path (parts_of c.args.path.now)) = lawful (entry_down (heap_of c.self.inside.nodes)) c.self.inside.limits.entries c.len.result c.self.inside.next (folded_path (parts_of c.args.path.now)) (sym c.add_fault.ensures ∙ c.in_default-add_fault.is) (short_path (parts_of c.args.path.now) c.args.path.now.ends.count (ends_count _ _ _ c.args.path.now.kept.ends) c.args.path.now.kept.ends.few) in
     ap (λ (us : List ℕ). child_in (heap_of c.self.inside.nodes c.in-Some.parent) (folded us)) c.in_ok-spelling.ensures.units
     ∙ name_free (heap_of c.self.inside.nodes) c.self.inside.index.entries c.self.inside.next (parts_of c.args.path.now) c.self.invariant.is_tree w c.in-Some.parent (ap (walk (heap_of c.self.inside.nodes) (Some 0)) (sym c.around.ensures) ∙ sym c.walk_down.ensures ∙ c.in-Some.is)
 
@@ -45,16 +45,16 @@ invariant_of-self c = record {
 pub returns-in_err-place-clause-err : goal.returns-in_err-place-clause-err
 returns-in_err-place-clause-err c =
     let rows = same_rows (heap_of c.self.inside.nodes) (heap_of c.place.new.nodes) c.self.inside.index.entries c.place.new.index.entries c.in_err-place.ensures.err.0 c.in_err-place.ensures.err_index in
-    on_err c.from_residual-in_err-place.result (rw (← c.self.view_is) (ap (λ (rows : List Row). record (record { rows = rows; next = c.self.inside.next; capacity = c.self.inside.capacity }) { rows = rows }) rows))
+    on_err c.from_residual-in_err-place.result (rw (← c.self.view_is) (ap (λ (rows : List Row). record (record { rows = rows; next = c.self.inside.next; capacity = c.self.inside.capacity; limits = c.self.inside.limits }) { rows = rows }) rows))
 
 pub overflow_add-self : goal.overflow_add-self
 overflow_add-self c =
-    let left = number_left (entry_down (heap_of c.self.inside.nodes)) c.len.result c.self.inside.next (folded_path (parts_of c.args.path.now)) (sym c.add_fault.ensures ∙ c.in_default-add_fault.is) in
+    let left = number_left (entry_down (heap_of c.self.inside.nodes)) c.self.inside.limits.entries c.len.result c.self.inside.next (folded_path (parts_of c.args.path.now)) (sym c.add_fault.ensures ∙ c.in_default-add_fault.is) in
     omega (arith, left)
 
 pub invariant_of-self-2 : goal.invariant_of-self-2
 invariant_of-self-2 c =
-    let w : IsLawful (entry_down (heap_of c.self.inside.nodes)) (folded_path (parts_of c.args.path.now)) = lawful (entry_down (heap_of c.self.inside.nodes)) c.len.result c.self.inside.next (folded_path (parts_of c.args.path.now)) (sym c.add_fault.ensures ∙ c.in_default-add_fault.is) (short_path (parts_of c.args.path.now) c.args.path.now.ends.count (ends_count _ _ _ c.args.path.now.kept.ends) c.args.path.now.kept.ends.few) in
+    let w : IsLawful (entry_down (heap_of c.self.inside.nodes)) (folded_path (parts_of c.args.path.now)) = lawful (entry_down (heap_of c.self.inside.nodes)) c.self.inside.limits.entries c.len.result c.self.inside.next (folded_path (parts_of c.args.path.now)) (sym c.add_fault.ensures ∙ c.in_default-add_fault.is) (short_path (parts_of c.args.path.now) c.args.path.now.ends.count (ends_count _ _ _ c.args.path.now.kept.ends) c.args.path.now.kept.ends.few) in
     let used = grown_used (heap_of c.self.inside.nodes) c.self.inside.index.entries c.self.inside.next (parts_of c.args.path.now) c.self.invariant.is_tree w c.in-Some.parent (ap (walk (heap_of c.self.inside.nodes) (Some 0)) (sym c.around.ensures) ∙ sym c.walk_down.ensures ∙ c.in-Some.is) (heap_of c.place.new.nodes) c.self.inside.nodes.vacant_key (record { number = c.self.inside.next; kind = c.args.kind; spelling = last_part (parts_of c.args.path.now); bytes = c.new-2.result; basic = c.of.result; mark = false }) c.args.kind c.args.attributes.0 c.args.moment (rw c.in_ok-spelling.ensures.units at c.in_ok-place.ensures.ok) (rw (c.of.ensures, c.new-2.ensures) refl) in
     let rows = grown_rows (heap_of c.self.inside.nodes) c.self.inside.index.entries c.self.inside.next (parts_of c.args.path.now) c.self.invariant.is_tree w c.in-Some.parent (ap (walk (heap_of c.self.inside.nodes) (Some 0)) (sym c.around.ensures) ∙ sym c.walk_down.ensures ∙ c.in-Some.is) (heap_of c.place.new.nodes) c.self.inside.nodes.vacant_key (record { number = c.self.inside.next; kind = c.args.kind; spelling = last_part (parts_of c.args.path.now); bytes = c.new-2.result; basic = c.of.result; mark = false }) c.args.kind c.args.attributes.0 c.args.moment (rw c.in_ok-spelling.ensures.units at c.in_ok-place.ensures.ok) (rw (c.of.ensures, c.new-2.ensures) refl) in
     record {
@@ -66,21 +66,21 @@ invariant_of-self-2 c =
 
 pub returns-in_err-spelling-clause-memory : goal.returns-in_err-spelling-clause-memory
 returns-in_err-spelling-clause-memory c =
-    let n = add_fault_down (heap_of c.self.inside.nodes) c.self.inside.index.entries c.self.inside.next c.self.inside.capacity (folded_path (parts_of c.args.path.now)) c.self.invariant.is_tree in
+    let n = add_fault_down (heap_of c.self.inside.nodes) c.self.inside.index.entries c.self.inside.next c.self.inside.capacity c.self.inside.limits (folded_path (parts_of c.args.path.now)) c.self.invariant.is_tree in
     refused_by c.from_residual.result (λ fault. fault ≡ NoMemory) (rw (← c.self.view_is, n, ← c.len.ensures.len, ← c.add_fault.ensures) c.in_default-add_fault.is)
 
 pub returns-in_err-place-clause-memory : goal.returns-in_err-place-clause-memory
 returns-in_err-place-clause-memory c =
-    let n = add_fault_down (heap_of c.self.inside.nodes) c.self.inside.index.entries c.self.inside.next c.self.inside.capacity (folded_path (parts_of c.args.path.now)) c.self.invariant.is_tree in
+    let n = add_fault_down (heap_of c.self.inside.nodes) c.self.inside.index.entries c.self.inside.next c.self.inside.capacity c.self.inside.limits (folded_path (parts_of c.args.path.now)) c.self.invariant.is_tree in
     refused_by c.from_residual-in_err-place.result (λ fault. fault ≡ NoMemory) (rw (← c.self.view_is, n, ← c.len.ensures.len, ← c.add_fault.ensures) c.in_default-add_fault.is)
 
 pub returns-clause-ok : goal.returns-clause-ok
 returns-clause-ok c =
-    let w : IsLawful (entry_down (heap_of c.self.inside.nodes)) (folded_path (parts_of c.args.path.now)) = lawful (entry_down (heap_of c.self.inside.nodes)) c.len.result c.self.inside.next (folded_path (parts_of c.args.path.now)) (sym c.add_fault.ensures ∙ c.in_default-add_fault.is) (short_path (parts_of c.args.path.now) c.args.path.now.ends.count (ends_count _ _ _ c.args.path.now.kept.ends) c.args.path.now.kept.ends.few) in
+    let w : IsLawful (entry_down (heap_of c.self.inside.nodes)) (folded_path (parts_of c.args.path.now)) = lawful (entry_down (heap_of c.self.inside.nodes)) c.self.inside.limits.entries c.len.result c.self.inside.next (folded_path (parts_of c.args.path.now)) (sym c.add_fault.ensures ∙ c.in_default-add_fault.is) (short_path (parts_of c.args.path.now) c.args.path.now.ends.count (ends_count _ _ _ c.args.path.now.kept.ends) c.args.path.now.kept.ends.few) in
     let rows = grown_rows (heap_of c.self.inside.nodes) c.self.inside.index.entries c.self.inside.next (parts_of c.args.path.now) c.self.invariant.is_tree w c.in-Some.parent (ap (walk (heap_of c.self.inside.nodes) (Some 0)) (sym c.around.ensures) ∙ sym c.walk_down.ensures ∙ c.in-Some.is) (heap_of c.place.new.nodes) c.self.inside.nodes.vacant_key (record { number = c.self.inside.next; kind = c.args.kind; spelling = last_part (parts_of c.args.path.now); bytes = c.new-2.result; basic = c.of.result; mark = false }) c.args.kind c.args.attributes.0 c.args.moment (rw c.in_ok-spelling.ensures.units at c.in_ok-place.ensures.ok) (rw (c.of.ensures, c.new-2.ensures) refl) in
-    rw (← c.self.view_is) (ap (λ (rows : List Row). record (record { rows = rows; next = c.self.inside.next + 1; capacity = c.self.inside.capacity }) { rows = rows }) (ap (λ (es : List (ℕ × ℕ)). rows_in (heap_of c.place.new.nodes) levels es) c.in_ok-place.ensures.indexed ∙ rows))
+    rw (← c.self.view_is) (ap (λ (rows : List Row). record (record { rows = rows; next = c.self.inside.next + 1; capacity = c.self.inside.capacity; limits = c.self.inside.limits }) { rows = rows }) (ap (λ (es : List (ℕ × ℕ)). rows_in (heap_of c.place.new.nodes) levels es) c.in_ok-place.ensures.indexed ∙ rows))
 
 pub returns-clause-lawful : goal.returns-clause-lawful
 returns-clause-lawful c =
-    let n = add_fault_down (heap_of c.self.inside.nodes) c.self.inside.index.entries c.self.inside.next c.self.inside.capacity (folded_path (parts_of c.args.path.now)) c.self.invariant.is_tree in
+    let n = add_fault_down (heap_of c.self.inside.nodes) c.self.inside.index.entries c.self.inside.next c.self.inside.capacity c.self.inside.limits (folded_path (parts_of c.args.path.now)) c.self.invariant.is_tree in
     rw (← c.self.view_is, n, ← c.len.ensures.len, ← c.add_fault.ensures) c.in_default-add_fault.is

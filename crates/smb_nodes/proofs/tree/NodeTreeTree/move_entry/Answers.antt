@@ -110,7 +110,7 @@ invariant_of-self-in_err-reparent c =
 pub returns-in_err-reparent-clause-err : goal.returns-in_err-reparent-clause-err
 returns-in_err-reparent-clause-err c =
     let rows = same_rows (heap_of c.self.inside.nodes) (heap_of c.reparent.new.nodes) c.self.inside.index.entries c.self.inside.index.entries c.in_err-reparent.ensures.err.0 refl in
-    on_err c.from_residual-in_err-reparent.result (rw (← c.self.view_is) (ap (λ (rows : List Row). record (record { rows = rows; next = c.self.inside.next; capacity = c.self.inside.capacity }) { rows = rows }) rows))
+    on_err c.from_residual-in_err-reparent.result (rw (← c.self.view_is) (ap (λ (rows : List Row). record (record { rows = rows; next = c.self.inside.next; capacity = c.self.inside.capacity; limits = c.self.inside.limits }) { rows = rows }) rows))
 
 pub returns-in_err-reparent-clause-memory : goal.returns-in_err-reparent-clause-memory
 returns-in_err-reparent-clause-memory c =

@@ -20,8 +20,8 @@ space_of-requires c = live_is c.self.inside c.args.number c.in-Some.slot c.self.
 pub overflow_sub-others : goal.overflow_sub-others
 overflow_sub-others c = enough c.self.inside c.args.number c.in-Some.slot c.self.invariant (sym c.in-Some.ensures) c.space_of.result c.space_of.ensures
 
-pub size_fault-requires : goal.size_fault-requires
-size_fault-requires c = live_is c.self.inside c.args.number c.in-Some.slot c.self.invariant (sym c.in-Some.ensures)
+pub size_fault-requires-clause-live : goal.size_fault-requires-clause-live
+size_fault-requires-clause-live c = live_is c.self.inside c.args.number c.in-Some.slot c.self.invariant (sym c.in-Some.ensures)
 
 pub returns-in-Some-size_fault-clause-why : goal.returns-in-Some-size_fault-clause-why
 returns-in-Some-size_fault-clause-why c =

@@ -25,8 +25,8 @@ overflow_sub-others c = enough c.self.inside c.args.number c.in-Some.slot c.self
 pub size_written-new_size-requires : goal.size_written-new_size-requires
 size_written-new_size-requires c = live_is c.self.inside c.args.number c.in-Some.slot c.self.invariant (sym c.in-Some.ensures)
 
-pub size_fault-requires : goal.size_fault-requires
-size_fault-requires c = live_is c.self.inside c.args.number c.in-Some.slot c.self.invariant (sym c.in-Some.ensures)
+pub size_fault-requires-clause-live : goal.size_fault-requires-clause-live
+size_fault-requires-clause-live c = live_is c.self.inside c.args.number c.in-Some.slot c.self.invariant (sym c.in-Some.ensures)
 
 pub returns-in-Some-size_fault-clause-why : goal.returns-in-Some-size_fault-clause-why
 returns-in-Some-size_fault-clause-why c =
@@ -51,8 +51,8 @@ returns-in_err-overwrite-clause-err c =
 
 pub invariant_of-self-2 : goal.invariant_of-self-2
 invariant_of-self-2 c =
-    let small = within_limit c.size_written-new_size.result (c.self.inside.used - c.space_of.result) c.self.inside.capacity (is_folder_kind (entry_of_slot (heap_of c.self.inside.nodes) c.in-Some.slot).kind) c.size_fault.result c.size_fault.ensures c.in_default-size_fault.is in
-    let size : c.size_written-new_size.result ≡ max (length (entry_of_slot (heap_of c.self.inside.nodes) c.in-Some.slot).bytes) (c.args.offset + length c.args.buffer.now) = omega (arith, c.size_written-new_size.ensures, small) in
+    let small = within_limit c.self.inside.limits.file_bytes c.size_written-new_size.result (c.self.inside.used - c.space_of.result) c.self.inside.capacity (is_folder_kind (entry_of_slot (heap_of c.self.inside.nodes) c.in-Some.slot).kind) c.size_fault.result c.size_fault.ensures c.in_default-size_fault.is in
+    let size : c.size_written-new_size.result ≡ max (length (entry_of_slot (heap_of c.self.inside.nodes) c.in-Some.slot).bytes) (c.args.offset + length c.args.buffer.now) = omega (arith, c.size_written-new_size.ensures, small, c.self.inside.limits.few_bytes) in
     record {
       is_tree = kept_tree c.self.inside c.args.number c.in-Some.slot c.self.invariant (sym c.in-Some.ensures) (heap_of c.overwrite.new.nodes) (λ (entry : Entry). record entry { bytes = written c.args.offset c.args.buffer.now entry.bytes }) (record { number = λ e. refl; kind = λ e. refl }) c.in_ok-overwrite.ensures.ok;
       used = ap (λ (n : ℕ). c.self.inside.used - c.space_of.result + n) c.allocation_size.ensures ∙ sized_used c.self.inside c.args.number c.in-Some.slot c.self.invariant (sym c.in-Some.ensures) (heap_of c.overwrite.new.nodes) (λ (entry : Entry). record entry { bytes = written c.args.offset c.args.buffer.now entry.bytes }) (record { number = λ e. refl; kind = λ e. refl }) c.in_ok-overwrite.ensures.ok c.size_written-new_size.result c.space_of.result c.space_of.ensures (length-written c.args.offset c.args.buffer.now (entry_of_slot (heap_of c.self.inside.nodes) c.in-Some.slot).bytes ∙ sym size);

@@ -3,7 +3,7 @@ use Rattle.smb_session.specs.Sessions.{SetupStep}
 use Rattle.smb_request.specs.Owners.{AreOwned}
 use Rattle.smb_request.specs.Held.{opens_left}
 use Rattle.smb_opens.specs.State.{StoreState}
-use Rattle.smb_request.proofs.Configured.{ended_kept}
+use Rattle.smb_request.proofs.Configured.{room_of, ended_kept}
 use Rattle.smb_session.proofs.Steps.{below}
 use Rattle.smb_request.proofs.Owners.{owned_setup}
 use Rattle.smb_request.proofs.Sessions.{setup-connections}
@@ -21,6 +21,6 @@ invariant_of-self-2 g c =
     (record {
       lawful = c.self.invariant.lawful;
       named = ap (λ (s : SetupStep g.row.A.Denot). s.state.share) step ∙ c.self.invariant.named;
-      room = ap (λ (s : StoreState). s.tree.capacity) c.close_ended.ensures.store ∙ ended_kept c.self.inside.store _ ∙ c.self.invariant.room;
+      room = ap (λ (s : StoreState). room_of s.tree) c.close_ended.ensures.store ∙ ended_kept c.self.inside.store _ ∙ c.self.invariant.room;
       owned = subst (λ (s : SetupStep g.row.A.Denot). AreOwned s.state.table (opens_left s.told.ended c.self.inside.store.opens)) (sym step) owned;
     })

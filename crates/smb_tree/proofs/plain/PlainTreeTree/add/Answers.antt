@@ -14,7 +14,7 @@ invariant_of-stored-clause-path c =
 
 pub overflow_add-self : goal.overflow_add-self
 overflow_add-self c =
-    let left = number_left (entry_at (rows_of c.self.inside.entries.items)) (length c.self.inside.entries.items) c.self.inside.next (folded_path (parts_of c.args.path.now)) (sym c.add_fault.ensures ∙ c.in_default.is) in
+    let left = number_left (entry_at (rows_of c.self.inside.entries.items)) c.self.inside.limits.entries (length c.self.inside.entries.items) c.self.inside.next (folded_path (parts_of c.args.path.now)) (sym c.add_fault.ensures ∙ c.in_default.is) in
     omega (arith, left)
 
 pub returns-clause-ok : goal.returns-clause-ok

@@ -44,9 +44,9 @@ invariant_of-self-2 c =
     let space : c.allocation_size.result ≡ allocation_size (length c.index-stored.result.now.bytes.items) = c.allocation_size.ensures ∙ ap allocation_size long in
     let same = same_space c.self.inside.entries.items c.args.number c.in-Some.i c.in-Some.i c.index-stored.result.now c.index_mut.result.now old place in
     let whole : c.self.inside.used - c.allocation_size.result + allocation_size (length c.index_mut.result.now.bytes.items) ≡ used_space (rows_of c.self.inside.entries.items) = omega (arith, within, space, same, c.self.invariant) in
-    let small = within_limit c.size_written-new_size.result (c.self.inside.used - c.allocation_size.result) c.self.inside.capacity (is_folder_kind c.index-stored.result.now.kind) c.size_fault.result c.size_fault.ensures c.in_default-size_fault.is in
+    let small = within_limit c.self.inside.limits.file_bytes c.size_written-new_size.result (c.self.inside.used - c.allocation_size.result) c.self.inside.capacity (is_folder_kind c.index-stored.result.now.kind) c.size_fault.result c.size_fault.ensures c.in_default-size_fault.is in
     let as_long = same_long c.self.inside.entries.items c.args.number c.in-Some.i c.in-Some.i c.index-stored.result.now c.index_mut.result.now old place in
-    let size : c.size_written-new_size.result ≡ max (length c.index_mut.result.now.bytes.items) (c.args.offset + length c.args.buffer.now) = omega (arith, c.size_written-new_size.ensures, small, as_long) in
+    let size : c.size_written-new_size.result ≡ max (length c.index_mut.result.now.bytes.items) (c.args.offset + length c.args.buffer.now) = omega (arith, c.size_written-new_size.ensures, small, c.self.inside.limits.few_bytes, as_long) in
     ap (λ (n : ℕ). c.self.inside.used - c.allocation_size.result + n) c.allocation_size-2.ensures ∙ sym (put_space c.self.inside.entries.items c.args.number c.in-Some.i c.index_mut.result.now c.overwrite.new.stored c.args.offset c.size_written-new_size.result (c.self.inside.used - c.allocation_size.result) c.args.buffer.now place c.in_ok-overwrite.ensures.ok size whole)
 
 pub returns-in_err-overwrite-clause-memory : goal.returns-in_err-overwrite-clause-memory

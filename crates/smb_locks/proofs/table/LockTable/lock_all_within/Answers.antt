@@ -5,13 +5,13 @@ use Rattle.smb_locks.specs.Asks.{locks_asked}
 use Rattle.smb_locks.specs.Table.{Table, locked}
 use Rattle.smb_locks.proofs.Changes.{none_on, locked_found, locked_first, locked_nothing, lock_refusal, written_back, good_tried}
 use Rattle.smb_locks.proofs.Tables.{good_locked}
-use Rattle.smb_locks.proofs.table.LockTable.lock_all.Goals as goal
+use Rattle.smb_locks.proofs.table.LockTable.lock_all_within.Goals as goal
 
 pub invariant_of-self : goal.invariant_of-self
 invariant_of-self c =
     let flags = sym c.are_locks.ensures ∙ c.if-not-are_locks.false in
     rw (c.get_mut.follows.holds c.lock_all.new.self).0
-    (good_tried c.lock_all.result c.self.inside.files.entries c.args.file c.args.holder c.args.asks.now c.in-Some.locks.now c.lock_all.new.self c.self.invariant flags (sym c.in-Some.ensures.value) c.lock_all.ensures.ok c.lock_all.ensures.lawful c.lock_all.ensures.err)
+    (good_tried c.args.most c.lock_all.result c.self.inside.files.entries c.args.file c.args.holder c.args.asks.now c.in-Some.locks.now c.lock_all.new.self c.self.invariant flags (sym c.in-Some.ensures.value) c.lock_all.ensures.ok c.lock_all.ensures.lawful c.lock_all.ensures.err)
 
 pub returns-in-Some-clause-ok : goal.returns-in-Some-clause-ok
 returns-in-Some-clause-ok c =
@@ -41,5 +41,5 @@ invariant_of-self-2 c =
     let flags = sym c.are_locks.ensures ∙ c.if-not-are_locks.false in
     let all = c.in_ok-lock_all.ensures.ok ∙ ap (λ (ls : List Lock). ls ++ locks_asked c.args.holder c.args.asks.now) c.new-locks.ensures in
     let first = locked_first table c.args.file c.args.holder c.args.asks.now c.lock_all-2.new.self found all (sym c.is_empty.ensures ∙ c.if-is_empty.false) in
-    let granted = lock_refusal table c.args.file c.args.holder c.args.asks.now c.new-locks.result None flags (none_on table c.args.file found ∙ sym c.new-locks.ensures) c.in_ok-lock_all.ensures.lawful in
-    rw (c.in_ok-put.ensures.ok, c.get_mut.follows.holds-at-none, first) (good_locked table c.args.file c.args.holder c.args.asks.now c.self.invariant granted)
+    let granted = lock_refusal c.args.most table c.args.file c.args.holder c.args.asks.now c.new-locks.result None flags (none_on table c.args.file found ∙ sym c.new-locks.ensures) c.in_ok-lock_all.ensures.lawful in
+    rw (c.in_ok-put.ensures.ok, c.get_mut.follows.holds-at-none, first) (good_locked c.args.most table c.args.file c.args.holder c.args.asks.now c.self.invariant granted)

@@ -6,7 +6,7 @@ use Rattle.smb_tree.specs.Entries.{new_entry}
 use Rattle.smb_tree.specs.declared.entry.Kind.TheVariants.{Folder}
 use Rattle.smb_nodes.proofs.Bounds.{bound_same, bound_root}
 use Rattle.smb_nodes.proofs.Rooted.{root_tree, root_rows}
-use Rattle.smb_nodes.proofs.tree.NodeTree.new.Goals as goal
+use Rattle.smb_nodes.proofs.tree.NodeTree.within.Goals as goal
 
 pub invariant_of-result : goal.invariant_of-result
 invariant_of-result c =
