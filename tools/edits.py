@@ -2,7 +2,8 @@
 """edits.py: writes docs/EDITS.md, the list of must-fail edits, from the edits' files and names.
 
 --check fails where that page is not what would be written. Each edit's first line is `turns: ` and what the wrong body
-would do; its name begins with the name of the file that it changes.
+would do; its name begins with the name of the file that it changes, and that has each old text once: `rt ci` passes over
+an edit that it can't make.
 """
 import pathlib
 import re
@@ -24,6 +25,10 @@ def what_it_turns(edit):
     stem = pathlib.PurePath(file).stem.lower()
     if not re.match(rf"{stem}_[a-z0-9_]+\.edit$", edit.name):
         sys.exit(f"{edit.relative_to(ROOT)}: its name does not begin with {stem}_, the file that it changes")
+    source = (edit.parent.parent / file).read_text(encoding="utf-8")
+    for old in [it[len("old: "):] for it in lines if it.startswith("old: ")]:
+        if source.count(old) != 1:
+            sys.exit(f"{edit.relative_to(ROOT)}: {file} has its old text {source.count(old)} times, and not once")
     return lines[0][len("turns: "):].strip()
 
 
