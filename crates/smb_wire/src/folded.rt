@@ -75,8 +75,8 @@ impl FoldedName {
         self.units()[i]
     }
 
-    // The units that count.
-    fn units(&self) -> &[u16]
+    /// Its units, by which a key of a directory is looked up.
+    pub fn units(&self) -> &[u16]
         ensures { result.now ≡ self.now }
     {
         &self.units[..self.len as usize]
