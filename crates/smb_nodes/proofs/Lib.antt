@@ -30,3 +30,5 @@ pub mod Placing
 pub mod Bounds
 pub mod Targeting
 pub mod Within
+pub mod Naming
+pub mod Keyed

@@ -4,12 +4,7 @@ use Rattle.std.specs.List.{filter}
 use Rattle.std.specs.Ordering.{nat_cmp, is_lt, is_gt, ordering_reverse}
 use Rattle.std.specs.declared.cmp.Ordering.{Ordering}
 use Rattle.std.specs.declared.cmp.Ordering.TheVariants.{Less, Equal, Greater}
-use Rattle.std.specs.declared.ops.Bound.{Bound}
-use Rattle.std.specs.declared.ops.Bound.TheVariants.{Unbounded}
 use Rattle.std.specs.Cmp.Lexicographic.{slice_cmp}
-use Rattle.std.specs.BTreeMap as tree
-use Rattle.std.specs.BTreeMap.{BTreeMap}
-use Rattle.std.specs.BTreeMap.Range.{IsFromStart, IsRangeOf, IsEntryInRange}
 use Rattle.std.proofs.lemmas.Bool.{and_parts, and_from}
 use Rattle.std.proofs.lemmas.Cmp.{nat_list_cmp_total}
 use Rattle.smb_tree.specs.Entries.{last_part}
@@ -18,7 +13,7 @@ use Rattle.smb_tree.specs.Children.{name_of, is_child, is_before, first_by_name}
 use Rattle.smb_tree.specs.Parts.{is_after, first_of_two, next_child}
 use Rattle.smb_tree.proofs.Lasts.{last_of}
 use Rattle.smb_tree.proofs.Orders.{before_same}
-use Rattle.smb_nodes.specs.Nodes.{TreeNode, Heap, child_in, levels, row_in, rows_in, has_slot, Live, IsTree}
+use Rattle.smb_nodes.specs.Nodes.{Heap, child_in, levels, row_in, rows_in, has_slot, Live, IsTree}
 use Rattle.smb_nodes.specs.Changes.{IsNext}
 use Rattle.smb_nodes.proofs.Walks.{live-name}
 use Rattle.smb_nodes.proofs.Growing.{clash, eqb-eq}
@@ -34,23 +29,6 @@ before_behind a b = ap is_lt (nat_list_cmp_total.antisymm a b) ∙ lt_reverse (s
 
 some_equal : {A : Type 0} {a b : A} → Some a ≡ Some b → a ≡ b
 some_equal h = cc
-
--- the first entry of a range
-pub next_found : (m : BTreeMap (List ℕ) ℕ) (o : Option TreeNode) (lo : Bound (List ℕ)) (after : Option (List ℕ)) (r rest : List (List ℕ × ℕ)) (first : List ℕ) (child : ℕ) → ((c : List ℕ) → child_in o c ≡ tree.get (slice_cmp nat_cmp) m c) → IsRangeOf (slice_cmp nat_cmp) lo Unbounded m r
-    → ((name : List ℕ) → IsFromStart (slice_cmp nat_cmp) lo name → is_after after name ≡ true) → ((name : List ℕ) → is_after after name ≡ true → IsFromStart (slice_cmp nat_cmp) lo name) → r ≡ (first, child) ∷ rest → IsNext o after child
-next_found m o lo after r rest first child same w into back is =
-    let v : IsRangeOf (slice_cmp nat_cmp) lo Unbounded m ((first, child) ∷ rest) = subst (λ (es : List (List ℕ × ℕ)). IsRangeOf (slice_cmp nat_cmp) lo Unbounded m es) is w in
-    let here : IsEntryInRange (slice_cmp nat_cmp) lo Unbounded m (first, child) = v.1 in
-    record {
-      name = first;
-      is = same first ∙ here.1;
-      follows = into first here.0.0;
-      least = λ other some follows. before_behind other first ∙ v.2 other (back other follows, tt) (ap is_some (sym (same other)) ∙ some);
-    }
-
-pub next_none : (m : BTreeMap (List ℕ) ℕ) (o : Option TreeNode) (lo : Bound (List ℕ)) (after : Option (List ℕ)) (r : List (List ℕ × ℕ)) → ((c : List ℕ) → child_in o c ≡ tree.get (slice_cmp nat_cmp) m c) → IsRangeOf (slice_cmp nat_cmp) lo Unbounded m r
-    → ((name : List ℕ) → is_after after name ≡ true → IsFromStart (slice_cmp nat_cmp) lo name) → r ≡ [] → (name : List ℕ) → is_after after name ≡ true → child_in o name ≡ None
-next_none m o lo after r same w back is name follows = same name ∙ w.5 is name (back name follows, tt)
 
 -- an entry is one of a list
 abbrev Has : List Row → Row → Type 0

@@ -2,10 +2,8 @@
 use Rattle.std.specs.Prelude.{◌≡◌, ◌+◌, true, false, ◌&&◌, ◌==◌, if◌then◌else◌, ℕ, suc, zero, List, [], ◌∷◌, set, get_or, Option, None, Some, is_some, cond, refl, Result, Ok, Err, OnOk, OnErr}
 use Rattle.std.specs.Option.{option_map}
 use Rattle.std.proofs.Common.{length, arith, sym, ap, ◌∙◌}
-use Rattle.std.specs.Ordering.{nat_cmp}
-use Rattle.std.specs.Cmp.Lexicographic.{slice_cmp}
-use Rattle.std.specs.BTreeMap as tree
-use Rattle.std.specs.BTreeMap.{BTreeMap, is_at}
+use Rattle.std.specs.Box.{boxed_slice_items}
+use Rattle.std.specs.BTreeMap.{BTreeMap}
 use Rattle.std.specs.Map.{lookup}
 use Rattle.std.specs.List.{count_by, fold}
 use Rattle.std.proofs.lemmas.Map.Text.{is_eq-slice_cmp}
@@ -15,13 +13,17 @@ use Rattle.smb_tree.specs.Entries.{Entry}
 use Rattle.smb_nodes.specs.declared.node.Node.{Node}
 use Rattle.smb_nodes.specs.Nodes.{TreeNode, child_in, name_in, up_in, entry_in, is_same_component, name_of_slot}
 use Rattle.smb_nodes.specs.Changes.{Altered, Childed, Grown, Pruned, HasChild}
-use Rattle.smb_nodes.specs.Seen.{entry_seen, node_seen, seen, heap_of, SameHeap, SameRoom}
+use Rattle.smb_nodes.specs.Seen.{Key, is_named, named_in, entry_seen, node_seen, seen, heap_of, SameHeap, SameRoom}
 use Rattle.smb_nodes.proofs.Walks.{same_component-itself}
 use Rattle.smb_nodes.proofs.Growing.{eqb-eq, eqb-neq}
 
 pub on_ok_from : {A E P Q : Type 0} (r : Result A E) → OnOk r P → (P → Q) → OnOk r Q
 on_ok_from (Ok a) p f = f p
 on_ok_from (Err e) p f = tt
+
+pub on_err_from : {A E P Q : Type 0} (r : Result A E) → OnErr r P → (P → Q) → OnErr r Q
+on_err_from (Ok a) p f = tt
+on_err_from (Err e) p f = f p
 
 pub get_set : {A : Type 0} (l : List (Option A)) (i j : ℕ) (y z : A) → get_or l i None ≡ Some y → get_or (set l i (Some z)) j None ≡ (if j == i then Some z else get_or l j None)
 get_set [] i j y z h = cc
@@ -55,14 +57,14 @@ put_in old slot x z change at entry parent children name =
         | false ↦ λ e. rw (put s, e) refl
       ] refl;
       children = λ s n. elim (s == slot) as (λ b. s == slot ≡ b → child_in (heap_of (with_value old slot z) s) n ≡ child_in (heap_of old s) n) [
-        | true ↦ λ e. (let same = eqb-eq s slot e in rw (put s, e, same, here) (ap (λ (m : BTreeMap (List ℕ) ℕ). tree.get (slice_cmp nat_cmp) m n) children))
+        | true ↦ λ e. (let same = eqb-eq s slot e in rw (put s, e, same, here) (ap (λ (m : BTreeMap Key ℕ). named_in m n) children))
         | false ↦ λ e. rw (put s, e) refl
       ] refl;
     }
 
 -- another child of a name
 pub child_put : (old : Slab Node) (folder : ℕ) (y z : Node) (name : List ℕ) (child : Option ℕ) → get old folder ≡ Some y → entry_seen z ≡ entry_seen y → z.parent ≡ y.parent
-    → ((c : List ℕ) → tree.get (slice_cmp nat_cmp) z.children c ≡ (if is_same_component name c then child else tree.get (slice_cmp nat_cmp) y.children c)) → Childed (heap_of old) (heap_of (with_value old folder z)) folder name child
+    → ((c : List ℕ) → named_in z.children c ≡ (if is_same_component name c then child else named_in y.children c)) → Childed (heap_of old) (heap_of (with_value old folder z)) folder name child
 child_put old folder y z name child at entry parent children =
     let here : heap_of old folder ≡ Some (node_seen y) = ap seen at in
     let put : (s : ℕ) → heap_of (with_value old folder z) s ≡ (if s == folder then Some (node_seen z) else heap_of old s) = λ s. heap_put old folder s y z at in
@@ -85,11 +87,8 @@ child_put old folder y z name child at entry parent children =
       ] refl;
     }
 
-pub updated : (m n : BTreeMap (List ℕ) ℕ) (name : List ℕ) (child : Option ℕ) → tree.Updates (slice_cmp nat_cmp) m n name child → (c : List ℕ) → tree.get (slice_cmp nat_cmp) n c ≡ (if is_same_component name c then child else tree.get (slice_cmp nat_cmp) m c)
-updated m n name child w c = w.0 c ∙ ap (λ b. cond b child (tree.get (slice_cmp nat_cmp) m c)) (is_eq-slice_cmp name c)
-
-pub none_in : (m : BTreeMap (List ℕ) ℕ) (c : List ℕ) → m.entries ≡ [] → tree.get (slice_cmp nat_cmp) m c ≡ None
-none_in m c e = ap (λ es. lookup (is_at (slice_cmp nat_cmp c)) es) e
+pub none_in : (m : BTreeMap Key ℕ) (c : List ℕ) → m.entries ≡ [] → named_in m c ≡ None
+none_in m c e = ap (λ (es : List (Key × ℕ)). lookup (is_named c) es) e
 
 fold_set : {A : Type 0} (start : ℕ) (l : List (Option A)) (i : ℕ) (y z : A) → get_or l i None ≡ Some y → fold (λ count o. count + cond (is_some o) 1 0) start (set l i (Some z)) ≡ fold (λ count o. count + cond (is_some o) 1 0) start l
 fold_set start [] i y z h = cc
@@ -105,7 +104,7 @@ same_room old slot y z h = record { count = count_set old.slots slot y z h; capa
 -- the same children
 pub same_put : (old : Slab Node) (slot : ℕ) (y z : Node) → get old slot ≡ Some y → entry_seen z ≡ entry_seen y → z.parent ≡ y.parent → z.children.entries ≡ y.children.entries → SameHeap old (with_value old slot z)
 same_put old slot y z at entry parent children =
-    let same : node_seen z ≡ node_seen y = λ i. record { entry = entry i; up = parent i; child = λ c. lookup (is_at (slice_cmp nat_cmp c)) (children i) } in
+    let same : node_seen z ≡ node_seen y = λ i. record { entry = entry i; up = parent i; child = λ c. lookup (is_named c) (children i) } in
     let here : heap_of old slot ≡ Some (node_seen y) = ap seen at in (
       λ s. heap_put old slot s y z at ∙ elim (s == slot) as (λ b. s == slot ≡ b → (if b then Some (node_seen z) else heap_of old s) ≡ heap_of old s) [
         | true ↦ λ e. ap Some same ∙ sym here ∙ ap (heap_of old) (sym (eqb-eq s slot e))
@@ -171,23 +170,23 @@ on_err (Err e) p = p
 pub some_child : (node : Node) (o : Option TreeNode) → o ≡ Some (node_seen node) → (length node.children.entries ≡ 0 → ⊥) → HasChild o
 some_child node o e h = by node.children refl h
   where
-    by : (m : BTreeMap (List ℕ) ℕ) → node.children ≡ m → (length m.entries ≡ 0 → ⊥) → HasChild o
+    by : (m : BTreeMap Key ℕ) → node.children ≡ m → (length m.entries ≡ 0 → ⊥) → HasChild o
     by m is h =
         let some = first m.entries h in
         record {
           name = some.0;
           child = some.1;
-          is = ap (λ (p : Option TreeNode). child_in p some.0) e ∙ ap (λ (n : BTreeMap (List ℕ) ℕ). tree.get (slice_cmp nat_cmp) n some.0) is ∙ some.2;
+          is = ap (λ (p : Option TreeNode). child_in p some.0) e ∙ ap (λ (n : BTreeMap Key ℕ). named_in n some.0) is ∙ some.2;
         }
       where
-        first : (es : List (List ℕ × ℕ)) → (length es ≡ 0 → ⊥) → (name : List ℕ) × (child : ℕ) × (lookup (is_at (slice_cmp nat_cmp name)) es ≡ Some child)
+        first : (es : List (Key × ℕ)) → (length es ≡ 0 → ⊥) → (name : List ℕ) × (child : ℕ) × (lookup (is_named name) es ≡ Some child)
         first [] h = absurd (h refl)
-        first (e ∷ es) h = (e.0, e.1, (let here = is_eq-slice_cmp e.0 e.0 ∙ same_component-itself e.0 in rw here refl))
+        first (e ∷ es) h = (boxed_slice_items e.0, e.1, (let here = is_eq-slice_cmp (boxed_slice_items e.0) (boxed_slice_items e.0) ∙ same_component-itself (boxed_slice_items e.0) in rw here refl))
 
 pub no_child : (node : Node) (o : Option TreeNode) → o ≡ Some (node_seen node) → length node.children.entries ≡ 0 → (name : List ℕ) → child_in o name ≡ None
 no_child node o e h name = ap (λ (p : Option TreeNode). child_in p name) e ∙ none_in node.children name (empty node.children.entries h)
   where
-    empty : (es : List (List ℕ × ℕ)) → length es ≡ 0 → es ≡ []
+    empty : (es : List (Key × ℕ)) → length es ≡ 0 → es ≡ []
     empty [] h = refl
     empty (e ∷ es) h = absurd (omega arith)
 
@@ -228,5 +227,5 @@ pub still_there : (old mid : Slab Node) (slot s : ℕ) → Updates old mid slot 
 still_there old mid slot s u e h = ap is_some (ap seen (u.others s (eqb-neq s slot e))) ∙ h
 
 -- the children of a node that was found
-pub children_of : (nodes : Slab Node) (slot : ℕ) (node : Node) → get nodes slot ≡ Some node → (c : List ℕ) → child_in (heap_of nodes slot) c ≡ tree.get (slice_cmp nat_cmp) node.children c
+pub children_of : (nodes : Slab Node) (slot : ℕ) (node : Node) → get nodes slot ≡ Some node → (c : List ℕ) → child_in (heap_of nodes slot) c ≡ named_in node.children c
 children_of nodes slot node at c = ap (λ (o : Option TreeNode). child_in o c) (ap seen at)

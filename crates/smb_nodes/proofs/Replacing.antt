@@ -2,9 +2,6 @@
 use Rattle.std.specs.Prelude.{◌≡◌, ℕ, ◌==◌, true, false, ◌&&◌, if◌then◌else◌, List, Option, None, Some, is_some, refl}
 use Rattle.std.specs.Option.{option_map}
 use Rattle.std.proofs.Common.{arith, sym, ap, ◌∙◌}
-use Rattle.std.specs.Ordering.{nat_cmp}
-use Rattle.std.specs.Cmp.Lexicographic.{slice_cmp}
-use Rattle.std.specs.BTreeMap as tree
 use Rattle.std.specs.BTreeMap.{BTreeMap}
 use Rattle.slab.specs.Slab.{Slab, get, with_value, Updates}
 use Rattle.smb_wire.specs.Names.{folded}
@@ -12,7 +9,7 @@ use Rattle.smb_tree.specs.Entries.{Entry}
 use Rattle.smb_nodes.specs.declared.node.Node.{Node}
 use Rattle.smb_nodes.specs.Nodes.{Heap, child_in, name_in, up_in, entry_in, name_of_slot, is_same_component}
 use Rattle.smb_nodes.specs.Changes.{Childed, Settled, Rehung, Emptied}
-use Rattle.smb_nodes.specs.Seen.{entry_seen, node_seen, seen, heap_of}
+use Rattle.smb_nodes.specs.Seen.{Key, named_in, entry_seen, node_seen, seen, heap_of}
 use Rattle.smb_nodes.proofs.Walks.{same_component-eq, same_component-itself}
 use Rattle.smb_nodes.proofs.Growing.{eqb-eq, eqb-neq, live-entry}
 use Rattle.smb_nodes.proofs.Putting.{heap_put}
@@ -36,7 +33,7 @@ settled old slot x z folder spelling at entry parent children =
         | false ↦ λ e. rw (put s, e) refl
       ] refl;
       children = λ s n. elim (s == slot) as (λ b. s == slot ≡ b → child_in (heap_of (with_value old slot z) s) n ≡ child_in (heap_of old s) n) [
-        | true ↦ λ e. (let same = eqb-eq s slot e in rw (put s, e, same, here) (ap (λ (m : BTreeMap (List ℕ) ℕ). tree.get (slice_cmp nat_cmp) m n) children))
+        | true ↦ λ e. (let same = eqb-eq s slot e in rw (put s, e, same, here) (ap (λ (m : BTreeMap Key ℕ). named_in m n) children))
         | false ↦ λ e. rw (put s, e) refl
       ] refl;
     }

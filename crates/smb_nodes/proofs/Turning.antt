@@ -1,9 +1,6 @@
 -- Children that come next behind a name are those that are looked up at once.
 use Rattle.std.proofs.Common.{◌≡◌, ℕ, suc, ◌+◌, ◌-◌, true, false, ◌||◌, ◌==◌, if◌then◌else◌, List, [], ◌∷◌, ◌++◌, length, map, Option, None, Some, is_some, inl, inr, refl, sym, ap, ◌∙◌, arith, subst, append-nil}
 use Rattle.std.specs.Option.{option_and_then}
-use Rattle.std.specs.Ordering.{nat_cmp}
-use Rattle.std.specs.Cmp.Lexicographic.{slice_cmp}
-use Rattle.std.specs.BTreeMap as tree
 use Rattle.std.specs.BTreeMap.{BTreeMap}
 use Rattle.smb_tree.specs.Entries.{last_part}
 use Rattle.smb_tree.specs.Content.{Row, numbered}
@@ -15,10 +12,10 @@ use Rattle.smb_tree.proofs.Lasts.{last_of}
 use Rattle.smb_tree.proofs.ChildLists.{number_of, no_further, one_further}
 use Rattle.smb_nodes.specs.declared.tree.NodeTree.TheInside.{Inside}
 use Rattle.smb_nodes.specs.Nodes.{Heap, Numbers, AreDistinct, has_slot, child_in, levels, row_in, slot_of, entry_of_slot}
-use Rattle.smb_nodes.specs.Changes.{IsNext}
-use Rattle.smb_nodes.specs.Seen.{heap_of}
+use Rattle.smb_nodes.specs.Seen.{Key, named_in, heap_of}
 use Rattle.smb_nodes.specs.Tree.{content_kept, KeepsTree}
 use Rattle.smb_nodes.specs.Nexts.{IsNextEntry, AreNext, NoneAfter, NextNumbers}
+use Rattle.smb_nodes.proofs.Batches.{is_next}
 use Rattle.smb_nodes.proofs.Kept.{live_is}
 use Rattle.smb_nodes.proofs.Following.{no_folder, child_next, no_child_next}
 use Rattle.smb_nodes.proofs.Childing.{child_row}
@@ -43,15 +40,7 @@ own_slot g (e ∷ es) u n d h =
           ] refl
     ] refl h
 
-module _ (x : Inside) (n s : ℕ) (keeps : KeepsTree x) (at : slot_of x.index.entries n ≡ Some s) (m : BTreeMap (List ℕ) ℕ) (same : (c : List ℕ) → child_in (heap_of x.nodes s) c ≡ tree.get (slice_cmp nat_cmp) m c) where
-  is_next : (after : Option (List ℕ)) (entry : List ℕ × ℕ) → IsNextEntry m after entry → IsNext (heap_of x.nodes s) after entry.1
-  is_next after entry w = record {
-    name = entry.0;
-    is = same entry.0 ∙ w.is;
-    follows = w.follows;
-    least = λ other some h. w.least other (sym (ap is_some (same other)) ∙ some) h;
-  }
-
+module _ (x : Inside) (n s : ℕ) (keeps : KeepsTree x) (at : slot_of x.index.entries n ≡ Some s) (m : BTreeMap Key ℕ) (same : (c : List ℕ) → child_in (heap_of x.nodes s) c ≡ named_in m c) where
   -- the next one is the first in turn
   one_turn : (left : ℕ) (after : Option (List ℕ)) (entry : List ℕ × ℕ) → IsNextEntry m after entry →
       map number_of (in_turn (suc left) (content_kept x).rows n after) ≡ (entry_of_slot (heap_of x.nodes) entry.1).number ∷ map number_of (in_turn left (content_kept x).rows n (Some entry.0))
@@ -64,7 +53,7 @@ module _ (x : Inside) (n s : ℕ) (keeps : KeepsTree x) (at : slot_of x.index.en
       let name : name_of (row_in (heap_of x.nodes) levels entry.1) ≡ entry.0 =
       ap last_part (child_row (heap_of x.nodes) x.index.entries x.next keeps.is_tree s (live_is x n s keeps at) entry.1 entry.0 is) ∙ last_of (row_in (heap_of x.nodes) levels s).0 entry.0 in
       one_further left (content_kept x).rows n after (entry_of_slot (heap_of x.nodes) entry.1).number (row_in (heap_of x.nodes) levels entry.1)
-      (sym (child_next x n s keeps at after entry.1 (entry_of_slot (heap_of x.nodes) entry.1).number (is_next after entry w) refl)) row
+      (sym (child_next x n s keeps at after entry.1 (entry_of_slot (heap_of x.nodes) entry.1).number (is_next (heap_of x.nodes s) m after entry same w) refl)) row
       ∙ ap (λ (c : List ℕ). (entry_of_slot (heap_of x.nodes) entry.1).number ∷ map number_of (in_turn left (content_kept x).rows n (Some c))) name
 
   turns : (entries : List (List ℕ × ℕ)) (after last : Option (List ℕ)) (most left : ℕ) → AreNext m after last entries → length entries + left ≡ most →

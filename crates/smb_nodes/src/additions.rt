@@ -18,7 +18,7 @@ use super::node::Node;
 use slab::Slab;
 use smb_tree::{EntryNo, TreeFault};
 use smb_wire::PathView;
-use std::alloc::AllocError;
+use std::alloc::{AllocError, Global};
 use std::collections::BTreeMap;
 
 // Whether a slot, if there is one, has a node.
@@ -63,7 +63,7 @@ pub fn add_fault(
 }
 
 // Puts a node beneath another, into the next slot. Without memory all stays.
-fn hang(nodes: &mut Slab<Node>, node: Node) -> Result<(), AllocError>
+fn hang(alloc: Global, nodes: &mut Slab<Node>, node: Node) -> Result<(), AllocError>
     requires root { is_some (heap_of nodes.old 0) ≡ true }
     requires leaf { node.children.entries ≡ [] }
     requires above { is_some (heap_of nodes.old node.parent) ≡ true }
@@ -73,13 +73,14 @@ fn hang(nodes: &mut Slab<Node>, node: Node) -> Result<(), AllocError>
 {
     nodes.reserve(1)?;
     let slot = nodes.vacant_key();
-    put_child(nodes, node.parent, name_of(&node), slot)?;
+    put_child(alloc, nodes, node.parent, name_of(&node), slot)?;
     let _ = nodes.insert_reserved(node);
     Ok(())
 }
 
 // Puts a node beneath another, and its slot into the index. Without memory all stays.
 pub fn place(
+    alloc: Global,
     nodes: &mut Slab<Node>,
     index: &mut BTreeMap<EntryNo, usize>,
     node: Node,
@@ -97,7 +98,7 @@ pub fn place(
     let number = node.number;
     let slot = nodes.vacant_key();
     index.insert(number, slot)?;
-    let hung = hang(nodes, node);
+    let hung = hang(alloc, nodes, node);
     if hung.is_err() {
         let _ = index.remove(&number);
     }

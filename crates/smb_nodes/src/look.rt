@@ -32,7 +32,7 @@ pub fn child_of(nodes: &Slab<Node>, slot: usize, name: Units<'_>) -> Option<usiz
     let node = nodes.get(slot)?;
     // Borrowed where it is made: a folded name has 512 bytes.
     match &FoldedName::of(name) {
-        Some(folded) => node.children.get(folded).copied(),
+        Some(folded) => node.children.get(folded.units()).copied(),
         None => None,
     }
 }

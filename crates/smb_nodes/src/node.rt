@@ -6,7 +6,7 @@ ghost use Rattle.smb_wire.specs.Pairs.{units_in};
 
 use smb_pages::Pages;
 use smb_tree::{Basic, EntryNo, Kind};
-use smb_wire::FoldedName;
+use std::boxed::BoxedSlice;
 use std::collections::BTreeMap;
 
 // An entry with the slots of its parent and its children.
@@ -20,8 +20,8 @@ pub struct Node {
     pub spelling: Vec<u8>,
     // The slot of the folder in which it stands; the root's is its own.
     pub parent: usize,
-    // The slot of each child by its folded name.
-    pub children: BTreeMap<FoldedName, usize>,
+    // The slot of each child by its folded name, which is kept at its own length.
+    pub children: BTreeMap<BoxedSlice<u16>, usize>,
     pub bytes: Pages,
     pub ghost even: { length spelling.items % 2 ≡ 0 },
     pub ghost short: { length (units_in spelling.items) ≤ 255 },

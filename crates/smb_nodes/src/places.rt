@@ -16,7 +16,7 @@ use super::ways::folder_of;
 use slab::Slab;
 use smb_tree::EntryNo;
 use smb_wire::{FoldedName, Units};
-use std::alloc::AllocError;
+use std::alloc::{AllocError, Global};
 use std::collections::BTreeMap;
 
 // A name that is spelled so, two bytes a unit.
@@ -51,6 +51,7 @@ pub fn settle(nodes: &mut Slab<Node>, slot: usize, folder: usize, spelling: Vec<
 // Puts a node into a folder, spelled so, in place of what stands there under its name, and takes it out of its own. Only
 // a name that is new in the folder takes memory; without it all stays.
 pub fn reparent(
+    alloc: Global,
     nodes: &mut Slab<Node>,
     slot: usize,
     folder: usize,
@@ -68,7 +69,7 @@ pub fn reparent(
     let old_folder = folder_of(nodes, slot);
     let old_name = name_of(&nodes[slot]);
     let name = folded_name(&spelling);
-    put_child(nodes, folder, name, slot)?;
+    put_child(alloc, nodes, folder, name, slot)?;
     take_child(nodes, old_folder, &old_name);
     settle(nodes, slot, folder, spelling);
     Ok(())

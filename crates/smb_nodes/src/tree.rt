@@ -36,19 +36,21 @@ use std::marker::Model;
 ///
 /// - [`entry`](Tree::entry), [`name`](Tree::name), [`set_basic`](Tree::set_basic), [`set_mark`](Tree::set_mark):
 ///   nothing more. [`used`](Tree::used) is kept, and not counted.
-/// - [`child_after`](Tree::child_after): one look-up in the folder's children.
-/// - [`children_after`](Tree::children_after): one look-up there for all of them, and then a step for each.
+/// - [`child_after`](Tree::child_after): two look-ups in the folder's children, or one where no name is given. A name that
+///   is no child's, as of one that was removed meanwhile, costs a pass over the children before it in place of the first.
+/// - [`children_after`](Tree::children_after): the same for all of them, and then a step for each.
 /// - [`is_within`](Tree::is_within): a second look-up in the index, and at most one step up by slots for each component of
 ///   the path.
 /// - [`copy_entry`](Tree::copy_entry): one step up for each component, and memory for the name.
-/// - [`add`](Tree::add): one walk along the path, and one insertion into the folder's children and the index. It
-///   takes memory for the spelling and, where there is no room, for a slot, a child and a number.
+/// - [`add`](Tree::add): one walk along the path, one look-up among the folder's children, and one insertion there and
+///   into the index. It takes memory for the spelling, for the folded name of the child and, where there is no room, for
+///   a slot, a child and a number.
 /// - [`remove`](Tree::remove): one look-up in the folder's children, and a removal from there and from the index.
-/// - [`move_entry`](Tree::move_entry): one walk along the path, one insertion into the new folder's children, and one
-///   removal from the old one's. Of a folder's entries none is touched. It takes memory for the spelling and for a child
-///   of the new folder. A file that goes also leaves its slot and the index. It keeps a bound of how long the
-///   tree's paths are. Where by that bound a path could get too long, it goes through all slots to count the bound anew,
-///   and once more where that doesn't do.
+/// - [`move_entry`](Tree::move_entry): one walk along the path, one look-up and one insertion among the new folder's
+///   children, and one removal from the old one's. Of a folder's entries none is touched. It takes memory for the
+///   spelling and, where no child of the new folder has the name, for the folded name and a child there. A file that
+///   goes also leaves its slot and the index. It keeps a bound of how long the tree's paths are. Where by that bound a
+///   path could get too long, it goes through all slots to count the bound anew, and once more where that doesn't do.
 /// - [`read`](Tree::read): a read of n bytes finds some n / 4,096 pages, and copies each byte once: a page in one block, and in
 ///   one block of zeros what was never written of it. It takes memory once, for the bytes that it adds and no more.
 /// - [`write`](Tree::write): a write of n bytes finds some n / 4,096 pages, and copies each byte once, a page in one block. It
@@ -244,7 +246,7 @@ impl Tree for NodeTree {
             children: BTreeMap::new(self.alloc),
             bytes: Pages::new(self.alloc),
         };
-        place(&mut self.nodes, &mut self.index, node)?;
+        place(self.alloc, &mut self.nodes, &mut self.index, node)?;
         self.next = number + 1;
         self.deepest = self.deepest.max(path.len());
         Ok(number)
@@ -348,7 +350,7 @@ impl Tree for NodeTree {
             self.deepest = deepest;
             return Ok(());
         }
-        reparent(&mut self.nodes, slot, folder, spelling)?;
+        reparent(self.alloc, &mut self.nodes, slot, folder, spelling)?;
         self.deepest = deepest;
         let Some(other) = target else {
             return Ok(());
