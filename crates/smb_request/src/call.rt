@@ -2,12 +2,10 @@
 
 ghost use Rattle.std.specs.Prelude.{ℕ, List, Option, ◌≡◌, ◌≤◌};
 ghost use Rattle.smb_wire.specs.declared.dialect.Dialect.{Dialect};
-ghost use Rattle.std.specs.Option.{option_map, option_and_then};
+ghost use Rattle.std.specs.Option.{option_map};
 ghost use Rattle.smb_wire.specs.Limits.{most_at_once, most_in_any_dialect};
-ghost use Rattle.smb_head.specs.Chains.{is_related};
 ghost use Rattle.smb_head.specs.Headers.{header_of};
 ghost use Rattle.smb_wire.specs.Commands.{known_command};
-ghost use Rattle.smb_body.specs.Requests.{file_id_of};
 ghost use Rattle.smb_request.specs.Held.{asked_value};
 ghost use Rattle.smb_request.specs.Call.{body_of, call_of};
 ghost use Rattle.smb_request.specs.Laws.{request_ids};
@@ -16,13 +14,11 @@ ghost use Rattle.smb_request.specs.Context.{named_on, open_for_next_related};
 
 use super::asked::Asked;
 use super::charge::charge_of;
-use super::context::{
-    Context, ContextOpen, HeaderIds, named_on, open_for_next_related, open_number,
-};
+use super::context::{Context, ContextOpen, HeaderIds, created_open, named_on, open_number};
 use bitflags::Flags;
 use smb_body::read_body;
 use smb_head::{Header, HeaderFlags};
-use smb_wire::{Command, Dialect, FileId, NtStatus, limits};
+use smb_wire::{Command, CommandCode, Dialect, FileId, NtStatus, limits};
 
 /// A request, but for its body.
 #[derive(Clone, Copy)]
@@ -46,20 +42,13 @@ pub(crate) struct Call {
     pub(crate) open_number: u64,
 }
 
-/// Whether a request is related to the one before it.
-fn is_related(header: &Header) -> bool
-    ensures { (request : List ℕ) → header.now ≡ header_of request → result ≡ is_related request }
-{
-    header.flags.contains(HeaderFlags::RELATED)
-}
-
 /// The session and the tree connect that a request acts under, its own, or of a related one the context's; and the open that
 /// it inherits, none where it is not related.
 fn inherited_by(context: Context, header: &Header) -> (HeaderIds, Option<ContextOpen>)
     ensures ids { (request : List ℕ) → header.now ≡ header_of request → result.0 ≡ request_ids context request }
     ensures inherited { (request : List ℕ) → header.now ≡ header_of request → result.1 ≡ inherited_open context request }
 {
-    if is_related(header) {
+    if header.flags.contains(HeaderFlags::RELATED) {
         (context.ids, Some(context.last_open))
     } else {
         let ids = HeaderIds {
@@ -70,26 +59,16 @@ fn inherited_by(context: Context, header: &Header) -> (HeaderIds, Option<Context
     }
 }
 
-/// What the body of a request of a command says; None where it says nothing, or the command is not known.
-pub(crate) fn body_of(command: Option<Command>, request: &[u8]) -> Option<Asked<'_>>
-    ensures { option_map asked_value result ≡ body_of command request.now }
+/// What the body of a request of a code says; None where it says nothing, or the code is that of no command.
+pub(crate) fn body_of(code: CommandCode, request: &[u8]) -> Option<Asked<'_>>
+    ensures { option_map asked_value result ≡ body_of (known_command code.0) request.now }
 {
-    match read_body(command?.code().0, request) {
+    match read_body(code.0, request) {
         Ok(request) => {
             let facts = request.facts();
             Some(Asked { request, facts })
         }
         Err(_) => None,
-    }
-}
-
-/// The FileId in a body, if it has one.
-fn file_id_in(body: &Option<Asked<'_>>) -> Option<FileId>
-    ensures { result ≡ option_and_then file_id_of (option_map asked_value body.now) }
-{
-    match body {
-        Some(asked) => asked.facts.file_id,
-        None => None,
     }
 }
 
@@ -102,7 +81,7 @@ pub fn acting_on(context: Context, header: &Header, request: &[u8]) -> (HeaderId
         × (result.1 ≡ (call_of connection moment dialect context request.now).open_number) }
 {
     let command = header.command.known();
-    let body = body_of(command, request);
+    let body = body_of(header.command, request);
     let call = Call::of(0, 0, None, context, header, command, &body);
     (call.ids, call.open_number)
 }
@@ -124,7 +103,14 @@ impl Call {
             result ≡ call_of connection moment dialect context request }
     {
         let (ids, inherited) = inherited_by(context, header);
-        let file_id = file_id_in(body);
+        let file_id = match body {
+            Some(asked) => asked.facts.file_id,
+            None => None,
+        };
+        let open_number = match file_id {
+            Some(id) => open_number(inherited, id),
+            None => 0,
+        };
         Call {
             connection,
             moment,
@@ -134,7 +120,7 @@ impl Call {
             ids,
             inherited,
             file_id,
-            open_number: open_number(inherited, file_id),
+            open_number,
         }
     }
 
@@ -160,15 +146,10 @@ impl Call {
     pub(crate) fn context_behind(self, ids: HeaderIds, status: NtStatus, next: u64) -> Context
         ensures { result ≡ record { ids = ids; last_open = open_for_next_related self.inherited next self.command self.file_id status } }
     {
-        Context {
-            ids,
-            last_open: open_for_next_related(
-                self.inherited,
-                next,
-                self.command,
-                self.file_id,
-                status,
-            ),
-        }
+        let last_open = match self.command {
+            Some(Command::Create) => created_open(next, status),
+            _ => named_on(self.inherited, self.file_id),
+        };
+        Context { ids, last_open }
     }
 }

@@ -1,8 +1,7 @@
 //! What a request is charged ([MS-SMB2] 3.3.5.2.3, 3.3.5.2.5).
 
-ghost use Rattle.std.specs.Prelude.{◌≡◌, ◌≤◌, ◌<◌};
+ghost use Rattle.std.specs.Prelude.{◌≡◌, ◌≤◌};
 ghost use Rattle.smb_request.specs.Charge.{charge_of};
-ghost use Rattle.smb_request.specs.Parts.{due_of};
 
 use smb_wire::Dialect;
 
@@ -16,11 +15,4 @@ pub fn charge_of(dialect: Option<Dialect>, credit_charge: u16) -> u16
         None | Some(Dialect::Smb202) => 1,
         Some(Dialect::Smb210) => credit_charge.max(1),
     }
-}
-
-/// How many MessageIds a request has to take that sends or asks for so many bytes.
-pub(crate) fn due_of(payload: u32) -> u32
-    ensures { result ≡ due_of payload }
-{
-    payload.saturating_sub(1) / 65_536 + 1
 }

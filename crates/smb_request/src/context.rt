@@ -1,11 +1,10 @@
 //! What one request of a chain hands on to the next ([MS-SMB2] 3.3.5.2.7.2).
 
-ghost use Rattle.std.specs.Prelude.{◌≡◌};
-ghost use Rattle.std.specs.Option.{option_map};
-ghost use Rattle.smb_request.specs.Context.{first_context, open_named, named_on, open_for_next_related};
+ghost use Rattle.std.specs.Prelude.{◌≡◌, Some};
+ghost use Rattle.smb_request.specs.Context.{first_context, open_named, named_on};
 ghost use Rattle.smb_request.specs.Parts.{number_named, created_open, is_all_ones};
 
-use smb_wire::{Command, FileId, NtStatus};
+use smb_wire::{FileId, NtStatus};
 
 /// The SessionId and the TreeId of a request's or a response's header.
 #[derive(Clone, Copy, Debug, PartialEq, Eq)]
@@ -65,13 +64,11 @@ pub(crate) fn open_named(inherited: Option<ContextOpen>, id: FileId) -> ContextO
     }
 }
 
-/// The number of the open that a request names by its FileId; 0, which no open has, where it names none.
-pub(crate) fn open_number(inherited: Option<ContextOpen>, id: Option<FileId>) -> u64
-    ensures { result ≡ number_named (option_map (open_named inherited) id) }
+/// The number of the open that a FileId names, by the open that its request inherits; 0, which no open has, where it names
+/// none.
+pub(crate) fn open_number(inherited: Option<ContextOpen>, id: FileId) -> u64
+    ensures { result ≡ number_named (Some (open_named inherited id)) }
 {
-    let Some(id) = id else {
-        return 0;
-    };
     match open_named(inherited, id) {
         ContextOpen::Named(id) => id.persistent,
         ContextOpen::Nothing | ContextOpen::Refused(_) => 0,
@@ -92,7 +89,7 @@ pub(crate) fn named_on(inherited: Option<ContextOpen>, id: Option<FileId>) -> Co
 }
 
 /// The open that a CREATE of this status hands on, by the number that the next open was to have.
-fn created_open(next: u64, status: NtStatus) -> ContextOpen
+pub(crate) fn created_open(next: u64, status: NtStatus) -> ContextOpen
     ensures { result ≡ created_open next status }
 {
     match status {
@@ -101,21 +98,5 @@ fn created_open(next: u64, status: NtStatus) -> ContextOpen
             volatile: next,
         }),
         status => ContextOpen::Refused(status),
-    }
-}
-
-/// The open that a request hands on, by its command, its FileId and its status.
-pub(crate) fn open_for_next_related(
-    inherited: Option<ContextOpen>,
-    next: u64,
-    command: Option<Command>,
-    id: Option<FileId>,
-    status: NtStatus,
-) -> ContextOpen
-    ensures { result ≡ open_for_next_related inherited next command id status }
-{
-    match command {
-        Some(Command::Create) => created_open(next, status),
-        _ => named_on(inherited, id),
     }
 }

@@ -24,7 +24,6 @@ mod files;
 mod information;
 mod laws;
 mod locks;
-mod needs;
 mod negotiate;
 mod query_directory;
 mod query_info;

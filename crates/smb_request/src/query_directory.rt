@@ -7,14 +7,18 @@ ghost use Rattle.smb_body.specs.QueryDirectory.{query_directory_asked};
 ghost use Rattle.smb_info.specs.Asks.{list_asked};
 ghost use Rattle.smb_opens.specs.Views.{open_view};
 ghost use Rattle.smb_request.specs.InPlace.{answer_held, answer_behind};
+ghost use Rattle.smb_request.specs.Response.{failure};
 ghost use Rattle.smb_request.specs.QueryDirectory.{has_room_for_fields, listing_refusal, directory_queried};
 ghost use Rattle.smb_request.specs.Parts.{list_asked_by, view_refusal, listed_as_asked, listing_refused, directory_refusal};
 
 use super::call::Call;
-use super::response::{Answered, failure, put_response, success};
+use super::context::HeaderIds;
+use super::response::{Answered, failure, success};
 use super::server::Server;
 use bitflags::Flags;
-use smb_body::{QueryDirectoryRequest, Reply, close_query_response, open_query_response};
+use smb_body::{
+    QueryDirectoryRequest, Reply, close_query_response, open_query_response, write_reply,
+};
 use smb_info::{DirectoryInformationClass, InfoFault, ListAsk, list};
 use smb_opens::{Opens, Scan, View};
 use smb_refusals::{QueryDirectoryRefusal, Refusal};
@@ -80,6 +84,21 @@ fn view_refusal(view: &View) -> Option<QueryDirectoryRefusal>
     }
 }
 
+/// Adds the body of a refusal to `out`. After an error `out` is as it was.
+fn put_refusal(
+    ids: HeaderIds,
+    refusal: QueryDirectoryRefusal,
+    out: &mut Vec<u8>,
+) -> Result<Answered, AllocError>
+    ensures ok { IfOk result (λ r. answer_held r out.new.items ≡ answer_behind out.old.items (failure ids (Refusal.QueryDirectory refusal))) }
+    ensures len { OnOk result (length out.new.items ≤ length out.old.items + longest_body) }
+    ensures err { OnErr result (out.new.items ≡ out.old.items) }
+    ensures kept { take (length out.old.items) out.new.items ≡ out.old.items }
+{
+    write_reply(&Reply::Error, out).or(Err(AllocError))?;
+    Ok(failure(ids, Refusal::QueryDirectory(refusal)))
+}
+
 impl<A: Authenticator + Drop, T: Tree + Drop, O: Opens + Drop> Server<A, T, O> {
     /// Why a query is refused before its class is looked at, or None.
     fn directory_refusal(
@@ -115,8 +134,7 @@ impl<A: Authenticator + Drop, T: Tree + Drop, O: Opens + Drop> Server<A, T, O> {
         ensures kept { take (length out.old.items) out.new.items ≡ out.old.items }
         ensures known { self.new.sessions.table.connections ≡ self.old.sessions.table.connections }
     {
-        let answered = failure(call.ids, Refusal::QueryDirectory(refusal.refusal));
-        let answered = put_response(answered, &Reply::Error, out)?;
+        let answered = put_refusal(call.ids, refusal.refusal, out)?;
         if let Some(scan) = refusal.scan {
             self.store.set_scan(call.open_number, scan);
         }
@@ -188,8 +206,7 @@ impl<A: Authenticator + Drop, T: Tree + Drop, O: Opens + Drop> Server<A, T, O> {
     {
         let _ = &self.sessions;
         if let Some(refusal) = self.directory_refusal(call, asked) {
-            let answered = failure(call.ids, Refusal::QueryDirectory(refusal));
-            return put_response(answered, &Reply::Error, out);
+            return put_refusal(call.ids, refusal, out);
         }
         self.list_directory(call, asked, out)
     }

@@ -1,8 +1,8 @@
 //! One request: the checks in their order, and the table of commands ([MS-SMB2] 3.3.5.2).
 
-ghost use Rattle.std.specs.Prelude.{◌≡◌, ◌≤◌, ◌+◌, true, IfOk, IfErr, IfSome, IfNone, IsSome, is_some, Some, None, OnOk, OnErr, length, take, if◌then◌else◌};
+ghost use Rattle.std.specs.Prelude.{◌≡◌, ◌≤◌, ◌+◌, true, false, IfOk, IfErr, IfSome, IfNone, IsSome, is_some, Some, None, OnOk, OnErr, length, take, if◌then◌else◌};
 ghost use Rattle.std.specs.Option.{is_none, option_map, option_map_or};
-ghost use Rattle.smb_refusals.specs.declared.request.RequestRefusal.TheVariants.{UnknownCommand, BodyUnreadable, UnknownSession, UnknownTreeConnect};
+ghost use Rattle.smb_refusals.specs.declared.request.RequestRefusal.TheVariants.{UnknownCommand, CommandNotPerformed, BodyUnreadable, UnknownSession, UnknownTreeConnect};
 ghost use Rattle.smb_wire.specs.Limits.{longest_body};
 ghost use Rattle.smb_head.specs.Headers.{header_of};
 ghost use Rattle.smb_body.specs.Dialects.{dialects_of};
@@ -14,15 +14,13 @@ ghost use Rattle.smb_request.specs.Bodies.{result_step, is_listing, IsReadyAfter
 ghost use Rattle.smb_request.specs.Held.{is_performed, IsCallOf, asked_value};
 ghost use Rattle.smb_request.specs.InPlace.{answer_held, answer_behind, performed_behind};
 ghost use Rattle.smb_body.specs.Needs.{needs_of};
-ghost use Rattle.smb_request.specs.Parts.{needs_session, needs_tree, dialect_after, check_session_tree_and_open, open_refusal, performed_by, negotiated};
+ghost use Rattle.smb_request.specs.Parts.{is_unsupported, is_cancel_command, needs_session, needs_tree, dialect_after, open_refusal, performed_by, negotiated};
 ghost use Rattle.smb_request.specs.Request.{acted, check_request, performed};
 ghost use Rattle.smb_refusals.specs.declared.refused_by.RefusedBy.TheVariants.{NoMemory};
 
 use super::asked::Asked;
 use super::call::{Call, body_of};
-use super::charge::due_of;
 use super::context::{Context, ContextOpen, HeaderIds, open_named};
-use super::needs::{is_cancel_command, is_unsupported};
 use super::response::{Answered, NoReply, Response};
 use super::server::Server;
 use smb_body::{Dialects, Needs, Reply, Request};
@@ -31,16 +29,28 @@ use smb_opens::Opens;
 use smb_refusals::{NegotiateRefusal, Refusal, RefusedBy, RequestRefusal};
 use smb_session::Authenticator;
 use smb_tree::Tree;
-use smb_wire::Dialect;
+use smb_wire::{Command, Dialect};
 
-/// Why a request is refused whose body is not read: there is no such command, or the body cannot be read.
+/// Why a request is refused whose body says nothing: its command is never performed, there is no such command, or the body
+/// cannot be read.
 fn unread_refusal(call: Call) -> RequestRefusal
-    ensures { result ≡ (if is_none call.command then UnknownCommand else BodyUnreadable) }
+    ensures { result ≡ (if option_map_or is_unsupported call.command false then CommandNotPerformed else
+        if is_none call.command then UnknownCommand else BodyUnreadable) }
 {
     match call.command {
-        None => RequestRefusal::UnknownCommand,
+        Some(Command::Ioctl | Command::ChangeNotify | Command::OplockBreak) => {
+            RequestRefusal::CommandNotPerformed
+        }
         Some(_) => RequestRefusal::BodyUnreadable,
+        None => RequestRefusal::UnknownCommand,
     }
+}
+
+/// Whether a request is a CANCEL, which is passed over and not answered ([MS-SMB2] 3.3.5.16).
+fn is_cancel_command(command: Option<Command>) -> bool
+    ensures { result ≡ is_cancel_command command }
+{
+    matches!(command, Some(Command::Cancel))
 }
 
 impl<A: Authenticator + Drop, T: Tree + Drop, O: Opens + Drop> Server<A, T, O> {
@@ -57,16 +67,27 @@ impl<A: Authenticator + Drop, T: Tree + Drop, O: Opens + Drop> Server<A, T, O> {
         }
     }
 
-    /// Checks that the session, the tree connect and the open exist that a request needs.
-    fn check_session_tree_and_open(
-        &self,
-        call: Call,
-        asked: &Asked<'_>,
-    ) -> Result<(), RequestRefusal>
-        ensures ok { OnOk result (check_session_tree_and_open self.now call (asked_value asked.now) ≡ None) }
-        ensures err { IfErr result (λ refusal. check_session_tree_and_open self.now call (asked_value asked.now) ≡ Some refusal) }
+    /// Why a request is refused that needs a tree connect which does not exist.
+    fn absent_tree(&self, connection: u64, session_id: u64) -> RequestRefusal
+        ensures { result ≡ (if knows_session self.now.sessions.table connection session_id then UnknownTreeConnect else UnknownSession) }
+    {
+        if self.sessions.knows(connection, session_id, None) {
+            RequestRefusal::UnknownTreeConnect
+        } else {
+            RequestRefusal::UnknownSession
+        }
+    }
+
+    /// Checks that a request takes as many MessageIds as it has to, 1 and 1 more for each further 65,536 bytes, and that the
+    /// session, the tree connect and the open exist that it needs.
+    fn check_request(&self, call: Call, asked: &Asked<'_>) -> Result<(), RequestRefusal>
+        ensures ok { OnOk result (check_request self.now call (asked_value asked.now) ≡ None) }
+        ensures err { IfErr result (λ refusal. check_request self.now call (asked_value asked.now) ≡ Some refusal) }
     {
         let (connection, ids) = (call.connection, call.ids);
+        if u32::from(call.charge) <= asked.facts.payload.saturating_sub(1) / 65_536 {
+            return Err(RequestRefusal::ChargeTooSmall);
+        }
         match asked.facts.needs {
             Needs::Nothing => {}
             Needs::Session => {
@@ -88,28 +109,6 @@ impl<A: Authenticator + Drop, T: Tree + Drop, O: Opens + Drop> Server<A, T, O> {
             Some(id) => self.check_open(ids, open_named(call.inherited, id)),
             None => Ok(()),
         }
-    }
-
-    /// Why a request is refused that needs a tree connect which does not exist.
-    fn absent_tree(&self, connection: u64, session_id: u64) -> RequestRefusal
-        ensures { result ≡ (if knows_session self.now.sessions.table connection session_id then UnknownTreeConnect else UnknownSession) }
-    {
-        if self.sessions.knows(connection, session_id, None) {
-            RequestRefusal::UnknownTreeConnect
-        } else {
-            RequestRefusal::UnknownSession
-        }
-    }
-
-    /// Checks that a request takes as many MessageIds as it has to, and that what it needs exists.
-    fn check_request(&self, call: Call, asked: &Asked<'_>) -> Result<(), RequestRefusal>
-        ensures ok { OnOk result (check_request self.now call (asked_value asked.now) ≡ None) }
-        ensures err { IfErr result (λ refusal. check_request self.now call (asked_value asked.now) ≡ Some refusal) }
-    {
-        if u32::from(call.charge) < due_of(asked.facts.payload) {
-            return Err(RequestRefusal::ChargeTooSmall);
-        }
-        self.check_session_tree_and_open(call, asked)
     }
 
     /// The greatest dialect of the server that a list has.
@@ -200,12 +199,6 @@ impl<A: Authenticator + Drop, T: Tree + Drop, O: Opens + Drop> Server<A, T, O> {
         ensures known { self.new.sessions.table.connections ≡ self.old.sessions.table.connections }
     {
         let _ = &self.sessions;
-        match call.command {
-            Some(command) if is_unsupported(command) => {
-                return Err(RefusedBy::from(RequestRefusal::CommandNotPerformed));
-            }
-            _ => {}
-        }
         let Some(asked) = body else {
             return Err(RefusedBy::from(unread_refusal(call)));
         };
@@ -272,7 +265,7 @@ impl<A: Authenticator + Drop, T: Tree + Drop, O: Opens + Drop> Server<A, T, O> {
         ensures known { self.new.sessions.table.connections ≡ self.old.sessions.table.connections }
     {
         let command = header.command.known();
-        let body = body_of(command, request);
+        let body = body_of(header.command, request);
         let call = Call::of(
             connection, moment, *dialect, *context, header, command, &body,
         );

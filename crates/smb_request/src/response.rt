@@ -2,8 +2,7 @@
 
 ghost use Rattle.std.specs.Prelude.{◌≡◌, ◌≤◌, ◌+◌, ◌++◌, None, Some, OnOk, OnErr, IfOk, IfErr, length, take};
 ghost use Rattle.smb_wire.specs.Limits.{longest_body};
-ghost use Rattle.smb_body.specs.Replies.{reply_value, reply_length, reply_spelling};
-ghost use Rattle.smb_request.specs.Bodies.{response_of, response_step, CanBePut, no_reply_of};
+ghost use Rattle.smb_request.specs.Bodies.{response_step, CanBePut, no_reply_of};
 ghost use Rattle.smb_refusals.specs.Refusals.{refusal_status};
 ghost use Rattle.smb_request.specs.InPlace.{answer_held, answer_behind};
 
@@ -11,14 +10,14 @@ use super::call::Call;
 use super::context::HeaderIds;
 use super::server::Server;
 use smb_body::{
-    QueryDirectoryRequest, QueryResponse, Reply, SessionFlags, SessionSetupResponse, write_reply,
+    BodyFault, QueryDirectoryRequest, QueryResponse, Reply, SessionFlags, SessionSetupResponse,
+    write_reply,
 };
 use smb_opens::{FilePart, Opens};
 use smb_refusals::Refusal;
 use smb_session::Authenticator;
 use smb_tree::Tree;
 use smb_wire::{Dialect, NtStatus};
-use std::alloc::AllocError;
 use thiserror::Error;
 
 /// A response but for its body, which is where it is sent from: its status, and the ids of its header.
@@ -39,6 +38,16 @@ pub enum NoReply {
     /// As its response was written: what it does is done.
     #[error("no memory for the response to a request that was performed")]
     Performed,
+}
+
+impl From<BodyFault> for NoReply {
+    ghost use Rattle.smb_request.specs.declared.response.NoReply.TheVariants.{Performed};
+
+    ghost from_gives = { λ _ no_reply. no_reply ≡ Performed };
+
+    fn from(_fault: BodyFault) -> NoReply {
+        NoReply::Performed
+    }
 }
 
 /// The response to a request, whose body is still to be written.
@@ -96,24 +105,6 @@ pub(crate) fn failure(ids: HeaderIds, refusal: Refusal) -> Answered
     }
 }
 
-/// Adds the body of a reply to `out`, for this response. After an error `out` is as it was.
-pub(crate) fn put_response(
-    answered: Answered,
-    reply: &Reply<'_>,
-    out: &mut Vec<u8>,
-) -> Result<Answered, AllocError>
-    requires { reply_length (reply_value reply.now) ≤ longest_body }
-    ensures ok { IfOk result (λ r. answer_held r out.new.items ≡ answer_behind out.old.items (response_of answered (reply_value reply.now))) }
-    ensures len { OnOk result (length out.new.items ≤ length out.old.items + longest_body) }
-    ensures err { OnErr result (out.new.items ≡ out.old.items) }
-    ensures kept { take (length out.old.items) out.new.items ≡ out.old.items }
-{
-    match write_reply(reply, out) {
-        Ok(()) => Ok(answered),
-        Err(_) => Err(AllocError),
-    }
-}
-
 impl<A: Authenticator + Drop, T: Tree + Drop, O: Opens + Drop> Server<A, T, O> {
     /// Adds the body of a response to `out`. After an error `out` is as it was, and so is the server.
     pub(crate) fn put(
@@ -133,40 +124,37 @@ impl<A: Authenticator + Drop, T: Tree + Drop, O: Opens + Drop> Server<A, T, O> {
         ensures kept { take (length out.old.items) out.new.items ≡ out.old.items }
         ensures known { self.new.sessions.table.connections ≡ self.old.sessions.table.connections }
     {
-        let put = match response {
-            Response::Ready(answered, reply) => put_response(*answered, reply, out),
+        let answered = match response {
+            Response::Ready(answered, reply) => {
+                write_reply(reply, out)?;
+                *answered
+            }
             Response::Dialects(dialect) => {
-                let reply = self.negotiate_response(
-                    call.moment,
-                    Some(*dialect),
-                    dialect.revision(),
-                );
-                put_response(success(call.ids), &reply, out)
+                let (dialect, revision) = (*dialect, dialect.revision());
+                let reply = self.negotiate_response(call.moment, Some(dialect), revision);
+                write_reply(&reply, out)?;
+                success(call.ids)
             }
             Response::Token(answered, session_flags, token) => {
                 let response = SessionSetupResponse {
                     session_flags: *session_flags,
                     security_buffer: token,
                 };
-                put_response(*answered, &Reply::SessionSetup(response), out)
+                write_reply(&Reply::SessionSetup(response), out)?;
+                *answered
             }
             Response::Information(answered, bytes) => {
                 let response = QueryResponse {
                     output_buffer: bytes,
                 };
-                put_response(*answered, &Reply::QueryInfo(response), out)
+                write_reply(&Reply::QueryInfo(response), out)?;
+                *answered
             }
-            Response::Bytes(part) => self.put_bytes(call, part, out),
-            Response::Listing(asked) => {
-                return match self.query_directory(call, asked, out) {
-                    Ok(answered) => Ok(answered),
-                    Err(_) => Err(NoReply::NotPerformed),
-                };
-            }
+            Response::Bytes(part) => self.put_bytes(call, part, out).or(Err(NoReply::Performed))?,
+            Response::Listing(asked) => self
+                .query_directory(call, asked, out)
+                .or(Err(NoReply::NotPerformed))?,
         };
-        match put {
-            Ok(answered) => Ok(answered),
-            Err(_) => Err(NoReply::Performed),
-        }
+        Ok(answered)
     }
 }

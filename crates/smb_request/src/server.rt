@@ -62,10 +62,8 @@ impl<A: Authenticator + Drop, T: Tree + Drop, O: Opens + Drop> Model for Server<
 fn put_unit(bytes: &mut Vec<u8>, unit: u16) -> Result<(), AllocError>
     ensures { OnOk result (bytes.new.items ≡ bytes.old.items ++ spelling 2 unit) }
 {
-    match put_u16(bytes, unit) {
-        Ok(()) => Ok(()),
-        Err(_) => Err(AllocError),
-    }
+    put_u16(bytes, unit).or(Err(AllocError))?;
+    Ok(())
 }
 
 /// The bytes of units, each of which is a character of ASCII.
@@ -242,10 +240,9 @@ impl<A: Authenticator + Drop, T: Tree + Drop, O: Opens + Drop> Server<A, T, O> {
         ensures ok { OnOk result (self.new ≡ connection_added self.old connection) }
         ensures err { OnErr result (self.new ≡ self.old) }
     {
-        match self.sessions.connect(connection) {
-            Ok(()) => {}
-            Err(_) => return Err(AllocError),
-        }
+        let Ok(()) = self.sessions.connect(connection) else {
+            return Err(AllocError);
+        };
         Ok(())
     }
 
@@ -287,10 +284,8 @@ impl<A: Authenticator + Drop, T: Tree + Drop, O: Opens + Drop> Server<A, T, O> {
         ensures kept { take (length out.old.items) out.new.items ≡ out.old.items }
     {
         let reply = self.negotiate_response(moment, answer.dialect, answer.dialect_revision);
-        match write_reply(&reply, out) {
-            Ok(()) => Ok(()),
-            Err(_) => Err(AllocError),
-        }
+        write_reply(&reply, out).or(Err(AllocError))?;
+        Ok(())
     }
 
     /// The configuration keeps its rules, the share has its name and its capacity, the sessions and the files are good,

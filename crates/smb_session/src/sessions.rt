@@ -251,10 +251,7 @@ impl<A: Authenticator + Drop> Sessions<A> {
         ensures err { IfErr result (IsRefused (option_map setup_refusal_fault (setup_refusal self.old.table connection session ask.now.flags))) }
         ensures kept { OnErr result (self.new ≡ self.old) }
     {
-        match self.setup_by_row(connection, session, ask) {
-            Ok(done) => Ok(done),
-            Err(refused) => Err(SessionFault::from(refused)),
-        }
+        Ok(self.setup_by_row(connection, session, ask)?)
     }
 
     /// Ends a session of a connection, with its trees ([MS-SMB2] 3.3.5.6).
@@ -281,10 +278,7 @@ impl<A: Authenticator + Drop> Sessions<A> {
         ensures err { IfErr result (λ fault. option_map logoff_fault (logoff_refusal self.old.table connection session) ≡ Some fault) }
         ensures kept { OnErr result (self.new ≡ self.old) }
     {
-        match self.logoff_by_row(connection, session) {
-            Ok(()) => Ok(()),
-            Err(refusal) => Err(SessionFault::from(refusal)),
-        }
+        Ok(self.logoff_by_row(connection, session)?)
     }
 
     /// Connects a session to the share that a path names, `\\server\share`, and gives the tree's number: 1, 2,
@@ -335,10 +329,7 @@ impl<A: Authenticator + Drop> Sessions<A> {
         ensures err { IfErr result (λ fault. option_map tree_connect_fault (tree_connect_refusal self.old connection session (units_of path.entry)) ≡ Some fault) }
         ensures kept { OnErr result (self.new ≡ self.old) }
     {
-        match self.tree_connect_by_row(connection, session, path) {
-            Ok(tree) => Ok(tree),
-            Err(refusal) => Err(SessionFault::from(refusal)),
-        }
+        Ok(self.tree_connect_by_row(connection, session, path)?)
     }
 
     /// Disconnects a session from a tree ([MS-SMB2] 3.3.5.8).
@@ -383,10 +374,7 @@ impl<A: Authenticator + Drop> Sessions<A> {
         ensures err { IfErr result (λ fault. option_map tree_disconnect_fault (tree_disconnect_refusal self.old.table connection session tree) ≡ Some fault) }
         ensures kept { OnErr result (self.new ≡ self.old) }
     {
-        match self.tree_disconnect_by_row(connection, session, tree) {
-            Ok(()) => Ok(()),
-            Err(refusal) => Err(SessionFault::from(refusal)),
-        }
+        Ok(self.tree_disconnect_by_row(connection, session, tree)?)
     }
 
     /// Ends a connection's least session, finished or not, and tells its number. With none left the

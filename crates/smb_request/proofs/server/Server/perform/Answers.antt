@@ -18,8 +18,9 @@ pub answer-requires : goal.answer-requires
 answer-requires g c =
     let request = c.args.request.now in
     let body = option_map asked_value c.body_of-body.result in
-    let read : body ≡ body_of (known_command c.args.header.now.command.0) request = c.body_of-body.ensures ∙ ap (λ (command : Option Command). body_of command request) c.known-command.ensures in
-    let is : c.of-call.result ≡ call_of c.args.connection c.args.moment c.args.dialect.now c.args.context.now request = c.of-call.ensures request c.requires c.known-command.ensures c.body_of-body.ensures in
+    let read : body ≡ body_of (known_command c.args.header.now.command.0) request = c.body_of-body.ensures in
+    let known : body ≡ body_of c.known-command.result request = read ∙ ap (λ (x : Option Command). body_of x request) (sym c.known-command.ensures) in
+    let is : c.of-call.result ≡ call_of c.args.connection c.args.moment c.args.dialect.now c.args.context.now request = c.of-call.ensures request c.requires c.known-command.ensures known in
     let whole : body ≡ body_of (call_of c.args.connection c.args.moment c.args.dialect.now c.args.context.now request).command request = read ∙ ap (λ h. body_of (known_command h.command.0) request) c.requires in
     rw (is, whole) (call_read c.args.connection c.args.moment c.args.dialect.now c.args.context.now request)
 
@@ -28,8 +29,9 @@ returns-clause-ok g c =
     let request = c.args.request.now in
     let call = c.of-call.result in
     let body = option_map asked_value c.body_of-body.result in
-    let read : body ≡ body_of (known_command c.args.header.now.command.0) request = c.body_of-body.ensures ∙ ap (λ (command : Option Command). body_of command request) c.known-command.ensures in
-    let is : call ≡ call_of c.args.connection c.args.moment c.args.dialect.now c.args.context.now request = c.of-call.ensures request c.requires c.known-command.ensures c.body_of-body.ensures in
+    let read : body ≡ body_of (known_command c.args.header.now.command.0) request = c.body_of-body.ensures in
+    let known : body ≡ body_of c.known-command.result request = read ∙ ap (λ (x : Option Command). body_of x request) (sym c.known-command.ensures) in
+    let is : call ≡ call_of c.args.connection c.args.moment c.args.dialect.now c.args.context.now request = c.of-call.ensures request c.requires c.known-command.ensures known in
     let named : body ≡ body_of call.command request =
     read ∙ ap (λ h. body_of (known_command h.command.0) request) c.requires ∙ ap (λ (x : Call). body_of x.command request) (sym is) in
     let other : is_cancel_command call.command ≡ false = sym c.is_cancel_command.ensures ∙ c.if-is_cancel_command.false in

@@ -23,7 +23,7 @@ pub act-requires-clause-open : goal.act-requires-clause-open
 act-requires-clause-open g c f =
     let opens = c.args.self.now.store.opens in
     let table = c.args.self.now.sessions.table in
-    let asked = asked_value c.in-Some-body.asked in
+    let asked = asked_value c.in-Some.asked in
     let unrefused : option_and_then (open_refusal opens c.args.call.ids) (named_open c.args.call) ≡ None =
     last_passed
     (needs_session (needs_of asked) && not (knows_session table c.args.call.connection c.args.call.ids.session_id))
@@ -31,13 +31,7 @@ act-requires-clause-open g c f =
     RequestRefusal.UnknownSession UnknownTreeConnect
     (option_and_then (open_refusal opens c.args.call.ids) (named_open c.args.call))
     (request_passed c.args.self.now c.args.call asked c.in_ok-check_request.ensures.ok) in
-    let body : option_map asked_value c.args.body.now ≡ Some (asked_value c.in-Some-body.asked) = ap (option_map asked_value) c.in-Some-body.is in
-    let file : c.args.call.file_id ≡ file_id_of (asked_value c.in-Some-body.asked) = c.requires.file_id ∙ ap (option_and_then file_id_of) body in
+    let body : option_map asked_value c.args.body.now ≡ Some (asked_value c.in-Some.asked) = ap (option_map asked_value) c.in-Some.is in
+    let file : c.args.call.file_id ≡ file_id_of (asked_value c.in-Some.asked) = c.requires.file_id ∙ ap (option_and_then file_id_of) body in
     let some = mapped_there (open_named c.args.call.inherited) c.args.call.file_id (ap is_some file ∙ f) in
     subst (λ n. IsSome (open_of opens n)) (sym c.requires.open_number) (named_there opens c.args.call.ids (named_open c.args.call) unrefused some)
-
--- a command that is not performed has no body
-pub returns-in-Some-clause-dialect : goal.returns-in-Some-clause-dialect
-returns-in-Some-clause-dialect g c =
-    let unsupported : option_map_or is_unsupported c.args.call.command false ≡ true = ap (λ o. option_map_or is_unsupported o false) c.in-Some.is ∙ sym c.is_unsupported.ensures ∙ c.if-is_unsupported.true in
-    ap (λ (o : Option RequestValue). option_map_or (dialect_after c.args.dialect.now) o c.args.dialect.now) (sym (c.requires.unsupported unsupported))
