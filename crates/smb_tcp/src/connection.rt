@@ -1,20 +1,20 @@
 //! A connection of a peer.
 
 use super::lending::Lending;
+use mio::Token;
 use mio::event::Event;
 use mio::net::TcpStream;
-use mio::{Events, Token};
 use std::alloc::Global;
 use std::time::Duration;
 
 /// The listener's token. No connection gets this number.
 pub(crate) const LISTENER: Token = Token(usize::MAX);
 
-/// Whether so long has passed since then; never where there is no limit.
-fn has_passed(since: Duration, now: Duration, limit: Option<Duration>) -> bool {
+/// When a limit passes that runs since then; at the end of all time where there is none.
+fn passes_at(since: Duration, limit: Option<Duration>) -> Duration {
     match limit {
-        Some(limit) => now.saturating_sub(since) >= limit,
-        None => false,
+        Some(limit) => since.saturating_add(limit),
+        None => Duration::MAX,
     }
 }
 
@@ -98,11 +98,17 @@ impl Connection {
         (self.readable || self.lending.has_more()) && !self.ended && !self.blocked
     }
 
-    /// Whether a limit of silence has passed, and no `Ended` was given for the connection.
-    pub(crate) fn is_silent(&self, now: Duration, limits: SilenceLimits) -> bool {
-        !self.ended
-            && (has_passed(self.heard, now, limits.idle)
-                || !self.answered && has_passed(self.accepted, now, limits.unanswered))
+    /// When a limit of silence passes, if it neither says nor takes anything until then; at the end of all time where none does, or `Ended`
+    /// was given for the connection.
+    pub(crate) fn silent_at(&self, limits: SilenceLimits) -> Duration {
+        if self.ended {
+            return Duration::MAX;
+        }
+        let idle = passes_at(self.heard, limits.idle);
+        if self.answered {
+            return idle;
+        }
+        idle.min(passes_at(self.accepted, limits.unanswered))
     }
 
     /// Whether the connection may end for a newcomer: it was never answered, and no `Ended` was given for it.
@@ -123,21 +129,4 @@ impl Connection {
         self.readable = self.readable || event.is_readable() || event.is_error();
         self.closing = self.closing || event.is_read_closed() || event.is_error();
     }
-}
-
-/// Notes what the system says of each connection, and tells whether one waits to be accepted.
-pub(crate) fn mark_all(connections: &mut [Connection], events: &Events) -> bool {
-    let mut waits = false;
-    for event in events {
-        if event.token() == LISTENER {
-            waits = true;
-        } else {
-            for connection in connections.iter_mut() {
-                if connection.number == event.token().0 as u64 {
-                    connection.mark(event);
-                }
-            }
-        }
-    }
-    waits
 }

@@ -1,6 +1,6 @@
 //! What is known of peers beside their bytes.
 
-use super::tcp::MOST_STREAMS;
+use super::tcp::{DEFAULT_CONNECTIONS, streams_for};
 use std::alloc::{AllocError, Global};
 use std::cell::RefCell;
 use std::net::SocketAddr;
@@ -17,14 +17,20 @@ struct Fact {
 /// connection until that is closed. All room is made first.
 #[derive(Drop)]
 pub struct PeerFacts {
+    // In the order of their numbers.
     facts: RefCell<Vec<Fact>>,
 }
 
 impl PeerFacts {
-    /// Of no peers.
+    /// Of no peers, with room for those of a listener that was made without a number of connections.
     pub fn new(alloc: Global) -> Result<Self, AllocError> {
+        PeerFacts::within(alloc, DEFAULT_CONNECTIONS)
+    }
+
+    /// Of no peers, with room for those of a listener that was made for so many connections.
+    pub fn within(alloc: Global, connections: usize) -> Result<Self, AllocError> {
         Ok(PeerFacts {
-            facts: RefCell::new(Vec::with_capacity(alloc, MOST_STREAMS)?),
+            facts: RefCell::new(Vec::with_capacity(alloc, streams_for(connections))?),
         })
     }
 
@@ -33,7 +39,10 @@ impl PeerFacts {
         let Ok(facts) = self.facts.try_borrow() else {
             return None;
         };
-        facts.iter().find(|fact| fact.number == number).copied()
+        let place = facts
+            .binary_search_by_key(&number, |fact| fact.number)
+            .ok()?;
+        facts.get(place).copied()
     }
 
     /// The address of the peer of a connection; None where it is not known.
@@ -63,8 +72,8 @@ impl PeerFacts {
     /// Notes that a connection was silent.
     pub(crate) fn note_silent(&self, number: u64) {
         if let Ok(mut facts) = self.facts.try_borrow_mut() {
-            for fact in facts.iter_mut() {
-                if fact.number == number {
+            if let Ok(place) = facts.binary_search_by_key(&number, |fact| fact.number) {
+                if let Some(fact) = facts.get_mut(place) {
                     fact.was_silent = true;
                 }
             }
@@ -74,7 +83,9 @@ impl PeerFacts {
     /// Notes that a connection was closed.
     pub(crate) fn remove(&self, number: u64) {
         if let Ok(mut facts) = self.facts.try_borrow_mut() {
-            facts.retain(|fact| fact.number != number);
+            if let Ok(place) = facts.binary_search_by_key(&number, |fact| fact.number) {
+                let _ = facts.remove(place);
+            }
         }
     }
 }

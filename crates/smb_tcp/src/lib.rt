@@ -8,6 +8,7 @@
 
 mod clock;
 mod connection;
+mod connections;
 mod door;
 mod facts;
 mod lending;
@@ -17,4 +18,4 @@ mod tcp;
 pub use clock::SystemClock;
 pub use facts::PeerFacts;
 pub use piece::PIECE_SIZE;
-pub use tcp::{MOST_STREAMS, TcpPeers};
+pub use tcp::{DEFAULT_CONNECTIONS, MOST_CONNECTIONS, TcpPeers};

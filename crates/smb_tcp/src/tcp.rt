@@ -5,21 +5,24 @@ ghost use Rattle.smb_peers.specs.Peers.{OpensOnce};
 ghost use Rattle.smb_peers.specs.declared.peers.PeerEvent.TheVariants.{Opened};
 ghost use Rattle.smb_tcp.specs.Numbers.{numbers_to};
 
-use super::connection::{Connection, LISTENER, SilenceLimits, mark_all};
+use super::connection::{Connection, LISTENER};
+use super::connections::{Connections, Reading};
 use super::door::Door;
 use super::facts::PeerFacts;
-use super::piece::{Piece, READ_SIZE};
+use super::piece::Piece;
 use mio::net::{TcpListener, TcpStream};
 use mio::{Events, Interest, Poll, Token};
 use smb_peers::{PeerEvent, Peers, SendFault};
 use std::alloc::Global;
-use std::io::{ErrorKind, Write};
 use std::net::Net;
 use std::time::{Clock, Duration};
 use std::{io, net};
 
-/// How many streams are kept at most: those of the connections that a share may have, and a newcomer's.
-pub const MOST_STREAMS: usize = 65;
+/// For how many connections a listener is made where no number is said: as many as a share has under the default limits.
+pub const DEFAULT_CONNECTIONS: usize = 64;
+
+/// For how many connections a listener can be made.
+pub const MOST_CONNECTIONS: usize = 4_096;
 
 /// A turn that takes so long is dear: until one of the same peer does not, it is lent one frame at a time.
 const DEAR_TURN_MILLISECONDS: u64 = 4;
@@ -27,11 +30,14 @@ const DEAR_TURN_MILLISECONDS: u64 = 4;
 /// Fewer bytes than these that are owed to a peer wait for its answers to those that came with their requests.
 const SHORT_SEND: usize = 16_384;
 
-/// The streams of a listener: at most 65, numbered from 1 as they are accepted, and read in turn. All their room is made first.
+/// The streams of a listener, numbered from 1 as they are accepted, and read in turn: at most those of the connections that it is made
+/// for, and a newcomer's. All their room is made first. All are looked at only where a limit of silence may have passed, and where a newcomer
+/// finds all places taken.
 ///
 /// No call waits for a peer. A stream of which a send took only a part is not read until one takes all. One that neither says nor takes
-/// anything for as long as the idle limit has ended, as if by its peer; so has one that was never answered after a limit of its own. Where 64
-/// streams are open and another one comes, that of those never answered which is silent longest has ended, and makes room for it.
+/// anything for as long as the idle limit has ended, as if by its peer; so has one that was never answered after a limit of its own. Where as
+/// many streams are open as the listener is made for and another one comes, that of those never answered which is silent longest has ended,
+/// and makes room for it.
 #[derive(Drop)]
 pub struct TcpPeers<'a, R: Net + Clock> {
     system: &'a R,
@@ -39,8 +45,7 @@ pub struct TcpPeers<'a, R: Net + Clock> {
     poll: Poll,
     events: Events,
     door: Door,
-    // In the order of their numbers.
-    connections: Vec<Connection>,
+    connections: Connections,
     opened: u64,
     // The number of the stream that was looked at last.
     turn: u64,
@@ -51,10 +56,16 @@ pub struct TcpPeers<'a, R: Net + Clock> {
     wait: Duration,
     // Since a start that is the system's own.
     time: Duration,
-    limits: SilenceLimits,
     // What is known of the peers, for others.
     facts: Option<&'a PeerFacts>,
-    ghost few: { vec_len connections ≤ 65 },
+}
+
+/// How many streams a listener keeps at most that is made for so many connections: one more. Fewer connections than 1 count as 1, and more
+/// than 4,096 as 4,096.
+pub(crate) fn streams_for(connections: usize) -> usize
+    ensures { result ≤ 4097 }
+{
+    connections.clamp(1, MOST_CONNECTIONS) + 1
 }
 
 impl<'a, R: Net + Clock> TcpPeers<'a, R> {
@@ -70,20 +81,31 @@ impl<'a, R: Net + Clock> TcpPeers<'a, R> {
         listener: net::TcpListener,
         wait: Duration,
     ) -> io::Result<Self> {
+        TcpPeers::waiting_within(system, alloc, listener, wait, DEFAULT_CONNECTIONS)
+    }
+
+    /// The same, for a share that may have so many connections, 1 to 4,096: fewer count as 1, and more as 4,096.
+    pub fn waiting_within(
+        system: &'a R,
+        alloc: Global,
+        listener: net::TcpListener,
+        wait: Duration,
+        connections: usize,
+    ) -> io::Result<Self> {
         listener.set_nonblocking(true)?;
         let mut listener = TcpListener::from_std(listener);
         let poll = Poll::new(system)?;
         poll.registry()
             .register(&mut listener, LISTENER, Interest::READABLE)?;
-        let events = Events::with_capacity(alloc, MOST_STREAMS + 1)?;
-        let connections = Vec::with_capacity(alloc, MOST_STREAMS)?;
+        let streams = streams_for(connections);
+        let events = Events::with_capacity(alloc, streams + 1)?;
         Ok(TcpPeers {
             system,
             alloc,
             poll,
             events,
             door: Door::new(listener),
-            connections,
+            connections: Connections::with_room(alloc, streams)?,
             opened: 0,
             turn: 0,
             piece: Piece::new(alloc)?,
@@ -91,7 +113,6 @@ impl<'a, R: Net + Clock> TcpPeers<'a, R> {
             failures: 0,
             wait,
             time: system.monotonic()?,
-            limits: SilenceLimits::none(),
             facts: None,
         })
     }
@@ -99,14 +120,14 @@ impl<'a, R: Net + Clock> TcpPeers<'a, R> {
     /// With a time after which a connection has ended that says nothing and takes nothing of what is sent to it. It is looked at
     /// between two waits.
     pub fn with_idle_limit(mut self, limit: Duration) -> Self {
-        self.limits = self.limits.with_idle(limit);
+        self.connections.limit_idle(limit);
         self
     }
 
     /// With a time after which a connection has ended that took nothing since it was accepted: it was never answered. It is looked
     /// at between two waits.
     pub fn with_unanswered_limit(mut self, limit: Duration) -> Self {
-        self.limits = self.limits.with_unanswered(limit);
+        self.connections.limit_unanswered(limit);
         self
     }
 
@@ -119,75 +140,40 @@ impl<'a, R: Net + Clock> TcpPeers<'a, R> {
     /// Whether a stream and a number are free.
     fn has_room(&self) -> bool
         ensures room { result ≡ true → self.now.opened < 0xffff_ffff_ffff_fffe }
-        ensures free { result ≡ true → vec_len self.now.connections < 65 }
+        ensures free { result ≡ true → vec_len self.now.connections.list < self.now.connections.most }
     {
-        self.connections.len() < MOST_STREAMS && self.opened < u64::MAX - 1
-    }
-
-    /// The place of the connection of a number.
-    fn place_of(&self, number: u64) -> Option<usize>
-        ensures { IfSome result (λ i. i < vec_len self.now.connections) }
-    {
-        self.connections
-            .iter()
-            .position(|connection| connection.number == number)
+        self.connections.has_room() && self.opened < u64::MAX - 1
     }
 
     /// The first connection after the turn that may be read.
     fn next_place(&self) -> Option<usize>
-        ensures { IfSome result (λ i. i < vec_len self.now.connections) }
+        ensures { IfSome result (λ place. place < vec_len self.now.connections.list) }
     {
-        self.connections.iter().position(|connection| connection.number > self.turn
-            && connection.may_be_read())
-    }
-
-    /// The place of the first connection for which a limit of silence has passed.
-    fn silent_place(&self) -> Option<usize>
-        ensures { IfSome result (λ i. i < vec_len self.now.connections) }
-    {
-        self.connections
-            .iter()
-            .position(|connection| connection.is_silent(self.time, self.limits))
+        self.connections.ready_above(self.turn)
     }
 
     /// Ends the connection at a place, as if its peer had.
     fn end(&mut self, place: usize) -> PeerEvent
-        requires { place < vec_len self.old.connections }
+        requires { place < vec_len self.old.connections.list }
         ensures opened { self.new.opened ≡ self.old.opened }
         ensures once { OpensOnce result (numbers_to self.old.opened) (numbers_to self.old.opened) }
     {
-        let connection = &mut self.connections[place];
-        connection.ended = true;
-        let number = connection.number;
+        let number = self.connections.end(place);
         if let Some(facts) = self.facts {
             facts.note_silent(number);
         }
         PeerEvent::Ended(number)
     }
 
-    /// Whether as many connections go on as a share may have.
-    fn is_full(&self) -> bool {
-        let going_on = self.connections.iter().filter(|it| !it.ended).count();
-        going_on + 1 >= MOST_STREAMS
-    }
-
     /// Where all places are taken, that of the connection that makes room for another: of those that were never answered the one that is
     /// silent longest.
     fn place_to_clear(&self) -> Option<usize>
-        ensures { IfSome result (λ i. i < vec_len self.now.connections) }
+        ensures { IfSome result (λ place. place < vec_len self.now.connections.list) }
     {
-        if !self.is_full() {
+        if !self.connections.is_full() {
             return None;
         }
-        let mut found = None;
-        let mut since = Duration::MAX;
-        for (place, connection) in self.connections.iter().enumerate() {
-            if connection.may_make_room() && connection.heard < since {
-                since = connection.heard;
-                found = Some(place);
-            }
-        }
-        found
+        self.connections.longest_unanswered()
     }
 
     /// Asks the system what is ready, and waits where nothing is left to do without a wait. Where no connection behind the turn may be read, a
@@ -197,10 +183,7 @@ impl<'a, R: Net + Clock> TcpPeers<'a, R> {
     {
         let is_busy = self.door.has_newcomer()
             || self.door.may_accept() && self.has_room()
-            || self
-                .connections
-                .iter()
-                .any(|connection| connection.may_be_read());
+            || self.connections.has_ready();
         let wait = if is_busy { Duration::ZERO } else { self.wait };
         if self.poll.poll(&mut self.events, Some(wait)).is_err() {
             self.failures = self.failures.saturating_add(1);
@@ -209,7 +192,7 @@ impl<'a, R: Net + Clock> TcpPeers<'a, R> {
             self.time = time;
         }
         self.door.try_again();
-        if mark_all(&mut self.connections, &self.events) {
+        if self.connections.mark_all(&self.events) {
             self.door.mark();
         }
         if self.next_place().is_none() {
@@ -244,7 +227,7 @@ impl<'a, R: Net + Clock> TcpPeers<'a, R> {
     #[tactic(auto, using(crate::proofs::Numbering::counted))]
     fn admit(&mut self, mut stream: TcpStream) -> Option<u64>
         requires number { self.old.opened < 0xffff_ffff_ffff_fffe }
-        requires free { vec_len self.old.connections < 65 }
+        requires free { vec_len self.old.connections.list < self.old.connections.most }
         ensures none { IfNone result (self.new.opened ≡ self.old.opened) }
         ensures some { IfSome result (λ number. (number ≡ self.old.opened + 1) × (self.new.opened ≡ self.old.opened + 1)) }
         ensures once { IfSome result (λ number. OpensOnce (Opened number) (numbers_to self.old.opened) (numbers_to self.new.opened)) }
@@ -266,11 +249,8 @@ impl<'a, R: Net + Clock> TcpPeers<'a, R> {
             self.failures = self.failures.saturating_add(1);
             return None;
         }
-        if self
-            .connections
-            .push(Connection::new(self.alloc, number, stream, self.time))
-            .is_err()
-        {
+        let connection = Connection::new(self.alloc, number, stream, self.time);
+        if !self.connections.add(connection) {
             self.failures = self.failures.saturating_add(1);
             return None;
         }
@@ -286,7 +266,7 @@ impl<'a, R: Net + Clock> TcpPeers<'a, R> {
     fn read_on(&mut self) -> PeerEvent
         ensures { OpensOnce result (numbers_to self.old.opened) (numbers_to self.new.opened) }
     {
-        for _ in 0..MOST_STREAMS {
+        for _ in 0..self.connections.most {
             let Some(place) = self.next_place() else {
                 break;
             };
@@ -307,28 +287,22 @@ impl<'a, R: Net + Clock> TcpPeers<'a, R> {
         let Ok(now) = self.system.monotonic() else {
             return;
         };
-        if let Some(place) = self.place_of(number) {
+        if let Some(place) = self.connections.place_of(number) {
             let took_long = now.saturating_sub(since)
                 >= Duration::from_millis(DEAR_TURN_MILLISECONDS);
-            self.connections[place].lending.note_turn(took_long);
+            self.connections.note_turn(place, took_long);
         }
     }
 
     /// Lends the peer at a place its next piece: of the bytes that were read last, where some of them wait, else of those that are kept
     /// back. Where its turn is to be timed, it is noted when that began.
     fn lend(&mut self, place: usize) -> PeerEvent
-        requires { place < vec_len self.old.connections }
+        requires { place < vec_len self.old.connections.list }
         ensures opened { self.new.opened ≡ self.old.opened }
         ensures once { OpensOnce result (numbers_to self.old.opened) (numbers_to self.old.opened) }
     {
-        let connection = &mut self.connections[place];
-        let number = connection.number;
-        let is_timed = if self.piece.waits() {
-            self.piece.step();
-            connection.lending.keep_back(&mut self.piece)
-        } else {
-            connection.lending.lend_next(&mut self.piece)
-        };
+        let number = self.connections.number_at(place);
+        let is_timed = self.connections.lend(place, &mut self.piece);
         if is_timed {
             if let Ok(now) = self.system.monotonic() {
                 self.lent = Some((number, now));
@@ -346,9 +320,8 @@ impl<'a, R: Net + Clock> TcpPeers<'a, R> {
         if !self.piece.waits() {
             return None;
         }
-        let place = self.place_of(self.turn)?;
-        let connection = &mut self.connections[place];
-        if connection.blocked && connection.lending.keep_waiting(&mut self.piece) {
+        let place = self.connections.place_of(self.turn)?;
+        if self.connections.keep_waiting(place, &mut self.piece) {
             return None;
         }
         Some(self.lend(place))
@@ -356,35 +329,20 @@ impl<'a, R: Net + Clock> TcpPeers<'a, R> {
 
     /// Reads from the connection at a place, or lends what came of it before.
     fn read(&mut self, place: usize) -> Option<PeerEvent>
-        requires { place < vec_len self.old.connections }
+        requires { place < vec_len self.old.connections.list }
         ensures opened { self.new.opened ≡ self.old.opened }
         ensures once { IfSome result (λ event. OpensOnce event (numbers_to self.old.opened) (numbers_to self.old.opened)) }
     {
-        let connection = &mut self.connections[place];
-        let number = connection.number;
+        let number = self.connections.number_at(place);
         self.turn = number;
-        if connection.lending.has_more() {
+        if self.connections.has_more(place) {
             return Some(self.lend(place));
         }
-        match self.piece.read(&mut connection.stream) {
-            Ok(0) => {
-                connection.ended = true;
-                Some(PeerEvent::Ended(number))
-            }
-            Ok(count) => {
-                connection.heard = self.time;
-                if count < READ_SIZE && !connection.closing {
-                    connection.readable = false;
-                }
-                Some(self.lend(place))
-            }
-            Err(error) if error.kind() == ErrorKind::WouldBlock => {
-                connection.readable = false;
-                None
-            }
-            Err(error) if error.kind() == ErrorKind::Interrupted => None,
-            Err(_) => {
-                connection.ended = true;
+        match self.connections.read(place, &mut self.piece, self.time) {
+            Reading::Bytes => Some(self.lend(place)),
+            Reading::Nothing => None,
+            Reading::Ended => Some(PeerEvent::Ended(number)),
+            Reading::Failed => {
                 self.failures = self.failures.saturating_add(1);
                 Some(PeerEvent::Ended(number))
             }
@@ -421,7 +379,7 @@ impl<R: Net + Clock> Peers for TcpPeers<'_, R> {
             if let Some(event) = self.take_newcomer() {
                 return event;
             }
-            if let Some(place) = self.silent_place() {
+            if let Some(place) = self.connections.first_silent(self.time) {
                 return self.end(place);
             }
         }
@@ -433,25 +391,15 @@ impl<R: Net + Clock> Peers for TcpPeers<'_, R> {
     }
 
     fn send(&mut self, number: u64, bytes: &[u8]) -> Result<usize, SendFault> {
-        let Some(place) = self.place_of(number) else {
+        let Some(place) = self.connections.place_of(number) else {
             return Ok(0);
         };
         let waits_for_more = number == self.turn && bytes.len() < SHORT_SEND && self.piece.waits();
         if self.failures == u64::MAX || waits_for_more {
             return Ok(0);
         }
-        let connection = &mut self.connections[place];
-        match connection.stream.write(bytes) {
-            Ok(count) => {
-                connection.blocked = count < bytes.len();
-                connection.take(self.time, count);
-                Ok(count)
-            }
-            Err(error) if error.kind() == ErrorKind::WouldBlock => {
-                connection.blocked = true;
-                Ok(0)
-            }
-            Err(error) if error.kind() == ErrorKind::Interrupted => Ok(0),
+        match self.connections.send(place, bytes, self.time) {
+            Ok(count) => Ok(count),
             Err(_) => {
                 self.failures += 1;
                 Err(SendFault)
@@ -460,9 +408,7 @@ impl<R: Net + Clock> Peers for TcpPeers<'_, R> {
     }
 
     fn close(&mut self, number: u64) {
-        if let Some(place) = self.place_of(number) {
-            drop(self.connections.remove(place));
-        }
+        self.connections.remove(number);
         if let Some(facts) = self.facts {
             facts.remove(number);
         }
