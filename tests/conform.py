@@ -35,11 +35,12 @@ def a_dialect_is_chosen(program):
 
 
 def each_row_is_played_or_left_out_for_a_reason(_):
-    """Most rows of a share are played; the reason of each other is known."""
+    """Most rows of a share that a client can meet are played; the reason of each other is known."""
     played, left_out = stored.scripts(), stored.left_out()
     print(f'  {len(played)} rows can be played, {sum(left_out.values())} can not', flush=True)
+    elsewhere = left_out['of a text, not of a share'] + left_out['of another configuration']
     return (len(played) >= 120 and len(played) + sum(left_out.values()) == len(Rows().lines)
-            and left_out['the connection is ended'] >= 25 and sum(left_out.values()) < 200)
+            and left_out['the connection is ended'] >= 25 and sum(left_out.values()) - elsewhere < 87)
 
 
 def rows_are_answered_as_they_are_stored(program):

@@ -72,6 +72,18 @@ def sixty_four_are_served(program):
         return clients[63].asks(echoes(1, 1)) == 0
 
 
+def as_many_are_served_as_limits_let(program):
+    """Of a configuration that lets 80 be served the 81st is ended at once."""
+    with open(GUEST, encoding='ascii') as it, tempfile.TemporaryDirectory() as folder:
+        config = os.path.join(folder, 'share.toml')
+        with open(config, 'w', encoding='ascii') as out:
+            out.write(it.read() + '\n[limits]\nconnections = 80\n')
+        with program.serve('--config', config) as share:
+            clients = [share.client() for _ in range(80)]
+            return (all(client.negotiates() for client in clients) and share.client().is_ended()
+                    and all(client.asks(echoes(1, 1)) == 0 for client in clients))
+
+
 def others_go_on_beside_ends(program):
     """Peers that close or reset in each state: before a byte, in a header, after an answer, with one not read."""
     with program.serve() as share:
@@ -437,13 +449,13 @@ def words_are_refused(program):
 
 TESTS = (
     a_client_is_served, a_file_is_written_and_read, bytes_come_one_by_one, an_end_is_told, sixty_four_are_served,
-    others_go_on_beside_ends, one_that_never_reads_holds_up_nobody, slow_reader_takes_every_byte,
-    without_descriptors_it_goes_on, silence_is_an_end, others_go_on_beside_a_search, searches_come_in_parts,
-    what_is_taken_is_life, who_is_never_answered_is_ended, one_never_answered_makes_room, room_is_given_back,
-    so_many_turns_are_taken, addresses_are_refused, configurations_are_looked_at_first, two_clients_are_replayed,
-    words_are_refused, guests_log_in_by_ntlm, an_account_logs_in_by_its_password, challenges_come_from_the_seed,
-    readers_read_and_writers_write, accounts_may_only_read_too, unfinished_logins_take_no_memory,
-    a_clock_before_1970_is_1970, a_port_that_is_not_allowed_is_refused,
+    as_many_are_served_as_limits_let, others_go_on_beside_ends, one_that_never_reads_holds_up_nobody,
+    slow_reader_takes_every_byte, without_descriptors_it_goes_on, silence_is_an_end, others_go_on_beside_a_search,
+    searches_come_in_parts, what_is_taken_is_life, who_is_never_answered_is_ended, one_never_answered_makes_room,
+    room_is_given_back, so_many_turns_are_taken, addresses_are_refused, configurations_are_looked_at_first,
+    two_clients_are_replayed, words_are_refused, guests_log_in_by_ntlm, an_account_logs_in_by_its_password,
+    challenges_come_from_the_seed, readers_read_and_writers_write, accounts_may_only_read_too,
+    unfinished_logins_take_no_memory, a_clock_before_1970_is_1970, a_port_that_is_not_allowed_is_refused,
 )
 
 

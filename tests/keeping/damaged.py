@@ -18,7 +18,7 @@ FULL = 12_345
 NTLM = ('--login', 'ntlm', '--seed', '000102030405060708090a0b0c0d0e0f')
 # What is said: of a line that was changed, of any line, of another share, and of what is no journal.
 CHANGED, ANY_LINE = 'journal: line {}: changed since it was written\n', 'journal: line [0-9]+: .+\n'
-OTHER = 'journal: of another share: its first line names another name, label, guid, capacity, moment or hello\n'
+OTHER = 'journal: of another share: its first line names another name, label, guid, capacity, moment, limit or hello\n'
 NO_RECORDING = 'journal: no recording: its first line is not that of one\n'
 
 
@@ -165,6 +165,12 @@ def one_of_another_share_is_refused(program):
             config = put(os.path.join(folder, key), b'\n'.join(
                 line.replace(old, new) if line.startswith(key.encode()) else line for line in text.split(b'\n')))
             there.append(stays_refused(program, journal, OTHER, config=config))
+        limited = put(os.path.join(folder, 'limits'), text + b'[limits]\nopens = 1023\n')
+        there.append(stays_refused(program, journal, OTHER, config=limited))
+        by_limits = os.path.join(folder, 'by limits')
+        there.append(begun(program, '--journal', by_limits, config=limited)[0] == 0)
+        there.append(b' limits.opens=1023 hello=' in bytes_of(by_limits).split(b'\n')[0])
+        there.append(stays_refused(program, by_limits, OTHER))
         return all(there) and stays_refused(program, journal, OTHER, *NTLM) and stays_refused(program, by_ntlm, OTHER)
 
 

@@ -75,14 +75,14 @@ def a_folder_is_kept_in_a_journal(program):
         return seen == seen_again == tree and is_extracted(program, journal, os.path.join(folder, 'to'), tree)
 
 
-def is_refused(program, rule, name, prepare, journal=True):
+def is_refused(program, rule, name, prepare, journal=True, config=GUEST):
     """Whether a folder is refused with the name of a file in it, before it listens, and without a journal left."""
     with tempfile.TemporaryDirectory() as folder:
         source, file = os.path.join(folder, 'from'), os.path.join(folder, 'journal')
         os.mkdir(source)
         put(os.path.join(source, 'a'), b'a')
         prepare(source)
-        found = begun(program, '--from', source, *(('--journal', file) if journal else ()))
+        found = begun(program, '--from', source, *(('--journal', file) if journal else ()), config=config)
         if found == (1, f'folder: {source}/{name}: {rule}\n') and not os.path.exists(file):
             return True
         print(f'  {name!r}: {found}, a journal is left: {os.path.exists(file)}', flush=True)
@@ -127,6 +127,26 @@ def what_is_too_long_is_refused(program):
     deep = '/'.join(['x'] * 33)
     return all([is_refused(program, 'longer than 16,777,216 bytes', 'b', long),
                 is_refused(program, 'more than 32 names in its path', deep, nested)])
+
+
+def what_is_past_the_limits_is_refused(program):
+    """By limits of a configuration: a fourth file, in order, in the folder or below it; and a file of a byte too many."""
+    def four(source):
+        for name in 'bcd':
+            put(os.path.join(source, name), b'')
+
+    def below(source):
+        os.mkdir(os.path.join(source, 'b'))
+        for name in 'cde':
+            put(os.path.join(source, 'b', name), b'')
+
+    with tempfile.TemporaryDirectory() as folder:
+        config = put(os.path.join(folder, 'config'), bytes_of(GUEST) + b'[limits]\nentries = 3\nfile_bytes = 5000\n')
+        many = 'more than 3 files and folders'
+        return all([is_refused(program, many, 'd', four, config=config), is_refused(program, many, 'b/d', below, config=config),
+                    is_refused(program, many, 'd', four, False, config),
+                    is_refused(program, 'longer than 5,000 bytes', 'b',
+                               lambda source: put(os.path.join(source, 'b'), bytes(5001)), config=config)])
 
 
 def a_folder_is_not_put_into_an_old_share(program):
@@ -205,5 +225,5 @@ def an_extraction_is_refused(program):
 
 
 TESTS = (a_folder_is_served_and_extracted, a_folder_is_kept_in_a_journal, names_are_refused, what_is_no_file_is_refused,
-         what_is_too_long_is_refused, a_folder_is_not_put_into_an_old_share,
+         what_is_too_long_is_refused, what_is_past_the_limits_is_refused, a_folder_is_not_put_into_an_old_share,
          a_folder_that_was_put_in_part_is_not_served, a_refused_address_leaves_no_file, an_extraction_is_refused)

@@ -154,6 +154,22 @@ def why_a_client_ended_is_logged(program):
             and found[5:69] == ['opened'] * 64 and found[69] == 'refused: 64 connections are open')
 
 
+def a_client_past_a_limit_is_logged(program):
+    """Where a configuration lets two be connected, the third."""
+    with tempfile.TemporaryDirectory() as folder:
+        file, config = (os.path.join(folder, name) for name in ('log', 'config'))
+        with open(GUEST, 'rb') as guests, open(config, 'wb') as limited:
+            limited.write(guests.read() + b'[limits]\nconnections = 2\n')
+        with program.serve('--config', config, '--log', file) as share:
+            clients = [share.client() for _ in range(2)]
+            if not all(client.negotiates() for client in clients):
+                return False
+            share.client().is_ended()
+            waits_for(file, 4)
+            killed(share)
+        return [it[1] for it in events_of(file)] == ['started', 'opened', 'opened', 'refused: 2 connections are open']
+
+
 def a_full_disk_stops_no_share(program):
     """It is said once; with --log-must the server ends."""
     with tempfile.TemporaryDirectory() as folder:
@@ -268,5 +284,6 @@ def a_replay_of_a_record_is_logged_too(program):
 
 
 TESTS = (refusals_are_logged, sessions_are_logged, requests_are_logged, denied_logins_are_logged, why_a_client_ended_is_logged,
+         a_client_past_a_limit_is_logged,
          a_full_disk_stops_no_share, a_log_follows_its_name, one_that_cannot_be_made_is_refused, standard_error_has_the_lines,
          a_share_is_logged_and_kept, a_pipe_that_is_closed_stops_no_share, a_replay_of_a_record_is_logged_too)

@@ -4,6 +4,7 @@ import functools
 import hashlib
 import os
 import pty
+import resource
 import socket
 import struct
 import tempfile
@@ -262,7 +263,7 @@ def serve_explains_too(program):
 def check_says_what_would_be_served(program):
     """The share with its limits, and who may come in; on standard error what `serve` says beside; never a hash or a token."""
     share = ('share: data', 'label: DATA', 'capacity: 67108864 bytes',
-             'limits: 64 clients, 1024 opens, 4096 files and folders, 16777216 bytes a file')
+             'limits: 64 clients, 1024 opens, 256 locks of a file, 4096 files and folders, 16777216 bytes a file')
     text = ACCOUNTS + f'[[account]]\nname = "eve"\nnt_hash = "{HASH[::-1]}"\nreadonly = true\n'
     with open(GUEST, encoding='utf-8') as guests, accounts_file(text.encode()) as accounts:
         with accounts_file((guests.read() + 'guest_readonly = true\n').encode()) as readers:
@@ -364,6 +365,24 @@ def serve_says_what_is_not_as_it_may_be_wanted(program):
     return True
 
 
+def serve_says_what_the_machine_lacks(program):
+    """More room for files than memory, and more clients than descriptors."""
+    most, files = 1 << 46, resource.getrlimit(resource.RLIMIT_NOFILE)
+    text = share_toml().replace('capacity = 67108864', f'capacity = {most}')
+    limits = f'[limits]\nconnections = 185\ncapacity = {most}\n'
+    resource.setrlimit(resource.RLIMIT_NOFILE, (200, files[1]))
+    try:
+        lacking = notices_of(program, text + limits, 0o600, None)
+        enough = notices_of(program, share_toml() + limits.replace('185', '184'), 0o600, None)
+    finally:
+        resource.setrlimit(resource.RLIMIT_NOFILE, files)
+    begins = (f'capacity: {most} bytes, more than the ', 'connections: 185 clients want 201 descriptors, and the program may have 200 ')
+    if len(lacking) != 2 or not all(line.startswith(it) for line, it in zip(lacking, begins)) or enough != ():
+        print(f'  {lacking}, {enough}')
+        return False
+    return True
+
+
 def unreadable_lines_are_explained(program):
     for line, said in UNREADABLE:
         status, output, errors = ran(program, ('replay', '--explain'), b'+ 1\n' + line + b'\n')
@@ -386,7 +405,10 @@ def bad_events_are_explained(program):
             return False
     opened = b''.join(b'+ %d\n' % number for number in range(1, 66))
     many = b'line 65: too many connections\nat most 64 connections are open at a time\n'
-    return ran(program, ('replay', '--explain'), opened) == (1, b'', many)
+    few = b'line 3: too many connections\nat most 2 connections are open at a time\n'
+    with open(GUEST, 'rb') as guests, accounts_file(guests.read() + b'[limits]\nconnections = 2\n') as config:
+        return (ran(program, ('replay', '--explain'), opened) == (1, b'', many)
+                and ran(program, ('replay', '--explain', '--config', config), opened) == (1, b'', few))
 
 
 def endings_are_explained(program):
@@ -519,7 +541,7 @@ TESTS = (
     passwords_are_hashed, a_hash_that_is_not_written_failed, serve_explains_too,
     check_says_what_would_be_served, check_refuses_as_serve_does,
     addresses_are_explained, files_that_are_not_read_are_explained, a_terminal_is_told_more,
-    serve_says_that_nobody_can_log_in, serve_says_what_is_not_as_it_may_be_wanted,
+    serve_says_that_nobody_can_log_in, serve_says_what_is_not_as_it_may_be_wanted, serve_says_what_the_machine_lacks,
     unreadable_lines_are_explained, bad_events_are_explained,
     endings_are_explained, refused_requests_are_explained, a_reason_is_behind_its_answer, fields_of_requests_are_shown, statuses_of_replies_are_shown,
     statuses_have_one_list_of_names, other_faults_have_one_line, parts_are_one_text,

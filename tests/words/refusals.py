@@ -5,7 +5,9 @@ from tests.smb.frames import create, frame, header, negotiate
 from tests.smb.ntlm import PASSWORD_HASH as HASH
 
 SHARE_RULE = 'share: a text of 1 to 80 characters from ! to ~, none of them one of " * / : < > ? \\ |'
-KEYS_RULE = 'keys: none but share, label, guid, capacity, created, hello, guest, guest_readonly and user'
+KEYS_RULE = 'keys: none but share, label, guid, capacity, created, hello, guest, guest_readonly, limits and user'
+CAPACITY_RULE = 'capacity: a multiple of 4096 from 4096 to limits.capacity, by default 67108864'
+LIMIT_KEYS_RULE = 'limits: no keys but connections, opens, locks, entries, file_bytes and capacity'
 FLAG_RULE = 'true or false, where it is given'
 TOKEN_RULE = 'user.token: at most 4096 bytes in hex, as a text'
 USER_KEYS_RULE = 'user: no keys but name, token and readonly'
@@ -27,11 +29,12 @@ BROKEN = (
      'guid: a text of 32 hex digits; missing, usually: guid = "000102030405060708090a0b0c0d0e0f"'),
     ('guid = "0', 'grid = "0', f'{KEYS_RULE}; line 4: grid'),
     ('capacity = 67108864', 'capacity = 4097',
-     'capacity: a multiple of 4096 from 4096 to 67108864; line 5: 4097'),
+     f'{CAPACITY_RULE}; line 5: 4097'),
     ('capacity = 67108864', 'capacity = -1',
-     'capacity: a multiple of 4096 from 4096 to 67108864; line 5: -1'),
+     f'{CAPACITY_RULE}; line 5: -1'),
+    ('capacity = 67108864', 'capacity = 67112960', f'{CAPACITY_RULE}; line 5: 67112960'),
     ('capacity = 67108864', '',
-     'capacity: a multiple of 4096 from 4096 to 67108864; missing, usually: capacity = 67108864'),
+     f'{CAPACITY_RULE}; missing, usually: capacity = 67108864'),
     ('created = 116444736000000000', 'created = -1',
      'created: a number of 0 or more, in units of 100 ns since 1601; line 6: -1'),
     ('created = 116444736000000000', '',
@@ -65,6 +68,17 @@ BROKEN = (
      'user.token: no two users have the same token; user 2; line 15'),
     ('token = "61"', 'token = "61"\n[[user]]\nname = "bob"\ntoken = "61"\nreadonly = 1',
      f'user.readonly: {FLAG_RULE}; user 2; line 16'),
+    ('[[user]]', '[limits]\nopens = 0 # none\n[[user]]', 'limits.opens: 1 to 1048576; line 11: 0'),
+    ('[[user]]', '[ "limits" ]\nlocks = "5"\n[[user]]', 'limits.locks: 1 to 4096; line 11: "5"'),
+    ('token = "61"', 'token = "61"\n[limits]\nopens = 5\nconnections = -1', 'limits.connections: 1 to 4096; line 15: -1'),
+    ('[[user]]', '[limits]\nentries = 4294967296\n[[user]]', 'limits.entries: 1 to 4294967295; line 11: 4294967296'),
+    ('[[user]]', '[limits]\nfile_bytes = 4095\n[[user]]', 'limits.file_bytes: 4096 to 8796093022208; line 11: 4095'),
+    ('[[user]]', '[limits]\ncapacity = 1e9\n[[user]]', 'limits.capacity: 4096 to 70368744177664; line 11: 1e9'),
+    ('[[user]]', '[limits]\ncapacity = 67108863\n[[user]]', f'{CAPACITY_RULE}; line 5: 67108864'),
+    ('[[user]]', '[limits]\nopen = 5\n[[user]]', f'{LIMIT_KEYS_RULE}; line 11: open'),
+    ('guest = false', 'guest = false\nlimits = 5', 'limits: a table [limits], where it is given; line 9: 5'),
+    ('guest = false', 'guest = false\nlimits.opens = 0', 'limits.opens: 1 to 1048576'),
+    ('[[user]]', '[[limits]]\nopens = 5\n[[user]]', 'limits: a table [limits], where it is given'),
 )
 # A file of two accounts.
 ACCOUNTS = f"""# who may log in

@@ -6,7 +6,6 @@ use crate::notices::{Entrance, say_notices};
 use smb_command_line::{Login, Texts};
 use smb_config::{Accounts, Configuration};
 use smb_replay::CommandFault;
-use smb_wire::limits::Limits;
 use std::io::{BufWriter, Write};
 use std::{io, str};
 
@@ -21,11 +20,11 @@ fn write_share<W: Write>(configuration: &Configuration, output: &mut W) -> io::R
     writeln!(output, "share: {}", config.share)?;
     writeln!(output, "label: {}", config.label)?;
     writeln!(output, "capacity: {} bytes", config.capacity)?;
-    let limits = Limits::profile();
+    let limits = configuration.limits;
     writeln!(
         output,
-        "limits: {} clients, {} opens, {} files and folders, {} bytes a file",
-        limits.connections, limits.opens, limits.entries, limits.file_bytes,
+        "limits: {} clients, {} opens, {} locks of a file, {} files and folders, {} bytes a file",
+        limits.connections, limits.opens, limits.locks, limits.entries, limits.file_bytes,
     )
 }
 

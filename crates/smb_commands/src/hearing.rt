@@ -8,6 +8,7 @@ use smb_log::Log;
 use smb_peers::{Acting, Ending, Observer, Responded, Usage};
 use smb_refusals::LoginRefusal;
 use smb_replay::Hears;
+use smb_wire::limits::Limits;
 
 /// What hears a replay: its log, where there is one.
 #[derive(Drop)]
@@ -16,13 +17,14 @@ pub struct Hearing<'a> {
 }
 
 impl<'a> Hearing<'a> {
-    /// The log that the words ask for, of a share that was made at this moment.
+    /// The log that the words ask for, of a share of these limits that was made at this moment.
     pub fn open(
         rt: &'a HostRuntime,
         words: Option<LogWords<'a>>,
+        limits: Limits,
         created: u64,
     ) -> Result<Self, Fault> {
-        let log = log_of(rt, words, created)?;
+        let log = log_of(rt, words, limits, created)?;
         Ok(Hearing { log })
     }
 

@@ -21,6 +21,7 @@ mod hearing;
 mod log_output;
 mod logging;
 mod login;
+mod machine;
 mod notices;
 mod replaying;
 mod serve;

@@ -5,6 +5,7 @@ use crate::fault::Fault;
 use crate::log_output::LogOutput;
 use smb_log::{ConnectionFacts, Level, Log, LoggedPeers};
 use smb_tcp::{PeerFacts, TcpPeers};
+use smb_wire::limits::Limits;
 use std::alloc::{AllocError, Global};
 use std::cell::RefCell;
 
@@ -18,17 +19,20 @@ pub struct LogWords<'a> {
     pub must: bool,
 }
 
-/// The log that the words ask for, which begins at a moment, and whose first line is written; None where they ask for none.
+/// The log that the words ask for, of a share of these limits, which begins at a moment, and whose first line is written; None where
+/// they ask for none.
 pub fn log_of<'a>(
     rt: &'a HostRuntime,
     words: Option<LogWords<'a>>,
+    limits: Limits,
     moment: u64,
 ) -> Result<Option<Log<LogOutput<'a>>>, Fault> {
     let Some(words) = words else {
         return Ok(None);
     };
     let output = LogOutput::open(rt, words.path)?;
-    Ok(Some(Log::new(rt.alloc(), output, words.level, moment)))
+    let log = Log::new(rt.alloc(), output, words.level, moment);
+    Ok(Some(log.with_connections(limits.connections)))
 }
 
 /// What is known of the connections of TCP peers.
@@ -62,12 +66,13 @@ impl TcpFacts {
 /// The log of a served share, where there is one: its peers and its observer borrow it in turn.
 pub type ServedLog<'a> = Option<RefCell<Log<LogOutput<'a>>>>;
 
-/// The log that the words ask for, of a share that is to be served.
+/// The log that the words ask for, of a share of these limits that is to be served.
 pub fn served_log<'a>(
     rt: &'a HostRuntime,
     words: Option<LogWords<'a>>,
+    limits: Limits,
 ) -> Result<ServedLog<'a>, Fault> {
-    Ok(log_of(rt, words, 0)?.map(RefCell::new))
+    Ok(log_of(rt, words, limits, 0)?.map(RefCell::new))
 }
 
 /// TCP peers, of which all is logged where there is a log.

@@ -1,5 +1,6 @@
 //! What is said where all goes on: by `serve` who cannot log in and what is not safe, and of a recording that its last line is cut.
 
+use crate::machine::{descriptors, memory};
 use smb_command_line::{Login, Texts};
 use smb_config::Configuration;
 use smb_journal::Form;
@@ -33,7 +34,10 @@ const EVERYONE_WRITES: &str =
 const NAMED_IPC: &str =
     "the share is named IPC$: clients ask a share of that name for other things than files, and may not show these; give it another name";
 
-/// Who may come in to a share.
+/// How many descriptors the program has beside those of its clients.
+const OWN_DESCRIPTORS: u64 = 16;
+
+/// Who may come in to a share, and what it may want of the machine.
 #[derive(Clone, Copy, Debug)]
 pub struct Entrance {
     /// Whether guests may come.
@@ -44,16 +48,22 @@ pub struct Entrance {
     pub accounts: usize,
     /// Whether the share's name is `IPC$`, in any case.
     pub is_named_ipc: bool,
+    /// How many bytes its files may take.
+    pub capacity: u64,
+    /// How many clients may be connected at a time.
+    pub connections: u64,
 }
 
 impl Entrance {
-    /// Who may come in by a configuration and so many accounts.
+    /// Who may come in by a configuration and so many accounts, and what its share may want.
     pub fn of(configuration: &Configuration, accounts: usize) -> Self {
         Entrance {
             guest: configuration.guest,
             users: configuration.users,
             accounts,
             is_named_ipc: configuration.config.share.eq_ignore_ascii_case("IPC$"),
+            capacity: configuration.config.capacity,
+            connections: configuration.limits.connections as u64,
         }
     }
 }
@@ -65,6 +75,26 @@ fn say(rt: &HostRuntime, holds: bool, line: &str) {
     }
 }
 
+/// Says on standard error where the files of a share may take more bytes than the machine has, and where the program may not have as
+/// many descriptors as clients may want. Nothing is said where the system does not say it.
+fn say_wants(rt: &HostRuntime, capacity: u64, connections: u64) {
+    if let Some(memory) = memory(rt)
+        && capacity > memory
+    {
+        let _ = eprintln!(rt;
+            "capacity: {capacity} bytes, more than the {memory} of this machine's memory: clients are ended where it runs out"
+        );
+    }
+    let wanted = connections.saturating_add(OWN_DESCRIPTORS);
+    if let Some(descriptors) = descriptors(rt)
+        && wanted > descriptors
+    {
+        let _ = eprintln!(rt;
+            "connections: {connections} clients want {wanted} descriptors, and the program may have {descriptors} (ulimit -n): the last clients are not let in"
+        );
+    }
+}
+
 /// Says on standard error who cannot log in, what is not safe, and what else may not be wanted.
 pub fn say_notices(rt: &HostRuntime, texts: &Texts, login: Login, entrance: Entrance) {
     let Entrance {
@@ -72,6 +102,8 @@ pub fn say_notices(rt: &HostRuntime, texts: &Texts, login: Login, entrance: Entr
         users,
         accounts,
         is_named_ipc,
+        capacity,
+        connections,
     } = entrance;
     match login {
         Login::Token => {
@@ -86,6 +118,7 @@ pub fn say_notices(rt: &HostRuntime, texts: &Texts, login: Login, entrance: Entr
     }
     say(rt, texts.everyone_writes && users > 0, EVERYONE_WRITES);
     say(rt, is_named_ipc, NAMED_IPC);
+    say_wants(rt, capacity, connections);
 }
 
 /// Says on standard error that the last line of a recording was cut, where so many bytes of it are left out.

@@ -8,13 +8,14 @@ use crate::login::{ntlm_of, random_seed, read_accounts};
 use crate::notices::say_cut;
 use smb_command_line::{Login, Texts};
 use smb_config::Configuration;
-use smb_engine::{Answer, Authenticator, Config, Event, HandleTable, NodeTree, Share, Tokens};
-use smb_journal::{Form, JournalFault, Mailbox, RecordedLogin};
+use smb_engine::{Answer, Authenticator, Event, HandleTable, NodeTree, Share, Tokens};
+use smb_journal::{Form, JournalFault, LimitedConfig, Mailbox, RecordedLogin};
 use smb_kept::{Hears, KeptFault, nobody, perform_file, read_recording, recorded_login, share_of};
 use smb_peers::{Acting, Ending, Observer, Responded};
 use smb_reason::Reason;
 use smb_refusals::LoginRefusal;
 use smb_replay::{CommandFault, ReplayWords, replay_heard, write_answers};
+use smb_wire::limits::Limits;
 use std::fs;
 use std::io::{BufWriter, ErrorKind, Write};
 
@@ -24,7 +25,7 @@ pub const STANDARD_INPUT: &str = "/dev/stdin";
 /// Replays standard input on a share, and gives the exit status.
 fn replay_by<A: Authenticator + Drop>(
     rt: &HostRuntime,
-    config: Config,
+    limited: LimitedConfig,
     authenticator: A,
     mut hearing: Hearing<'_>,
     words: ReplayWords<'_>,
@@ -34,7 +35,7 @@ fn replay_by<A: Authenticator + Drop>(
         return Err(Fault::Command(CommandFault::NoMemory));
     };
     let mut errors = rt.stderr();
-    let mut share = share_of(alloc, config, authenticator)?;
+    let mut share = share_of(alloc, limited, authenticator)?;
     let status = replay_heard(
         alloc,
         &mut share,
@@ -59,9 +60,9 @@ fn replay_by_ntlm(
 ) -> Result<u8, Fault> {
     let accounts = read_accounts(rt.alloc(), texts.accounts())?;
     let ntlm = ntlm_of(rt.alloc(), &configuration, accounts, seed)?;
-    let config = configuration.config;
-    let hearing = Hearing::open(rt, log, config.created)?;
-    replay_by(rt, config, ntlm, hearing, words)
+    let Configuration { limits, config, .. } = configuration;
+    let hearing = Hearing::open(rt, log, limits, config.created)?;
+    replay_by(rt, LimitedConfig { limits, config }, ntlm, hearing, words)
 }
 
 /// Replays standard input on a share to which clients log in by tokens, and gives the exit status.
@@ -72,12 +73,14 @@ fn replay_by_token(
     words: ReplayWords<'_>,
 ) -> Result<u8, Fault> {
     let Configuration {
+        limits,
         config,
         authenticator,
         ..
     } = configuration;
-    let hearing = Hearing::open(rt, log, config.created)?;
-    replay_by(rt, config, authenticator, hearing, words)
+    let hearing = Hearing::open(rt, log, limits, config.created)?;
+    let limited = LimitedConfig { limits, config };
+    replay_by(rt, limited, authenticator, hearing, words)
 }
 
 /// Replays standard input on a share of these texts, and gives the exit status.
@@ -170,6 +173,7 @@ impl<W: Write + Drop> Hears for Printer<'_, W> {
 #[derive(Drop)]
 struct Printed<'m> {
     share: Share<RecordedLogin<'m, Tokens>, NodeTree, HandleTable>,
+    limits: Limits,
     /// When it was made, in units of 100 ns since 1601.
     created: u64,
 }
@@ -182,11 +186,15 @@ fn printed_of<'m>(
 ) -> Result<Printed<'m>, Fault> {
     let alloc = rt.alloc();
     let (header, given) = read_recording(rt, path)?;
-    let config = header.config(alloc).map_err(KeptFault::Journal)?;
-    let created = config.created;
+    let limited = header.config(alloc).map_err(KeptFault::Journal)?;
+    let (limits, created) = (limited.limits, limited.config.created);
     let login = recorded_login(header.hello, given, nobody(alloc)?, mailbox)?;
-    let share = share_of(alloc, config, login)?;
-    Ok(Printed { share, created })
+    let share = share_of(alloc, limited, login)?;
+    Ok(Printed {
+        share,
+        limits,
+        created,
+    })
 }
 
 /// Performs a recording on its share, and prints what it answers.
@@ -222,7 +230,7 @@ fn print_logged(rt: &HostRuntime, path: &str, log: Option<LogWords<'_>>) -> Resu
     mailbox.close();
     match printed_of(rt, path, &mailbox) {
         Ok(mut printed) => {
-            let hearing = Hearing::open(rt, log, printed.created)?;
+            let hearing = Hearing::open(rt, log, printed.limits, printed.created)?;
             print_events(rt, path, &mut printed.share, &mailbox, hearing)
         }
         Err(fault) => Err(fault),

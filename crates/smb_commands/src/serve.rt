@@ -10,7 +10,8 @@ use crate::served_record::{Serving, serve_folder, serve_recorded, serve_recorded
 use mio::net::TcpListener;
 use smb_command_line::{Login, Texts};
 use smb_config::Configuration;
-use smb_engine::{Authenticator, Config, HandleTable, NodeTree, Share};
+use smb_engine::{Authenticator, HandleTable, NodeTree, Share};
+use smb_journal::LimitedConfig;
 use smb_kept::{KeepWords, share_of};
 use smb_log::{LogObserver, LoggedPeers};
 use smb_peers::Usage;
@@ -90,14 +91,16 @@ fn begin_to_listen(
     Ok(listener)
 }
 
-/// The peers of a listener, with the limits of silence that the words say.
+/// The peers of a listener, as many as there may be connections, with the limits of silence that the words say.
 fn peers_of<'a>(
     rt: &'a HostRuntime,
     words: &ServeWords<'a>,
+    connections: u64,
     listener: net::TcpListener,
 ) -> Result<TcpPeers<'a, HostRuntime>, CommandFault> {
     let wait = Duration::from_secs(LONGEST_WAIT);
-    let mut peers = match TcpPeers::waiting(rt, rt.alloc(), listener, wait) {
+    let made = TcpPeers::waiting_within(rt, rt.alloc(), listener, wait, connections as usize);
+    let mut peers = match made {
         Ok(peers) => peers,
         Err(error) => return Err(fault_of(error)),
     };
@@ -123,7 +126,7 @@ pub fn listening_peers<'l, 'a: 'l>(
 ) -> Result<ServedPeers<'l, 'a>, Fault> {
     let stops = words.log.is_some_and(|log| log.must);
     let listener = begin_to_listen(rt, words, entrance)?;
-    let peers = peers_of(rt, words, listener)?;
+    let peers = peers_of(rt, words, entrance.connections, listener)?;
     let clock = ServeClock::new(rt, words.clock);
     let mut logged = LoggedPeers::new(
         rt.alloc(),
@@ -166,8 +169,9 @@ pub fn serve_peers<A: Authenticator + Drop>(
         rt,
         words,
         entrance,
+        limits,
     } = serving;
-    let log = served_log(rt, words.log)?;
+    let log = served_log(rt, words.log, limits)?;
     match listening_peers(rt, words, entrance, &log, next) {
         Ok(mut peers) => {
             let mut observer = LogObserver::new(log.as_ref(), ServeClock::new(rt, words.clock));
@@ -182,11 +186,11 @@ pub fn serve_peers<A: Authenticator + Drop>(
 /// Serves a new share of which nothing is kept, for so many turns.
 fn serve_new<A: Authenticator + Drop>(
     serving: Serving<'_, '_>,
-    config: Config,
+    limited: LimitedConfig,
     authenticator: A,
 ) -> Result<Served, Fault> {
     let mut clock = ServeClock::new(serving.rt, serving.words.clock);
-    match share_of(serving.rt.alloc(), config, authenticator) {
+    match share_of(serving.rt.alloc(), limited, authenticator) {
         Ok(mut share) => serve_peers(serving, &mut share, &mut clock, 1),
         Err(fault) => Err(Fault::Kept(fault)),
     }
@@ -197,22 +201,23 @@ fn serve_by<A: Authenticator + Drop>(
     rt: &HostRuntime,
     words: &ServeWords<'_>,
     entrance: Entrance,
-    config: Config,
+    limited: LimitedConfig,
     authenticator: A,
 ) -> Result<Served, Fault> {
     let serving = Serving {
         rt,
         words,
         entrance,
+        limits: limited.limits,
     };
     drop(listen(rt, words.listen)?);
     match (words.record, words.from) {
         (Some(record), Some(folder)) => {
-            serve_recorded_folder(serving, record, folder, config, authenticator)
+            serve_recorded_folder(serving, record, folder, limited, authenticator)
         }
-        (Some(record), None) => serve_recorded(serving, record, config, authenticator),
-        (None, Some(folder)) => serve_folder(serving, folder, config, authenticator),
-        (None, None) => serve_new(serving, config, authenticator),
+        (Some(record), None) => serve_recorded(serving, record, limited, authenticator),
+        (None, Some(folder)) => serve_folder(serving, folder, limited, authenticator),
+        (None, None) => serve_new(serving, limited, authenticator),
     }
 }
 
@@ -224,11 +229,13 @@ fn serve_by_token(
     configuration: Configuration,
 ) -> Result<Served, Fault> {
     let Configuration {
+        limits,
         config,
         authenticator,
         ..
     } = configuration;
-    serve_by(rt, words, entrance, config, authenticator)
+    let limited = LimitedConfig { limits, config };
+    serve_by(rt, words, entrance, limited, authenticator)
 }
 
 /// Serves a share to which clients log in by NTLM.
@@ -243,7 +250,8 @@ fn serve_by_ntlm(
     let accounts = read_accounts(alloc, words.texts.accounts())?;
     entrance.accounts = accounts.list.len();
     let ntlm = ntlm_of(alloc, &configuration, accounts, seed)?;
-    serve_by(rt, words, entrance, configuration.config, ntlm)
+    let Configuration { limits, config, .. } = configuration;
+    serve_by(rt, words, entrance, LimitedConfig { limits, config }, ntlm)
 }
 
 /// Serves a share of a configuration, for so many turns, where its journal is not to be written anew first.

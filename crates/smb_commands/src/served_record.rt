@@ -5,8 +5,10 @@ use crate::fault::Fault;
 use crate::logging::{ServedLog, ServedPeers, served_log};
 use crate::notices::{Entrance, say_cut};
 use crate::serve::{ServeWords, Served, end_of, listening_peers, serve_peers};
-use smb_engine::{Authenticator, Config};
-use smb_journal::{Form, GivenAnswer, Mailbox, RecordedClock, RecordedPeers, Recorder, Store};
+use smb_engine::Authenticator;
+use smb_journal::{
+    Form, GivenAnswer, LimitedConfig, Mailbox, RecordedClock, RecordedPeers, Recorder, Store,
+};
 use smb_kept::{
     Begun, KeepWords, Keeping, KeptFault, OwnLine, RecordedShare, is_long, own_answer, own_answers,
     path_of, put_folder_in, recorded_share,
@@ -15,6 +17,7 @@ use smb_log::LogObserver;
 use smb_peers::Usage;
 use smb_reason::Reason;
 use smb_serving::serve_until_observed;
+use smb_wire::limits::Limits;
 use std::alloc::Global;
 use std::cell::Cell;
 use std::collections::VecDeque;
@@ -51,6 +54,8 @@ pub struct Serving<'a, 'w> {
     pub rt: &'a HostRuntime,
     pub words: &'w ServeWords<'a>,
     pub entrance: Entrance,
+    /// The limits of the share.
+    pub limits: Limits,
 }
 
 /// The peers of a share of which all is recorded, once it listens.
@@ -65,6 +70,7 @@ fn recorded_peers<'l, 'a: 'l>(
         rt,
         words,
         entrance,
+        ..
     } = serving;
     let Begun { recorder, next, .. } = begun;
     let peers = listening_peers(rt, words, entrance, log, next)?;
@@ -111,8 +117,13 @@ fn serve_begun<A: Authenticator + Drop>(
         moment: &moment,
         mailbox,
     };
-    let Serving { rt, words, .. } = serving;
-    let log = served_log(rt, words.log)?;
+    let Serving {
+        rt,
+        words,
+        limits,
+        ..
+    } = serving;
+    let log = served_log(rt, words.log, limits)?;
     match recorded_peers(serving, begun, shared, &log, clock) {
         Ok(mut recorded) => {
             let mut told = RecordedClock::new(&moment);
@@ -155,7 +166,7 @@ fn fill<A: Authenticator + Drop>(
 ) -> Result<(), Fault> {
     let answer = own_answer(serving.rt.alloc())?;
     let mut line = OwnLine::new(share, recorder, mailbox, clock, Some(answer));
-    Ok(put_folder_in(serving.rt, folder, path, &mut line)?)
+    Ok(put_folder_in(serving.rt, serving.limits, folder, path, &mut line)?)
 }
 
 /// Serves a share of a path that begins with the files of a folder, and is recorded: in a file that was made, and that gets its name once
@@ -189,7 +200,7 @@ fn serve_filled<A: Authenticator + Drop>(
 /// What a share is made of whose authenticator gives recorded answers first.
 #[derive(Drop)]
 struct Parts<A: Authenticator + Drop> {
-    config: Config,
+    limited: LimitedConfig,
     hello: Vec<u8>,
     given: VecDeque<GivenAnswer>,
     authenticator: A,
@@ -202,12 +213,12 @@ fn share_of_parts<'m, A: Authenticator + Drop>(
     mailbox: &'m Mailbox,
 ) -> Result<RecordedShare<'m, A>, Fault> {
     let Parts {
-        config,
+        limited,
         hello,
         given,
         authenticator,
     } = parts;
-    Ok(recorded_share(rt.alloc(), config, hello, given, authenticator, mailbox)?)
+    Ok(recorded_share(rt.alloc(), limited, hello, given, authenticator, mailbox)?)
 }
 
 /// Serves a share of its parts, which is kept.
@@ -252,13 +263,13 @@ fn serve_filled_parts<A: Authenticator + Drop>(
 fn parts_of<A: Authenticator + Drop>(
     rt: &HostRuntime,
     keeping: &Keeping<'_>,
-    config: Config,
+    limited: LimitedConfig,
     authenticator: A,
 ) -> Result<Parts<A>, Fault> {
     let hello = keeping.hello(rt.alloc())?;
     let given = keeping.given(rt)?;
     Ok(Parts {
-        config,
+        limited,
         hello,
         given,
         authenticator,
@@ -268,13 +279,13 @@ fn parts_of<A: Authenticator + Drop>(
 /// The parts of a share that lets the program's own client in first.
 fn parts_to_fill<A: Authenticator + Drop>(
     rt: &HostRuntime,
-    config: Config,
+    limited: LimitedConfig,
     authenticator: A,
 ) -> Result<Parts<A>, Fault> {
     let hello = Vec::from_slice(rt.alloc(), authenticator.hello())?;
     let given = own_answers(rt.alloc())?;
     Ok(Parts {
-        config,
+        limited,
         hello,
         given,
         authenticator,
@@ -285,11 +296,11 @@ fn parts_to_fill<A: Authenticator + Drop>(
 pub fn serve_recorded<A: Authenticator + Drop>(
     serving: Serving<'_, '_>,
     record: KeepWords<'_>,
-    config: Config,
+    limited: LimitedConfig,
     authenticator: A,
 ) -> Result<Served, Fault> {
-    let keeping = Keeping::open(serving.rt, record, &config, authenticator.hello())?;
-    let parts = parts_of(serving.rt, &keeping, config, authenticator)?;
+    let keeping = Keeping::open(serving.rt, record, &limited, authenticator.hello())?;
+    let parts = parts_of(serving.rt, &keeping, limited, authenticator)?;
     serve_parts(serving, keeping, parts)
 }
 
@@ -298,20 +309,20 @@ pub fn serve_recorded_folder<A: Authenticator + Drop>(
     serving: Serving<'_, '_>,
     record: KeepWords<'_>,
     folder: &str,
-    config: Config,
+    limited: LimitedConfig,
     authenticator: A,
 ) -> Result<Served, Fault> {
     let alloc = serving.rt.alloc();
     record.refuse_existing(serving.rt)?;
     let name = record.path;
-    let path = path_of(alloc, config.share.as_str())?;
+    let path = path_of(alloc, limited.config.share.as_str())?;
     let made_path = format!(in alloc; "{name}.new")?;
     let made = KeepWords {
         path: made_path.as_str(),
         ..record
     };
-    let keeping = Keeping::make(serving.rt, made, &config, authenticator.hello())?;
-    let parts = parts_to_fill(serving.rt, config, authenticator)?;
+    let keeping = Keeping::make(serving.rt, made, &limited, authenticator.hello())?;
+    let parts = parts_to_fill(serving.rt, limited, authenticator)?;
     serve_filled_parts(serving, folder, path.as_str(), made, name, keeping, parts)
 }
 
@@ -325,35 +336,36 @@ fn serve_unrecorded<A: Authenticator + Drop>(
 ) -> Result<Served, Fault> {
     let rt = serving.rt;
     let mut clock = ServeClock::new(rt, serving.words.clock);
-    put_unrecorded(rt, folder, path, share, mailbox, &mut clock)?;
+    put_unrecorded(serving, folder, path, share, mailbox, &mut clock)?;
     serve_peers(serving, share, &mut clock, 2)
 }
 
 /// Puts the files of a folder into a share, and records nothing.
 fn put_unrecorded<A: Authenticator + Drop>(
-    rt: &HostRuntime,
+    serving: Serving<'_, '_>,
     folder: &str,
     path: &str,
     share: &mut RecordedShare<'_, A>,
     mailbox: &Mailbox,
     clock: &mut ServeClock<'_>,
 ) -> Result<(), Fault> {
+    let Serving { rt, limits, .. } = serving;
     let recorder = Recorder::new(rt.alloc(), Nowhere, Form::Journal, false, 0);
     let mut recorder = recorder.map_err(KeptFault::Journal)?;
     let mut line = OwnLine::new(share, &mut recorder, mailbox, clock, None);
-    Ok(put_folder_in(rt, folder, path, &mut line)?)
+    Ok(put_folder_in(rt, limits, folder, path, &mut line)?)
 }
 
 /// Serves a new share that begins with the files of a folder, and of which nothing is recorded.
 pub fn serve_folder<A: Authenticator + Drop>(
     serving: Serving<'_, '_>,
     folder: &str,
-    config: Config,
+    limited: LimitedConfig,
     authenticator: A,
 ) -> Result<Served, Fault> {
     let rt = serving.rt;
-    let path = path_of(rt.alloc(), config.share.as_str())?;
-    let parts = parts_to_fill(rt, config, authenticator)?;
+    let path = path_of(rt.alloc(), limited.config.share.as_str())?;
+    let parts = parts_to_fill(rt, limited, authenticator)?;
     let mailbox = Mailbox::new(rt.alloc());
     mailbox.close();
     match share_of_parts(rt, parts, &mailbox) {

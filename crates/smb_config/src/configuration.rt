@@ -5,13 +5,15 @@ ghost use Rattle.std.specs.List.{AllByRecursion, list_any};
 ghost use Rattle.std.specs.Str.{bytes_eq};
 ghost use Rattle.smb_session.specs.Tokens.{HaveOwnTokens};
 ghost use Rattle.smb_session.specs.Answers.{known_user};
-ghost use Rattle.smb_request.specs.Settings.{settings_of, is_lawful};
+ghost use Rattle.smb_request.specs.Settings.{settings_within, is_lawful};
 
+use crate::limits::read_limits;
 use crate::rule::ConfigRule;
 use hex::{FromHex, FromHexError};
 use smb_reason::Reason;
 use smb_request::Config;
 use smb_session::{Tokens, User};
+use smb_wire::limits::Limits;
 use std::alloc::{AllocError, Global};
 use thiserror::Error;
 use toml::{Table, Value};
@@ -30,8 +32,8 @@ name = \"ann\"
 token = \"61\"
 ";
 
-/// The keys that a configuration has, all but `guest_readonly` and `user` required.
-pub(crate) const KEYS: [&str; 9] = [
+/// The keys that a configuration has, all but `guest_readonly`, `limits` and `user` required.
+pub(crate) const KEYS: [&str; 10] = [
     "share",
     "label",
     "guid",
@@ -40,6 +42,7 @@ pub(crate) const KEYS: [&str; 9] = [
     "hello",
     "guest",
     "guest_readonly",
+    "limits",
     "user",
 ];
 
@@ -77,6 +80,9 @@ impl From<AllocError> for ConfigFault {
 /// What a configuration file says: the share, and who may come in.
 #[derive(Debug, Drop)]
 pub struct Configuration {
+    /// How much there may be of everything in the share.
+    pub limits: Limits,
+    /// What the share is told: it keeps its rules under these limits.
     pub config: Config,
     /// Whether guests may come.
     pub guest: bool,
@@ -123,7 +129,7 @@ pub(crate) fn flag(table: &Table, key: &str, rule: ConfigRule) -> Result<bool, C
 }
 
 /// The number under a key, 0 or more.
-fn number(table: &Table, key: &str, rule: ConfigRule) -> Result<u64, ConfigFault> {
+pub(crate) fn number(table: &Table, key: &str, rule: ConfigRule) -> Result<u64, ConfigFault> {
     let number = table
         .get(key)
         .and_then(Value::as_integer)
@@ -232,12 +238,13 @@ fn read_users(alloc: Global, table: &Table) -> Result<Vec<User>, ConfigFault>
     Ok(users)
 }
 
-/// A configuration that keeps the rules of a share; where it does not, it was broken by what this rule is about.
-fn kept(config: Config, rule: ConfigRule) -> Result<Config, ConfigFault>
+/// A configuration that keeps the rules of a share under its limits; where it does not, it was broken by what this rule is
+/// about.
+fn kept(limits: Limits, config: Config, rule: ConfigRule) -> Result<Config, ConfigFault>
     ensures kept { IfOk result (λ same. same ≡ config) }
-    ensures lawful { IfOk result (λ same. is_lawful (settings_of same) ≡ true) }
+    ensures lawful { IfOk result (λ same. is_lawful (settings_within limits same) ≡ true) }
 {
-    if config.is_lawful() {
+    if config.is_lawful_within(limits) {
         Ok(config)
     } else {
         Err(ConfigFault::Refused(rule))
@@ -245,8 +252,8 @@ fn kept(config: Config, rule: ConfigRule) -> Result<Config, ConfigFault>
 }
 
 /// What is said of the share. It is looked at after each key that has a rule, so that the first broken rule is found.
-fn read_share(alloc: Global, table: &Table) -> Result<Config, ConfigFault>
-    ensures { IfOk result (λ config. is_lawful (settings_of config) ≡ true) }
+fn read_share(alloc: Global, limits: Limits, table: &Table) -> Result<Config, ConfigFault>
+    ensures { IfOk result (λ config. is_lawful (settings_within limits config) ≡ true) }
 {
     let share = String::from_str(alloc, text(table, "share", ConfigRule::Share)?)?;
     let config = Config {
@@ -256,12 +263,12 @@ fn read_share(alloc: Global, table: &Table) -> Result<Config, ConfigFault>
         capacity: LEAST_CAPACITY,
         created: 0,
     };
-    let mut config = kept(config, ConfigRule::Share)?;
+    let mut config = kept(limits, config, ConfigRule::Share)?;
     config.label = String::from_str(alloc, text(table, "label", ConfigRule::Label)?)?;
-    let mut config = kept(config, ConfigRule::Label)?;
+    let mut config = kept(limits, config, ConfigRule::Label)?;
     config.guid = read_sixteen(table, "guid", ConfigRule::Guid)?;
     config.capacity = number(table, "capacity", ConfigRule::Capacity)?;
-    let mut config = kept(config, ConfigRule::Capacity)?;
+    let mut config = kept(limits, config, ConfigRule::Capacity)?;
     config.created = number(table, "created", ConfigRule::Created)?;
     Ok(config)
 }
@@ -285,14 +292,16 @@ pub(crate) fn read_table(alloc: Global, document: &str) -> Result<Table, ConfigF
 }
 
 impl Configuration {
-    /// Reads a configuration whole. Where it is Ok, the share's part of it keeps its rules ([`Config::is_lawful`]).
+    /// Reads a configuration whole. Where it is Ok, the share's part of it keeps its rules under its limits
+    /// ([`Config::is_lawful_within`]).
     /// Which rule is named where it is refused, and that no other text is, is tested.
     pub fn read(alloc: Global, document: &str) -> Result<Self, ConfigFault>
-        ensures lawful { IfOk result (λ read. is_lawful (settings_of read.config) ≡ true) }
+        ensures lawful { IfOk result (λ read. is_lawful (settings_within read.limits read.config) ≡ true) }
     {
         let table = read_table(alloc, document)?;
         only_keys(&table, &KEYS, ConfigRule::Keys)?;
-        let config = read_share(alloc, &table)?;
+        let limits = read_limits(&table)?;
+        let config = read_share(alloc, limits, &table)?;
         let hello = read_token(alloc, &table, "hello", ConfigRule::Hello)?;
         let guest = table
             .get("guest")
@@ -303,6 +312,7 @@ impl Configuration {
         let users = list.len();
         let authenticator = Tokens::new(alloc, &hello, guest, guest_read_only, list)?;
         Ok(Configuration {
+            limits,
             config,
             guest,
             guest_read_only,

@@ -2,6 +2,7 @@
 
 use crate::accounts::{ACCOUNT_KEYS, ACCOUNTS_KEYS};
 use crate::configuration::{BUILT_IN, KEYS, USER_KEYS, is_known};
+use crate::limits::LIMIT_NAMES;
 use crate::rule::ConfigRule;
 use smb_ntlm::AccountFault;
 use std::alloc::Global;
@@ -14,6 +15,9 @@ const SHOWN: usize = 60;
 
 /// How many lines are looked at closely at most.
 const MOST_LOOKS: usize = 16;
+
+/// The key of the table of limits, and the name in its header.
+const LIMITS: &str = "limits";
 
 /// A list of tables, of which each begins with a header.
 #[derive(Clone, Copy, PartialEq, Eq)]
@@ -37,6 +41,8 @@ impl List {
 enum Section {
     /// The keys of a configuration before the first header.
     Share,
+    /// The keys of its table of limits.
+    Limits,
     /// Those of a file of accounts.
     Accounts,
     /// The keys of the table of this number in a list, counted from 1.
@@ -48,16 +54,25 @@ impl Section {
     fn known_keys(self) -> &'static [&'static str] {
         match self {
             Section::Share => &KEYS,
+            Section::Limits => &LIMIT_NAMES,
             Section::Accounts => &ACCOUNTS_KEYS,
             Section::Entry(List::Users, _) => &USER_KEYS,
             Section::Entry(List::Accounts, _) => &ACCOUNT_KEYS,
         }
     }
 
+    /// Whether its keys are those before the first header.
+    fn is_first(self) -> bool {
+        match self {
+            Section::Share | Section::Accounts => true,
+            Section::Limits | Section::Entry(_, _) => false,
+        }
+    }
+
     /// Whether the name of a key that is not known is shown. Of accounts it is not: it may be a hash.
     fn shows_unknown(self) -> bool {
         match self {
-            Section::Share | Section::Entry(List::Users, _) => true,
+            Section::Share | Section::Limits | Section::Entry(List::Users, _) => true,
             Section::Accounts | Section::Entry(List::Accounts, _) => false,
         }
     }
@@ -66,6 +81,7 @@ impl Section {
     fn shows(self, key: &str, value: &Value) -> bool {
         match self {
             Section::Share => key != List::Users.name(),
+            Section::Limits => true,
             Section::Accounts => false,
             Section::Entry(_, _) => key == "name" && value.is_str(),
         }
@@ -105,6 +121,15 @@ fn begins_entry(line: &str, list: List) -> bool {
     }
 }
 
+/// Whether a line is the header of the table of limits.
+fn begins_limits(line: &str) -> bool {
+    let name = line.strip_prefix('[').and_then(|name| name.split_once(']'));
+    match name {
+        Some((name, _)) => bare(name) == LIMITS,
+        None => false,
+    }
+}
+
 /// Goes on behind a line: whether the next one is of the section, and how many tables of its list have begun.
 fn go_on(line: &str, section: Section, is_within: &mut bool, begun: &mut usize) {
     let line = line.trim();
@@ -113,6 +138,7 @@ fn go_on(line: &str, section: Section, is_within: &mut bool, begun: &mut usize) 
             *begun = begun.saturating_add(1);
             *is_within = *begun == number;
         }
+        Section::Limits if begins_limits(line) => *is_within = true,
         _ if line.starts_with('[') => *is_within = false,
         _ => {}
     }
@@ -133,7 +159,7 @@ fn place_of<'a>(
     section: Section,
     key: &str,
 ) -> Option<Place<'a>> {
-    let (mut is_within, mut begun) = (!matches!(&section, Section::Entry(_, _)), 0usize);
+    let (mut is_within, mut begun) = (section.is_first(), 0usize);
     let (mut begin, mut looks) = (0usize, 0usize);
     for (above, line) in document.split('\n').enumerate() {
         if is_within && looks < MOST_LOOKS {
@@ -188,6 +214,7 @@ fn write_value<W: Write>(value: &str, output: &mut W) -> io::Result<()> {
 fn table_of(table: &Table, section: Section) -> Option<&Table> {
     match section {
         Section::Share | Section::Accounts => Some(table),
+        Section::Limits => table.get(LIMITS).and_then(Value::as_table),
         Section::Entry(list, number) => {
             let entries = table.get(list.name()).and_then(Value::as_array)?;
             entries
@@ -233,7 +260,7 @@ fn write_key<W: Write>(
     let Some(found) = table.get(key) else {
         let usual = match section {
             Section::Share => place_of(alloc, BUILT_IN, section, key),
-            Section::Accounts | Section::Entry(_, _) => None,
+            Section::Limits | Section::Accounts | Section::Entry(_, _) => None,
         };
         return match usual {
             Some(usual) => write!(output, "; missing, usually: {key} = {}", usual.value),
@@ -291,6 +318,9 @@ fn subject_of(rule: ConfigRule) -> Option<(Section, Option<&'static str>)> {
     match rule {
         ConfigRule::Size | ConfigRule::Text | ConfigRule::Toml(_) | ConfigRule::Mode => None,
         ConfigRule::Keys => Some((Section::Share, None)),
+        ConfigRule::Limits => Some((Section::Share, Some(LIMITS))),
+        ConfigRule::LimitKeys => Some((Section::Limits, None)),
+        ConfigRule::OfLimit(key) => Some((Section::Limits, Some(key.name()))),
         ConfigRule::Share => Some((Section::Share, Some("share"))),
         ConfigRule::Label => Some((Section::Share, Some("label"))),
         ConfigRule::Guid => Some((Section::Share, Some("guid"))),

@@ -4,7 +4,7 @@
 //! that is taken. Where one is refused, [`ConfigFault`] has the first [`ConfigRule`] that it breaks, and
 //! [`write_place`] writes where it breaks it, and what was found there; never of a token or a hash.
 //!
-//! [`Configuration::read`] has a clause: the share's part of what it takes keeps the share's rules. [`Accounts`] are
+//! [`Configuration::read`] has a clause: the share's part of what it takes keeps the share's rules under its limits. [`Accounts`] are
 //! those that a login may have, by their type. Which rule is named, and where, is tested.
 #![tactic(auto)]
 
@@ -12,10 +12,12 @@ mod accounts;
 mod configuration;
 mod file;
 mod key_place;
+mod limits;
 mod rule;
 
 pub use accounts::Accounts;
 pub use configuration::{BUILT_IN, ConfigFault, Configuration};
 pub use file::{CONFIG_LIMIT, read_config, read_past};
 pub use key_place::write_place;
+pub use limits::LimitKey;
 pub use rule::ConfigRule;

@@ -1,5 +1,6 @@
 //! The rules of a text that a share is made by, a configuration or accounts, and their words.
 
+use crate::limits::LimitKey;
 use smb_ntlm::AccountFault;
 use std::fmt;
 
@@ -14,6 +15,10 @@ pub enum ConfigRule {
     Toml(Option<usize>),
     /// Which keys there are.
     Keys,
+    Limits,
+    /// Which keys the table of limits has.
+    LimitKeys,
+    OfLimit(LimitKey),
     Share,
     Label,
     Guid,
@@ -59,14 +64,20 @@ impl ConfigRule {
             ConfigRule::Text => "file: a text in UTF-8",
             ConfigRule::Toml(_) => "file: a text in TOML, no key given twice",
             ConfigRule::Keys => {
-                "keys: none but share, label, guid, capacity, created, hello, guest, guest_readonly and user"
+                "keys: none but share, label, guid, capacity, created, hello, guest, guest_readonly, limits and user"
             }
+            ConfigRule::Limits => "limits: a table [limits], where it is given",
+            ConfigRule::LimitKeys => {
+                "limits: no keys but connections, opens, locks, entries, file_bytes and capacity"
+            }
+            ConfigRule::OfLimit(key) => limit_text(key),
             ConfigRule::Share => {
                 "share: a text of 1 to 80 characters from ! to ~, none of them one of \" * / : < > ? \\ |"
             }
             ConfigRule::Label => "label: a text of at most 32 characters from blank to ~",
             ConfigRule::Guid => "guid: a text of 32 hex digits",
-            ConfigRule::Capacity => "capacity: a multiple of 4096 from 4096 to 67108864",
+            ConfigRule::Capacity =>
+                "capacity: a multiple of 4096 from 4096 to limits.capacity, by default 67108864",
             ConfigRule::Created => "created: a number of 0 or more, in units of 100 ns since 1601",
             ConfigRule::Hello => "hello: at most 4096 bytes in hex, as a text",
             ConfigRule::Guest => "guest: true or false",
@@ -86,6 +97,18 @@ impl ConfigRule {
             ConfigRule::AccountReadonly(_) => "account.readonly: true or false, where it is given",
             ConfigRule::OfAccount(fault) => name_text(fault),
         }
+    }
+}
+
+/// What a limit is to be.
+fn limit_text(key: LimitKey) -> &'static str {
+    match key {
+        LimitKey::Connections => "limits.connections: 1 to 4096",
+        LimitKey::Opens => "limits.opens: 1 to 1048576",
+        LimitKey::Locks => "limits.locks: 1 to 4096",
+        LimitKey::Entries => "limits.entries: 1 to 4294967295",
+        LimitKey::FileBytes => "limits.file_bytes: 4096 to 8796093022208",
+        LimitKey::Capacity => "limits.capacity: 4096 to 70368744177664",
     }
 }
 

@@ -75,11 +75,11 @@ pub removed-insert : (n : ℕ) (new : StreamState) (es : List (ℕ × StreamStat
 removed-insert n new [] a = rw (at_same n n refl) refl
 removed-insert n new (e ∷ es) a = rw (greater n e.0 a.0) (rw (at_above n e.0 a.0) (ap (λ x. e ∷ x) (removed-insert n new es a.1)))
 
-pub kept_none : (next : ℕ) → 0 < next → AreKept [] [] next
-kept_none next p = record { waits = tt; few = omega arith; given = tt; from_one = (p, tt); known = refl }
+pub kept_none : (next most : ℕ) → 0 < next → AreKept [] [] next most
+kept_none next most p = record { waits = tt; few = omega arith; given = tt; from_one = (p, tt); known = refl }
 
-pub kept_set : (test : ℕ → Bool) (connections : List ℕ) (streams : List (ℕ × StreamState)) (new : StreamState) (next : ℕ) → Waits new → AreKept connections streams next → AreKept connections (set_value test streams new) next
-kept_set test connections streams new next w k = record {
+pub kept_set : (test : ℕ → Bool) (connections : List ℕ) (streams : List (ℕ × StreamState)) (new : StreamState) (next most : ℕ) → Waits new → AreKept connections streams next most → AreKept connections (set_value test streams new) next most
+kept_set test connections streams new next most w k = record {
   known = k.known ∙ sym (numbers-set test streams new);
   waits = all_set (λ e. Waits e.1) test streams new (λ e h. w) k.waits;
   few = omega (arith, k.few, length-set_value test streams new);
@@ -87,9 +87,9 @@ kept_set test connections streams new next w k = record {
   from_one = (k.from_one.0, all_set (λ e. 0 < e.0) test streams new (λ e h. h) k.from_one.1);
 }
 
-pub kept_remove : (number : ℕ) (connections : List ℕ) (streams : List (ℕ × StreamState)) (next : ℕ) → IsRising connections → AreKept connections streams next →
-    AreKept (without_number connections number) (remove_entry (is_at (nat_cmp number)) streams) next
-kept_remove number connections streams next r k = record {
+pub kept_remove : (number : ℕ) (connections : List ℕ) (streams : List (ℕ × StreamState)) (next most : ℕ) → IsRising connections → AreKept connections streams next most →
+    AreKept (without_number connections number) (remove_entry (is_at (nat_cmp number)) streams) next most
+kept_remove number connections streams next most r k = record {
   waits = all_remove (λ e. Waits e.1) (is_at (nat_cmp number)) streams k.waits;
   few = omega (arith, k.few, length-remove_entry (is_at (nat_cmp number)) streams);
   given = all_remove (λ e. e.0 < next) (is_at (nat_cmp number)) streams k.given;
@@ -101,9 +101,9 @@ pub given_more : (streams : List (ℕ × StreamState)) (next : ℕ) → AllByRec
 given_more [] next h = tt
 given_more (e ∷ streams) next h = (omega (arith, h.0), given_more streams next h.1)
 
-pub kept_insert : (table : TableState) (streams : List (ℕ × StreamState)) (new : StreamState) (next : ℕ) → Waits new → length streams < 64 → AreKept table.connections streams next →
-    AreKept (connected table next).connections (insert_entry nat_cmp streams next new) (next + 1)
-kept_insert table streams new next w room k = record {
+pub kept_insert : (table : TableState) (streams : List (ℕ × StreamState)) (new : StreamState) (next most : ℕ) → Waits new → length streams < most → AreKept table.connections streams next most →
+    AreKept (connected table next).connections (insert_entry nat_cmp streams next new) (next + 1) most
+kept_insert table streams new next most w room k = record {
   known = connected-insert table streams new next k.known k.given;
   waits = all_insert (λ e. Waits e.1) next new streams w (λ e h. w) k.waits;
   few = omega (arith, room, length-insert_entry next new streams);
@@ -127,11 +127,12 @@ given_below [] next h = tt
 given_below (e ∷ streams) next h = (h.0.1, given_below streams next h.1)
 
 -- what is held is good
-pub kept_good : {S : Type 0} (s : ShareState S) → is_lawful s.server.settings ≡ true → s.server.sessions.share ≡ s.server.settings.share → s.server.store.tree.capacity ≡ s.server.settings.capacity → GoodTable s.server.sessions.table → GoodStore s.server.store → AreOwned s.server.sessions.table s.server.store.opens → AreKept s.server.sessions.table.connections s.streams s.next → GoodState s
-kept_good s lawful named room sessions store owned k = record {
+pub kept_good : {S : Type 0} (s : ShareState S) → is_lawful s.server.settings ≡ true → s.server.sessions.share ≡ s.server.settings.share → s.server.store.tree.capacity ≡ s.server.settings.capacity → s.server.store.tree.limits ≡ s.server.settings.limits → GoodTable s.server.sessions.table → GoodStore s.server.store → AreOwned s.server.sessions.table s.server.store.opens → AreKept s.server.sessions.table.connections s.streams s.next s.most_connections → GoodState s
+kept_good s lawful named room limits sessions store owned k = record {
   lawful = lawful;
   named = named;
   room = room;
+  limits = limits;
   few = k.few;
   given = given_from_one s.streams s.next k.from_one.1 k.given;
   next = k.from_one.0;
@@ -143,8 +144,8 @@ kept_good s lawful named room sessions store owned k = record {
 }
 
 -- a connection is gone, with its sessions
-pub kept_over : {S : Type 0} (server server' : ServerState S) (number : ℕ) (streams : List (ℕ × StreamState)) (next : ℕ) → server' ≡ connection_ended server number →
-    IsRising server.sessions.table.connections → AreKept server.sessions.table.connections streams next →
-    AreKept server'.sessions.table.connections (remove_entry (is_at (nat_cmp number)) streams) next
+pub kept_over : {S : Type 0} (server server' : ServerState S) (number : ℕ) (streams : List (ℕ × StreamState)) (next most : ℕ) → server' ≡ connection_ended server number →
+    IsRising server.sessions.table.connections → AreKept server.sessions.table.connections streams next most →
+    AreKept server'.sessions.table.connections (remove_entry (is_at (nat_cmp number)) streams) next most
 unfolding connection_ended
-kept_over server server' number streams next e r k = rw e (kept_remove number server.sessions.table.connections streams next r k)
+kept_over server server' number streams next most e r k = rw e (kept_remove number server.sessions.table.connections streams next most r k)

@@ -1,5 +1,5 @@
 -- Going through a list by places.
-use Rattle.std.proofs.Common.{◌≡◌, ℕ, zero, suc, ◌+◌, Bool, true, false, List, [], ◌∷◌, drop, Some, None, refl, sym, ◌∙◌, arith}
+use Rattle.std.proofs.Common.{◌||◌, ◌≡◌, ℕ, zero, suc, ◌+◌, Bool, true, false, List, [], ◌∷◌, drop, Some, None, refl, sym, ◌∙◌, arith}
 use Rattle.std.specs.Prelude.{slice_get}
 use Rattle.std.specs.List.{list_any}
 
@@ -26,6 +26,17 @@ pub any_passed : {X : Type 0} (test : X → Bool) (xs : List X) (i : ℕ) (x : X
 any_passed test xs i x at h e =
     let step : list_any test (drop i xs) ≡ list_any test (drop (i + 1) xs) = rw (drop_found xs i x at, e) refl in
     sym step ∙ h
+
+-- the same, where one was found before or not
+pub any_or_found : {X : Type 0} (before : Bool) (test : X → Bool) (xs : List X) (i : ℕ) (x : X) → slice_get xs i ≡ Some x →
+    (before || list_any test (drop i xs)) ≡ list_any test xs → test x ≡ true → true ≡ list_any test xs
+any_or_found true test xs i x at h e = h
+any_or_found false test xs i x at h e = any_found test xs i x at h e
+
+pub any_or_passed : {X : Type 0} (before : Bool) (test : X → Bool) (xs : List X) (i : ℕ) (x : X) → slice_get xs i ≡ Some x →
+    (before || list_any test (drop i xs)) ≡ list_any test xs → test x ≡ false → (before || list_any test (drop (i + 1) xs)) ≡ list_any test xs
+any_or_passed true test xs i x at h e = h
+any_or_passed false test xs i x at h e = any_passed test xs i x at h e
 
 pub none_found : {X : Type 0} (test : X → Bool) (xs : List X) (i : ℕ) → slice_get xs i ≡ None →
     list_any test (drop i xs) ≡ list_any test xs → false ≡ list_any test xs

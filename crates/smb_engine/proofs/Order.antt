@@ -160,7 +160,7 @@ other_settled s n k received t true e d = rw e (other_set n k s.streams (record 
 other_settled s n k received t false e d = rw e (other_without n k s.streams d)
 
 module _ {S : Type 0} (m : Meaning S) where
-  other_bytes : (s : ShareState S) (n k moment : ℕ) (piece : List ℕ) (o : Option StreamState) → stream_of n s.streams ≡ o → eqb n k ≡ false →
+  pub other_bytes : (s : ShareState S) (n k moment : ℕ) (piece : List ℕ) (o : Option StreamState) → stream_of n s.streams ≡ o → eqb n k ≡ false →
       stream_of k (bytes_step m s n moment piece).state.streams ≡ stream_of k s.streams
   other_bytes s n k moment piece None e d = rw (bytes_step-none m s n moment piece e) refl
   other_bytes s n k moment piece (Some stream) e d = rw (bytes_step-some m s n moment piece stream e) (other_settled s n k (stream.received ++ piece) (piece_step m (arrived n moment) s.server stream piece) _ refl d)

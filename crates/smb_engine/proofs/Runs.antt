@@ -8,7 +8,7 @@ use Rattle.std.proofs.lemmas.Option.{slice_get-map, slice_get_read}
 use Rattle.std.specs.BTreeMap.{is_at, insert_entry}
 use Rattle.std.specs.Ordering.{nat_cmp}
 use Rattle.smb_wire.specs.Counters.{is_spent}
-use Rattle.smb_wire.specs.Limits.{longest_payload, default_limits}
+use Rattle.smb_wire.specs.Limits.{longest_payload}
 use Rattle.smb_frame.specs.Reading.{rest, payloads}
 use Rattle.smb_frame.proofs.Streams.{rest-more}
 use Rattle.smb_peers.specs.declared.event.Event.{Event}
@@ -230,12 +230,12 @@ module _ {S : Type 0} (m : Meaning S) where
 
   pub opened-unread : (s : ShareState S) → s ≡ unread s → opened s ≡ unread (opened s)
   unfolding rest payloads
-  opened-unread s h = rw (unread-insert s.next new_stream s.streams) (ap (λ t. record { server = connection_added s.server s.next; streams = insert_entry nat_cmp t.streams s.next new_stream; next = s.next + 1 }) h)
+  opened-unread s h = rw (unread-insert s.next new_stream s.streams) (ap (λ t. record { server = connection_added s.server s.next; streams = insert_entry nat_cmp t.streams s.next new_stream; next = s.next + 1; most_connections = s.most_connections }) h)
 
   open_refused : (s : ShareState S) (n : ℕ) (o : Option ServeFault) → n ≡ s.next → opening_refusal s ≡ o → event_refusal s (opens n) ≡ o
   open_refused s n o e h = rw (eq-eqb n s.next e) h
 
-  open_stops_at : (s new : ShareState S) (n : ℕ) (b : Bool) → (nat_le default_limits.connections (length s.streams) || is_spent 64 s.next) ≡ b → s ≡ unread s → n ≡ s.next → new ≡ s →
+  open_stops_at : (s new : ShareState S) (n : ℕ) (b : Bool) → (nat_le s.most_connections (length s.streams) || is_spent 64 s.next) ≡ b → s ≡ unread s → n ≡ s.next → new ≡ s →
       EventStopped m s (opens n) (unwrap_or (opening_refusal s) (NoMemory 0)) new
   open_stops_at s new n true t w e k =
       let full : opening_refusal s ≡ Some TooManyConnections = rw t refl in

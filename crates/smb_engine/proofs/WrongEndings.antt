@@ -94,5 +94,5 @@ an_end_is_some n others h = cc
 pub hears_nothing_is_refused : {S : Type 0} (m : Meaning S) (server : ServerState S) → EachEndIsHeardBy m (λ s events. []) → ⊥
 unfolding bytes_step piece_step payloads rest
 hears_nothing_is_refused m server law =
-    let open_one : ShareState _ = record { server = server; streams = (1, new_stream) ∷ []; next = 2 } in
+    let open_one : ShareState _ = record { server = server; streams = (1, new_stream) ∷ []; next = 2; most_connections = 64 } in
     an_end_is_some 1 [] (law open_one (brings 1 0 (0xFF ∷ []) ∷ []))

@@ -1,7 +1,7 @@
 -- A good share: what holds of it between any two calls, and what the laws about later calls take as their premise.
 use Rattle.std.specs.Prelude.{◌≡◌, ◌+◌, ◌≤◌, ◌<◌, true, false, length, map}
 use Rattle.std.specs.List.{AllByRecursion}
-use Rattle.smb_wire.specs.Limits.{longest_payload, default_limits}
+use Rattle.smb_wire.specs.Limits.{longest_payload}
 use Rattle.smb_session.specs.Window.{GoodWindow}
 use Rattle.smb_session.specs.Good.{GoodTable}
 use Rattle.smb_opens.specs.Good.{GoodStore}
@@ -16,14 +16,15 @@ pub record IsGoodStream (stream : StreamState) : Type 0 where
   pub window : GoodWindow stream.connection.window
   pub fresh : stream.connection.payload_came ≡ false → stream.connection ≡ new_stream.connection
 
--- the configuration keeps its rules, and the share has its name and its capacity; at most 64 connections are open, each
--- has a number that was given, from 1 on, and each is good; the sessions are good, and each of their connections is open;
+-- the configuration keeps its rules, and the share has its name, its capacity and its limits; no more connections are open
+-- than may be, each has a number that was given, from 1 on, and each is good; the sessions are good, and each of their connections is open;
 -- the files and their opens are good, and each open belongs to a session and a tree connect that exist
 pub record GoodState {S : Type 0} (s : ShareState S) : Type 0 where
   pub lawful : is_lawful s.server.settings ≡ true
   pub named : s.server.sessions.share ≡ s.server.settings.share
   pub room : s.server.store.tree.capacity ≡ s.server.settings.capacity
-  pub few : length s.streams ≤ default_limits.connections
+  pub limits : s.server.store.tree.limits ≡ s.server.settings.limits
+  pub few : length s.streams ≤ s.most_connections
   pub given : AllByRecursion (λ entry. (0 < entry.0) × (entry.0 < s.next)) s.streams
   pub next : 0 < s.next
   pub good : AllByRecursion (λ entry. IsGoodStream entry.1) s.streams

@@ -7,7 +7,7 @@ use Rattle.smb_peers.specs.Observed.{Observed, performed}
 use Rattle.smb_request.specs.declared.response.Answered.{Answered}
 use Rattle.smb_engine.specs.Observed.{response_observed}
 use Rattle.std.specs.List.{AllByRecursion}
-use Rattle.smb_wire.specs.Limits.{longest_payload, default_limits}
+use Rattle.smb_wire.specs.Limits.{longest_payload}
 use Rattle.smb_frame.specs.Reading.{first, fault_of, rest}
 use Rattle.smb_session.specs.Window.{GoodWindow}
 use Rattle.smb_request.specs.State.{ServerState}
@@ -26,11 +26,11 @@ pub record Waits (stream : StreamState) : Type 0 where
 abbrev pub AllWait : List (ℕ × StreamState) → Type 0
 AllWait = AllByRecursion (λ entry. Waits entry.1)
 
--- what is held of all connections between calls: each waits, at most 64 are open, each has a number that was given, from
--- 1 on, and these connections may have sessions
-pub record AreKept (connections : List ℕ) (streams : List (ℕ × StreamState)) (next : ℕ) : Type 0 where
+-- what is held of all connections between calls: each waits, no more are open than may be, each has a number that was
+-- given, from 1 on, and these connections may have sessions
+pub record AreKept (connections : List ℕ) (streams : List (ℕ × StreamState)) (next most : ℕ) : Type 0 where
   pub waits : AllWait streams
-  pub few : length streams ≤ default_limits.connections
+  pub few : length streams ≤ most
   pub given : AllByRecursion (λ entry. entry.0 < next) streams
   pub from_one : (0 < next) × AllByRecursion (λ entry. 0 < entry.0) streams
   pub known : connections ≡ map (λ entry. entry.0) streams

@@ -2,7 +2,6 @@
 use Rattle.std.specs.Prelude.{◌≡◌, ℕ, ◌≤◌, Bool, true, false, ◌||◌, nat_le, List, ◌∷◌, ◌++◌, length, take, drop, Option, None, Some, is_some, if◌then◌else◌}
 use Rattle.std.specs.List.{fold}
 use Rattle.smb_wire.specs.Counters.{is_spent}
-use Rattle.smb_wire.specs.Limits.{default_limits}
 use Rattle.smb_session.specs.Authenticator.{Meaning}
 use Rattle.smb_request.specs.State.{ServerState}
 use Rattle.smb_engine.specs.declared.fault.ServeFault.{ServeFault}
@@ -39,10 +38,10 @@ pub record EventOutOfMemory {S : Type 0} (authenticator : Meaning S) (s : ShareS
   pub within : done ≤ length (event_step authenticator s event).requests
   pub state : left ≡ unread (stopped authenticator s event done)
 
--- why no connection opens: 64 are open, or the numbers are spent (3.3.5.1)
+-- why no connection opens: as many as may be are open, or the numbers are spent (3.3.5.1)
 abbrev pub opening_refusal : {S : Type 0} → ShareState S → Option ServeFault
 opening_refusal s =
-    if nat_le default_limits.connections (length s.streams) || is_spent 64 s.next then Some TooManyConnections else None
+    if nat_le s.most_connections (length s.streams) || is_spent 64 s.next then Some TooManyConnections else None
 
 -- a run as the code holds its state, behind what was put out before
 abbrev pub run_behind : {S : Type 0} → List Output → Ran S → Ran S

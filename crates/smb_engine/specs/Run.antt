@@ -6,7 +6,7 @@ use Rattle.std.specs.List.{list_any, list_all, find, fold, starts_with}
 use Rattle.std.specs.Map.{set_value}
 use Rattle.std.specs.BTreeMap.{is_at}
 use Rattle.std.specs.Ordering.{nat_cmp}
-use Rattle.smb_wire.specs.Limits.{longest_payload, default_limits}
+use Rattle.smb_wire.specs.Limits.{longest_payload}
 use Rattle.smb_wire.specs.Commands.{code_of}
 use Rattle.smb_wire.specs.Counters.{is_spent}
 use Rattle.smb_wire.specs.declared.command.Command.TheVariants.{Negotiate, Cancel}
@@ -354,12 +354,12 @@ event_step authenticator s (ends connection) = record { state = ended s connecti
 
 -- A RUN OF EVENTS
 
--- why an event is refused: an opening has to bear the next number, and even then it is refused where 64 connections are
--- open, as a 65th one would be, or the numbers are spent (3.3.5.1); another event is on a number that was opened
+-- why an event is refused: an opening has to bear the next number, and even then it is refused where as many connections
+-- are open as may be, or the numbers are spent (3.3.5.1); another event is on a number that was opened
 abbrev pub event_refusal : {S : Type 0} → ShareState S → EventText → Option ServeFault
 event_refusal s (opens connection) =
     if connection == s.next then
-    (if nat_le default_limits.connections (length s.streams) || is_spent 64 s.next then Some TooManyConnections else None)
+    (if nat_le s.most_connections (length s.streams) || is_spent 64 s.next then Some TooManyConnections else None)
     else Some BadEvent
 event_refusal s (brings connection moment piece) =
     if nat_lt 0 connection && nat_lt connection s.next then None else Some BadEvent

@@ -15,15 +15,22 @@ pub record StreamState : Type 0 where
   pub received : List ℕ
   pub connection : Connection
 
--- the whole share: the server, the streams of the open connections in rising number, and the next connection's number
+-- the whole share: the server, the streams of the open connections in rising number, the next connection's number, and
+-- how many connections may be open, which never changes
 pub record ShareState (S : Type 0) : Type 0 where
   pub server : ServerState S
   pub streams : List (ℕ × StreamState)
   pub next : ℕ
+  pub most_connections : ℕ
 
 -- a new share: no connection, and the first will be 1
 abbrev pub new_share : {S : Type 0} → Settings → S → ShareState S
-new_share settings authenticator = record { server = new_server settings authenticator; streams = []; next = 1 }
+new_share settings authenticator = record {
+  server = new_server settings authenticator;
+  streams = [];
+  next = 1;
+  most_connections = settings.limits.connections;
+}
 
 -- the stream of a connection's number
 abbrev pub stream_of : ℕ → List (ℕ × StreamState) → Option StreamState

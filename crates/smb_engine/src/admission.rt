@@ -1,12 +1,11 @@
 //! Which payloads are performed: chains that keep the rule about NEGOTIATE, and whose MessageIds may be used ([MS-SMB2]
 //! 3.3.5.2).
 
-ghost use Rattle.std.specs.Prelude.{◌≡◌, ◌≤◌, ◌<◌, Some, None, true, OnErr, IfOk, IfErr, length, slice_get};
-ghost use Rattle.std.specs.List.{list_any};
+ghost use Rattle.std.specs.Prelude.{◌≡◌, ◌≤◌, ◌<◌, Some, None, true, OnErr, IfOk, IfErr, IfSome, is_some, length, slice_get};
 ghost use Rattle.smb_head.specs.Headers.{header_of};
 ghost use Rattle.smb_session.specs.Window.{without_ids};
 ghost use Rattle.smb_engine.specs.Run.{message_ids, keeps_negotiate_rule, admitted, ending_of};
-ghost use Rattle.smb_engine.specs.Parts.{is_negotiate_request, runs_of};
+ghost use Rattle.smb_engine.specs.Parts.{runs_of};
 
 use super::connection::Connection;
 use super::ending::{fault_ending, ids_ending, negotiate_ending};
@@ -26,43 +25,34 @@ pub(crate) fn request_at<'a>(chain: &'a Chain<'_>, i: usize) -> (Header, &'a [u8
     chain.get(i).unwrap()
 }
 
-/// Whether a chain holds a NEGOTIATE.
-fn holds_negotiate(chain: &Chain<'_>) -> bool
-    ensures { result ≡ list_any is_negotiate_request chain.now }
-{
-    for i in 0..chain.len() {
-        let (header, _) = request_at(chain, i);
-        if header.command.0 == Command::Negotiate.code().0 {
-            return true;
-        }
-    }
-    false
-}
-
-/// Whether a chain keeps the rule about NEGOTIATE.
-fn keeps_negotiate_rule(dialect: Option<Dialect>, chain: &Chain<'_>) -> bool
-    ensures { result ≡ keeps_negotiate_rule dialect chain.now }
-{
-    match dialect {
-        None => chain.len() == 1 && holds_negotiate(chain),
-        Some(_) => !holds_negotiate(chain),
-    }
-}
-
 /// The MessageIds that a chain uses in a dialect, by request: the first, and how many from there upward. CANCEL uses none.
-fn runs_of(dialect: Option<Dialect>, chain: &Chain<'_>) -> ArrayVec<(u64, u16), MOST_REQUESTS>
+/// None where the chain breaks the rule about NEGOTIATE, which is alone in its chain, and before the dialect is known.
+fn runs_of(
+    dialect: Option<Dialect>,
+    chain: &Chain<'_>,
+) -> Option<ArrayVec<(u64, u16), MOST_REQUESTS>>
     requires { length chain.now ≤ 16 }
-    ensures { result.items ≡ runs_of dialect chain.now }
+    ensures keeps { is_some result ≡ keeps_negotiate_rule dialect chain.now }
+    ensures runs { IfSome result (λ runs. runs.items ≡ runs_of dialect chain.now) }
 {
     let mut runs = ArrayVec::new();
+    let mut negotiates = false;
     for i in 0..chain.len() {
         let (header, _) = request_at(chain, i);
-        if header.command.0 != Command::Cancel.code().0 {
+        let code = header.command.0;
+        if code == Command::Negotiate.code().0 {
+            negotiates = true;
+        }
+        if code != Command::Cancel.code().0 {
             let charge = charge_of(dialect, header.credit_charge);
             runs.push((header.message_id, charge));
         }
     }
-    runs
+    let keeps = match dialect {
+        None => negotiates && chain.len() == 1,
+        Some(_) => !negotiates,
+    };
+    if keeps { Some(runs) } else { None }
 }
 
 /// The requests of a payload that are performed, their MessageIds taken from the window; or the rule by which it ends the
@@ -81,10 +71,9 @@ pub(crate) fn admit<'a>(connection: &mut Connection, payload: &'a [u8]) -> Resul
         Ok(chain) => chain,
         Err(fault) => return Err(fault_ending(connection, payload, fault)),
     };
-    if !keeps_negotiate_rule(connection.dialect, &chain) {
+    let Some(runs) = runs_of(connection.dialect, &chain) else {
         return Err(negotiate_ending(connection.dialect));
-    }
-    let runs = runs_of(connection.dialect, &chain);
+    };
     if !connection.window.take_runs(&runs) {
         return Err(ids_ending(&connection.window, &runs));
     }

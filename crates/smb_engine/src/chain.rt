@@ -13,31 +13,30 @@ ghost use Rattle.smb_request.specs.Negotiate.{negotiate_answer};
 ghost use Rattle.smb_request.specs.Smb1.{reply_to_smb1};
 ghost use Rattle.smb_engine.specs.Run.{one_performed, smb1_step, chain_step, payload_step, ending_of};
 ghost use Rattle.smb_engine.specs.Parts.{longest_reply, reply_to, first_negotiate};
-ghost use Rattle.smb_engine.specs.Held.{StoppedAfter, report_observed};
+ghost use Rattle.smb_engine.specs.Held.{StoppedAfter};
 ghost use Rattle.smb_request.specs.Held.{is_performed};
 ghost use Rattle.smb_engine.specs.Output.{output_bytes, reply_frame};
 ghost use Rattle.smb_engine.specs.InPlace.{chain_state_behind, step_behind};
 ghost use Rattle.smb_peers.specs.Record.{Keeping};
-ghost use Rattle.smb_engine.specs.Observed.{acting_on, response_observed, request_observed, requests_observed, smb1_observed, ending_observed, smb1_ending, payload_observed};
+ghost use Rattle.smb_engine.specs.Observed.{request_observed, requests_observed, ending_observed, smb1_ending, payload_observed};
 ghost use Rattle.smb_session.specs.Window.{credits_granted};
-ghost use Rattle.smb_wire.specs.declared.dialect.Dialect.{Dialect};
 
 use super::admission::{admit, request_at};
 use super::arrival::Arrival;
 use super::connection::Connection;
 use super::fault::CutShort;
+use super::reporting::{note_subject, report, report_smb1};
 use bitflags::Flags;
 use smb_body::{Smb1Dialects, read_smb1_negotiate};
 use smb_frame::{close_frame, open_frame};
 use smb_head::{Header, HeaderFlags, ReplyWriter};
 use smb_opens::Opens;
-use smb_peers::{Acting, Ending, Observer, Responded};
+use smb_peers::{Ending, Observer};
 use smb_request::smb1::Smb1Answer;
-use smb_request::{Answered, Context, NoReply, Server, acting_on, smb1};
+use smb_request::{Answered, Context, NoReply, Server, smb1};
 use smb_session::{Authenticator, Window};
 use smb_tree::Tree;
 use smb_wire::limits::MOST_REQUESTS;
-use smb_wire::{Command, NtStatus};
 
 /// The flags of a response to a request that is not related to the one before it, and of one to a related request.
 const RESPONSE: HeaderFlags = HeaderFlags::SERVER_TO_REDIR;
@@ -83,114 +82,6 @@ fn first_negotiate(connection: &Connection, payload: &[u8]) -> Option<Smb1Dialec
 struct ChainProgress {
     context: Context,
     writer: ReplyWriter,
-}
-
-/// What a request acts on that is performed next, for an observer that listens, which notes its user and its file; None for one
-/// that does not.
-fn note_subject<A: Authenticator + Drop, T: Tree + Drop, O: Opens + Drop, W: Observer>(
-    server: &Server<A, T, O>,
-    arrival: Arrival,
-    context: Context,
-    header: &Header,
-    request: &[u8],
-    observer: &mut W,
-) -> Option<Acting>
-    requires { header.now ≡ header_of request.now }
-    ensures acting { (dialect : Option Dialect) → IfSome result (λ acting. acting ≡ acting_on arrival dialect context request.now) }
-    ensures deaf { IfNone result (W.keeps observer.new ≡ true → ⊥) }
-    ensures observed { Keeping (W.keeps observer.old) (W.keeps observer.new) (W.observed observer.new ≡ W.observed observer.old) }
-{
-    if !observer.listens() {
-        return None;
-    }
-    let (ids, open_number) = acting_on(context, header, request);
-    match server.user(arrival.connection_id, ids.session_id) {
-        Some(user) => match server.file_name(ids, open_number) {
-            Some(name) => observer.note_subject(user, Some(&name)),
-            None => observer.note_subject(user, None),
-        },
-        None => observer.note_subject(&[], None),
-    }
-    Some(Acting {
-        session_id: ids.session_id,
-        tree_id: ids.tree_id,
-        open_number,
-    })
-}
-
-/// Reports who was let in by a SESSION_SETUP, or why nobody was, where the authenticator keeps that.
-fn report_login<A: Authenticator + Drop, T: Tree + Drop, O: Opens + Drop, W: Observer>(
-    server: &Server<A, T, O>,
-    arrival: Arrival,
-    answered: Answered,
-    observer: &mut W,
-)
-    ensures observed { Keeping (W.keeps observer.old) (W.keeps observer.new) (W.observed observer.new ≡ W.observed observer.old) }
-{
-    let (connection, session_id) = (arrival.connection_id, answered.ids.session_id);
-    match answered.status {
-        NtStatus::Success => {
-            if let Some(user) = server.user(connection, session_id) {
-                observer.let_in(connection, session_id, user);
-            }
-        }
-        NtStatus::LogonFailure => {
-            if let Some(denial) = server.denial() {
-                observer.denied(connection, denial.reason, denial.name);
-            }
-        }
-        _ => {}
-    }
-}
-
-/// Reports how a request is responded to.
-fn report_response<A: Authenticator + Drop, T: Tree + Drop, O: Opens + Drop, W: Observer>(
-    server: &Server<A, T, O>,
-    arrival: Arrival,
-    header: &Header,
-    answered: Answered,
-    credits: u16,
-    observer: &mut W,
-)
-    ensures observed { (request body : List ℕ) → header.now ≡ header_of request → Keeping (W.keeps observer.old) (W.keeps observer.new)
-        (W.observed observer.new ≡ W.observed observer.old ++ response_observed arrival.connection_id request credits (Some (record { status = answered.status; refusal = answered.refusal; ids = answered.ids; body = body }))) }
-{
-    if header.command == Command::SessionSetup.code() {
-        report_login(server, arrival, answered, observer);
-    }
-    let response = Responded {
-        message_id: header.message_id,
-        command: header.command,
-        status: answered.status,
-        refusal: answered.refusal,
-        credits,
-    };
-    observer.responded(arrival.connection_id, response);
-}
-
-/// Reports a request that was performed, and how it is responded to and with how many credits, where it is; to an observer
-/// that listens, for which it was noted what the request acts on.
-fn report<A: Authenticator + Drop, T: Tree + Drop, O: Opens + Drop, W: Observer>(
-    server: &Server<A, T, O>,
-    arrival: Arrival,
-    header: &Header,
-    request: &[u8],
-    acting: Option<Acting>,
-    answered: Option<(Answered, u16)>,
-    observer: &mut W,
-)
-    requires { header.now ≡ header_of request.now }
-    ensures observed { IfSome acting (λ acting. Keeping (W.keeps observer.old) (W.keeps observer.new)
-        (W.observed observer.new ≡ W.observed observer.old ++ report_observed arrival.connection_id request.now acting answered)) }
-    ensures deaf { IfNone acting (W.keeps observer.new ≡ true → W.keeps observer.old ≡ true) }
-{
-    let Some(acting) = acting else {
-        return;
-    };
-    observer.performed(arrival.connection_id, arrival.moment, request, acting);
-    if let Some((answered, credits)) = answered {
-        report_response(server, arrival, header, answered, credits, observer);
-    }
 }
 
 /// Performs one request of a chain, its reply written once, behind the others. An error tells whether the
@@ -400,32 +291,6 @@ fn frame_smb1<A: Authenticator + Drop, T: Tree + Drop, O: Opens + Drop>(
     writer.close_reply(reply, &smb1::reply_header(), out);
     end_frame(start, out);
     true
-}
-
-/// What an SMB_COM_NEGOTIATE acts on: nothing.
-const ON_NOTHING: Acting = Acting {
-    session_id: 0,
-    tree_id: 0,
-    open_number: 0,
-};
-
-/// Reports an SMB_COM_NEGOTIATE that is answered.
-fn report_smb1<W: Observer>(arrival: Arrival, payload: &[u8], observer: &mut W)
-    ensures observed { Keeping (W.keeps observer.old) (W.keeps observer.new)
-        (W.observed observer.new ≡ W.observed observer.old ++ smb1_observed arrival.connection_id payload.now 1) }
-{
-    if !observer.listens() {
-        return;
-    }
-    observer.performed(arrival.connection_id, arrival.moment, payload, ON_NOTHING);
-    let response = Responded {
-        message_id: 0,
-        command: Command::Negotiate.code(),
-        status: NtStatus::Success,
-        refusal: None,
-        credits: 1,
-    };
-    observer.responded(arrival.connection_id, response);
 }
 
 /// Answers an SMB_COM_NEGOTIATE that lists these dialects, and tells how many requests it is; None where it ends the

@@ -5,7 +5,7 @@ use thiserror::Error;
 /// A refusal of the share.
 #[derive(Clone, Copy, Debug, PartialEq, Eq, Error)]
 pub enum ServeFault {
-    /// 64 connections are open, or the numbers of connections are spent.
+    /// As many connections are open as the limits let be, or the numbers of connections are spent.
     #[error("too many connections")]
     TooManyConnections,
     /// Memory could not be had. The first `done` requests of the call, or of the event, were performed,

@@ -28,7 +28,8 @@
 //! # What is proved
 //!
 //! A [`Share`] is made of a [`Config`]: [`in_memory`](Share::in_memory), or [`new`](Share::new) over a tree and opens
-//! of one's own. Connections are [`opened`](Share::opened), bring pieces of their streams, which are
+//! of one's own; under other limits than the default by [`in_memory_within`](Share::in_memory_within) and
+//! [`within`](Share::within). Connections are [`opened`](Share::opened), bring pieces of their streams, which are
 //! [`feed`](Share::feed), and [end](Share::ended); [`run`](Share::run) takes a list of such [`Event`]s and gives the
 //! [`Answer`]s. What it gives is a definition, to be read in this order: `specs/Event.antt` and `State.antt`; `Run.antt`,
 //! from one request of a chain to a run of events, over `Request.antt` of the crate smb_request (what one request does);
@@ -54,7 +55,9 @@ mod connection;
 mod ending;
 mod fault;
 mod laws;
+mod making;
 mod output;
+mod reporting;
 mod share;
 mod stream;
 

@@ -4,16 +4,14 @@ ghost use Rattle.std.specs.Prelude.{◌≡◌, ◌<◌, ◌+◌, ◌-◌, ◌^�
 ghost use Rattle.std.specs.Bool.{OnTrue};
 ghost use Rattle.std.specs.Option.{option_map};
 ghost use Rattle.std.specs.List.{flat_map};
-ghost use Rattle.smb_wire.specs.Limits.{default_limits};
-ghost use Rattle.smb_tree.specs.Content.{new_content, used_space};
+ghost use Rattle.smb_tree.specs.Content.{used_space};
 ghost use Rattle.smb_opens.specs.Readers.{LeavesFiles};
-ghost use Rattle.smb_request.specs.Settings.{settings_of, is_lawful};
 ghost use Rattle.smb_peers.specs.Event.{brings, text_of, connection_of};
 ghost use Rattle.smb_engine.specs.Parts.{events_of, unknown_refusal, EventStopped};
 ghost use Rattle.smb_engine.specs.Output.{AreShort, output_bytes, outputs_of};
 ghost use Rattle.smb_engine.specs.Refusals.{EventOutOfMemory, run_behind, RunStopped, opening_refusal};
 ghost use Rattle.smb_engine.specs.Rest.{ends_of, IsAtRest};
-ghost use Rattle.smb_engine.specs.State.{StreamState, new_share, stream_of, is_open, opened, ended};
+ghost use Rattle.smb_engine.specs.State.{StreamState, stream_of, is_open, opened, ended};
 ghost use Rattle.smb_engine.specs.Run.{bytes_step, event_refusal, event_step, run};
 ghost use Rattle.smb_engine.specs.Stream.{unread};
 ghost use Rattle.smb_engine.specs.Good.{GoodState};
@@ -25,14 +23,11 @@ use super::connection::{ConnectionStream, add_connection, new_stream, remove_str
 use super::fault::{CutShort, RunFault, ServeFault};
 use super::output::Sink;
 use super::stream::take_piece;
-use smb_handles::HandleTable;
-use smb_nodes::NodeTree;
 use smb_opens::Opens;
 use smb_peers::{Answer, Event, Fate, Observer, Usage};
-use smb_request::{Config, Server};
+use smb_request::Server;
 use smb_session::Authenticator;
 use smb_tree::Tree;
-use smb_wire::limits::Limits;
 use std::alloc::Global;
 use std::collections::BTreeMap;
 use std::fmt;
@@ -45,9 +40,10 @@ const ALL_REQUESTS: usize = usize::MAX;
 /// kept in a tree and a list of opens of any kind.
 #[derive(Drop)]
 pub struct Share<A: Authenticator + Drop, T: Tree + Drop, O: Opens + Drop> {
-    server: Server<A, T, O>,
-    streams: BTreeMap<u64, ConnectionStream>,
-    next: u64,
+    pub(crate) server: Server<A, T, O>,
+    pub(crate) streams: BTreeMap<u64, ConnectionStream>,
+    pub(crate) next: u64,
+    pub(crate) most_connections: usize,
 }
 
 impl<A: Authenticator + Drop, T: Tree + Drop, O: Opens + Drop> fmt::Debug for Share<A, T, O> {
@@ -62,82 +58,12 @@ impl<A: Authenticator + Drop, T: Tree + Drop, O: Opens + Drop> Model for Share<A
 
     ghost Value = { ShareState A };
 
-    ghost view = { λ s. record { server = s.server; streams = s.streams.entries; next = s.next } };
+    ghost view = { λ s. record { server = s.server; streams = s.streams.entries; next = s.next; most_connections = s.most_connections } };
 
-    ghost invariant = { λ s. AreKept s.server.sessions.table.connections s.streams.entries s.next };
-}
-
-impl<A: Authenticator + Drop> Share<A, NodeTree, HandleTable> {
-    /// A share of this configuration over a new tree and a new list of opens, those that look-ups are fast in: what
-    /// [`Share::new`] makes of them. No condition is asked of the caller.
-    ///
-    /// A configuration that breaks its rules is [`ServeFault::BadConfig`], before any memory is asked for; else
-    /// memory may be wanting, [`ServeFault::NoMemory`]. Both drop what was passed in.
-    pub fn in_memory(alloc: Global, config: Config, authenticator: A) -> Result<Self, ServeFault>
-        ensures lawful { OnOk result (is_lawful (settings_of config) ≡ true) }
-        ensures state { IfOk result (λ share. share ≡ new_share (settings_of config) authenticator) }
-        ensures err { IfErr result (λ fault. fault ≡ (if is_lawful (settings_of config) then ServeFault.NoMemory 0 else ServeFault.BadConfig)) }
-    {
-        if !config.is_lawful() {
-            return Err(ServeFault::BadConfig);
-        }
-        match NodeTree::new(alloc, config.created, config.capacity) {
-            Ok(tree) => Share::made(alloc, config, authenticator, tree, HandleTable::new(alloc)),
-            Err(_) => Err(ServeFault::NoMemory { done: 0 }),
-        }
-    }
+    ghost invariant = { λ s. AreKept s.server.sessions.table.connections s.streams.entries s.next s.most_connections };
 }
 
 impl<A: Authenticator + Drop, T: Tree + Drop, O: Opens + Drop> Share<A, T, O> {
-    /// A share of this configuration, without a connection and without a session. Its authenticator decides
-    /// who may come in. The tree holds the root alone, as newly made with the moment and the room of the
-    /// configuration, and there are no opens.
-    ///
-    /// A configuration that breaks its rules is [`ServeFault::BadConfig`]; else memory may be wanting,
-    /// [`ServeFault::NoMemory`]. Both drop what was passed in.
-    pub fn new(
-        alloc: Global,
-        config: Config,
-        authenticator: A,
-        tree: T,
-        opens: O,
-    ) -> Result<Self, ServeFault>
-        requires tree { T.content tree ≡ new_content config.created config.capacity }
-        requires opens { O.content opens ≡ [] }
-        ensures lawful { OnOk result (is_lawful (settings_of config) ≡ true) }
-        ensures state { IfOk result (λ share. share ≡ new_share (settings_of config) authenticator) }
-        ensures err { IfErr result (λ fault. fault ≡ (if is_lawful (settings_of config) then ServeFault.NoMemory 0 else ServeFault.BadConfig)) }
-    {
-        if !config.is_lawful() {
-            return Err(ServeFault::BadConfig);
-        }
-        Share::made(alloc, config, authenticator, tree, opens)
-    }
-
-    /// A share of a configuration that keeps its rules.
-    fn made(
-        alloc: Global,
-        config: Config,
-        authenticator: A,
-        tree: T,
-        opens: O,
-    ) -> Result<Self, ServeFault>
-        requires lawful { is_lawful (settings_of config) ≡ true }
-        requires tree { T.content tree ≡ new_content config.created config.capacity }
-        requires opens { O.content opens ≡ [] }
-        ensures state { IfOk result (λ share. share ≡ new_share (settings_of config) authenticator) }
-        ensures err { IfErr result (λ fault. fault ≡ ServeFault.NoMemory 0) }
-    {
-        match Server::new(alloc, config, authenticator, tree, opens) {
-            Ok(server) => Ok(Share {
-                server,
-                streams: BTreeMap::new(alloc),
-                next: 1,
-            }),
-            Err(_) => Err(ServeFault::NoMemory { done: 0 }),
-        }
-    }
-
     /// The allocator of what the share makes.
     pub fn allocator(&self) -> Global {
         self.server.allocator()
@@ -146,15 +72,15 @@ impl<A: Authenticator + Drop, T: Tree + Drop, O: Opens + Drop> Share<A, T, O> {
     /// Whether the share has room for another connection, and a number.
     pub fn has_room(&self) -> bool
         ensures refusal { opening_refusal self.now ≡ (if result then None else Some ServeFault.TooManyConnections) }
-        ensures few { result ≡ true → length self.now.streams < default_limits.connections }
+        ensures few { result ≡ true → length self.now.streams < self.now.most_connections }
         ensures next { result ≡ true → self.now.next < 2 ^ 64 - 1 }
     {
-        self.streams.len() < Limits::profile().connections && self.next < u64::MAX
+        self.streams.len() < self.most_connections && self.next < u64::MAX
     }
 
     /// Opens a connection, and gives its number: 1, 2, 3 and so on, none twice.
     ///
-    /// [`ServeFault::TooManyConnections`] where 64 are open or the numbers are spent, and else
+    /// [`ServeFault::TooManyConnections`] where as many are open as the limits let be, or the numbers are spent, and else
     /// [`ServeFault::NoMemory`], where memory ran out. After either nothing has changed.
     pub fn opened(&mut self) -> Result<u64, ServeFault>
         ensures number { IfOk result (λ number. number ≡ self.old.next) }
@@ -168,10 +94,9 @@ impl<A: Authenticator + Drop, T: Tree + Drop, O: Opens + Drop> Share<A, T, O> {
         }
         let connection = self.next;
         let stream = new_stream(self.server.allocator());
-        match add_connection(&mut self.server, &mut self.streams, connection, stream) {
-            Ok(()) => {}
-            Err(_) => return Err(ServeFault::NoMemory { done: 0 }),
-        }
+        let Ok(()) = add_connection(&mut self.server, &mut self.streams, connection, stream) else {
+            return Err(ServeFault::NoMemory { done: 0 });
+        };
         self.next = connection + 1;
         Ok(connection)
     }

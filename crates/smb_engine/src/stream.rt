@@ -57,10 +57,12 @@ fn put_payload<A: Authenticator + Drop, T: Tree + Drop, O: Opens + Drop, K: Sink
     match perform_payload(
         server, arrival, connection, payload, most, &mut bytes, observer,
     ) {
-        Ok(Some(count)) => match out.give_frame(arrival.connection_id, bytes) {
-            Ok(()) => Ok(Some(count)),
-            Err(_) => Err(CutShort { done: count }),
-        },
+        Ok(Some(count)) => {
+            let Ok(()) = out.give_frame(arrival.connection_id, bytes) else {
+                return Err(CutShort { done: count });
+            };
+            Ok(Some(count))
+        }
         Ok(None) => {
             out.give_back(bytes);
             Ok(None)
@@ -415,12 +417,9 @@ pub(crate) fn take_piece<
         stream.connection.window.good();
         return Ok(true);
     }
-    match out.put_end(arrival.connection_id) {
-        Ok(()) => {}
-        Err(_) => {
-            out.cut_back(before);
-            return Err(CutShort { done });
-        }
-    }
+    let Ok(()) = out.put_end(arrival.connection_id) else {
+        out.cut_back(before);
+        return Err(CutShort { done });
+    };
     Ok(false)
 }

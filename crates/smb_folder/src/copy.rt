@@ -6,6 +6,7 @@ use super::kept::Kept;
 use super::listing::{Listed, name_of};
 use super::talk::{Purpose, Talk};
 use smb_client::{Client, FileId, Line, Units};
+use smb_wire::limits::Limits;
 use std::alloc::{AllocError, Global};
 
 /// What is shown before a path.
@@ -170,8 +171,8 @@ impl<L: Line, M: Line> Copying<'_, '_, '_, '_, L, M> {
     }
 }
 
-/// Copies all files and folders of a share into one that has none, and tells how many there were. Each client has its session and its
-/// tree; the one of the share that is copied may read, the other may write.
+/// Copies all files and folders of a share into one that has none, and tells how many there were. Both are under these
+/// limits. Each client has its session and its tree; the one of the share that is copied may read, the other may write.
 ///
 /// Names, bytes, the four times and the attributes are kept, those of the root too; entries get new numbers. They are
 /// copied from the top down, in the order of the share, so two runs make the same requests: of a folder CREATE and CLOSE;
@@ -182,6 +183,7 @@ impl<L: Line, M: Line> Copying<'_, '_, '_, '_, L, M> {
 /// share it, or a time that no request can set, 0 or past 2^63 - 1 ([`FolderRule::NoTime`]).
 pub fn copy_share<L: Line, M: Line>(
     alloc: Global,
+    limits: Limits,
     from: &mut L,
     reader: &mut Client,
     to: &mut M,
@@ -189,8 +191,8 @@ pub fn copy_share<L: Line, M: Line>(
 ) -> Result<Counts, FolderFault> {
     let mut copying = Copying {
         alloc,
-        from: Talk::new(alloc, from, reader),
-        to: Talk::new(alloc, to, writer),
+        from: Talk::new(alloc, limits, from, reader),
+        to: Talk::new(alloc, limits, to, writer),
         steps: Vec::new(alloc),
         counts: Counts::default(),
     };

@@ -1,5 +1,6 @@
 //! Why files cannot be moved.
 
+use super::grouped::Grouped;
 use super::names::shown;
 use smb_client::{ClientFault, Status};
 use smb_reason::Reason;
@@ -24,12 +25,14 @@ pub enum FolderRule {
     SameName,
     #[error("more than 32 names in its path")]
     TooDeep,
-    #[error("longer than 16,777,216 bytes")]
-    TooLong,
+    /// Longer than the share's limits let a file be: so many bytes.
+    #[error("longer than {0} bytes")]
+    TooLong(Grouped),
     #[error("no room in the share")]
     NoRoom,
-    #[error("more than 4,096 files and folders")]
-    TooMany,
+    /// One more than the share's limits let there be.
+    #[error("more than {0} files and folders")]
+    TooMany(Grouped),
     #[error("a symbolic link, which is not followed")]
     SymbolicLink,
     /// A socket, a pipe or a device.

@@ -17,6 +17,7 @@
 mod copy;
 mod counts;
 mod fault;
+mod grouped;
 mod kept;
 mod listing;
 mod names;

@@ -1,8 +1,7 @@
 //! Names and paths.
 
-use super::fault::{FolderRule, Trouble};
+use super::fault::Trouble;
 use smb_reason::Shown;
-use smb_wire::limits::Limits;
 use std::alloc::{AllocError, Global};
 use std::fs::Files;
 use std::io::Read;
@@ -49,25 +48,31 @@ pub(crate) fn shown(alloc: Global, base: &str, relative: &[u8]) -> Result<String
     format!(in alloc; "{}{}", Shown(base.as_bytes()), Shown(relative))
 }
 
-/// Adds the names that were read, but for `.` and `..`.
-fn add_names(alloc: Global, read: &[u8], names: &mut Vec<Vec<u8>>) -> Result<(), Trouble> {
-    let most = Limits::profile().entries;
+/// Adds the names that were read, but for `.` and `..`, up to one more than `most`.
+fn add_names(
+    alloc: Global,
+    most: usize,
+    read: &[u8],
+    names: &mut Vec<Vec<u8>>,
+) -> Result<(), Trouble> {
     for name in read.split(|byte| *byte == 0) {
         if name.is_empty() || name == b".".as_slice() || name == b"..".as_slice() {
             continue;
         }
-        if names.len() >= most {
-            return Err(Trouble::Rule(FolderRule::TooMany));
+        if names.len() > most {
+            break;
         }
         names.push(Vec::from_slice(alloc, name)?)?;
     }
     Ok(())
 }
 
-/// The names in a folder of the system, in order. More of them than a share can hold are [`FolderRule::TooMany`].
+/// The names in a folder of the system, in order. Where it has more than a share can hold, which is `most`, these are one more than that,
+/// and which ones the system says: one of them has no room.
 pub(crate) fn names_in<R: Files>(
     rt: &R,
     alloc: Global,
+    most: usize,
     path: &str,
 ) -> Result<Vec<Vec<u8>>, Trouble> {
     let mut folder = rt.open_dir(path).map_err(Trouble::unread)?;
@@ -75,10 +80,10 @@ pub(crate) fn names_in<R: Files>(
     let mut read = [0u8; NAMES_AT_ONCE];
     for _ in 0..u64::MAX {
         let count = folder.read(&mut read).map_err(Trouble::unread)?;
-        if count == 0 {
+        if count == 0 || names.len() > most {
             break;
         }
-        add_names(alloc, &read[..count], &mut names)?;
+        add_names(alloc, most, &read[..count], &mut names)?;
     }
     names.sort()?;
     Ok(names)

@@ -6,6 +6,7 @@ use super::kept::Kept;
 use super::names::{base_of, joined, names_in, system_path};
 use super::talk::{PART, Purpose, Talk};
 use smb_client::{Client, FileAttributes, FileId, Line};
+use smb_wire::limits::Limits;
 use std::alloc::Global;
 use std::fs;
 use std::fs::{Files, Metadata, OpenFile};
@@ -38,6 +39,8 @@ struct Putting<'a, 'l, 'c, R: Files, L: Line> {
     alloc: Global,
     base: String,
     talk: Talk<'l, 'c, L>,
+    /// The most entries of the share.
+    most: usize,
     /// What is left to do, the next step last.
     steps: Vec<Step>,
     /// The part of a file that was read last.
@@ -68,7 +71,7 @@ impl<R: Files, L: Line> Putting<'_, '_, '_, R, L> {
     /// Has what is in a folder put next, in order of the names.
     fn enter(&mut self, relative: &str) -> Result<(), Trouble> {
         let path = system_path(self.alloc, &self.base, relative)?;
-        let names = names_in(self.rt, self.alloc, &path)?;
+        let names = names_in(self.rt, self.alloc, self.most, &path)?;
         for name in names.iter().rev() {
             let child = joined(self.alloc, relative.as_bytes(), name)?;
             self.steps.push(Step::Put(child))?;
@@ -190,10 +193,11 @@ impl<R: Files, L: Line> Putting<'_, '_, '_, R, L> {
 /// that of the last write is taken for creation and change too; one before 1970 is put as 1970. What its owner may not
 /// write is READONLY. No link is followed, unless the folder itself is one.
 ///
-/// The first thing that cannot be put ends it with a [`FolderFault`]: what was put before is in the share then, and a
-/// file may be there in part, and open until the client's connection ends.
+/// The share is under these limits. The first thing that cannot be put ends it with a [`FolderFault`]: what was put
+/// before is in the share then, and a file may be there in part, and open until the client's connection ends.
 pub fn put_folder<R: Files + AllocGlobal, L: Line>(
     rt: &R,
+    limits: Limits,
     folder: &str,
     line: &mut L,
     client: &mut Client,
@@ -203,7 +207,8 @@ pub fn put_folder<R: Files + AllocGlobal, L: Line>(
         rt,
         alloc,
         base: base_of(alloc, folder)?,
-        talk: Talk::new(alloc, line, client),
+        talk: Talk::new(alloc, limits, line, client),
+        most: limits.entries,
         steps: Vec::new(alloc),
         part: Vec::new(alloc),
         counts: Counts::default(),

@@ -7,6 +7,7 @@ use super::listing::Listed;
 use super::names::{base_of, system_path};
 use super::talk::{Purpose, Talk};
 use smb_client::{Client, FileId, Line};
+use smb_wire::limits::Limits;
 use std::alloc::{AllocError, Global};
 use std::fs;
 use std::fs::{Files, OpenFile, OpenOptions};
@@ -244,7 +245,7 @@ pub fn take_folder<R: Files + AllocGlobal, L: Line>(
         rt,
         alloc,
         base: base_of(alloc, folder)?,
-        talk: Talk::new(alloc, line, client),
+        talk: Talk::new(alloc, Limits::profile(), line, client),
         steps: Vec::new(alloc),
         counts: Counts::default(),
         refused: Vec::new(alloc),

@@ -1,6 +1,7 @@
 //! What is asked of a share, and what it answers.
 
 use super::fault::{FolderRule, Trouble};
+use super::grouped::Grouped;
 use super::kept::Kept;
 use super::listing::{Listed, add_listed};
 use super::names::share_path;
@@ -97,21 +98,23 @@ fn depth_of(path: &[u8]) -> usize {
         .count()
 }
 
-/// The rule that a CREATE breaks which is refused by a status.
-fn rule_of_create(path: &[u8], status: Status) -> FolderRule {
+/// The rule that a CREATE breaks which a share of these limits refuses by a status.
+fn rule_of_create(limits: Limits, path: &[u8], status: Status) -> FolderRule {
     match NtStatus::from(status.0) {
         NtStatus::ObjectNameInvalid if depth_of(path) > MOST_COMPONENTS => FolderRule::TooDeep,
         NtStatus::ObjectNameInvalid => FolderRule::NotForTheShare,
         NtStatus::ObjectNameCollision => FolderRule::SameName,
-        NtStatus::DiskFull => FolderRule::TooMany,
+        NtStatus::DiskFull => FolderRule::TooMany(Grouped(limits.entries as u64)),
         _ => FolderRule::Refused(status),
     }
 }
 
-/// The rule that a WRITE breaks, up to this end, which is refused by a status.
-fn rule_of_write(end: u64, status: Status) -> FolderRule {
+/// The rule that a WRITE breaks, up to this end, which a share of these limits refuses by a status.
+fn rule_of_write(limits: Limits, end: u64, status: Status) -> FolderRule {
     match NtStatus::from(status.0) {
-        NtStatus::DiskFull if end > Limits::profile().file_bytes => FolderRule::TooLong,
+        NtStatus::DiskFull if end > limits.file_bytes => {
+            FolderRule::TooLong(Grouped(limits.file_bytes))
+        }
         NtStatus::DiskFull => FolderRule::NoRoom,
         _ => FolderRule::Refused(status),
     }
@@ -147,6 +150,8 @@ fn bytes_until<'a>(reply: &Reply<'a>, end: NtStatus) -> Result<Option<&'a [u8]>,
 #[derive(Drop)]
 pub(crate) struct Talk<'l, 'c, L: Line> {
     alloc: Global,
+    /// How much there may be of everything in the share.
+    limits: Limits,
     line: &'l mut L,
     client: &'c mut Client,
     /// The frames that were answered last.
@@ -154,9 +159,15 @@ pub(crate) struct Talk<'l, 'c, L: Line> {
 }
 
 impl<'l, 'c, L: Line> Talk<'l, 'c, L> {
-    pub(crate) fn new(alloc: Global, line: &'l mut L, client: &'c mut Client) -> Self {
+    pub(crate) fn new(
+        alloc: Global,
+        limits: Limits,
+        line: &'l mut L,
+        client: &'c mut Client,
+    ) -> Self {
         Talk {
             alloc,
+            limits,
             line,
             client,
             heard: Vec::new(alloc),
@@ -181,11 +192,12 @@ impl<'l, 'c, L: Line> Talk<'l, 'c, L> {
 
     /// The same, of a path in UTF-16 units, as the share has it.
     pub(crate) fn open_units(&mut self, path: &[u8], purpose: Purpose) -> Result<FileId, Trouble> {
+        let limits = self.limits;
         let name = Units::of(path).ok_or(FolderRule::NotForTheShare)?;
         self.client.ask(&create_request(name, purpose))?;
         let reply = self.reply()?;
         if !is_success(&reply) {
-            return Err(Trouble::Rule(rule_of_create(path, reply.status())));
+            return Err(Trouble::Rule(rule_of_create(limits, path, reply.status())));
         }
         match reply.file_id() {
             Some(file_id) => Ok(file_id),
@@ -200,13 +212,14 @@ impl<'l, 'c, L: Line> Talk<'l, 'c, L> {
         offset: u64,
         part: &[u8],
     ) -> Result<(), Trouble> {
+        let limits = self.limits;
         self.client.write(file_id, offset, part)?;
         let reply = self.reply()?;
         if is_success(&reply) {
             return Ok(());
         }
         let end = offset.saturating_add(part.len() as u64);
-        Err(Trouble::Rule(rule_of_write(end, reply.status())))
+        Err(Trouble::Rule(rule_of_write(limits, end, reply.status())))
     }
 
     /// Reads a part of a file, from an offset in bytes on; None at its end.

@@ -31,7 +31,7 @@ pub enum JournalFault {
     #[error("a record, and no journal")]
     NoJournal,
     /// Its first line names another share, or another way of login.
-    #[error("of another share: its first line names another name, label, guid, capacity, moment or hello")]
+    #[error("of another share: its first line names another name, label, guid, capacity, moment, limit or hello")]
     OtherShare,
     /// The line of this number can't be read, and others stand behind it.
     #[error("line {0}: unreadable")]

@@ -1,8 +1,10 @@
 //! The two forms of a recording, and its first line.
 
 use crate::fault::JournalFault;
+use crate::limits::{read_limits, up_to_blank, write_limits};
 use crate::text::{at_last, number_of, token_of, write_hex};
 use smb_request::Config;
+use smb_wire::limits::Limits;
 use std::alloc::Global;
 use std::io;
 use std::io::Write;
@@ -55,24 +57,32 @@ const HELLO: &[u8] = b" hello=";
 #[derive(Debug, Drop)]
 pub struct Header {
     pub form: Form,
-    /// The share's name, label, GUID, capacity and moment, as they stand in the line.
+    /// The share's name, label, GUID, capacity, moment and limits, as they stand in the line.
     share: Vec<u8>,
     /// At most 4,096 bytes.
     pub hello: Vec<u8>,
 }
 
-/// Writes what share a configuration is of.
-fn write_share(config: &Config, out: &mut Vec<u8>) -> io::Result<()> {
+/// A configuration, and the limits under which its share is.
+#[derive(Debug, Drop)]
+pub struct LimitedConfig {
+    pub limits: Limits,
+    pub config: Config,
+}
+
+/// Writes what share a configuration is of. Under the default limits none is named.
+fn write_share(limited: &LimitedConfig, out: &mut Vec<u8>) -> io::Result<()> {
     let Config {
         share,
         label,
         guid,
         capacity,
         created,
-    } = config;
+    } = &limited.config;
     write!(out, "share={share} label=\"{label}\" guid=")?;
     write_hex(guid, out)?;
-    write!(out, " capacity={capacity} created={created}")
+    write!(out, " capacity={capacity} created={created}")?;
+    write_limits(limited.limits, out)
 }
 
 /// What a first line says of a share.
@@ -83,11 +93,13 @@ struct ShareText<'a> {
     guid: [u8; 16],
     capacity: u64,
     created: u64,
+    limits: Limits,
 }
 
 /// Reads what a share is.
 fn read_share(text: &[u8]) -> Option<ShareText<'_>> {
-    let (text, created) = at_last(CREATED, text)?;
+    let (text, tail) = at_last(CREATED, text)?;
+    let (created, limits) = up_to_blank(tail);
     let (text, capacity) = at_last(CAPACITY, text)?;
     let (text, digits) = at_last(GUID, text)?;
     let (text, label) = at_last(LABEL, text)?;
@@ -99,23 +111,28 @@ fn read_share(text: &[u8]) -> Option<ShareText<'_>> {
         guid,
         capacity: number_of(capacity)?,
         created: number_of(created)?,
+        limits: read_limits(limits)?,
     })
 }
 
 impl Header {
-    /// The configuration of its share.
+    /// The configuration of its share, with its limits.
     ///
     /// [`JournalFault::NoRecording`] where it can't be read, or [`JournalFault::NoMemory`].
-    pub fn config(&self, alloc: Global) -> Result<Config, JournalFault> {
+    pub fn config(&self, alloc: Global) -> Result<LimitedConfig, JournalFault> {
         let Some(read) = read_share(&self.share) else {
             return Err(JournalFault::NoRecording);
         };
-        Ok(Config {
+        let config = Config {
             share: String::from_str(alloc, read.name)?,
             label: String::from_str(alloc, read.label)?,
             guid: read.guid,
             capacity: read.capacity,
             created: read.created,
+        };
+        Ok(LimitedConfig {
+            limits: read.limits,
+            config,
         })
     }
 
@@ -123,11 +140,11 @@ impl Header {
     pub fn of(
         alloc: Global,
         form: Form,
-        config: &Config,
+        limited: &LimitedConfig,
         hello: &[u8],
     ) -> Result<Header, JournalFault> {
         let mut share = Vec::new(alloc);
-        write_share(config, &mut share).map_err(JournalFault::of_write)?;
+        write_share(limited, &mut share).map_err(JournalFault::of_write)?;
         Ok(Header {
             form,
             share,

@@ -28,6 +28,7 @@ mod check;
 mod fault;
 mod form;
 mod given;
+mod limits;
 mod line;
 mod lines;
 mod login;
@@ -38,7 +39,7 @@ mod store;
 mod text;
 
 pub use fault::JournalFault;
-pub use form::{Form, Header};
+pub use form::{Form, Header, LimitedConfig};
 pub use given::{GivenAnswer, given_answers};
 pub use line::{Line, read_line};
 pub use lines::Lines;

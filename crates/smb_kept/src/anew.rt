@@ -12,6 +12,7 @@ use smb_client::{Client, Line};
 use smb_engine::{Authenticator, Opens, Share, Tokens, Tree};
 use smb_folder::{FolderFault, copy_share};
 use smb_journal::{Form, Header, Mailbox, Recorder, Store};
+use smb_wire::limits::Limits;
 use std::alloc::Global;
 use std::fs;
 use std::path::Path;
@@ -19,6 +20,7 @@ use std::path::Path;
 /// The files of a share, which a client of it reads.
 #[derive(Drop)]
 struct ShareFilling<'a, A: Authenticator + Drop, T: Tree + Drop, O: Opens + Drop> {
+    limits: Limits,
     line: ReadLine<'a, A, T, O>,
     reader: Client,
 }
@@ -31,7 +33,15 @@ impl<A: Authenticator + Drop, T: Tree + Drop, O: Opens + Drop> Filling
         line: &mut L,
         client: &mut Client,
     ) -> Result<(), FolderFault> {
-        let _ = copy_share(rt.alloc(), &mut self.line, &mut self.reader, line, client)?;
+        let from = &mut self.line;
+        let _ = copy_share(
+            rt.alloc(),
+            self.limits,
+            from,
+            &mut self.reader,
+            line,
+            client,
+        )?;
         Ok(())
     }
 }
@@ -47,7 +57,11 @@ fn filling_of<'a, A: Authenticator + Drop, T: Tree + Drop, O: Opens + Drop>(
         moment: leaving.created,
     };
     match line.connect(alloc, leaving) {
-        Ok(reader) => Ok(ShareFilling { line, reader }),
+        Ok(reader) => Ok(ShareFilling {
+            limits: leaving.limits,
+            line,
+            reader,
+        }),
         Err(fault) => Err(fault),
     }
 }
@@ -58,10 +72,10 @@ fn new_share_of<'m>(
     header: &Header,
     mailbox: &'m Mailbox,
 ) -> Result<RecordedShare<'m, Tokens>, KeptFault> {
-    let config = header.config(alloc)?;
+    let limited = header.config(alloc)?;
     let hello = Vec::from_slice(alloc, &header.hello)?;
     let given = own_answers(alloc)?;
-    recorded_share(alloc, config, hello, given, nobody(alloc)?, mailbox)
+    recorded_share(alloc, limited, hello, given, nobody(alloc)?, mailbox)
 }
 
 /// A recorder that begins a journal in a store.

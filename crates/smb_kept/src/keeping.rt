@@ -4,8 +4,8 @@ use crate::fault::KeptFault;
 use crate::files::{cut, first_bytes, lock, make_file, open_journal, rename, settle_name};
 use crate::performed::{Deaf, Performed};
 use crate::performing::{Done, perform_file, read_recording};
-use smb_engine::{Authenticator, Config, Opens, Share, Tree};
-use smb_journal::{Form, GivenAnswer, Header, JournalFault, Mailbox, Recorder};
+use smb_engine::{Authenticator, Opens, Share, Tree};
+use smb_journal::{Form, GivenAnswer, Header, JournalFault, LimitedConfig, Mailbox, Recorder};
 use std::alloc::Global;
 use std::collections::VecDeque;
 use std::fs;
@@ -118,10 +118,10 @@ impl<'w> Keeping<'w> {
     pub fn open(
         rt: &HostRuntime,
         words: KeepWords<'w>,
-        config: &Config,
+        limited: &LimitedConfig,
         hello: &[u8],
     ) -> Result<Self, KeptFault> {
-        let header = Header::of(rt.alloc(), words.form, config, hello)?;
+        let header = Header::of(rt.alloc(), words.form, limited, hello)?;
         let (file, is_made) = open_file(rt, words)?;
         let begun = if is_made {
             Some(0)
@@ -219,11 +219,11 @@ impl<'w> Keeping<'w> {
     pub fn make(
         rt: &HostRuntime,
         made: KeepWords<'w>,
-        config: &Config,
+        limited: &LimitedConfig,
         hello: &[u8],
     ) -> Result<Self, KeptFault> {
         let _ = fs::remove_file(rt, made.path);
-        Keeping::open(rt, made, config, hello)
+        Keeping::open(rt, made, limited, hello)
     }
 }
 

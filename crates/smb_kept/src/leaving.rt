@@ -7,8 +7,9 @@ use crate::performing::{perform_file, read_recording};
 use crate::share::{RecordedShare, recorded_share};
 use smb_client::{Client, ClientFault, Line};
 use smb_engine::{Authenticator, Opens, Share, Tokens, Tree};
-use smb_journal::{GivenAnswer, Header, Mailbox};
+use smb_journal::{GivenAnswer, Header, LimitedConfig, Mailbox};
 use smb_pair::carry_to;
+use smb_wire::limits::Limits;
 use std::alloc::Global;
 use std::collections::VecDeque;
 
@@ -16,6 +17,7 @@ use std::collections::VecDeque;
 #[derive(Drop)]
 pub(crate) struct Leaving {
     pub(crate) header: Header,
+    pub(crate) limits: Limits,
     /// The share's path, as a client names it.
     pub(crate) path: String,
     /// When the share was made, in units of 100 ns since 1601.
@@ -34,8 +36,9 @@ pub(crate) struct Left<'m> {
 impl Leaving {
     /// What a first line says.
     fn of(alloc: Global, header: Header, token: [u8; 16]) -> Result<Self, KeptFault> {
-        let config = header.config(alloc)?;
+        let LimitedConfig { limits, config } = header.config(alloc)?;
         Ok(Leaving {
+            limits,
             path: path_of(alloc, config.share.as_str())?,
             created: config.created,
             header,
@@ -50,10 +53,10 @@ impl Leaving {
         given: VecDeque<GivenAnswer>,
         mailbox: &'m Mailbox,
     ) -> Result<RecordedShare<'m, Tokens>, KeptFault> {
-        let config = self.header.config(alloc)?;
+        let limited = self.header.config(alloc)?;
         let hello = Vec::from_slice(alloc, &self.header.hello)?;
         let behind = own_login(alloc, &self.token)?;
-        recorded_share(alloc, config, hello, given, behind, mailbox)
+        recorded_share(alloc, limited, hello, given, behind, mailbox)
     }
 }
 

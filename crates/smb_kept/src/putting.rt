@@ -10,6 +10,7 @@ use smb_pair::client_fault;
 use smb_peers::Clock;
 use smb_reason::Reason;
 use smb_session::Answer;
+use smb_wire::limits::Limits;
 
 /// A connection of the program's own to a share: each piece is recorded before the share takes it.
 #[derive(Drop)]
@@ -122,6 +123,7 @@ pub(crate) trait Filling {
 /// The files of a folder of the system.
 #[derive(Clone, Copy)]
 struct FolderFilling<'a> {
+    limits: Limits,
     folder: &'a str,
 }
 
@@ -132,7 +134,7 @@ impl Filling for FolderFilling<'_> {
         line: &mut L,
         client: &mut Client,
     ) -> Result<(), FolderFault> {
-        let _ = put_folder(rt, self.folder, line, client)?;
+        let _ = put_folder(rt, self.limits, self.folder, line, client)?;
         Ok(())
     }
 }
@@ -178,7 +180,8 @@ pub(crate) fn put_in<
     put_and_kept(put, line.end(connection))
 }
 
-/// Puts the files of a folder of the system into a new share of this path whose authenticator lets the program's own client in first.
+/// Puts the files of a folder of the system into a new share of this path and these limits, whose authenticator lets the program's own
+/// client in first.
 ///
 /// What can't be in the share is a [`KeptFault::Folder`]: what was put in before is in it then.
 pub fn put_folder_in<
@@ -189,9 +192,10 @@ pub fn put_folder_in<
     C: Clock,
 >(
     rt: &HostRuntime,
+    limits: Limits,
     folder: &str,
     path: &str,
     line: &mut OwnLine<'_, A, T, O, S, C>,
 ) -> Result<(), KeptFault> {
-    put_in(rt, &mut FolderFilling { folder }, path, line)
+    put_in(rt, &mut FolderFilling { limits, folder }, path, line)
 }

@@ -35,6 +35,8 @@ pub struct Log<W: Write + Drop> {
     alloc: Global,
     level: Level,
     lines: Lines<W>,
+    /// How many connections the share lets be open.
+    most: usize,
     moment: u64,
     connections: BTreeMap<u64, Connection>,
     request: LoggedRequest,
@@ -56,11 +58,18 @@ impl<W: Write + Drop> Log<W> {
             alloc,
             level,
             lines: Lines::new(alloc, writer),
+            most: Limits::profile().connections,
             moment,
             connections: BTreeMap::new(alloc),
             request: LoggedRequest::none(alloc),
             counts: Counts::default(),
         }
+    }
+
+    /// The same log, of a share that lets so many connections be open; as many as by default where nothing is said.
+    pub fn with_connections(mut self, most: usize) -> Self {
+        self.most = most;
+        self
     }
 
     /// Whether a write failed; nothing is written behind it.
@@ -109,16 +118,14 @@ impl<W: Write + Drop> Log<W> {
 
     /// Takes note that no connection was opened to a peer of this address: too many are open, or memory ran out.
     pub fn refused(&mut self, address: &str) {
-        let is_full = self.connections.len() >= Limits::profile().connections;
-        let event = if is_full {
-            "refused: 64 connections are open"
+        let (moment, most, subject) = (self.moment, self.most, Subject::at(address));
+        let _ = if self.connections.len() >= most {
+            let event = format_args!("refused: {most} connections are open");
+            self.lines.put(moment, subject, event, None)
         } else {
             add(&mut self.counts.ran_out, 1);
-            "refused: memory"
+            self.lines.put(moment, subject, "refused: memory", None)
         };
-        let _ = self
-            .lines
-            .put(self.moment, Subject::at(address), event, None);
     }
 
     /// Takes note that a piece of so many bytes of a client's stream came.

@@ -69,8 +69,9 @@ pub enum CommandFault {
     /// of the next connection to open.
     #[error("line {0}: bad event")]
     BadEvent(u64, u64),
+    /// The line of this number opens a connection where as many are open as there may be: the second number.
     #[error("line {0}: too many connections")]
-    TooManyConnections(u64),
+    TooManyConnections(u64, usize),
     #[error("no memory")]
     NoMemory,
 }
@@ -152,8 +153,8 @@ impl CommandFault {
                     "connections are numbered as they open: the next to open is {next}, and {opened} were opened before"
                 )
             }
-            CommandFault::TooManyConnections(_) => {
-                writeln!(errors, "at most 64 connections are open at a time")
+            CommandFault::TooManyConnections(_, most) => {
+                writeln!(errors, "at most {most} connections are open at a time")
             }
             _ => Ok(()),
         }

@@ -37,7 +37,8 @@ pub fn new_ntlm_share(
     seed: [u8; 16],
 ) -> Result<Share<Ntlm, NodeTree, HandleTable>, CommandFault> {
     let ntlm = new_ntlm(alloc, &configuration, accounts, seed)?;
-    match Share::in_memory(alloc, configuration.config, ntlm) {
+    let Configuration { limits, config, .. } = configuration;
+    match Share::in_memory_within(alloc, limits, config, ntlm) {
         Ok(share) => Ok(share),
         Err(ServeFault::NoMemory { done: _ }) => Err(CommandFault::NoMemory),
         Err(_) => Err(CommandFault::ConfigRefused(None)),

@@ -50,10 +50,26 @@ impl<'a> ReplayWords<'a> {
     }
 }
 
+/// How many of the first so many connections of a share are open.
+fn count_open<A: Authenticator + Drop, T: Tree + Drop, O: Opens + Drop>(
+    share: &Share<A, T, O>,
+    opened: u64,
+) -> usize {
+    let numbers = 1..opened.saturating_add(1);
+    numbers.filter(|number| share.is_open(*number)).count()
+}
+
 /// What a fault of the share is at an event of this line, before which so many connections were opened.
-fn fault_at(line: u64, opened: u64, fault: RunFault) -> CommandFault {
+fn fault_at<A: Authenticator + Drop, T: Tree + Drop, O: Opens + Drop>(
+    share: &Share<A, T, O>,
+    line: u64,
+    opened: u64,
+    fault: RunFault,
+) -> CommandFault {
     match fault.fault {
-        ServeFault::TooManyConnections => CommandFault::TooManyConnections(line),
+        ServeFault::TooManyConnections => {
+            CommandFault::TooManyConnections(line, count_open(share, opened))
+        }
         ServeFault::BadEvent => CommandFault::BadEvent(line, opened.saturating_add(1)),
         ServeFault::NoMemory { done: _ } => CommandFault::NoMemory,
         ServeFault::BadConfig => CommandFault::ConfigRefused(None),
@@ -150,7 +166,7 @@ impl<'a, W: Write, E: Write, H: Hears> Playing<'a, W, E, H> {
         self.write_answers(line)?;
         self.say_reasons(line)?;
         match ran {
-            Err(fault) => Err(fault_at(line, self.opened, fault)),
+            Err(fault) => Err(fault_at(share, line, self.opened, fault)),
             Ok(()) if self.reasons.is_lost() => Err(CommandFault::NoMemory),
             Ok(()) => {
                 if let Event::Opened(_) = event {

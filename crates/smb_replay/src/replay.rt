@@ -1,7 +1,7 @@
 //! A replay: the events of a text, and what the share answers.
 
 ghost use Rattle.std.specs.Prelude.{◌≡◌, [], IfOk};
-ghost use Rattle.smb_tree.specs.Content.{new_content};
+ghost use Rattle.smb_tree.specs.Content.{new_content_within};
 
 use crate::fault::{CommandFault, Detail};
 use crate::hears::{Deaf, Hears};
@@ -49,20 +49,21 @@ fn share_over<T: Tree + Drop, O: Opens + Drop>(
     tree: Result<T, TreeFault>,
     opens: O,
 ) -> Result<Share<Tokens, T, O>, CommandFault>
-    requires tree { IfOk tree (λ made. T.content made ≡ new_content configuration.config.created configuration.config.capacity) }
+    requires tree { IfOk tree (λ made. T.content made ≡ new_content_within configuration.limits configuration.config.created configuration.config.capacity) }
     requires opens { O.content opens ≡ [] }
 {
     let Ok(tree) = tree else {
         return Err(CommandFault::NoMemory);
     };
     let Configuration {
+        limits,
         config,
         guest: _,
         guest_read_only: _,
         users: _,
         authenticator,
     } = configuration;
-    match Share::new(alloc, config, authenticator, tree, opens) {
+    match Share::within(alloc, limits, config, authenticator, tree, opens) {
         Ok(share) => Ok(share),
         Err(ServeFault::NoMemory { done: _ }) => Err(CommandFault::NoMemory),
         Err(_) => Err(CommandFault::ConfigRefused(None)),
@@ -74,8 +75,8 @@ pub fn new_share(
     alloc: Global,
     configuration: Configuration,
 ) -> Result<Share<Tokens, NodeTree, HandleTable>, CommandFault> {
-    let config = &configuration.config;
-    let tree = NodeTree::new(alloc, config.created, config.capacity);
+    let (limits, config) = (configuration.limits, &configuration.config);
+    let tree = NodeTree::within(alloc, limits, config.created, config.capacity);
     share_over(alloc, configuration, tree, HandleTable::new(alloc))
 }
 
@@ -84,8 +85,8 @@ pub fn new_plain_share(
     alloc: Global,
     configuration: Configuration,
 ) -> Result<Share<Tokens, PlainTree, PlainOpens>, CommandFault> {
-    let config = &configuration.config;
-    let tree = PlainTree::new(alloc, config.created, config.capacity);
+    let (limits, config) = (configuration.limits, &configuration.config);
+    let tree = PlainTree::within(alloc, limits, config.created, config.capacity);
     share_over(alloc, configuration, tree, PlainOpens::new(alloc))
 }
 

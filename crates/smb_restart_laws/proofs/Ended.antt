@@ -40,6 +40,7 @@ new_good settings accounts lawful =
       lawful = lawful;
       named = refl;
       room = refl;
+      limits = refl;
       few = omega arith;
       given = tt;
       next = omega arith;
@@ -100,11 +101,12 @@ good_alone : {S : Type 0} (s : ShareState S) → IsShareHeld s → s.streams ≡
 good_alone s held none above =
     let given : List (ℕ × StreamState) → Type 0 = AllByRecursion (λ entry. (0 < entry.0) × (entry.0 < s.next)) in
     let good : List (ℕ × StreamState) → Type 0 = AllByRecursion (λ entry. IsGoodStream entry.1) in
-    let few : length s.streams ≤ 64 = (let long = ap (λ (streams : List (ℕ × StreamState)). length streams) none in omega (arith, long)) in
+    let few : length s.streams ≤ s.most_connections = (let long = ap (λ (streams : List (ℕ × StreamState)). length streams) none in omega (arith, long)) in
     record {
       lawful = held.lawful;
       named = held.named;
       room = held.room;
+      limits = held.limits;
       few = few;
       given = subst given (sym none) tt;
       next = above;

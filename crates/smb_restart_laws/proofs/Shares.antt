@@ -145,6 +145,7 @@ pub record IsShareHeld {S : Type 0} (s : ShareState S) : Type 0 where
   pub lawful : is_lawful s.server.settings ≡ true
   pub named : s.server.sessions.share ≡ s.server.settings.share
   pub room : s.server.store.tree.capacity ≡ s.server.settings.capacity
+  pub limits : s.server.store.tree.limits ≡ s.server.settings.limits
   pub known : s.server.sessions.table.connections ≡ numbers s.streams
 
 pub good_held : {S : Type 0} (s : ShareState S) → GoodState s → IsShareHeld s
@@ -158,6 +159,7 @@ good_held s good = record {
   lawful = good.lawful;
   named = good.named;
   room = good.room;
+  limits = good.limits;
   known = good.known;
 }
 
@@ -192,12 +194,14 @@ held_ended_by : {S : Type 0} (s t : ShareState S) (n : ℕ) → t.server ≡ con
 unfolding connection_ended
 held_ended_by s t n e f order held =
     let room = store_keeps (λ state. state.tree.capacity ≡ s.server.settings.capacity) (λ state number h. ap (λ r. r.0) (closed_kept state number) ∙ h) s.server n held.room in
+    let limits = store_keeps (λ state. state.tree.limits ≡ s.server.settings.limits) (λ state number h. ap (λ r. r.1) (closed_kept state number) ∙ h) s.server n held.limits in
     record {
       streams = order;
       sound = subst IsSound (sym e) (sound_ended s.server n held.sound);
       lawful = rw e held.lawful;
       named = rw e held.named;
       room = rw e room;
+      limits = rw e limits;
       known = rw (e, f) (ap (λ ns. without_number ns n) held.known ∙ sym (numbers-remove n s.streams held.streams.rising));
     }
 
@@ -233,6 +237,7 @@ held_opened s order held = record {
   lawful = held.lawful;
   named = held.named;
   room = held.room;
+  limits = held.limits;
   known = connected-insert s.server.sessions.table s.streams s.next held.known held.streams.given;
 }
 
@@ -245,6 +250,7 @@ module _ {S : Type 0} (m : Meaning S) where
     lawful = rw g.kept.settings held.lawful;
     named = g.kept.share ∙ held.named ∙ ap (λ t. t.share) (sym g.kept.settings);
     room = ap (λ r. r.0) g.kept.room ∙ held.room ∙ ap (λ t. t.capacity) (sym g.kept.settings);
+    limits = ap (λ r. r.1) g.kept.room ∙ held.limits ∙ ap (λ t. t.limits) (sym g.kept.settings);
     known = g.kept.connections ∙ held.known;
   }
 
@@ -258,6 +264,7 @@ module _ {S : Type 0} (m : Meaning S) where
         lawful = with_server.lawful;
         named = with_server.named;
         room = with_server.room;
+        limits = with_server.limits;
         known = with_server.known ∙ sym (numbers-set (is_at (nat_cmp n)) s.streams (record { received = received; connection = step.connection }));
       })
   settled_at s n received step false t g order held =

@@ -11,7 +11,7 @@ use Rattle.smb_engine.specs.State.{ShareState, new_share}
 use Rattle.smb_restart_laws.proofs.Ended.{new_good}
 
 -- a configuration that keeps the rules: a share named A
-pub settings : Settings
+unfoldable pub settings : Settings
 settings = record { share = 65 ∷ []; label = []; guid = 0 ∷ 0 ∷ 0 ∷ 0 ∷ 0 ∷ 0 ∷ 0 ∷ 0 ∷ 0 ∷ 0 ∷ 0 ∷ 0 ∷ 0 ∷ 0 ∷ 0 ∷ 0 ∷ []; capacity = 65536; created = 0; limits = default_limits }
 
 pub lawful : is_lawful settings ≡ true
@@ -30,6 +30,7 @@ module _ {S : Type 0} (m : Meaning S) (accounts : S) where
   pub first_alone : ((s : ShareState S) (events : List EventText) → GoodState s →
       let ended = first_ended (run m s events).state in
       (ended.stop ≡ None) × (ended.outputs ≡ []) × IsAtRest ended.state × GoodState ended.state) → ⊥
+  unfolding settings
   first_alone law =
       let left = (law (new_share settings accounts) (opens 1 ∷ opens 2 ∷ []) (new_good settings accounts lawful)).2.streams in
       cc

@@ -23,6 +23,7 @@ module _ {S : Type 0} (m : Meaning S) (accounts : S) where
   ends_first s events = ends_of (run m s events).state.streams ++ events
 
   pub ends_before : ((s : ShareState S) (events : List EventText) → GoodState s → (run m s events).stop ≡ None → (run m s (ends_first s events)).stop ≡ None) → ⊥
+  unfolding settings
   ends_before law = let none = law (new_share settings accounts) one_open (new_good settings accounts lawful) refl in cc
 
   -- each number that was given ends, whether its connection is open or not: a second start ends it again
@@ -35,6 +36,7 @@ module _ {S : Type 0} (m : Meaning S) (accounts : S) where
   all_given_end s events = events ++ each_given (run m s events).state.next
 
   pub ends_again : ((s : ShareState S) (events : List EventText) → GoodState s → (run m s events).stop ≡ None → all_given_end s (all_given_end s events) ≡ all_given_end s events) → ⊥
+  unfolding settings
   ends_again law = let same = law (new_share settings accounts) one_open (new_good settings accounts lawful) refl in cc
 
   -- the streams are dropped, and nothing ends: the connection that was open is known still
@@ -42,7 +44,7 @@ module _ {S : Type 0} (m : Meaning S) (accounts : S) where
   dropped s = record s { streams = [] }
 
   pub streams_dropped : ((s : ShareState S) (events : List EventText) → GoodState s → all_ended m (dropped (run m s events).state) ≡ all_ended m (run m s events).state) → ⊥
-  unfolding connection_ended
+  unfolding connection_ended settings
   streams_dropped law =
       let same = law (new_share settings accounts) one_open (new_good settings accounts lawful) in
       some_none 1 [] (ap (λ (r : Ran S). r.state.server.sessions.table.connections) same)

@@ -51,7 +51,7 @@ module _ {S : Type 0} (m : Meaning S) (accounts : S) where
       record ran { state = record ran.state { server = record ran.state.server { store = s.server.store } } }
 
   abbrev share : ShareState S
-  share = record { server = server accounts ((1, session 1 (1 ∷ [])) ∷ []); streams = (1, new_stream) ∷ []; next = 2 }
+  share = record { server = server accounts ((1, session 1 (1 ∷ [])) ∷ []); streams = (1, new_stream) ∷ []; next = 2; most_connections = 64 }
 
   pub forgets_is_refused : ARunIsItsActionsBy forgets → ⊥
   unfolding connection_ended

@@ -8,8 +8,8 @@ use Rattle.smb_engine.proofs.Steps.{frame_of, no_frame}
 use Rattle.smb_engine.proofs.Short.{step_short}
 use Rattle.smb_engine.proofs.stream.put_payload.Goals as goal
 
-pub returns-in-Err-give_frame-clause-err : goal.returns-in-Err-give_frame-clause-err
-returns-in-Err-give_frame-clause-err g c =
+pub returns-in_default-clause-err : goal.returns-in_default-clause-err
+returns-in_default-clause-err g c =
     let n = rw c.in-Ok-Some.field-0-is at c.in-Ok-Some.ensures.count in
     let step = payload_step g.A.Authenticator.meaning c.args.arrival c.args.server.now c.args.connection.now c.args.payload.now in
     record {

@@ -9,8 +9,8 @@ returns-in-Err-clause-err g c =
     let w = rw (← c.stream.view_is) at c.requires in
     rw (← c.stream.view_is) (stopped_in g.A.Authenticator.meaning c.args.arrival c.args.server.now _ c.args.piece.now _ _ _ w refl c.in-Err.ensures.err)
 
-pub returns-in-Err-put_end-clause-err : goal.returns-in-Err-put_end-clause-err
-returns-in-Err-put_end-clause-err g c =
+pub returns-in_default-clause-err : goal.returns-in_default-clause-err
+returns-in_default-clause-err g c =
     let w = rw (← c.stream.view_is) at c.requires in
     rw (← c.stream.view_is) (stopped_in g.A.Authenticator.meaning c.args.arrival c.args.server.now _ c.args.piece.now _ _ _ w refl c.in-Ok.ensures.taken.stopped)
 

@@ -19,15 +19,15 @@ pub invariant_of-self-in-Ok-true : goal.invariant_of-self-in-Ok-true
 invariant_of-self-in-Ok-true g c =
     let t = c.in-Ok-true.ensures.ok in
     let t' = rw c.in-Ok-true.field-0-test at t in
-    rw ((c.get_mut.follows.holds c.take_piece.new.stream).0, c.take_piece.ensures.known) (kept_set (is_at (nat_cmp c.args.connection)) _ c.self.inside.streams.entries _ c.self.inside.next (t'.waits refl) c.self.invariant)
+    rw ((c.get_mut.follows.holds c.take_piece.new.stream).0, c.take_piece.ensures.known) (kept_set (is_at (nat_cmp c.args.connection)) _ c.self.inside.streams.entries _ c.self.inside.next _ (t'.waits refl) c.self.invariant)
 
 pub invariant_of-self-in-Ok-false : goal.invariant_of-self-in-Ok-false
 invariant_of-self-in-Ok-false g c =
-    rw (c.remove_stream.ensures, (c.get_mut.follows.holds c.take_piece.new.stream).0, remove-set) (kept_over _ _ c.args.connection c.self.inside.streams.entries c.self.inside.next c.disconnect.ensures.ended c.good.ensures.sessions.connections (rw c.take_piece.ensures.known c.self.invariant))
+    rw (c.remove_stream.ensures, (c.get_mut.follows.holds c.take_piece.new.stream).0, remove-set) (kept_over _ _ c.args.connection c.self.inside.streams.entries c.self.inside.next c.self.inside.most_connections c.disconnect.ensures.ended c.good.ensures.sessions.connections (rw c.take_piece.ensures.known c.self.invariant))
 
 pub invariant_of-self-in-Err : goal.invariant_of-self-in-Err
 invariant_of-self-in-Err g c =
-    rw (c.remove_stream-in-Err.ensures, (c.get_mut.follows.holds c.take_piece.new.stream).0, remove-set) (kept_over _ _ c.args.connection c.self.inside.streams.entries c.self.inside.next c.disconnect-in-Err.ensures.ended c.good-in-Err.ensures.sessions.connections (rw c.take_piece.ensures.known c.self.invariant))
+    rw (c.remove_stream-in-Err.ensures, (c.get_mut.follows.holds c.take_piece.new.stream).0, remove-set) (kept_over _ _ c.args.connection c.self.inside.streams.entries c.self.inside.next c.self.inside.most_connections c.disconnect-in-Err.ensures.ended c.good-in-Err.ensures.sessions.connections (rw c.take_piece.ensures.known c.self.invariant))
 
 pub returns-in-Ok-true-clause-state : goal.returns-in-Ok-true-clause-state
 returns-in-Ok-true-clause-state g c =
@@ -58,12 +58,12 @@ returns-in-Ok-false-clause-fate g c =
     (subst IsRising (c.take_piece.ensures.known ∙ c.self.invariant.known) c.good.ensures.sessions.connections)))))
 
 pub returns-in-None-clause-observed : goal.returns-in-None-clause-observed
-returns-in-None-clause-observed g c = rw (← c.self.view_is) (passed_heard g.A.Authenticator.meaning (record { server = c.self.inside.server; streams = c.self.inside.streams.entries; next = c.self.inside.next }) _ c.args.moment c.args.piece.now _ _ (sym c.in-None.ensures.value))
+returns-in-None-clause-observed g c = rw (← c.self.view_is) (passed_heard g.A.Authenticator.meaning (record { server = c.self.inside.server; streams = c.self.inside.streams.entries; next = c.self.inside.next; most_connections = c.self.inside.most_connections }) _ c.args.moment c.args.piece.now _ _ (sym c.in-None.ensures.value))
 
 pub returns-in-Ok-true-clause-observed : goal.returns-in-Ok-true-clause-observed
 returns-in-Ok-true-clause-observed g c =
-    rw (← c.self.view_is) (brought_heard g.A.Authenticator.meaning (record { server = c.self.inside.server; streams = c.self.inside.streams.entries; next = c.self.inside.next }) _ _ _ _ _ _ _ _ (sym c.in-Some.ensures.value) c.in-Ok-true.ensures.observed)
+    rw (← c.self.view_is) (brought_heard g.A.Authenticator.meaning (record { server = c.self.inside.server; streams = c.self.inside.streams.entries; next = c.self.inside.next; most_connections = c.self.inside.most_connections }) _ _ _ _ _ _ _ _ (sym c.in-Some.ensures.value) c.in-Ok-true.ensures.observed)
 
 pub returns-in-Ok-false-clause-observed : goal.returns-in-Ok-false-clause-observed
 returns-in-Ok-false-clause-observed g c =
-    rw (← c.self.view_is) (brought_heard g.A.Authenticator.meaning (record { server = c.self.inside.server; streams = c.self.inside.streams.entries; next = c.self.inside.next }) _ _ _ _ _ _ _ _ (sym c.in-Some.ensures.value) c.in-Ok-false.ensures.observed)
+    rw (← c.self.view_is) (brought_heard g.A.Authenticator.meaning (record { server = c.self.inside.server; streams = c.self.inside.streams.entries; next = c.self.inside.next; most_connections = c.self.inside.most_connections }) _ _ _ _ _ _ _ _ (sym c.in-Some.ensures.value) c.in-Ok-false.ensures.observed)

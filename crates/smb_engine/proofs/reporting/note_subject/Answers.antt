@@ -1,5 +1,5 @@
 use Rattle.std.proofs.Common.{refl}
-use Rattle.smb_engine.proofs.chain.note_subject.Goals as goal
+use Rattle.smb_engine.proofs.reporting.note_subject.Goals as goal
 
 pub returns-in-Some-file_name-clause-acting : goal.returns-in-Some-file_name-clause-acting
 returns-in-Some-file_name-clause-acting g c dialect =

@@ -1,6 +1,6 @@
 use Rattle.std.proofs.Common.{[]}
 use Rattle.smb_engine.proofs.Observed.{grew_twice}
-use Rattle.smb_engine.proofs.chain.report.Goals as goal
+use Rattle.smb_engine.proofs.reporting.report.Goals as goal
 
 pub returns-in-Some-answered-clause-observed : goal.returns-in-Some-answered-clause-observed
 returns-in-Some-answered-clause-observed g c =
