@@ -14,3 +14,6 @@ pub mod Scripts
 pub mod HeldCalls
 pub mod MemoryCalls
 pub mod TakenBytes
+pub mod Resting
+pub mod Skipping
+pub mod StillOpen

@@ -1,10 +1,9 @@
 -- Turns of a share that is served: one step after the other.
-use Rattle.std.proofs.Common.{◌≡◌, ℕ, zero, suc, ◌+◌, ◌<◌, ◌≤◌, Bool, true, false, List, [], ◌∷◌, ◌++◌, length, take, drop, set, get_or, nat_lt, Option, None, Some, Ok, if◌then◌else◌, refl, sym, ap, subst, ◌∙◌, append_assoc, add-one, arith}
+use Rattle.std.proofs.Common.{◌≡◌, ℕ, zero, suc, ◌+◌, ◌<◌, ◌≤◌, Bool, true, false, ◌||◌, List, [], ◌∷◌, ◌++◌, length, take, drop, set, get_or, nat_lt, Option, None, Some, Ok, if◌then◌else◌, refl, sym, ap, subst, ◌∙◌, append_assoc, add-one, arith}
 use Rattle.std.specs.List.{slice_get}
 use Rattle.std.specs.Option.{option_map_or}
 use Rattle.std.specs.List.{remove}
-use Rattle.std.proofs.lemmas.List.{append-nil, length-set, get_or-set_same, drop_more, take_more_set, drop-set-lt}
-use Rattle.std.proofs.lemmas.List.Edits.{length-remove}
+use Rattle.std.proofs.lemmas.List.{append-nil, take_all, drop_all, take_more, drop_more, take_more_set, drop-set-lt}
 use Rattle.std.proofs.lemmas.Option.{slice_get_read}
 use Rattle.smb_session.specs.Authenticator.{Meaning}
 use Rattle.smb_engine.specs.State.{ShareState, is_open, ended}
@@ -12,6 +11,7 @@ use Rattle.smb_peers.specs.Record.{PeerCall, next_ended, send, close, Keeping}
 use Rattle.smb_peers.specs.Peers.{send_call}
 use Rattle.smb_serving.specs.ServedPeers.{PeerState, peer_of, with_peer}
 use Rattle.smb_serving.specs.ServingParts.{place_of, dropped, serving, told, Fed, PieceTaken, takes_piece, stops_in_piece, leaves_piece, piece_taken, peers_behind_end, share_behind_end, Line, IsSent, takes, fails, owes_nothing, stays, kept_peers, closing_calls}
+use Rattle.smb_serving.specs.Restless.{AtRest, HasPartAt}
 use Rattle.smb_serving.proofs.Numbers.{placed-peer, put_placed-with, split}
 use Rattle.smb_serving.specs.Serving.{ServingState, PieceFollows, is_answered, runs_out, is_left, Follows, settled, IsServed, is_sent, fails as fails_part, owes_nothing as owes_no_part, AreServed, Turn, Turns}
 
@@ -55,46 +55,83 @@ same_serving : {S : Type 0} (share : ShareState S) (served_peers served_peers' :
 same_serving share served_peers served_peers' calls calls' moments n e f =
     ap (λ cs. serving share cs calls moments n) e ∙ ap (λ cs. serving share served_peers' cs moments n) f
 
--- what a loop over the served peers has done before a place
-pub record SentSoFar {S : Type 0} (kept keeps : Bool) (share0 share : ShareState S) (served_peers0 served_peers : List PeerState) (calls0 calls : List PeerCall) (place : ℕ) : Type 0 where
+-- the parts of some peers, and then those of others
+AreServed-append : {S : Type 0} (front back : List PeerState) (s middle t : ServingState S) → AreServed front s middle → AreServed back middle t → AreServed (front ++ back) s t
+AreServed-append {S} [] back s middle t e h =
+    let P : ServingState S → Type 0 = λ x. AreServed back x t in
+    subst P e h
+AreServed-append (x ∷ front) back s middle t p h = (p.0, p.1, AreServed-append front back p.0 middle t p.2 h)
+
+-- which peers had their part, where the loop over them has come to a place: those before it are what is left of them
+pub record SentSoFar {S : Type 0} (share0 share : ShareState S) (sent0 peers0 peers : List PeerState) (calls0 calls : List PeerCall) (place : ℕ) : Type 0 where
   pub before : List PeerState
-  pub parts : served_peers0 ≡ before ++ drop place served_peers
-  pub served : Keeping kept keeps ((moments : List ℕ) (n : ℕ) → AreServed before (serving share0 [] calls0 moments n) (serving share (take place served_peers) calls moments n))
+  pub parts : peers0 ≡ before ++ drop place peers
+  pub served : (moments : List ℕ) (n : ℕ) → AreServed before (serving share0 sent0 calls0 moments n) (serving share (take place peers) calls moments n)
 
-pub sent_none : {S : Type 0} (keeps : Bool) (share : ShareState S) (served_peers : List PeerState) (calls : List PeerCall) → SentSoFar keeps keeps share share served_peers served_peers calls calls 0
-sent_none keeps share served_peers calls = record { before = []; parts = refl; served = λ k. (k, λ moments n. refl) }
+pub sent_none : {S : Type 0} (share : ShareState S) (peers : List PeerState) (calls : List PeerCall) (place : ℕ) → SentSoFar share share (take place peers) (drop place peers) peers calls calls place
+sent_none share peers calls place = record { before = []; parts = refl; served = λ moments n. refl }
 
-sent_more : {S : Type 0} {kept keeps keeps' keeps'' : Bool} {share0 share : ShareState S} {served_peers0 served_peers served_peers' : List PeerState} {calls0 calls calls' : List PeerCall} {place place' : ℕ}
-    (peer : PeerState) (line : Line S) → SentSoFar kept keeps share0 share served_peers0 served_peers calls0 calls place →
-    drop place served_peers ≡ peer ∷ drop (place + 1) served_peers →
-    Keeping keeps keeps' (IsSent peer share calls line) → Keeping keeps' keeps'' (calls' ≡ closing_calls line) →
-    take place' served_peers' ≡ take place served_peers ++ kept_peers line → drop place' served_peers' ≡ drop (place + 1) served_peers →
-    SentSoFar kept keeps'' share0 line.share served_peers0 served_peers' calls0 calls' place'
-sent_more {S} {kept} {keeps} {keeps'} {keeps''} {share0} {share} {served_peers0} {served_peers} {served_peers'} {calls0} {calls} {calls'} {place} {place'} peer line h split sent told front back = record {
-  before = h.before ++ peer ∷ [];
-  parts = h.parts ∙ ap (λ xs. h.before ++ xs) (split ∙ ap (λ xs. peer ∷ xs) (sym back)) ∙ sym (append_assoc h.before (peer ∷ []) (drop place' served_peers'));
-  served = λ k.
-      let t = told k in
-      let s = sent t.0 in
-      let b = h.served s.0 in (
-        b.0,
-        λ moments n. AreServed-snoc h.before peer _ _ _ (b.1 moments n)
-            (part_is peer (serving share (take place served_peers) calls moments n) _ line s.1 (same_serving line.share (take place' served_peers') (take place served_peers ++ kept_peers line) calls' (closing_calls line) moments n front t.1)),
-      );
+pub sent_more : {S : Type 0} {share0 share share' : ShareState S} {sent0 peers0 peers peers' : List PeerState} {calls0 calls calls' : List PeerCall} {place next : ℕ} →
+    SentSoFar share0 share sent0 peers0 peers calls0 calls place → HasPartAt place share peers calls share' peers' calls' next →
+    SentSoFar share0 share' sent0 peers0 peers' calls0 calls' next
+sent_more {S} {share0} {share} {share'} {sent0} {peers0} {peers} {peers'} {calls0} {calls} {calls'} {place} {next} h part = record {
+  before = h.before ++ part.peer ∷ [];
+  parts = h.parts ∙ ap (λ xs. h.before ++ xs) part.split ∙ sym (append_assoc h.before (part.peer ∷ []) (drop next peers'));
+  served = λ moments n. AreServed-snoc h.before part.peer _ _ _ (h.served moments n) (part.served moments n);
 }
 
-pub sent_all : {S : Type 0} {kept keeps : Bool} {share0 share : ShareState S} {served_peers0 served_peers : List PeerState} {calls0 calls : List PeerCall} {place : ℕ} →
-    SentSoFar kept keeps share0 share served_peers0 served_peers calls0 calls place → take place served_peers ≡ served_peers → drop place served_peers ≡ [] →
-    Keeping kept keeps ((moments : List ℕ) (n : ℕ) → AreServed served_peers0 (serving share0 [] calls0 moments n) (serving share served_peers calls moments n))
-sent_all {S} {kept} {keeps} {share0} {share} {served_peers0} {served_peers} {calls0} {calls} {place} h all none = λ k.
-    let b = h.served k in
-    let whole : served_peers0 ≡ h.before = h.parts ∙ ap (λ xs. h.before ++ xs) none ∙ append-nil h.before in (
-      b.0,
-      λ moments n.
-          let P : List PeerState → Type 0 = λ xs. AreServed xs (serving share0 [] calls0 moments n) (serving share served_peers calls moments n) in
-          let Q : List PeerState → Type 0 = λ xs. AreServed h.before (serving share0 [] calls0 moments n) (serving share xs calls moments n) in
-          subst P (sym whole) (subst Q all (b.1 moments n)),
-    )
+pub kept_more : {S : Type 0} {kept keeps keeps' : Bool} {share0 share share' : ShareState S} {sent0 peers0 peers peers' : List PeerState} {calls0 calls calls' : List PeerCall} {place next : ℕ} →
+    Keeping kept keeps (SentSoFar share0 share sent0 peers0 peers calls0 calls place) → Keeping keeps keeps' (HasPartAt place share peers calls share' peers' calls' next) →
+    Keeping kept keeps' (SentSoFar share0 share' sent0 peers0 peers' calls0 calls' next)
+kept_more h part = λ k. let p = part k in let b = h p.0 in (b.0, sent_more b.1 p.1)
+
+pub sent_all : {S : Type 0} {share0 share : ShareState S} {sent0 peers0 peers : List PeerState} {calls0 calls : List PeerCall} {place : ℕ} →
+    SentSoFar share0 share sent0 peers0 peers calls0 calls place → length peers ≤ place →
+    (moments : List ℕ) (n : ℕ) → AreServed peers0 (serving share0 sent0 calls0 moments n) (serving share peers calls moments n)
+sent_all {S} {share0} {share} {sent0} {peers0} {peers} {calls0} {calls} {place} h past moments n =
+    let whole : peers0 ≡ h.before = h.parts ∙ ap (λ xs. h.before ++ xs) (drop_all place peers past) ∙ append-nil h.before in
+    let P : List PeerState → Type 0 = λ xs. AreServed xs (serving share0 sent0 calls0 moments n) (serving share peers calls moments n) in
+    let Q : List PeerState → Type 0 = λ xs. AreServed h.before (serving share0 sent0 calls0 moments n) (serving share xs calls moments n) in
+    subst P (sym whole) (subst Q (take_all place peers past) (h.served moments n))
+
+-- and those behind the place
+pub sent_behind : {S : Type 0} {share0 share : ShareState S} {sent0 peers0 peers : List PeerState} {calls0 calls : List PeerCall} {place : ℕ} (share' : ShareState S) (peers' : List PeerState) (calls' : List PeerCall) →
+    SentSoFar share0 share sent0 peers0 peers calls0 calls place →
+    ((moments : List ℕ) (n : ℕ) → AreServed (drop place peers) (serving share (take place peers) calls moments n) (serving share' peers' calls' moments n)) →
+    (moments : List ℕ) (n : ℕ) → AreServed peers0 (serving share0 sent0 calls0 moments n) (serving share' peers' calls' moments n)
+sent_behind {S} {share0} {share} {sent0} {peers0} {peers} {calls0} {calls} {place} share' peers' calls' h others moments n =
+    let P : List PeerState → Type 0 = λ xs. AreServed xs (serving share0 sent0 calls0 moments n) (serving share' peers' calls' moments n) in
+    subst P (sym h.parts) (AreServed-append h.before (drop place peers) _ _ _ (h.served moments n) (others moments n))
+
+-- the part of a peer at rest changes nothing
+rest_settled : {S : Type 0} (peer : PeerState) (s : ServingState S) → AtRest s.share peer → record s { served_peers = s.served_peers ++ peer ∷ [] } ≡ settled peer s
+rest_settled {S} peer s rest =
+    let after : Bool → Bool → ServingState S = λ owed open_still. if owed || open_still then record s { served_peers = s.served_peers ++ peer ∷ [] } else record s { calls = s.calls ++ close peer.number ∷ [] } in
+    ap (λ b. after false b) (sym rest.1) ∙ ap (λ b. after b (is_open s.share peer.connection)) (sym rest.0)
+
+rest_part : {S : Type 0} (share : ShareState S) (peers : List PeerState) (calls : List PeerCall) (place : ℕ) (other : PeerState) → place < length peers → AtRest share (get_or peers place other) →
+    HasPartAt place share peers calls share peers calls (place + 1)
+rest_part share peers calls place other within rest = record {
+  peer = get_or peers place other;
+  split = drop_more peers place other within;
+  served = λ moments n. owes_no_part rest.0
+      (ap (λ xs. serving share xs calls moments n) (take_more peers place other within) ∙ rest_settled (get_or peers place other) (serving share (take place peers) calls moments n) rest);
+}
+
+-- so many peers at rest
+pub sent_past : {S : Type 0} {share0 share : ShareState S} {sent0 peers0 peers : List PeerState} {calls0 calls : List PeerCall} {place : ℕ} (other : PeerState) (count : ℕ) →
+    SentSoFar share0 share sent0 peers0 peers calls0 calls place → place + count ≤ length peers →
+    ((k : ℕ) → place ≤ k → k < place + count → AtRest share (get_or peers k other)) →
+    SentSoFar share0 share sent0 peers0 peers calls0 calls (place + count)
+sent_past {S} {share0} {share} {sent0} {peers0} {peers} {calls0} {calls} {place} other zero h fits rest =
+    let P : ℕ → Type 0 = SentSoFar share0 share sent0 peers0 peers calls0 calls in
+    let e : place ≡ place + 0 = omega arith in
+    subst P e h
+sent_past {S} {share0} {share} {sent0} {peers0} {peers} {calls0} {calls} {place} other (suc count) h fits rest =
+    let P : ℕ → Type 0 = SentSoFar share0 share sent0 peers0 peers calls0 calls in
+    let e : place + count + 1 ≡ place + suc count = omega arith in
+    subst P e (sent_more (sent_past other count h (omega arith) (λ k a b. rest k a (omega arith)))
+    (rest_part share peers calls (place + count) other (omega arith) (rest (place + count) (omega arith) (omega arith))))
 
 -- a peer that was changed, and one that was taken out
 pub take-gone : {X : Type 0} (xs : List X) (i : ℕ) (x : X) → i < length xs → take i (remove (set xs i x) i) ≡ take i xs
@@ -107,52 +144,41 @@ drop-gone [] i x h = absurd (omega arith)
 drop-gone (y ∷ xs) zero x h = refl
 drop-gone (y ∷ xs) (suc i) x h = drop-gone xs i x (omega arith)
 
--- one step of the loop: the peer at the place has its send, and stays or is taken out
-module _ {S : Type 0} (kept keeps keeps' keeps'' : Bool) (share0 share share' : ShareState S) (served_peers0 served_peers : List PeerState) (calls0 calls calls' calls'' : List PeerCall) (place : ℕ)
-    (peer peer' shown : PeerState) where
-  abbrev Shown : PeerState → Type 0
-  Shown c = Keeping keeps' keeps'' (calls'' ≡ (if stays share' c then calls' else calls' ++ close c.number ∷ []))
-
-  shown_is : place < length served_peers → shown ≡ get_or (set served_peers place peer') place shown → shown ≡ peer'
-  shown_is within is = is ∙ get_or-set_same served_peers place peer' shown within
-
-  split_is : place < length served_peers → peer ≡ get_or served_peers place peer → drop place served_peers ≡ peer ∷ drop (place + 1) served_peers
-  split_is within is = drop_more served_peers place peer within ∙ ap (λ x. x ∷ drop (place + 1) served_peers) (sym is)
-
+-- the peer at a place has its send, and stays or is taken out
+module _ {S : Type 0} (keeps keeps' keeps'' : Bool) (share share' : ShareState S) (peers : List PeerState) (calls calls' calls'' : List PeerCall) (place : ℕ) (peer peer' : PeerState) where
   abbrev line : Line S
   line = record { share = share'; peer = peer'; calls = calls' }
 
-  pub step_stays : SentSoFar kept keeps share0 share served_peers0 served_peers calls0 calls place → place < length served_peers → peer ≡ get_or served_peers place peer →
-      shown ≡ get_or (set served_peers place peer') place shown → Keeping keeps keeps' (IsSent peer share calls line) → Shown shown → stays share' shown ≡ true →
-      SentSoFar kept keeps'' share0 share' served_peers0 (set served_peers place peer') calls0 calls'' (place + 1)
-  step_stays h within is is' sent told stay =
-      let same = shown_is within is' in
-      let P : PeerState → Type 0 = λ c. stays share' c ≡ true in
-      let stay' : stays share' peer' ≡ true = subst P same stay in
-      sent_more peer line h (split_is within is) sent (let Q : PeerState → Type 0 = λ c. Shown c in subst Q same told)
-      (take_more_set served_peers place peer' within ∙ ap (λ b. take place served_peers ++ (if b then peer' ∷ [] else [])) (sym stay'))
-      (drop-set-lt (place + 1) served_peers place peer' (omega arith))
+  part_at : (peers'' : List PeerState) (next : ℕ) → place < length peers → peer ≡ get_or peers place peer → Keeping keeps keeps' (IsSent peer share calls line) →
+      Keeping keeps' keeps'' (calls'' ≡ closing_calls line) →
+      take next peers'' ≡ take place peers ++ kept_peers line → drop next peers'' ≡ drop (place + 1) peers →
+      Keeping keeps keeps'' (HasPartAt place share peers calls share' peers'' calls'' next)
+  part_at peers'' next within is sent told front back = λ k.
+      let t = told k in
+      let s = sent t.0 in (
+        s.0,
+        record {
+          peer = peer;
+          split = drop_more peers place peer within ∙ ap (λ x. x ∷ drop (place + 1) peers) (sym is) ∙ ap (λ xs. peer ∷ xs) (sym back);
+          served = λ moments n. part_is peer (serving share (take place peers) calls moments n) _ line s.1
+              (same_serving share' (take next peers'') (take place peers ++ kept_peers line) calls'' (closing_calls line) moments n front t.1);
+        },
+      )
 
-  pub step_goes : (served_peers'' : List PeerState) → served_peers'' ≡ remove (set served_peers place peer') place →
-      SentSoFar kept keeps share0 share served_peers0 served_peers calls0 calls place → place < length served_peers → peer ≡ get_or served_peers place peer →
-      shown ≡ get_or (set served_peers place peer') place shown → Keeping keeps keeps' (IsSent peer share calls line) → Shown shown → stays share' shown ≡ false →
-      SentSoFar kept keeps'' share0 share' served_peers0 served_peers'' calls0 calls'' place
-  step_goes served_peers'' e h within is is' sent told stay =
-      let same = shown_is within is' in
-      let P : PeerState → Type 0 = λ c. stays share' c ≡ false in
-      let stay' : stays share' peer' ≡ false = subst P same stay in
-      sent_more peer line h (split_is within is) sent (let Q : PeerState → Type 0 = λ c. Shown c in subst Q same told)
-      (ap (take place) e ∙ take-gone served_peers place peer' within ∙ sym (append-nil (take place served_peers)) ∙ ap (λ b. take place served_peers ++ (if b then peer' ∷ [] else [])) (sym stay'))
-      (ap (drop place) e ∙ drop-gone served_peers place peer' within ∙ ap (λ i. drop i served_peers) (let o : suc place ≡ place + 1 = omega arith in o))
+  pub stays_at : place < length peers → peer ≡ get_or peers place peer → Keeping keeps keeps' (IsSent peer share calls line) → Keeping keeps' keeps'' (calls'' ≡ closing_calls line) → stays share' peer' ≡ true →
+      Keeping keeps keeps'' (HasPartAt place share peers calls share' (set peers place peer') calls'' (place + 1))
+  stays_at within is sent told stay =
+      part_at (set peers place peer') (place + 1) within is sent told
+      (take_more_set peers place peer' within ∙ ap (λ b. take place peers ++ (if b then peer' ∷ [] else [])) (sym stay))
+      (drop-set-lt (place + 1) peers place peer' (omega arith))
 
-pub stays_within : {X : Type 0} (xs : List X) (i : ℕ) (x : X) → i < length xs → i + 1 ≤ length (set xs i x)
-stays_within xs i x h = omega (arith, length-set xs i x)
-
-pub goes_within : {X : Type 0} (xs ys : List X) (i : ℕ) (x : X) → ys ≡ remove (set xs i x) i → i < length xs → i ≤ length ys
-goes_within xs ys i x e h =
-    let l : length (set xs i x) ≡ length xs = length-set xs i x in
-    let r : length (remove (set xs i x) i) + 1 ≡ length (set xs i x) = length-remove (set xs i x) i (omega arith) in
-    omega (arith, ap length e)
+  pub goes_at : (peers'' : List PeerState) → peers'' ≡ remove (set peers place peer') place →
+      place < length peers → peer ≡ get_or peers place peer → Keeping keeps keeps' (IsSent peer share calls line) → Keeping keeps' keeps'' (calls'' ≡ closing_calls line) → stays share' peer' ≡ false →
+      Keeping keeps keeps'' (HasPartAt place share peers calls share' peers'' calls'' place)
+  goes_at peers'' e within is sent told stay =
+      part_at peers'' place within is sent told
+      (ap (take place) e ∙ take-gone peers place peer' within ∙ sym (append-nil (take place peers)) ∙ ap (λ b. take place peers ++ (if b then peer' ∷ [] else [])) (sym stay))
+      (ap (drop place) e ∙ drop-gone peers place peer' within ∙ ap (λ i. drop i peers) (let o : suc place ≡ place + 1 = omega arith in o))
 
 -- one turn more
 pub turns_more : {S : Type 0} (m : Meaning S) (i : ℕ) (s middle t : ServingState S) → Turns m i s middle → Turn m middle t → Turns m (i + 1) s t

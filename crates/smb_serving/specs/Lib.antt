@@ -4,5 +4,6 @@ pub mod MemoryRecord
 pub mod ServedPeers
 pub mod Serving
 pub mod Openings
+pub mod Restless
 pub mod ServingLaws
 pub mod ServingParts

@@ -16,6 +16,7 @@ mod laws;
 mod memory_peers;
 mod memory_record;
 mod served_peer;
+mod served_peers;
 mod serving;
 mod taken;
 

@@ -1,9 +1,8 @@
 //! A peer of a share that is served, and the bytes that it is owed.
 
 ghost use Rattle.std.specs.Prelude.{◌≡◌, ◌≤◌, [], drop, length, nat_lt, OnOk, IfErr};
-ghost use Rattle.smb_serving.specs.ServingParts.{dropped, piece_taken, with_replies, PieceEnds};
+ghost use Rattle.smb_serving.specs.ServingParts.{dropped, piece_taken, PieceEnds};
 ghost use Rattle.smb_engine.specs.Run.{bytes_step};
-ghost use Rattle.smb_engine.specs.Stream.{unread};
 ghost use Rattle.smb_engine.specs.Output.{AreShort};
 
 use smb_engine::{ServeFault, Share};
@@ -109,30 +108,6 @@ impl ServedPeer {
         self.give_back_room();
     }
 
-    /// Takes a piece of its stream at a moment; the replies are owed to it.
-    fn feed<A: Authenticator + Drop, T: Tree + Drop, O: Opens + Drop, W: Observer>(
-        &mut self,
-        share: &mut Share<A, T, O>,
-        moment: u64,
-        piece: &[u8],
-        observer: &mut W,
-    ) -> Result<(), OutOfMemory>
-        ensures share { OnOk result (share.new ≡ unread
-            (bytes_step A.meaning share.old self.old.connection moment piece.now).state) }
-        ensures peer { OnOk result (self.new ≡ with_replies A.meaning share.old self.old moment piece.now) }
-        ensures short { OnOk result (AreShort (bytes_step A.meaning share.old self.old.connection moment piece.now).outputs) }
-        ensures err { IfErr result (λ ran_out. PieceEnds A.meaning share.old self.old moment piece.now ran_out.done share.new self.new) }
-    {
-        match share.feed_observed(self.connection, moment, piece, &mut self.owed, observer) {
-            Ok(_) => Ok(()),
-            Err(ServeFault::NoMemory { done }) => {
-                self.drop_owed();
-                Err(OutOfMemory { done })
-            }
-            Err(_) => unreachable!(),
-        }
-    }
-
     /// Takes a piece of its stream at a moment; the replies are owed to it. Where that is too much, its connection ends and
     /// they are dropped.
     pub(crate) fn take_piece<A: Authenticator + Drop, T: Tree + Drop, O: Opens + Drop, W: Observer>(
@@ -147,11 +122,19 @@ impl ServedPeer {
         ensures short { OnOk result (AreShort (bytes_step A.meaning share.old self.old.connection moment piece.now).outputs) }
         ensures err { IfErr result (λ ran_out. PieceEnds A.meaning share.old self.old moment piece.now ran_out.done share.new self.new) }
     {
-        self.feed(share, moment, piece, observer)?;
-        if self.owed().len() > MOST_OWED {
-            share.ended(self.connection);
-            self.drop_owed();
+        match share.feed_observed(self.connection, moment, piece, &mut self.owed, observer) {
+            Ok(_) => {
+                if self.owed().len() > MOST_OWED {
+                    share.ended(self.connection);
+                    self.drop_owed();
+                }
+                Ok(())
+            }
+            Err(ServeFault::NoMemory { done }) => {
+                self.drop_owed();
+                Err(OutOfMemory { done })
+            }
+            Err(_) => unreachable!(),
         }
-        Ok(())
     }
 }

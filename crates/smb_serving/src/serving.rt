@@ -1,16 +1,18 @@
 //! A share that is served to its peers.
 
-ghost use Rattle.std.specs.Prelude.{◌≡◌, ◌&&◌, ◌+◌, ◌++◌, ◌∷◌, [], ◌<◌, ◌≤◌, ℕ, List, length, nat_lt, true, is_some, IfSome, if◌then◌else◌};
+ghost use Rattle.std.specs.Prelude.{◌≡◌, ◌&&◌, ◌+◌, ◌++◌, ◌∷◌, [], ◌<◌, ◌≤◌, ℕ, List, length, take, drop, nat_lt, true, false, is_some, IfSome, if◌then◌else◌};
 ghost use Rattle.std.specs.List.{position};
 ghost use Rattle.smb_peers.specs.Record.{Keeping, PeerCall, close};
 ghost use Rattle.smb_peers.specs.Peers.{call_of, OpensOnce};
 ghost use Rattle.smb_serving.specs.ServedPeers.{peer_of};
-ghost use Rattle.smb_serving.specs.ServingParts.{place_of, place_for, serving, told, PieceTaken, IsSent, stays, share_behind_end, peers_behind_end};
+ghost use Rattle.smb_serving.specs.ServingParts.{place_of, place_for, serving, told, IsSent, stays, share_behind_end, peers_behind_end};
 ghost use Rattle.smb_serving.specs.Serving.{OpeningFollows, PieceFollows, Follows, AreServed, Served, ServedUntilStopped};
+ghost use Rattle.smb_serving.specs.Restless.{AreNoted, AreTracked, AreTrackedTo, HasPartAt, Leaves, next_place};
 ghost use Rattle.smb_serving.specs.Openings.{Begins, OpensIn, TurnOf};
 ghost use Rattle.smb_serving.specs.ServingLaws.{OpensEachOnce};
 
 use super::served_peer::ServedPeer;
+use super::served_peers::{Part, ServedPeers};
 use smb_engine::Share;
 use smb_opens::Opens;
 use smb_peers::{Clock, Observer, PeerEvent, Peers, Stopping};
@@ -113,43 +115,41 @@ fn open_peer<A: Authenticator + Drop, T: Tree + Drop, O: Opens + Drop, P: Peers>
     }
 }
 
-/// Takes a piece of a peer's stream, and tells after how many requests memory ran out, where it did.
-fn feed_peer<A: Authenticator + Drop, T: Tree + Drop, O: Opens + Drop, C: Clock, W: Observer>(
+/// Takes a piece of a number's stream, and tells after how many requests memory ran out, where it did.
+fn take_bytes<A: Authenticator + Drop, T: Tree + Drop, O: Opens + Drop, C: Clock, W: Observer>(
     share: &mut Share<A, T, O>,
     clock: &mut C,
-    peer: &mut ServedPeer,
+    served: &mut ServedPeers,
+    number: u64,
     piece: &[u8],
     observer: &mut W,
 ) -> Option<usize>
-    ensures { Keeping (C.keeps clock.old) (C.keeps clock.new)
-        (PieceTaken A.meaning piece.now share.old peer.old (C.moments clock.old) (record { share = share.new; peer = peer.new; moments = C.moments clock.new; ran_out = is_some result })) }
+    ensures fed { Keeping (C.keeps clock.old) (C.keeps clock.new) ((calls : List PeerCall) (n : ℕ) →
+        PieceFollows A.meaning number piece.now (serving share.old served.old.peers.items calls (C.moments clock.old) n)
+        (serving share.new served.new.peers.items calls (C.moments clock.new) (if is_some result then n + 1 else n))) }
+    ensures tracked { AreTracked share.old served.old → AreTracked share.new served.new }
 {
+    let Some(place) = find_peer(&served.peers, number) else {
+        return None;
+    };
+    let peer = &mut served.peers[place];
     if !share.is_open(peer.connection) {
         return None;
     }
     let moment = clock.moment();
     match peer.take_piece(share, moment, piece, observer) {
-        Ok(()) => None,
-        Err(cut) => Some(cut.done),
-    }
-}
-
-/// Takes a piece of a number's stream, and tells after how many requests memory ran out, where it did.
-fn take_bytes<A: Authenticator + Drop, T: Tree + Drop, O: Opens + Drop, C: Clock, W: Observer>(
-    share: &mut Share<A, T, O>,
-    clock: &mut C,
-    served_peers: &mut Vec<ServedPeer>,
-    number: u64,
-    piece: &[u8],
-    observer: &mut W,
-) -> Option<usize>
-    ensures { Keeping (C.keeps clock.old) (C.keeps clock.new) ((calls : List PeerCall) (n : ℕ) →
-        PieceFollows A.meaning number piece.now (serving share.old served_peers.old.items calls (C.moments clock.old) n)
-        (serving share.new served_peers.new.items calls (C.moments clock.new) (if is_some result then n + 1 else n))) }
-{
-    match find_peer(served_peers, number) {
-        Some(place) => feed_peer(share, clock, &mut served_peers[place], piece, observer),
-        None => None,
+        Ok(()) => {
+            if !share.is_open(peer.connection) {
+                served.all = true;
+                return None;
+            }
+            served.note(place);
+            None
+        }
+        Err(cut) => {
+            served.all = true;
+            Some(cut.done)
+        }
     }
 }
 
@@ -196,18 +196,22 @@ fn take_event<
     share: &mut Share<A, T, O>,
     peers: &mut P,
     clock: &mut C,
-    served_peers: &mut Vec<ServedPeer>,
+    served: &mut ServedPeers,
     observer: &mut W,
 ) -> bool
-    ensures { Keeping (P.keeps peers.old && C.keeps clock.old) (P.keeps peers.new && C.keeps clock.new)
+    ensures follows { Keeping (P.keeps peers.old && C.keeps clock.old) (P.keeps peers.new && C.keeps clock.new)
         ((call : PeerCall) × OpensIn call (P.opened peers.old) (P.opened peers.new) × ((n : ℕ) →
-        Follows A.meaning call (told (serving share.old served_peers.old.items (P.calls peers.old) (C.moments clock.old) n) call)
-        (serving share.new served_peers.new.items (P.calls peers.new) (C.moments clock.new) (if result then n + 1 else n)))) }
+        Follows A.meaning call (told (serving share.old served.old.peers.items (P.calls peers.old) (C.moments clock.old) n) call)
+        (serving share.new served.new.peers.items (P.calls peers.new) (C.moments clock.new) (if result then n + 1 else n)))) }
+    ensures tracked { AreTracked share.old served.old → AreTracked share.new served.new }
 {
     match next_event(share, peers) {
-        PeerEvent::Opened(number) => open_peer(share, peers, served_peers, number),
+        PeerEvent::Opened(number) => {
+            served.all = true;
+            open_peer(share, peers, &mut served.peers, number)
+        }
         PeerEvent::Bytes(number) => {
-            match take_bytes(share, clock, served_peers, number, peers.piece(), observer) {
+            match take_bytes(share, clock, served, number, peers.piece(), observer) {
                 Some(done) => {
                     peers.ran_out(number, done);
                     true
@@ -216,31 +220,37 @@ fn take_event<
             }
         }
         PeerEvent::Ended(number) => {
-            end_peer(share, served_peers, number);
+            served.all = true;
+            end_peer(share, &mut served.peers, number);
             false
         }
         PeerEvent::Idle => false,
     }
 }
 
-/// Sends a peer what it is owed.
+/// Sends a peer what it is owed, and tells whether the send was done: where it failed, the connection has ended.
 fn send_owed<A: Authenticator + Drop, T: Tree + Drop, O: Opens + Drop, P: Peers>(
     share: &mut Share<A, T, O>,
     peers: &mut P,
     peer: &mut ServedPeer,
-)
+) -> bool
     ensures sent { Keeping (P.keeps peers.old) (P.keeps peers.new)
         (IsSent peer.old share.old (P.calls peers.old) (record { share = share.new; peer = peer.new; calls = P.calls peers.new })) }
+    ensures same { result ≡ true → share.new ≡ share.old }
     ensures opened { P.opened peers.new ≡ P.opened peers.old }
 {
     if !peer.is_owed() {
-        return;
+        return true;
     }
     match peers.send(peer.number, peer.owed()) {
-        Ok(count) => peer.drop_first(count),
+        Ok(count) => {
+            peer.drop_first(count);
+            true
+        }
         Err(_) => {
             share.ended(peer.connection);
             peer.drop_owed();
+            false
         }
     }
 }
@@ -263,25 +273,136 @@ fn settle<A: Authenticator + Drop, T: Tree + Drop, O: Opens + Drop, P: Peers>(
     false
 }
 
+/// The part of the peer at a place in a turn.
+fn serve_at<A: Authenticator + Drop, T: Tree + Drop, O: Opens + Drop, P: Peers>(
+    share: &mut Share<A, T, O>,
+    peers: &mut P,
+    served_peers: &mut Vec<ServedPeer>,
+    place: usize,
+) -> Part
+    requires { place < length served_peers.old.items }
+    ensures served { Keeping (P.keeps peers.old) (P.keeps peers.new)
+        (HasPartAt place share.old served_peers.old.items (P.calls peers.old) share.new served_peers.new.items (P.calls peers.new) (next_place place result)) }
+    ensures left { Leaves place share.old served_peers.old.items share.new served_peers.new.items result }
+    ensures opened { P.opened peers.new ≡ P.opened peers.old }
+{
+    let peer = &mut served_peers[place];
+    let is_sent = send_owed(share, peers, peer);
+    if !settle(share, peers, peer) {
+        let _ = served_peers.remove(place);
+        return Part::Closes;
+    }
+    if !is_sent {
+        return Part::Fails;
+    }
+    if peer.is_owed() {
+        Part::IsOwed
+    } else {
+        Part::Rests
+    }
+}
+
+/// The same, and takes note of what the peer may need in the next turn. Tells whether the peer stays.
+fn serve_noted<A: Authenticator + Drop, T: Tree + Drop, O: Opens + Drop, P: Peers>(
+    share: &mut Share<A, T, O>,
+    peers: &mut P,
+    served: &mut ServedPeers,
+    place: usize,
+) -> bool
+    requires { place < length served.old.peers.items }
+    ensures served { Keeping (P.keeps peers.old) (P.keeps peers.new)
+        (HasPartAt place share.old served.old.peers.items (P.calls peers.old) share.new served.new.peers.items (P.calls peers.new) (if result then place + 1 else place)) }
+    ensures tracked { AreTrackedTo place share.old served.old → AreTrackedTo (if result then place + 1 else place) share.new served.new }
+    ensures counts { length served.new.peers.items + (if result then 0 else 1) ≡ length served.old.peers.items }
+    ensures opened { P.opened peers.new ≡ P.opened peers.old }
+{
+    match serve_at(share, peers, &mut served.peers, place) {
+        Part::Rests => true,
+        Part::IsOwed => {
+            served.note_last(place);
+            true
+        }
+        Part::Fails => {
+            served.all = true;
+            true
+        }
+        Part::Closes => {
+            served.all = true;
+            false
+        }
+    }
+}
+
+/// The parts of all peers from a place on.
+fn send_from<A: Authenticator + Drop, T: Tree + Drop, O: Opens + Drop, P: Peers>(
+    share: &mut Share<A, T, O>,
+    peers: &mut P,
+    served: &mut ServedPeers,
+    first: usize,
+)
+    ensures served { Keeping (P.keeps peers.old) (P.keeps peers.new) ((moments : List ℕ) (n : ℕ) →
+        AreServed (drop first served.old.peers.items) (serving share.old (take first served.old.peers.items) (P.calls peers.old) moments n)
+        (serving share.new served.new.peers.items (P.calls peers.new) moments n)) }
+    ensures tracked { AreTrackedTo first share.old served.old → AreTracked share.new served.new }
+    ensures opened { P.opened peers.new ≡ P.opened peers.old }
+{
+    let mut place = first;
+    while place < served.peers.len() {
+        if serve_noted(share, peers, served, place) {
+            place += 1;
+        }
+    }
+}
+
+/// The parts of the peers that may need something.
+fn send_restless<A: Authenticator + Drop, T: Tree + Drop, O: Opens + Drop, P: Peers>(
+    share: &mut Share<A, T, O>,
+    peers: &mut P,
+    served: &mut ServedPeers,
+)
+    ensures served { AreNoted share.old served.old.peers.items served.old.restless.items (length served.old.peers.items) →
+        Keeping (P.keeps peers.old) (P.keeps peers.new) ((moments : List ℕ) (n : ℕ) →
+        AreServed served.old.peers.items (serving share.old [] (P.calls peers.old) moments n) (serving share.new served.new.peers.items (P.calls peers.new) moments n)) }
+    ensures tracked { AreNoted share.old served.old.peers.items served.old.restless.items (length served.old.peers.items) → AreTracked share.new served.new }
+    ensures opened { P.opened peers.new ≡ P.opened peers.old }
+{
+    let mut index = 0;
+    while index < served.restless.len() && served.restless[index] < served.peers.len() {
+        let place = served.restless[index];
+        match serve_at(share, peers, &mut served.peers, place) {
+            Part::Rests => {
+                let _ = served.restless.remove(index);
+            }
+            Part::IsOwed => index += 1,
+            Part::Fails => {
+                served.all = true;
+                return send_from(share, peers, served, place + 1);
+            }
+            Part::Closes => {
+                served.all = true;
+                return send_from(share, peers, served, place);
+            }
+        }
+    }
+}
+
 /// Each peer's part of a turn, in rising number.
 fn send_all<A: Authenticator + Drop, T: Tree + Drop, O: Opens + Drop, P: Peers>(
     share: &mut Share<A, T, O>,
     peers: &mut P,
-    served_peers: &mut Vec<ServedPeer>,
+    served: &mut ServedPeers,
 )
-    ensures served { Keeping (P.keeps peers.old) (P.keeps peers.new) ((moments : List ℕ) (n : ℕ) →
-        AreServed served_peers.old.items (serving share.old [] (P.calls peers.old) moments n) (serving share.new served_peers.new.items (P.calls peers.new) moments n)) }
+    ensures served { AreTracked share.old served.old → Keeping (P.keeps peers.old) (P.keeps peers.new) ((moments : List ℕ) (n : ℕ) →
+        AreServed served.old.peers.items (serving share.old [] (P.calls peers.old) moments n) (serving share.new served.new.peers.items (P.calls peers.new) moments n)) }
+    ensures tracked { AreTracked share.old served.old → AreTracked share.new served.new }
     ensures opened { P.opened peers.new ≡ P.opened peers.old }
 {
-    let mut place = 0;
-    while place < served_peers.len() {
-        send_owed(share, peers, &mut served_peers[place]);
-        if settle(share, peers, &served_peers[place]) {
-            place += 1;
-        } else {
-            let _ = served_peers.remove(place);
-        }
+    if !served.all {
+        return send_restless(share, peers, served);
     }
+    served.all = false;
+    served.restless.clear();
+    send_from(share, peers, served, 0);
 }
 
 /// One turn: the next event, and then what is to be sent. Tells whether memory ran out.
@@ -289,16 +410,17 @@ fn turn<A: Authenticator + Drop, T: Tree + Drop, O: Opens + Drop, P: Peers, C: C
     share: &mut Share<A, T, O>,
     peers: &mut P,
     clock: &mut C,
-    served_peers: &mut Vec<ServedPeer>,
+    served: &mut ServedPeers,
     observer: &mut W,
 ) -> bool
-    ensures { Keeping (P.keeps peers.old && C.keeps clock.old) (P.keeps peers.new && C.keeps clock.new)
+    ensures turned { AreTracked share.old served.old → Keeping (P.keeps peers.old && C.keeps clock.old) (P.keeps peers.new && C.keeps clock.new)
         ((call : PeerCall) × OpensIn call (P.opened peers.old) (P.opened peers.new) × ((n : ℕ) →
-        TurnOf A.meaning call (serving share.old served_peers.old.items (P.calls peers.old) (C.moments clock.old) n)
-        (serving share.new served_peers.new.items (P.calls peers.new) (C.moments clock.new) (if result then n + 1 else n)))) }
+        TurnOf A.meaning call (serving share.old served.old.peers.items (P.calls peers.old) (C.moments clock.old) n)
+        (serving share.new served.new.peers.items (P.calls peers.new) (C.moments clock.new) (if result then n + 1 else n)))) }
+    ensures tracked { AreTracked share.old served.old → AreTracked share.new served.new }
 {
-    let ran_out = take_event(share, peers, clock, served_peers, observer);
-    send_all(share, peers, served_peers);
+    let ran_out = take_event(share, peers, clock, served, observer);
+    send_all(share, peers, served);
     ran_out
 }
 
@@ -317,10 +439,10 @@ pub fn serve<A: Authenticator + Drop, T: Tree + Drop, O: Opens + Drop, P: Peers,
     ensures once { Keeping (P.keeps peers.old && C.keeps clock.old) (P.keeps peers.new && C.keeps clock.new)
         ((more : List PeerCall) → P.calls peers.new ≡ P.calls peers.old ++ more → OpensEachOnce more) }
 {
-    let mut served_peers = Vec::new(share.allocator());
+    let mut served = ServedPeers::new(share.allocator());
     let mut count = 0;
     for _turn in 0..turns {
-        if turn(share, peers, clock, &mut served_peers, &mut ()) {
+        if turn(share, peers, clock, &mut served, &mut ()) {
             count += 1;
         }
     }
@@ -363,10 +485,10 @@ pub fn serve_until_observed<
     ensures once { Keeping (P.keeps peers.old && C.keeps clock.old) (P.keeps peers.new && C.keeps clock.new)
         ((more : List PeerCall) → P.calls peers.new ≡ P.calls peers.old ++ more → OpensEachOnce more) }
 {
-    let mut served_peers = Vec::new(share.allocator());
+    let mut served = ServedPeers::new(share.allocator());
     let mut count = 0;
     for _turn in 0..turns {
-        if turn(share, peers, clock, &mut served_peers, observer) {
+        if turn(share, peers, clock, &mut served, observer) {
             count += 1;
         }
         if peers.is_stopped() {

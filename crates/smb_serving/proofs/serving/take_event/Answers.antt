@@ -4,8 +4,8 @@ use Rattle.smb_peers.specs.Record.{next_opened, next_bytes, next_ended}
 use Rattle.smb_serving.proofs.Turning.{follows_told, end_follows}
 use Rattle.smb_serving.proofs.serving.take_event.Goals as goal
 
-pub returns-in-Opened : goal.returns-in-Opened
-returns-in-Opened g c = λ k.
+pub returns-in-Opened-clause-follows : goal.returns-in-Opened-clause-follows
+returns-in-Opened-clause-follows g c = λ k.
     let p = and_parts _ _ k in
     let o = c.open_peer.ensures.follows p.0 in
     let t = c.in-Opened.ensures.told o.0 in (
@@ -13,23 +13,23 @@ returns-in-Opened g c = λ k.
       (
         next_opened c.in-Opened.number,
         (c.in-Opened.ensures.once.0, c.open_peer.ensures.opened ∙ c.in-Opened.ensures.once.1),
-        λ n. follows_told g.A.Authenticator.meaning c.args.share.now c.open_peer.new.share c.args.served_peers.now.items c.open_peer.new.served_peers.items
+        λ n. follows_told g.A.Authenticator.meaning c.args.share.now c.open_peer.new.share c.args.served.now.peers.items c.open_peer.new.served_peers.items
             (g.P.Peers.calls c.args.peers.now) (g.P.Peers.calls c.next_event.new.peers) (g.P.Peers.calls c.open_peer.new.peers) (g.C.Clock.moments c.args.clock.now) (g.C.Clock.moments c.args.clock.now) n _
             (next_opened c.in-Opened.number) t.1 (o.1 (g.C.Clock.moments c.args.clock.now) n),
       ),
     )
 
-pub returns-in-Some : goal.returns-in-Some
-returns-in-Some g c = λ k.
+pub returns-in-Some-clause-follows : goal.returns-in-Some-clause-follows
+returns-in-Some-clause-follows g c = λ k.
     let p = and_parts _ _ k in
-    let b = c.take_bytes.ensures p.1 in
+    let b = c.take_bytes.ensures.fed p.1 in
     let r = c.ran_out.ensures.kept p.0 in
     let t = c.in-Bytes.ensures.told r.0 in (
       and_from _ _ t.0 b.0,
       (
         next_bytes c.in-Bytes.number c.piece.result.now,
         c.ran_out.ensures.opened ∙ c.in-Bytes.ensures.once,
-        λ n. follows_told g.A.Authenticator.meaning c.args.share.now c.take_bytes.new.share c.args.served_peers.now.items c.take_bytes.new.served_peers.items
+        λ n. follows_told g.A.Authenticator.meaning c.args.share.now c.take_bytes.new.share c.args.served.now.peers.items c.take_bytes.new.served.peers.items
             (g.P.Peers.calls c.args.peers.now) (g.P.Peers.calls c.next_event.new.peers) (g.P.Peers.calls c.ran_out.new.self) (g.C.Clock.moments c.args.clock.now) (g.C.Clock.moments c.take_bytes.new.clock) n _
             (next_bytes c.in-Bytes.number c.piece.result.now)
             (t.1 ∙ ap (λ (bs : List ℕ). g.P.Peers.calls c.args.peers.now ++ next_bytes c.in-Bytes.number bs ∷ []) (sym c.piece.ensures))
@@ -37,16 +37,16 @@ returns-in-Some g c = λ k.
       ),
     )
 
-pub returns-in-None : goal.returns-in-None
-returns-in-None g c = λ k.
+pub returns-in-None-clause-follows : goal.returns-in-None-clause-follows
+returns-in-None-clause-follows g c = λ k.
     let p = and_parts _ _ k in
-    let b = c.take_bytes.ensures p.1 in
+    let b = c.take_bytes.ensures.fed p.1 in
     let t = c.in-Bytes.ensures.told p.0 in (
       and_from _ _ t.0 b.0,
       (
         next_bytes c.in-Bytes.number c.piece.result.now,
         c.in-Bytes.ensures.once,
-        λ n. follows_told g.A.Authenticator.meaning c.args.share.now c.take_bytes.new.share c.args.served_peers.now.items c.take_bytes.new.served_peers.items
+        λ n. follows_told g.A.Authenticator.meaning c.args.share.now c.take_bytes.new.share c.args.served.now.peers.items c.take_bytes.new.served.peers.items
             (g.P.Peers.calls c.args.peers.now) (g.P.Peers.calls c.next_event.new.peers) (g.P.Peers.calls c.next_event.new.peers) (g.C.Clock.moments c.args.clock.now) (g.C.Clock.moments c.take_bytes.new.clock) n _
             (next_bytes c.in-Bytes.number c.piece.result.now)
             (t.1 ∙ ap (λ (bs : List ℕ). g.P.Peers.calls c.args.peers.now ++ next_bytes c.in-Bytes.number bs ∷ []) (sym c.piece.ensures))
@@ -54,17 +54,17 @@ returns-in-None g c = λ k.
       ),
     )
 
-pub returns-in-Ended : goal.returns-in-Ended
-returns-in-Ended g c = λ k.
+pub returns-in-Ended-clause-follows : goal.returns-in-Ended-clause-follows
+returns-in-Ended-clause-follows g c = λ k.
     let p = and_parts _ _ k in
     let t = c.in-Ended.ensures.told p.0 in (
       and_from _ _ t.0 p.1,
       (
         next_ended c.in-Ended.number,
         c.in-Ended.ensures.once,
-        λ n. follows_told g.A.Authenticator.meaning c.args.share.now c.end_peer.new.share c.args.served_peers.now.items c.end_peer.new.served_peers.items
+        λ n. follows_told g.A.Authenticator.meaning c.args.share.now c.end_peer.new.share c.args.served.now.peers.items c.end_peer.new.served_peers.items
             (g.P.Peers.calls c.args.peers.now) (g.P.Peers.calls c.next_event.new.peers) (g.P.Peers.calls c.next_event.new.peers) (g.C.Clock.moments c.args.clock.now) (g.C.Clock.moments c.args.clock.now) n n
             (next_ended c.in-Ended.number) t.1
-            (end_follows g.A.Authenticator.meaning c.in-Ended.number c.args.share.now c.end_peer.new.share c.args.served_peers.now.items c.end_peer.new.served_peers.items (g.P.Peers.calls c.next_event.new.peers) (g.C.Clock.moments c.args.clock.now) n c.end_peer.ensures.share c.end_peer.ensures.served_peers),
+            (end_follows g.A.Authenticator.meaning c.in-Ended.number c.args.share.now c.end_peer.new.share c.args.served.now.peers.items c.end_peer.new.served_peers.items (g.P.Peers.calls c.next_event.new.peers) (g.C.Clock.moments c.args.clock.now) n c.end_peer.ensures.share c.end_peer.ensures.served_peers),
       ),
     )
