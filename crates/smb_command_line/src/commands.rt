@@ -168,6 +168,15 @@ const IDLE_NEW: OptionRow = OptionRow {
     help: "After how long a client is gone that was never answered anything, 0 for never [default: 30]",
 };
 
+/// How much all clients may be owed.
+const OWED: OptionRow = OptionRow {
+    name: "owed",
+    takes: Takes::Number("BYTES", 33_554_432),
+    needed: Needed::Never,
+    bars: &[],
+    help: "How much all clients together may leave untaken before the one owed most is gone [default: 1073741824]",
+};
+
 /// A journal.
 const JOURNAL: OptionRow = OptionRow {
     name: "journal",
@@ -299,8 +308,8 @@ const COMMANDS: &[CommandRow] = &[
         about: "Serves a share over TCP",
         examples: SERVE_HELP,
         options: &[
-            CONFIG, EXPLAIN, LISTEN, LOGIN, ACCOUNTS, SEED, TURNS, IDLE, IDLE_NEW, JOURNAL, RECORD,
-            SYNC, LOG, LOG_LEVEL, LOG_MUST, FROM, CLOCK,
+            CONFIG, EXPLAIN, LISTEN, LOGIN, ACCOUNTS, SEED, TURNS, IDLE, IDLE_NEW, OWED, JOURNAL,
+            RECORD, SYNC, LOG, LOG_LEVEL, LOG_MUST, FROM, CLOCK,
         ],
     },
     CommandRow {

@@ -39,6 +39,8 @@ pub struct ServeWords<'a> {
     pub idle_seconds: u64,
     /// After how many seconds a connection ends that was never answered; 0: after none.
     pub unanswered_seconds: u64,
+    /// How many bytes all connections together may be owed.
+    pub most_owed: u64,
     /// Where the share is recorded, if it is.
     pub record: Option<KeepWords<'a>>,
     /// The folder whose files the share begins with.
@@ -91,7 +93,7 @@ fn begin_to_listen(
     Ok(listener)
 }
 
-/// The peers of a listener, as many as there may be connections, with the limits of silence that the words say.
+/// The peers of a listener, as many as there may be connections, with the limits that the words say.
 fn peers_of<'a>(
     rt: &'a HostRuntime,
     words: &ServeWords<'a>,
@@ -110,6 +112,7 @@ fn peers_of<'a>(
     if words.unanswered_seconds > 0 {
         peers = peers.with_unanswered_limit(Duration::from_secs(words.unanswered_seconds));
     }
+    peers = peers.with_owed_limit(words.most_owed as usize);
     if words.log.is_some() {
         peers = peers.with_facts(&words.facts.peers);
     }

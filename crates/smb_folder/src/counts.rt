@@ -16,6 +16,14 @@ impl Counts {
         self.folders = self.folders.saturating_add(1);
     }
 
+    /// These counts with more bytes, of a file that is not there whole.
+    pub(crate) fn with_bytes(self, bytes: u64) -> Self {
+        Counts {
+            bytes: self.bytes.saturating_add(bytes),
+            ..self
+        }
+    }
+
     /// Counts a file of so many bytes.
     pub(crate) fn add_file(&mut self, bytes: u64) {
         self.files = self.files.saturating_add(1);

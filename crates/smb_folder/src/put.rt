@@ -4,6 +4,7 @@ use super::counts::Counts;
 use super::fault::{FolderFault, FolderRule, Trouble};
 use super::kept::Kept;
 use super::names::{base_of, joined, names_in, system_path};
+use super::progress::Progress;
 use super::talk::{PART, Purpose, Talk};
 use smb_client::{Client, FileAttributes, FileId, Line};
 use smb_wire::limits::Limits;
@@ -34,7 +35,7 @@ impl Step {
 
 /// A folder that is being put into a share.
 #[derive(Drop)]
-struct Putting<'a, 'l, 'c, R: Files, L: Line> {
+struct Putting<'a, 'l, 'c, R: Files, L: Line, P: Progress + Drop> {
     rt: &'a R,
     alloc: Global,
     base: String,
@@ -46,6 +47,7 @@ struct Putting<'a, 'l, 'c, R: Files, L: Line> {
     /// The part of a file that was read last.
     part: Vec<u8>,
     counts: Counts,
+    progress: P,
 }
 
 /// Whether a file is still the one that it was, as far as that can be seen.
@@ -67,7 +69,7 @@ fn check_unchanged<F: OpenFile>(before: &Metadata, file: &F) -> Result<(), Troub
     }
 }
 
-impl<R: Files, L: Line> Putting<'_, '_, '_, R, L> {
+impl<R: Files, L: Line, P: Progress + Drop> Putting<'_, '_, '_, R, L, P> {
     /// Has what is in a folder put next, in order of the names.
     fn enter(&mut self, relative: &str) -> Result<(), Trouble> {
         let path = system_path(self.alloc, &self.base, relative)?;
@@ -109,6 +111,7 @@ impl<R: Files, L: Line> Putting<'_, '_, '_, R, L> {
             }
             self.talk.write(file_id, offset, &self.part)?;
             offset = end;
+            self.progress.note(self.counts.with_bytes(offset));
         }
         if offset == size {
             Ok(())
@@ -179,6 +182,7 @@ impl<R: Files, L: Line> Putting<'_, '_, '_, R, L> {
             if let Err(trouble) = self.perform(&step) {
                 return Err(trouble.at(self.alloc, &self.base, step.relative()));
             }
+            self.progress.note(self.counts);
         }
         Ok(())
     }
@@ -202,6 +206,18 @@ pub fn put_folder<R: Files + AllocGlobal, L: Line>(
     line: &mut L,
     client: &mut Client,
 ) -> Result<Counts, FolderFault> {
+    put_folder_noted(rt, limits, folder, line, client, ())
+}
+
+/// The same as [`put_folder`], of which somebody hears how far it has come.
+pub fn put_folder_noted<R: Files + AllocGlobal, L: Line, P: Progress + Drop>(
+    rt: &R,
+    limits: Limits,
+    folder: &str,
+    line: &mut L,
+    client: &mut Client,
+    progress: P,
+) -> Result<Counts, FolderFault> {
     let alloc = rt.alloc();
     let mut putting = Putting {
         rt,
@@ -212,6 +228,7 @@ pub fn put_folder<R: Files + AllocGlobal, L: Line>(
         steps: Vec::new(alloc),
         part: Vec::new(alloc),
         counts: Counts::default(),
+        progress,
     };
     putting.run()?;
     Ok(putting.counts)

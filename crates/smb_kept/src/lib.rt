@@ -26,6 +26,7 @@ mod length;
 mod own_client;
 mod performed;
 mod performing;
+mod progress;
 mod putting;
 mod share;
 mod steps;

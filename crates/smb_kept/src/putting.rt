@@ -2,9 +2,10 @@
 
 use crate::fault::KeptFault;
 use crate::own_client::{TOKEN, log_in};
+use crate::progress::TerminalProgress;
 use smb_client::{Client, ClientFault, Line};
 use smb_engine::{Authenticator, Opens, Share, Tree};
-use smb_folder::{FolderFault, put_folder};
+use smb_folder::{FolderFault, put_folder_noted};
 use smb_journal::{Mailbox, Recorder, Store};
 use smb_pair::client_fault;
 use smb_peers::Clock;
@@ -134,7 +135,8 @@ impl Filling for FolderFilling<'_> {
         line: &mut L,
         client: &mut Client,
     ) -> Result<(), FolderFault> {
-        let _ = put_folder(rt, self.limits, self.folder, line, client)?;
+        let progress = TerminalProgress::new(rt, self.folder);
+        let _ = put_folder_noted(rt, self.limits, self.folder, line, client, progress)?;
         Ok(())
     }
 }
@@ -181,7 +183,7 @@ pub(crate) fn put_in<
 }
 
 /// Puts the files of a folder of the system into a new share of this path and these limits, whose authenticator lets the program's own
-/// client in first.
+/// client in first. On a terminal standard error has a line a second of how far it is.
 ///
 /// What can't be in the share is a [`KeptFault::Folder`]: what was put in before is in it then.
 pub fn put_folder_in<

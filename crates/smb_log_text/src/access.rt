@@ -65,23 +65,14 @@ fn put_words(
     Ok(())
 }
 
-/// What an access is called that has no word.
-fn other_access(access: Access) -> &'static str {
-    if access.0 == 0 { "none" } else { "attributes" }
-}
-
 /// Adds what a CREATE asks for, behind its name.
 pub(crate) fn put_create(asked: &CreateRequest<'_>, text: &mut String) -> Result<(), AllocError> {
     text.push_str(" ")?;
     put_disposition(asked.create_disposition, text)?;
     text.push_str(" access=")?;
-    let access = asked.desired_access;
-    put_words(
-        access.0,
-        ACCESS_WORDS.as_slice(),
-        other_access(access),
-        text,
-    )?;
+    let access = asked.desired_access.0;
+    let others = if access == 0 { "none" } else { "attributes" };
+    put_words(access, ACCESS_WORDS.as_slice(), others, text)?;
     text.push_str(" share=")?;
     put_words(asked.share_access.0, SHARE_WORDS.as_slice(), "none", text)?;
     let options = asked.create_options.0;

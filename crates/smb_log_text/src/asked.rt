@@ -42,11 +42,12 @@ fn put_name(name: Units<'_>, text: &mut String) -> Result<(), AllocError> {
 fn put_set_file(asked: &SetAsk<'_>, text: &mut String) -> Result<bool, AllocError> {
     match asked {
         SetAsk::Rename(replaces, name) => {
-            text.push_str(if *replaces {
+            let words = if *replaces {
                 " rename over "
             } else {
                 " rename to "
-            })?;
+            };
+            text.push_str(words)?;
             put_path(*name, text)?;
         }
         SetAsk::Mark(goes) => {
@@ -61,12 +62,11 @@ fn put_set_file(asked: &SetAsk<'_>, text: &mut String) -> Result<bool, AllocErro
 
 /// Adds what a SET_INFO sets.
 fn put_set(asked: &SetInfoRequest<'_>, text: &mut String) -> Result<(), AllocError> {
-    if asked.info_type == InfoType::FILE {
-        if let Ok(set) = read_set_info(asked.file_info_class.0, asked.buffer) {
-            if put_set_file(&set, text)? {
-                return Ok(());
-            }
-        }
+    if asked.info_type == InfoType::FILE
+        && let Ok(set) = read_set_info(asked.file_info_class.0, asked.buffer)
+        && put_set_file(&set, text)?
+    {
+        return Ok(());
     }
     put_class(asked.info_type, asked.file_info_class, text)
 }

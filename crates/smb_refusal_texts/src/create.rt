@@ -28,7 +28,9 @@ pub(crate) fn create_refusal(refusal: CreateRefusal) -> &'static str {
         CreateRefusal::EntryNotDeletable =>
             "DELETE_ON_CLOSE of the root, or of a file that is or becomes read-only",
         CreateRefusal::OpenConflicts => "it has an open with which this one conflicts",
-        CreateRefusal::NoOpenLeft => "there are 1,024 opens, or their numbers are spent",
-        CreateRefusal::NoEntryLeft => "there are 4,096 entries, or their numbers are spent",
+        CreateRefusal::NoOpenLeft =>
+            "there are as many opens as the limits allow, or their numbers are spent",
+        CreateRefusal::NoEntryLeft =>
+            "there are as many entries as the limits allow, or their numbers are spent",
     }
 }

@@ -30,7 +30,7 @@ pub(crate) fn write_refusal(refusal: WriteRefusal) -> &'static str {
             "WRITE_DATA was not granted; or APPEND_DATA alone, and Offset is before the end",
         WriteRefusal::RangeLocked => "a lock bars the range",
         WriteRefusal::NoSpaceLeft =>
-            "the file would be over 16,777,216 bytes, or the space used pass the capacity",
+            "the file would be longer than the limits allow, or the space used pass the capacity",
     }
 }
 
@@ -40,7 +40,7 @@ pub(crate) fn lock_refusal(refusal: LockRefusal) -> &'static str {
         LockRefusal::EntryIsDirectory => "a directory has no locks",
         LockRefusal::FlagsInvalid => "an element has flags that may not be in the request",
         LockRefusal::RangePastTheEnd => "a range reaches past 2^64",
-        LockRefusal::NoLockLeft => "the file has 256 locks",
+        LockRefusal::NoLockLeft => "the file has as many locks as the limits allow",
         LockRefusal::LockConflicts => "a lock of the file conflicts with the one asked for",
         LockRefusal::RangeNotLocked => "the open holds no lock of this very range",
     }

@@ -40,7 +40,7 @@ pub(crate) fn set_size_refusal(refusal: SetSizeRefusal) -> &'static str {
         SetSizeRefusal::EntryIsDirectory => "a directory has no size",
         SetSizeRefusal::WriteNotGranted => "WRITE_DATA was not granted",
         SetSizeRefusal::NoSpaceLeft =>
-            "the file would be over 16,777,216 bytes, or the space used pass the capacity",
+            "the file would be longer than the limits allow, or the space used pass the capacity",
     }
 }
 

@@ -33,6 +33,8 @@ pub(crate) struct Connection {
     pub(crate) ended: bool,
     /// The last send took only a part. It is not read until a send takes all: so a peer that never reads is owed little.
     pub(crate) blocked: bool,
+    /// How many of the bytes that were sent to it last were not taken.
+    pub(crate) owed: usize,
     /// When it was accepted, by the system's time.
     pub(crate) accepted: Duration,
     /// When bytes of it came last, or were taken last of what was sent to it.
@@ -87,6 +89,7 @@ impl Connection {
             closing: false,
             ended: false,
             blocked: false,
+            owed: 0,
             accepted: now,
             heard: now,
             answered: false,

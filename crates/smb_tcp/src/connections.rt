@@ -22,7 +22,7 @@ pub(crate) enum Reading {
     Failed,
 }
 
-/// Connections in the order of their numbers, with what is asked of all of them at each turn: so none of these questions looks at
+/// Connections in the order of their numbers, with what is asked of all of them at each turn, which is answered without a look at
 /// each. All room is made first.
 #[derive(Drop)]
 pub(crate) struct Connections {
@@ -36,6 +36,9 @@ pub(crate) struct Connections {
     limits: SilenceLimits,
     // No limit of silence passes before this moment, for any of them.
     quiet_until: Duration,
+    // How many bytes all are owed, and how many they may be.
+    owed: usize,
+    most_owed: usize,
     ghost few: { vec_len list ≤ most },
 }
 
@@ -51,6 +54,8 @@ impl Connections {
             going_on: 0,
             limits: SilenceLimits::none(),
             quiet_until: Duration::ZERO,
+            owed: 0,
+            most_owed: usize::MAX,
         })
     }
 
@@ -64,6 +69,11 @@ impl Connections {
     pub(crate) fn limit_unanswered(&mut self, limit: Duration) {
         self.limits = self.limits.with_unanswered(limit);
         self.quiet_until = Duration::ZERO;
+    }
+
+    /// Sets how many bytes all may be owed together.
+    pub(crate) fn limit_owed(&mut self, limit: usize) {
+        self.most_owed = limit;
     }
 
     /// Whether there is room for one more.
@@ -169,6 +179,37 @@ impl Connections {
             }
         }
         found
+    }
+
+    /// Where all are owed more bytes than they may be, the place of the one that is owed most. All are looked at only then.
+    pub(crate) fn owed_most(&self) -> Option<usize>
+        ensures { IfSome result (λ place. place < vec_len self.now.list) }
+    {
+        if self.owed <= self.most_owed {
+            return None;
+        }
+        let mut found = None;
+        let mut most = 0;
+        for (place, connection) in self.list.iter().enumerate() {
+            if connection.owed > most && !connection.ended {
+                most = connection.owed;
+                found = Some(place);
+            }
+        }
+        found
+    }
+
+    /// Notes how many bytes the one at a place is owed.
+    fn note_owed(&mut self, place: usize, owed: usize)
+        requires { place < vec_len self.old.list }
+        ensures { vec_len self.new.list ≡ vec_len self.old.list }
+    {
+        let connection = &mut self.list[place];
+        self.owed = self
+            .owed
+            .saturating_sub(connection.owed)
+            .saturating_add(owed);
+        connection.owed = owed;
     }
 
     /// Notes what the system says of each connection, and tells whether one waits to be accepted.
@@ -301,11 +342,13 @@ impl Connections {
             Ok(count) => {
                 connection.blocked = count < bytes.len();
                 connection.take(now, count);
+                self.note_owed(place, bytes.len().saturating_sub(count));
                 self.note(place);
                 Ok(count)
             }
             Err(error) if error.kind() == ErrorKind::WouldBlock => {
                 connection.blocked = true;
+                self.note_owed(place, bytes.len());
                 self.note(place);
                 Ok(0)
             }
@@ -318,6 +361,7 @@ impl Connections {
     pub(crate) fn remove(&mut self, number: u64) {
         if let Some(place) = self.place_of(number) {
             let _ = self.end(place);
+            self.note_owed(place, 0);
             drop(self.list.remove(place));
         }
     }

@@ -50,7 +50,8 @@ impl PeerFacts {
         self.fact(number)?.address
     }
 
-    /// Whether a connection was ended as one that is silent: for a limit of silence, or to make room for another one.
+    /// Whether a connection was ended as one that is silent: for a limit of silence, to make room for another one, or since all were owed too
+    /// much and it most.
     pub fn was_silent(&self, number: u64) -> bool {
         match self.fact(number) {
             Some(fact) => fact.was_silent,

@@ -131,6 +131,14 @@ impl<'a, R: Net + Clock> TcpPeers<'a, R> {
         self
     }
 
+    /// With a number of bytes that all connections together may be owed. Where they are owed more, the one that is owed most has ended, as
+    /// if by its peer. (None of those is read any more, since they did not take what was sent: that alone bounds what one is owed, and not what
+    /// all are.)
+    pub fn with_owed_limit(mut self, limit: usize) -> Self {
+        self.connections.limit_owed(limit);
+        self
+    }
+
     /// With a place where it is noted what is known of each peer.
     pub fn with_facts(mut self, facts: &'a PeerFacts) -> Self {
         self.facts = Some(facts);
@@ -374,6 +382,9 @@ impl<R: Net + Clock> Peers for TcpPeers<'_, R> {
             return event;
         }
         self.piece.clear();
+        if let Some(place) = self.connections.owed_most() {
+            return self.end(place);
+        }
         if self.next_place().is_none() {
             self.look();
             if let Some(event) = self.take_newcomer() {

@@ -48,7 +48,7 @@ fn take_events<P: Peers>(rt: &HostRuntime, peers: &mut P, events: usize) -> io::
     Ok(brought)
 }
 
-/// Whether these are so many numbers that begin with 1, each of them by a step above the one before it.
+/// Whether these numbers begin with 1, rise by this step, and are as many as `count`.
 fn rise_by(numbers: &[u64], step: u64, count: usize) -> bool {
     let mut next = 1u64;
     for number in numbers {
@@ -101,4 +101,37 @@ fn are_brought_in_turn(rt: &HostRuntime) -> io::Result<bool> {
 fn many_streams_are_brought_in_turn(rt: HostRuntime) {
     let is_so = matches!(are_brought_in_turn(&rt), Ok(true));
     assert!(rt; is_so);
+}
+
+/// How many bytes three clients may be owed together, and how many each is sent.
+const MOST_OWED: usize = 24_000_000;
+
+const SENT: [usize; 3] = [10_000_000, 16_000_000, 12_000_000];
+
+/// Sends to three clients that take nothing, and tells whether the one that is owed most has ended, and no other one.
+fn the_most_owed_ends(rt: &HostRuntime) -> io::Result<bool> {
+    let listener = TcpListener::bind(rt, "127.0.0.1:0")?;
+    let address = listener.local_addr()?;
+    let wait = Duration::from_millis(10);
+    let mut peers = TcpPeers::waiting(rt, rt.alloc(), listener, wait)?.with_owed_limit(MOST_OWED);
+    let mut clients = Vec::with_capacity(rt.alloc(), SENT.len())?;
+    for _ in 0..SENT.len() {
+        clients.push(TcpStream::connect(rt, address)?)?;
+    }
+    let coming = take_events(rt, &mut peers, SENT.len())?;
+    for (number, count) in coming.opened.iter().zip(SENT.iter()) {
+        let bytes = Vec::from_elem(rt.alloc(), 0u8, *count)?;
+        let _ = peers.send(*number, &bytes);
+    }
+    let first = peers.next();
+    peers.close(2);
+    let second = peers.next();
+    drop(clients);
+    Ok(first == PeerEvent::Ended(2) && second == PeerEvent::Idle)
+}
+
+#[test]
+fn who_is_owed_most_ends_where_all_are_owed_too_much(rt: HostRuntime) {
+    let has_ended = matches!(the_most_owed_ends(&rt), Ok(true));
+    assert!(rt; has_ended);
 }

@@ -168,6 +168,7 @@ fn serve_clients(
         turns: words.get_one("turns").unwrap_or(u64::MAX),
         idle_seconds: words.get_one("idle").unwrap_or(3600),
         unanswered_seconds: words.get_one("idle-new").unwrap_or(30),
+        most_owed: words.get_one("owed").unwrap_or(1_073_741_824),
         record: record_of(words),
         from: words.get_str("from"),
         clock: words.get_one("clock"),
