@@ -2,7 +2,7 @@
 import struct
 import time
 
-ROOM = memoryview(bytearray(1 << 20))
+ROOM = memoryview(bytearray(1 << 24))
 
 
 def processor_seconds(process):

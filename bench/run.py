@@ -4,10 +4,11 @@
     python3 -m bench.run [SCRIPT ..]
     python3 -m bench.NAME [PROGRAM]                        prints the rows of one script
 
-It takes some five minutes. smbd and smbclient are measured beside it where they are installed (Debian's packages samba and
-smbclient); without smbclient requests.py is left out. Where scripts are named, as `beside.py`, only these run, and the other sections
-stay as they are. A section has the day and the machine of its run, and the load of the machine before it: with other work
-beside it a figure says less. A script that fails ends the run, with its words and its status; what was written until then stays.
+It takes some ten minutes, and 6 GiB of memory for scale.py. smbd and smbclient are measured beside it where they are installed
+(Debian's packages samba and smbclient); without smbclient requests.py is left out, and real_clients.py without that or rclone. Where
+scripts are named, as `beside.py`, only these run, and the other sections stay as they are. A section of no script stays too, behind
+the others. A section has the day and the machine of its run, and the load of the machine before it: with other work beside it a figure
+says less. A script that fails ends the run, with its words and its status; what was written until then stays.
 """
 import datetime
 import os
@@ -51,6 +52,10 @@ SCRIPTS = [
      'have 24 MiB beside those of its start.'),
     ('most_memory.py', [], '64 clients that take nothing, each owed as much as may be, and full files.'),
     ('worst.py', [], 'Single frames that ask as much as a frame may, while every other client waits.'),
+    ('scale.py', [], 'A share at size, under limits of its own. Processor time is the server\'s, with the system\'s part in it: medians of servers '
+     'that take turns. A request that is alone waits for the answer before; most of it is the system\'s part, which a chain of 16 has once.'),
+    ('real_clients.py', [], 'A file of 3 GiB by smbclient, and 20,000 files of 0 to 4,096 bytes by rclone, there and back, as guests by NTLM. '
+     'What came back was the same, by checksum. The seconds are the client\'s too.'),
     ('growth.py', [], 'The same request beside few and many entries or opens; the file that it is of is among others in one directory. The '
      'last column is the second time by the first.'),
     ('allocations.py', [], 'What one request allocates in a replay, counted by a small library that is loaded before the program '
@@ -66,6 +71,9 @@ SCRIPTS = [
      'answers are held whole, which is most of the memory.'),
     ('show.py', [], '`show` on streams of mixed requests, and of a frame for each ECHO.'),
 ]
+
+# What has to be installed for a script.
+WANTED_BY = {'requests.py': ['smbclient'], 'real_clients.py': ['smbclient', 'rclone']}
 
 
 def folded(text):
@@ -106,6 +114,13 @@ def sections_of(page):
     return {part.partition('\n')[0].strip(): part.partition('\n')[2].strip() for part in re.split(r'^## ', page, flags=re.M)[1:]}
 
 
+def page_of(sections):
+    """The page: the sections of scripts in their order, and behind them those of none."""
+    names = [name for name, _, _ in SCRIPTS if name in sections]
+    names += [name for name in sections if name not in names]
+    return HEAD + ''.join(f'\n## {name}\n\n{sections[name]}\n' for name in names)
+
+
 def section(script, words, about):
     """What a script prints, behind what its figures are of and where it ran."""
     where = machine()
@@ -124,11 +139,10 @@ def main(wanted):
     sections = sections_of(PAGE.read_text(encoding='utf-8')) if PAGE.exists() else {}
     for script, words, about in SCRIPTS:
         if script in wanted or not wanted:
-            if script == 'requests.py' and not shutil.which('smbclient'):
+            if not all(map(shutil.which, WANTED_BY.get(script, ()))):
                 continue
             sections[script] = section(script, words, about)
-            text = HEAD + ''.join(f'\n## {name}\n\n{sections[name]}\n' for name, _, _ in SCRIPTS if name in sections)
-            PAGE.write_text(text, encoding='utf-8')
+            PAGE.write_text(page_of(sections), encoding='utf-8')
 
 
 if __name__ == '__main__':
