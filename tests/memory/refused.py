@@ -5,7 +5,8 @@ its first allocation, then its second, and so on until a run makes fewer. Memory
 for it, and in no other. The events before it are answered as in the run without a refusal, those behind it as by a new
 share to which came what tests/memory/cuts.py makes of the events: the first requests of that event, as many as the
 program said, and then the end of its connection. It is so over both pairs of tree and opens, and where the share is
-served to peers.
+served to peers: but there one allocation is of the list of those that are owed something, and where that is refused all
+of them are asked in the next turn, and nothing else is otherwise.
 """
 import collections
 import functools
@@ -212,6 +213,7 @@ class ServedShare:
         self.words = (*PAIRS[pair], 'served')
         self.run = self.share.played(AT_ONE_MOMENT, self.words)
         self.whole = served_of(self.run)
+        self.unharmed = []
         self.others = functools.lru_cache(None)(self.others_anew)
 
     def is_as_its_events(self):
@@ -242,6 +244,9 @@ class ServedShare:
             return fault_of_program(run, self.run)
         if (run.status, run.errors) != (0, '') or not (found := served_of(run)):
             return f'it ends with {run.status} {run.errors!r}'
+        if found == self.whole:
+            self.unharmed.append(number)
+            return None
         gone = AT_ONE_MOMENT[place].connection
         if found.count != 1 or found.closed != {**self.whole.closed, gone: 1}:
             return f'memory ran out {found.count} times, and these were closed: {found.closed}'
@@ -290,7 +295,10 @@ def a_served_share_without_memory_ends_one_connection(program, pair):
         if not served.is_as_its_events():
             print(f'  {pair}: without a refusal memory ran out {served.whole.count} times, or answers differ')
             return False
-        return all_refused(f'{pair}, served', allocations_of(served.run.sizes), served.fault_of_refusal, served.command)
+        what = f'{pair}, served'
+        is_right = all_refused(what, allocations_of(served.run.sizes), served.fault_of_refusal, served.command)
+        print(f'  {what}: nothing is otherwise where allocation {served.unharmed} is refused')
+        return is_right and len(served.unharmed) == 1
 
 
 TESTS = (a_share_without_memory_is_as_defined, a_served_share_without_memory_ends_one_connection)
