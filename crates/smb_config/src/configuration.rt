@@ -82,7 +82,7 @@ impl From<AllocError> for ConfigFault {
 pub struct Configuration {
     /// How much there may be of everything in the share.
     pub limits: Limits,
-    /// What the share is told: it keeps its rules under these limits.
+    /// The configuration of the share, which keeps its rules under these limits.
     pub config: Config,
     /// Whether guests may come.
     pub guest: bool,

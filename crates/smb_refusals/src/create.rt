@@ -43,9 +43,9 @@ pub enum CreateRefusal {
     EntryNotDeletable,
     /// C15: it has an open with which this one conflicts.
     OpenConflicts,
-    /// C16: there are 1,024 opens, or their numbers are spent.
+    /// C16: there are as many opens as the limits allow, or their numbers are spent.
     NoOpenLeft,
-    /// C17: there are 4,096 entries, or their numbers are spent.
+    /// C17: there are as many entries as the limits allow, or their numbers are spent.
     NoEntryLeft,
 }
 

@@ -87,7 +87,7 @@ pub enum WriteRefusal {
     WriteNotGranted,
     /// WR4: a lock bars the range.
     RangeLocked,
-    /// WR5: the file would be over 16,777,216 bytes, or the space used pass the capacity.
+    /// WR5: the file would be longer than the limits allow, or the space used pass the capacity.
     NoSpaceLeft,
 }
 
@@ -128,7 +128,7 @@ pub enum LockRefusal {
     FlagsInvalid,
     /// LK3: a range reaches past 2^64.
     RangePastTheEnd,
-    /// LK4: the file has 256 locks.
+    /// LK4: the file has as many locks as the limits allow.
     NoLockLeft,
     /// LK5: a lock of the file conflicts with the one asked for.
     LockConflicts,

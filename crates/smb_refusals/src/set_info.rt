@@ -122,7 +122,7 @@ pub enum SetSizeRefusal {
     EntryIsDirectory,
     /// SZ2: WRITE_DATA was not granted.
     WriteNotGranted,
-    /// SZ3: the file would be over 16,777,216 bytes, or the space used pass the capacity.
+    /// SZ3: the file would be longer than the limits allow, or the space used pass the capacity.
     NoSpaceLeft,
 }
 

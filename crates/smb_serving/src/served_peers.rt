@@ -61,7 +61,7 @@ impl ServedPeers {
         }
     }
 
-    /// The same, behind all places that are noted.
+    /// Takes note of a place behind all that are noted, of a peer that is owed bytes.
     pub(crate) fn note_last(&mut self, place: usize)
         ensures peers { self.new.peers.items ≡ self.old.peers.items }
         ensures noted { self.new.all ≡ false → (self.old.all ≡ false) × (self.new.restless.items ≡ self.old.restless.items ++ place ∷ []) }

@@ -302,7 +302,7 @@ fn serve_at<A: Authenticator + Drop, T: Tree + Drop, O: Opens + Drop, P: Peers>(
     }
 }
 
-/// The same, and takes note of what the peer may need in the next turn. Tells whether the peer stays.
+/// The part of the peer at a place in a turn, with a note where it may need something in the next one. Tells whether it stays.
 fn serve_noted<A: Authenticator + Drop, T: Tree + Drop, O: Opens + Drop, P: Peers>(
     share: &mut Share<A, T, O>,
     peers: &mut P,

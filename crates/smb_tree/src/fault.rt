@@ -26,8 +26,8 @@ pub enum TreeFault {
     /// An entry is moved, and its path, or that of an entry beneath it, would have more than 32 components.
     #[error("too deep")]
     TooDeep,
-    /// There are 4,096 entries besides the root, the numbers are spent, the file would have more than
-    /// 16,777,216 bytes, or the used space would pass the capacity.
+    /// There are as many entries besides the root as the limits allow, the numbers are spent, the file would be
+    /// longer than they allow, or the used space would pass the capacity.
     #[error("full")]
     Full,
     /// An allocation was refused.
