@@ -28,6 +28,8 @@ EVENTS = events()
 # The events of a share that is served: its clock is asked for no piece of a client that is gone, so it stands still.
 AT_ONE_MOMENT = [replace(it, moment=MOMENT) for it in EVENTS]
 PAIRS = {'slots': (), 'plain': ('plain',)}
+# What a list of places takes at first, in bytes.
+SHORT_LIST = 32
 
 
 @dataclass
@@ -236,7 +238,7 @@ class ServedShare:
         requests = sum(map(len, requests_at(AT_ONE_MOMENT, place)))
         return command_of(self.share, place, 0) if requests < 2 else 'chain'
 
-    def fault_of_refusal(self, number, place, _index):
+    def fault_of_refusal(self, number, place, index):
         """What is wrong with a run in which an allocation is refused, that was made in an event; None where nothing
         is."""
         run = self.share.played(AT_ONE_MOMENT, self.words, number)
@@ -244,7 +246,7 @@ class ServedShare:
             return fault_of_program(run, self.run)
         if (run.status, run.errors) != (0, '') or not (found := served_of(run)):
             return f'it ends with {run.status} {run.errors!r}'
-        if found == self.whole:
+        if found == self.whole and self.run.sizes[place + 1][index] == SHORT_LIST:
             self.unharmed.append(number)
             return None
         gone = AT_ONE_MOMENT[place].connection
