@@ -353,7 +353,7 @@ def waits_for_listings(program):
         asker.does(made_and_closed(['l'], DIRECTORY_FILE))
         asker.does(made_and_closed(f'l\\{i:06}{"b" * 249}' for i in range(CHILDREN)))
         [number] = asker.opens(['l'])
-        shown('a query of `x` and 127 `<b`, names of 255', other, of_none('x' + '<b' * 127)[0])
+        shown('a query of 127 `<b`, one of them `<x`, names of 255', other, of_none('<x' + '<b' * 126)[0])
 
 
 def nested(depth):

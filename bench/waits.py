@@ -13,7 +13,7 @@ from tests.smb.program import Program
 
 FILES, NAME, CHAIN, CREATE, WANTED = 4_080, 251, 16, 2, 1_024
 # The first ends at the last unit of each name; the others are looked at up to its first one.
-PATTERNS = (('`*b*x`', '*b*x'), ('`x`, `*b` 127 times', 'x' + '*b' * 127), ('`x`, `<b` 127 times', 'x' + '<b' * 127))
+PATTERNS = (('`*b*x`', '*b*x'), ('`*x`, `*b` 126 times', '*x' + '*b' * 126), ('`<x`, `<b` 126 times', '<x' + '<b' * 126))
 
 
 def fill(client):

@@ -10,3 +10,5 @@ pub mod Coming
 pub mod GoingOn
 pub mod ListingRuns
 pub mod Listed
+pub mod Narrowing
+pub mod Seeking

@@ -1,9 +1,12 @@
 -- For the proofs; nothing here need be believed.
 -- What is to come from a place among what may be listed of a directory.
 use Rattle.std.specs.Prelude.{◌≡◌, ℕ, ◌≤◌, List, length, drop, map, filter, Option}
+use Rattle.std.specs.declared.cmp.Ordering.TheVariants.{Greater}
 use Rattle.smb_tree.specs.Content.{Row}
 use Rattle.smb_tree.specs.ChildLaws.{in_turn, children_at_once}
 use Rattle.smb_patterns.specs.Patterns.{is_match}
+use Rattle.smb_patterns.specs.PatternOrders.{HasOrder}
+use Rattle.smb_access.specs.declared.scan.ScanLast.{ScanLast}
 use Rattle.smb_access.specs.declared.scan.ScanLast.TheVariants as last
 use Rattle.smb_info.specs.declared.candidate.Listed.{Listed}
 use Rattle.smb_info.specs.declared.candidate.Listed.TheVariants.{Dot, DotDot, Child}
@@ -37,3 +40,7 @@ Stands rows folder cursor = StandsBy rows folder cursor.at cursor.after cursor.c
 -- of candidates those whose names a pattern matches
 unfoldable pub matched : List ℕ → List Candidate → List Candidate
 matched pattern cs = filter (λ c. is_match pattern c.name) cs
+
+-- a name stands there behind all names that a pattern matches
+abbrev pub IsPast : List ℕ → ScanLast → Type 0
+IsPast pattern at = (name : List ℕ) × (at ≡ last.Name name) × HasOrder pattern name Greater

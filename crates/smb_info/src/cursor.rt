@@ -5,10 +5,11 @@ ghost use Rattle.std.specs.Option.{option_copied};
 ghost use Rattle.smb_wire.specs.Units.{units_of};
 ghost use Rattle.smb_tree.specs.Content.{numbered};
 ghost use Rattle.smb_tree.specs.Good.{GoodContent};
-ghost use Rattle.smb_tree.specs.Parts.{AreLawful};
+ghost use Rattle.smb_tree.specs.Parts.{AreLawful, is_after};
 ghost use Rattle.smb_info.specs.Candidates.{children, candidates_behind};
 ghost use Rattle.smb_info.specs.CandidateViews.{candidate};
-ghost use Rattle.smb_info.specs.Cursors.{children_from, to_come, Stands, matched};
+ghost use Rattle.smb_info.specs.Places.{behind_of};
+ghost use Rattle.smb_info.specs.Cursors.{children_from, to_come, Stands, matched, IsPast};
 
 use super::candidate::{CandidateView, Listed};
 use arrayvec::ArrayVec;
@@ -180,7 +181,82 @@ impl Cursor {
         }
     }
 
-    /// The next candidate whose name a pattern matches.
+    // Whether a name comes after that behind which the children were looked up.
+    fn is_before(&self, name: &FoldedName) -> bool
+        ensures { result ≡ is_after self.now.after name.now }
+    {
+        match &self.after {
+            Some(after) => after.cmp(name).is_lt(),
+            None => true,
+        }
+    }
+
+    // Goes on to the first child whose name may begin as the pattern does, from in front of all children behind a name.
+    fn seek<T: Tree>(&mut self, tree: &T, folder: EntryNo, pattern: &Matcher)
+        requires good { GoodContent (T.content tree.now) }
+        requires lawful { AreLawful (T.content tree.now).rows }
+        requires folder { is_some (numbered (T.content tree.now).rows folder) ≡ true }
+        requires stands { Stands (T.content tree.now).rows folder self.old }
+        ensures same { matched pattern.now (to_come (T.content tree.now).rows folder self.new) ≡
+            matched pattern.now (to_come (T.content tree.now).rows folder self.old) }
+        ensures fewer { length (to_come (T.content tree.now).rows folder self.new) ≤
+            length (to_come (T.content tree.now).rows folder self.old) }
+        ensures stands { Stands (T.content tree.now).rows folder self.new }
+    {
+        let Listed::Child = self.at else {
+            return;
+        };
+        if self.given != 0 {
+            return;
+        }
+        let Some(name) = pattern.before() else {
+            return;
+        };
+        if self.is_before(&name) {
+            self.look_up(tree, folder, Some(name));
+        }
+    }
+
+    // The next candidate behind those that come before all names of the pattern.
+    fn next_sought<'a, T: Tree>(
+        &mut self,
+        tree: &'a T,
+        folder: EntryNo,
+        pattern: &Matcher,
+    ) -> Option<CandidateView<'a>>
+        requires good { GoodContent (T.content tree.now) }
+        requires lawful { AreLawful (T.content tree.now).rows }
+        requires folder { is_some (numbered (T.content tree.now).rows folder) ≡ true }
+        requires stands { Stands (T.content tree.now).rows folder self.old }
+        ensures none { IfNone result (matched pattern.now (to_come (T.content tree.now).rows folder self.old) ≡ []) }
+        ensures some { IfSome result (λ c. matched pattern.now (to_come (T.content tree.now).rows folder self.old) ≡
+            matched pattern.now (candidate c ∷ to_come (T.content tree.now).rows folder self.new)) }
+        ensures fewer { OnSome result (length (to_come (T.content tree.now).rows folder self.new) <
+            length (to_come (T.content tree.now).rows folder self.old)) }
+        ensures behind { IfSome result (λ c. to_come (T.content tree.now).rows folder self.new ≡
+            candidates_behind (T.content tree.now).rows folder (behind_of c.listed (units_of c.name))) }
+        ensures stands { OnSome result (Stands (T.content tree.now).rows folder self.new) }
+    {
+        self.seek(tree, folder, pattern);
+        self.next(tree, folder)
+    }
+
+    // Whether a candidate that was given is a child behind all names of the pattern; asked of the first child behind a name
+    // alone.
+    fn is_past(&self, pattern: &Matcher, view: &CandidateView<'_>) -> bool
+        ensures { result ≡ true → IsPast pattern.now (behind_of view.now.listed (units_of view.now.name)) }
+    {
+        if self.given != 1 {
+            return false;
+        }
+        let ScanLast::Name(name) = view.behind() else {
+            return false;
+        };
+        pattern.order(&name).is_gt()
+    }
+
+    /// The next candidate whose name a pattern matches. Where the pattern begins with units that are no wildcards, the children
+    /// that are looked at are those whose names begin with these units, and few more.
     pub fn next_match<'a, T: Tree>(
         &mut self,
         tree: &'a T,
@@ -196,9 +272,12 @@ impl Cursor {
             candidate c ∷ matched pattern.now (to_come (T.content tree.now).rows folder self.new)) }
         ensures stands { OnSome result (Stands (T.content tree.now).rows folder self.new) }
     {
-        while let Some(view) = self.next(tree, folder) {
+        while let Some(view) = self.next_sought(tree, folder, pattern) {
             if pattern.matches(view.name) {
                 return Some(view);
+            }
+            if self.is_past(pattern, &view) {
+                return None;
             }
         }
         None

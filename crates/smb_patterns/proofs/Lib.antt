@@ -7,3 +7,4 @@ pub mod SymbolSets
 pub mod RowSteps
 pub mod HeldRows
 pub mod RowWords
+pub mod PatternOrders

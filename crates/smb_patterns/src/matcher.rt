@@ -1,14 +1,17 @@
 //! A pattern made ready to be matched with many names.
 
-ghost use Rattle.std.specs.Prelude.{◌≡◌, ◌↔◌, IsTrue};
+ghost use Rattle.std.specs.Prelude.{◌≡◌, ◌≢◌, ◌↔◌, IsTrue, IfSome};
+ghost use Rattle.std.specs.declared.cmp.Ordering.TheVariants.{Less, Equal};
 ghost use Rattle.smb_wire.specs.Units.{units_of};
 ghost use Rattle.smb_patterns.specs.Patterns.{Matches};
+ghost use Rattle.smb_patterns.specs.PatternOrders.{HasOrder};
 
 use super::pattern::Pattern;
 use super::rests::Rests;
 use super::rows::{carry, end_row, narrow, place_of};
 use super::symbols::Symbols;
-use smb_wire::Units;
+use smb_wire::{FoldedName, Units};
+use std::cmp::Ordering;
 use std::marker::Model;
 
 /// A pattern made ready to be matched with many names.
@@ -68,5 +71,21 @@ impl Matcher {
             has_dot = has_dot || place.is_last_dot;
         }
         row.has(count)
+    }
+
+    /// The order of a folded name and every name that the pattern matches, where the pattern's units before its first
+    /// wildcard show it; else Equal.
+    pub fn order(&self, name: &FoldedName) -> Ordering
+        ensures { result ≢ Equal → HasOrder self.now name.now result }
+    {
+        self.pattern.order(name)
+    }
+
+    /// A folded name before every name that the pattern matches, with few names between; None where the pattern begins
+    /// with a wildcard.
+    pub fn before(&self) -> Option<FoldedName>
+        ensures { IfSome result (λ name. HasOrder self.now name Less) }
+    {
+        self.pattern.before()
     }
 }
