@@ -5,8 +5,7 @@ its first allocation, then its second, and so on until a run makes fewer. Memory
 for it, and in no other. The events before it are answered as in the run without a refusal, those behind it as by a new
 share to which came what tests/memory/cuts.py makes of the events: the first requests of that event, as many as the
 program said, and then the end of its connection. It is so over both pairs of tree and opens, and where the share is
-served to peers: but there one allocation is of the list of those that are owed something, and where that is refused all
-of them are asked in the next turn, and nothing else is otherwise.
+served to peers.
 """
 import collections
 import functools
@@ -28,8 +27,6 @@ EVENTS = events()
 # The events of a share that is served: its clock is asked for no piece of a client that is gone, so it stands still.
 AT_ONE_MOMENT = [replace(it, moment=MOMENT) for it in EVENTS]
 PAIRS = {'slots': (), 'plain': ('plain',)}
-# What a list of places takes at first, in bytes.
-SHORT_LIST = 32
 
 
 @dataclass
@@ -215,7 +212,6 @@ class ServedShare:
         self.words = (*PAIRS[pair], 'served')
         self.run = self.share.played(AT_ONE_MOMENT, self.words)
         self.whole = served_of(self.run)
-        self.unharmed = []
         self.others = functools.lru_cache(None)(self.others_anew)
 
     def is_as_its_events(self):
@@ -238,7 +234,7 @@ class ServedShare:
         requests = sum(map(len, requests_at(AT_ONE_MOMENT, place)))
         return command_of(self.share, place, 0) if requests < 2 else 'chain'
 
-    def fault_of_refusal(self, number, place, index):
+    def fault_of_refusal(self, number, place, _index):
         """What is wrong with a run in which an allocation is refused, that was made in an event; None where nothing
         is."""
         run = self.share.played(AT_ONE_MOMENT, self.words, number)
@@ -246,9 +242,6 @@ class ServedShare:
             return fault_of_program(run, self.run)
         if (run.status, run.errors) != (0, '') or not (found := served_of(run)):
             return f'it ends with {run.status} {run.errors!r}'
-        if found == self.whole and self.run.sizes[place + 1][index] == SHORT_LIST:
-            self.unharmed.append(number)
-            return None
         gone = AT_ONE_MOMENT[place].connection
         if found.count != 1 or found.closed != {**self.whole.closed, gone: 1}:
             return f'memory ran out {found.count} times, and these were closed: {found.closed}'
@@ -297,10 +290,7 @@ def a_served_share_without_memory_ends_one_connection(program, pair):
         if not served.is_as_its_events():
             print(f'  {pair}: without a refusal memory ran out {served.whole.count} times, or answers differ')
             return False
-        what = f'{pair}, served'
-        is_right = all_refused(what, allocations_of(served.run.sizes), served.fault_of_refusal, served.command)
-        print(f'  {what}: nothing is otherwise where allocation {served.unharmed} is refused')
-        return is_right and len(served.unharmed) == 1
+        return all_refused(f'{pair}, served', allocations_of(served.run.sizes), served.fault_of_refusal, served.command)
 
 
 TESTS = (a_share_without_memory_is_as_defined, a_served_share_without_memory_ends_one_connection)

@@ -17,3 +17,4 @@ pub mod TakenBytes
 pub mod Resting
 pub mod Skipping
 pub mod StillOpen
+pub mod Ordered

@@ -1,6 +1,7 @@
 -- The places of the peers that may need something in a turn.
-use Rattle.std.proofs.Common.{◌≡◌, ◌≢◌, ◌⊎◌, inl, inr, ℕ, ◌+◌, ◌-◌, ◌<◌, ◌≤◌, true, false, List, [], ◌∷◌, ◌++◌, length, set, get_or, refl, sym, ap, subst, ◌∙◌, arith}
+use Rattle.std.proofs.Common.{◌≡◌, ◌≢◌, inl, inr, ℕ, ◌+◌, ◌-◌, ◌<◌, ◌≤◌, true, false, List, [], ◌∷◌, ◌++◌, length, set, get_or, sym, ap, subst, ◌∙◌, arith}
 use Rattle.std.specs.List.{remove, insert}
+use Rattle.std.specs.Vec.{vec_capacity}
 use Rattle.std.proofs.lemmas.Bool.{cases_lt, cases_order, true≢false}
 use Rattle.std.proofs.Math.Seq.{get_or-append_seam}
 use Rattle.std.proofs.lemmas.List.{length-set, length-append, get_or-set_same, get_or-set_other, get_or_append_left}
@@ -8,7 +9,8 @@ use Rattle.std.proofs.lemmas.List.Edits.{length-remove, length-insert, get_or-re
 use Rattle.smb_engine.specs.State.{ShareState, is_open}
 use Rattle.smb_serving.specs.ServedPeers.{PeerState}
 use Rattle.smb_serving.specs.declared.served_peers.ServedPeers.{ServedPeers}
-use Rattle.smb_serving.specs.Restless.{AtRest, IsIn, AreNoted, AreTracked, IsNoted, is_there, is_put, is_lost}
+use Rattle.smb_serving.specs.Restless.{AtRest, IsIn, AreInOrder, AreKept, ArePlaces, AreNoted, AreTrackedTo, AreTracked, IsNoted, is_there, is_put, is_needless}
+use Rattle.smb_serving.proofs.Ordered.{few_places, order_same}
 
 -- a place in a list from which one was taken, and in one that has one more
 data Removed (xs : List ℕ) (i k : ℕ) : Type 0 where
@@ -190,16 +192,63 @@ noted_by share peers place bound before after (is_put at same list fits front be
       noted_more share peers before.restless.items at place bound (h (sym same ∙ none)) fits front behind within,
       (at, omega arith, get_or-insert_at before.restless.items at place 0 fits),
     )
-noted_by share peers place bound before after (is_lost all) h within none = absurd (true≢false (sym all ∙ none))
+noted_by share peers place bound before after (is_needless all) h within none = absurd (true≢false (sym all ∙ none))
 
 -- behind a piece of the peer at a place, which is noted
 pub piece_tracked : {S : Type 0} (share share' : ShareState S) (peers : List PeerState) (place : ℕ) (peer : PeerState) (before after : ServedPeers) → IsNoted place before after →
-    after.peers.items ≡ set peers place peer → place < length peers → (before.all ≡ false → AreNoted share peers before.restless.items (length peers)) →
+    after.peers.items ≡ set peers place peer → place < length peers → AreKept after → (before.all ≡ false → AreNoted share peers before.restless.items (length peers)) →
     ((c : ℕ) → is_open share c ≡ true → is_open share' c ≡ true) → AreTracked share' after
-piece_tracked share share' peers place peer before after noted items within h stays_open none =
-    let n = noted_by share peers place (length peers) before after noted h within none in
-    let P : List PeerState → Type 0 = λ xs. AreNoted share' xs after.restless.items (length xs) in
-    subst P (sym items) (another_there share peers after.restless.items share' place peer n.0 n.1 stays_open)
+piece_tracked share share' peers place peer before after noted items within kept h stays_open = record {
+  kept = kept;
+  noted = λ none.
+      let n = noted_by share peers place (length peers) before after noted h within none in
+      let P : List PeerState → Type 0 = λ xs. AreNoted share' xs after.restless.items (length xs) in
+      subst P (sym items) (another_there share peers after.restless.items share' place peer n.0 n.1 stays_open);
+}
+
+-- the list of places, of those that are noted
+pub places_noted : {S : Type 0} (share : ShareState S) (peers : List PeerState) (places : List ℕ) (bound : ℕ) → AreNoted share peers places bound → ArePlaces places bound
+places_noted share peers places bound h = record { rising = h.rising; within = h.within }
+
+pub few_noted : {S : Type 0} (share : ShareState S) (peers : List PeerState) (places : List ℕ) (bound : ℕ) → AreNoted share peers places bound → length places ≤ bound
+few_noted share peers places bound h = few_places places bound (places_noted share peers places bound h)
+
+-- another peer of the same number
+pub kept_same : (before after : ServedPeers) (place : ℕ) (peer other : PeerState) → AreKept before → place < length before.peers.items → other ≡ get_or before.peers.items place other → peer.number ≡ other.number →
+    after.peers.items ≡ set before.peers.items place peer → vec_capacity before.restless ≤ vec_capacity after.restless → AreKept after
+kept_same before after place peer other kept within is same items room =
+    let P : List PeerState → Type 0 = AreInOrder in
+    record {
+      order = subst P (sym items) (order_same before.peers.items place peer other kept.order within is same);
+      room = omega (arith, ap length items, length-set before.peers.items place peer, kept.room, room);
+    }
+
+-- the same peers and places, with more room
+pub same_tracked : {S : Type 0} (share share' : ShareState S) (before after : ServedPeers) → share' ≡ share → after.peers.items ≡ before.peers.items → after.restless.items ≡ before.restless.items → after.all ≡ before.all →
+    vec_capacity before.restless ≤ vec_capacity after.restless → AreTracked share before → AreTracked share' after
+same_tracked {S} share share' before after same peers places all room h =
+    let O : List PeerState → Type 0 = AreInOrder in
+    let N : ShareState S → List PeerState → List ℕ → Type 0 = λ s xs is. AreNoted s xs is (length xs) in
+    record {
+      kept = record { order = subst O (sym peers) h.kept.order; room = omega (arith, ap length peers, h.kept.room, room) };
+      noted = λ none. subst (λ s. N s after.peers.items after.restless.items) (sym same)
+          (subst (λ xs. N share xs after.restless.items) (sym peers) (subst (N share before.peers.items) (sym places) (h.noted (sym all ∙ none))));
+    }
+
+-- the peers in order, no more than before: and any of them may need something
+pub all_tracked : {S : Type 0} (bound : ℕ) (share : ShareState S) (served : ServedPeers) → served.all ≡ true → AreKept served → AreTrackedTo bound share served
+all_tracked bound share served all kept = record { kept = kept; noted = λ none. absurd (true≢false (sym all ∙ none)) }
+
+-- all peers had their part
+pub tracked_whole : {S : Type 0} (bound : ℕ) (share : ShareState S) (served : ServedPeers) → AreTrackedTo bound share served → length served.peers.items ≤ bound → AreTracked share served
+tracked_whole bound share served h past = record {
+  kept = h.kept;
+  noted = λ none.
+      let n = h.noted none in
+      let P : ℕ → Type 0 = AreNoted share served.peers.items served.restless.items in
+      let e : bound ≡ length served.peers.items = omega (arith, n.fits) in
+      subst P e n;
+}
 
 -- no places, and no peer looked at
 pub none_noted : {S : Type 0} (share : ShareState S) (peers : List PeerState) (places : List ℕ) → places ≡ [] → AreNoted share peers places 0
@@ -214,6 +263,33 @@ none_noted share peers places e =
 
 -- no peers
 pub none_tracked : {S : Type 0} (share : ShareState S) (served : ServedPeers) → served.peers.items ≡ [] → served.restless.items ≡ [] → AreTracked share served
-none_tracked share served peers places none =
+none_tracked share served peers places =
+    let O : List PeerState → Type 0 = AreInOrder in
     let P : ℕ → Type 0 = λ n. AreNoted share served.peers.items served.restless.items n in
-    subst P (sym (ap length peers)) (none_noted share served.peers.items served.restless.items places)
+    record {
+      kept = record { order = subst O (sym peers) (λ i j d l m. absurd (omega arith)); room = omega (arith, ap length peers) };
+      noted = λ none. subst P (sym (ap length peers)) (none_noted share served.peers.items served.restless.items places);
+    }
+
+-- the peer at the bound had its part: it is at rest, owed bytes, or its send failed
+module _ {S : Type 0} (share share' : ShareState S) (place : ℕ) (before after : ServedPeers) (h : AreTrackedTo place share before) (within : place < length before.peers.items) (order : AreInOrder after.peers.items)
+    (room : vec_capacity before.restless ≤ vec_capacity after.restless) where
+  pub tracked_rest : (peer : PeerState) → after.peers.items ≡ set before.peers.items place peer → share' ≡ share → AtRest share peer → after.restless.items ≡ before.restless.items → after.all ≡ before.all →
+      AreTrackedTo (place + 1) share' after
+  tracked_rest peer items same rest places all =
+      let N : ShareState S → List PeerState → List ℕ → Type 0 = λ s xs is. AreNoted s xs is (place + 1) in
+      record {
+        kept = record { order = order; room = omega (arith, ap length items, length-set before.peers.items place peer, h.kept.room, room) };
+        noted = λ none. subst (λ s. N s after.peers.items after.restless.items) (sym same) (subst (λ xs. N share xs after.restless.items) (sym items)
+            (subst (N share (set before.peers.items place peer)) (sym places) (noted_rest share before.peers.items before.restless.items place peer (h.noted (sym all ∙ none)) within rest)));
+      }
+
+  pub tracked_owed : (peer : PeerState) → after.peers.items ≡ set before.peers.items place peer → share' ≡ share → after.all ≡ before.all →
+      (after.all ≡ false → after.restless.items ≡ before.restless.items ++ place ∷ []) → AreTrackedTo (place + 1) share' after
+  tracked_owed peer items same all places =
+      let N : ShareState S → List PeerState → List ℕ → Type 0 = λ s xs is. AreNoted s xs is (place + 1) in
+      record {
+        kept = record { order = order; room = omega (arith, ap length items, length-set before.peers.items place peer, h.kept.room, room) };
+        noted = λ none. subst (λ s. N s after.peers.items after.restless.items) (sym same) (subst (λ xs. N share xs after.restless.items) (sym items)
+            (subst (N share (set before.peers.items place peer)) (sym (places none)) (noted_owed share before.peers.items before.restless.items place peer (h.noted (sym all ∙ none)) within)));
+      }

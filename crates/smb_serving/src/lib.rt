@@ -15,6 +15,7 @@
 mod laws;
 mod memory_peers;
 mod memory_record;
+mod places;
 mod served_peer;
 mod served_peers;
 mod serving;

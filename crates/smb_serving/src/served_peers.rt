@@ -1,7 +1,8 @@
 //! The peers of a share, and which of them may need something in a turn.
 
-ghost use Rattle.std.specs.Prelude.{◌≡◌, ◌++◌, ◌∷◌, [], true, false};
-ghost use Rattle.smb_serving.specs.Restless.{IsNoted};
+ghost use Rattle.std.specs.Prelude.{◌≡◌, ◌<◌, ◌≤◌, ◌++◌, ◌∷◌, [], length, true, false};
+ghost use Rattle.std.specs.Vec.{vec_len, vec_capacity};
+ghost use Rattle.smb_serving.specs.Restless.{ArePlaces, IsNoted};
 
 use super::served_peer::ServedPeer;
 use std::alloc::Global;
@@ -24,7 +25,8 @@ pub enum Part {
 pub struct ServedPeers {
     pub(crate) peers: Vec<ServedPeer>,
     // The places, in rising order, of the peers that may need something in the next turn: each other peer is owed nothing, and
-    // its connection is open. Where `all` is set, any peer may need something.
+    // its connection is open. Where `all` is set, any peer may need something. There is room for the place of each peer, made
+    // at its opening: a note needs no memory.
     pub(crate) restless: Vec<usize>,
     pub(crate) all: bool,
 }
@@ -43,32 +45,55 @@ impl ServedPeers {
         }
     }
 
+    /// Makes room for a peer more and for its place, and tells whether it could.
+    pub(crate) fn make_room(&mut self) -> bool
+        ensures peers { self.new.peers.items ≡ self.old.peers.items }
+        ensures restless { self.new.restless.items ≡ self.old.restless.items }
+        ensures all { self.new.all ≡ self.old.all }
+        ensures kept { vec_capacity self.old.restless ≤ vec_capacity self.new.restless }
+        ensures room { result ≡ true → (vec_len self.new.peers < vec_capacity self.new.peers) × (length self.new.peers.items < vec_capacity self.new.restless) }
+    {
+        if self.peers.reserve(1).is_err() {
+            return false;
+        }
+        let places = self.peers.len() + 1;
+        self.restless
+            .reserve(places.saturating_sub(self.restless.len()))
+            .is_ok()
+    }
+
     /// Takes note that the peer at a place may need something in the next turn.
     pub(crate) fn note(&mut self, place: usize)
+        requires within { place < length self.old.peers.items }
+        requires room { length self.old.peers.items ≤ vec_capacity self.old.restless }
+        requires places { self.old.all ≡ false → ArePlaces self.old.restless.items (length self.old.peers.items) }
         ensures peers { self.new.peers.items ≡ self.old.peers.items }
         ensures noted { IsNoted place self.old self.new }
+        ensures room { vec_capacity self.old.restless ≤ vec_capacity self.new.restless }
     {
-        let mut at = 0;
-        while at < self.restless.len() && self.restless[at] < place {
-            at += 1;
-        }
-        if at < self.restless.len() && self.restless[at] == place {
+        if self.all {
             return;
         }
-        match self.restless.insert(at, place) {
-            Ok(()) => {}
-            Err(_) => self.all = true,
+        match self.restless.binary_search(&place) {
+            Ok(_) => {}
+            Err(at) => match self.restless.insert(at, place) {
+                Ok(()) => {}
+                Err(_) => unreachable!(),
+            },
         }
     }
 
     /// Takes note of a place behind all that are noted, of a peer that is owed bytes.
     pub(crate) fn note_last(&mut self, place: usize)
+        requires { self.old.all ≡ false → length self.old.restless.items < vec_capacity self.old.restless }
         ensures peers { self.new.peers.items ≡ self.old.peers.items }
-        ensures noted { self.new.all ≡ false → (self.old.all ≡ false) × (self.new.restless.items ≡ self.old.restless.items ++ place ∷ []) }
+        ensures all { self.new.all ≡ self.old.all }
+        ensures noted { self.new.all ≡ false → self.new.restless.items ≡ self.old.restless.items ++ place ∷ [] }
+        ensures room { vec_capacity self.new.restless ≡ vec_capacity self.old.restless }
     {
-        match self.restless.push(place) {
-            Ok(()) => {}
-            Err(_) => self.all = true,
+        if self.all {
+            return;
         }
+        self.restless.push_reserved(place);
     }
 }

@@ -7,10 +7,11 @@ ghost use Rattle.smb_peers.specs.Peers.{call_of, OpensOnce};
 ghost use Rattle.smb_serving.specs.ServedPeers.{peer_of};
 ghost use Rattle.smb_serving.specs.ServingParts.{place_of, place_for, serving, told, IsSent, stays, share_behind_end, peers_behind_end};
 ghost use Rattle.smb_serving.specs.Serving.{OpeningFollows, PieceFollows, Follows, AreServed, Served, ServedUntilStopped};
-ghost use Rattle.smb_serving.specs.Restless.{AreNoted, AreTracked, AreTrackedTo, HasPartAt, Leaves, next_place};
+ghost use Rattle.smb_serving.specs.Restless.{AreInOrder, AreKept, AreNoted, AreTracked, AreTrackedTo, HasPartAt, Leaves, next_place};
 ghost use Rattle.smb_serving.specs.Openings.{Begins, OpensIn, TurnOf};
 ghost use Rattle.smb_serving.specs.ServingLaws.{OpensEachOnce};
 
+use super::places::{find_peer, has_peer, place_behind};
 use super::served_peer::ServedPeer;
 use super::served_peers::{Part, ServedPeers};
 use smb_engine::Share;
@@ -18,41 +19,6 @@ use smb_opens::Opens;
 use smb_peers::{Clock, Observer, PeerEvent, Peers, Stopping};
 use smb_session::Authenticator;
 use smb_tree::Tree;
-
-/// The place of a number among the served peers.
-fn find_peer(served_peers: &[ServedPeer], number: u64) -> Option<usize>
-    ensures place { result ≡ place_of number served_peers.now }
-    ensures within { IfSome result (λ place. place < length served_peers.now) }
-{
-    served_peers.iter().position(|peer| peer.number == number)
-}
-
-/// Whether a number has a peer.
-#[tactic(auto, using(crate::proofs::Numbers::known_at))]
-fn has_peer(served_peers: &[ServedPeer], number: u64) -> bool
-    ensures { result ≡ is_some (peer_of number served_peers.now) }
-{
-    find_peer(served_peers, number).is_some()
-}
-
-/// The place of the first peer that has a greater number.
-fn first_above(served_peers: &[ServedPeer], number: u64) -> Option<usize>
-    ensures place { result ≡ position (λ peer. nat_lt number peer.number) served_peers.now }
-    ensures within { IfSome result (λ place. place < length served_peers.now) }
-{
-    served_peers.iter().position(|peer| number < peer.number)
-}
-
-/// Where a peer of a number is to be put.
-fn place_behind(served_peers: &[ServedPeer], number: u64) -> usize
-    ensures place { result ≡ place_for number served_peers.now }
-    ensures within { result ≤ length served_peers.now }
-{
-    match first_above(served_peers, number) {
-        Some(place) => place,
-        None => served_peers.len(),
-    }
-}
 
 /// What came of an opening.
 pub enum Opening {
@@ -64,24 +30,26 @@ pub enum Opening {
 /// Opens a connection of the share for a new peer, where the share has room. Room for the peer is made first.
 fn begin<A: Authenticator + Drop, T: Tree + Drop, O: Opens + Drop>(
     share: &mut Share<A, T, O>,
-    served_peers: &mut Vec<ServedPeer>,
+    served: &mut ServedPeers,
     number: u64,
 ) -> Opening
-    ensures { Begins number share.old served_peers.old.items share.new served_peers.new.items result }
+    requires { AreTracked share.old served.old }
+    ensures begins { Begins number share.old served.old.peers.items share.new served.new.peers.items result }
+    ensures tracked { AreTracked share.new served.new }
 {
     if !share.has_room() {
         return Opening::Refused;
     }
-    match served_peers.reserve(1) {
-        Ok(()) => {}
-        Err(_) => return Opening::NoMemory,
+    if !served.make_room() {
+        return Opening::NoMemory;
     }
     let Ok(connection) = share.opened() else {
         return Opening::NoMemory;
     };
-    let place = place_behind(served_peers, number);
+    let place = place_behind(&served.peers, number);
     let peer = ServedPeer::new(share.allocator(), number, connection);
-    match served_peers.insert(place, peer) {
+    served.all = true;
+    match served.peers.insert(place, peer) {
         Ok(()) => Opening::Done,
         Err(_) => unreachable!(),
     }
@@ -91,18 +59,20 @@ fn begin<A: Authenticator + Drop, T: Tree + Drop, O: Opens + Drop>(
 fn open_peer<A: Authenticator + Drop, T: Tree + Drop, O: Opens + Drop, P: Peers>(
     share: &mut Share<A, T, O>,
     peers: &mut P,
-    served_peers: &mut Vec<ServedPeer>,
+    served: &mut ServedPeers,
     number: u64,
 ) -> bool
+    requires { AreTracked share.old served.old }
     ensures follows { Keeping (P.keeps peers.old) (P.keeps peers.new) ((moments : List ℕ) (n : ℕ) →
-        OpeningFollows number (serving share.old served_peers.old.items (P.calls peers.old) moments n)
-        (serving share.new served_peers.new.items (P.calls peers.new) moments (if result then n + 1 else n))) }
+        OpeningFollows number (serving share.old served.old.peers.items (P.calls peers.old) moments n)
+        (serving share.new served.new.peers.items (P.calls peers.new) moments (if result then n + 1 else n))) }
+    ensures tracked { AreTracked share.new served.new }
     ensures opened { P.opened peers.new ≡ P.opened peers.old }
 {
-    if has_peer(served_peers, number) {
+    if has_peer(&served.peers, number) {
         return false;
     }
-    match begin(share, served_peers, number) {
+    match begin(share, served, number) {
         Opening::Done => false,
         Opening::Refused => {
             peers.close(number);
@@ -124,10 +94,11 @@ fn take_bytes<A: Authenticator + Drop, T: Tree + Drop, O: Opens + Drop, C: Clock
     piece: &[u8],
     observer: &mut W,
 ) -> Option<usize>
+    requires { AreTracked share.old served.old }
     ensures fed { Keeping (C.keeps clock.old) (C.keeps clock.new) ((calls : List PeerCall) (n : ℕ) →
         PieceFollows A.meaning number piece.now (serving share.old served.old.peers.items calls (C.moments clock.old) n)
         (serving share.new served.new.peers.items calls (C.moments clock.new) (if is_some result then n + 1 else n))) }
-    ensures tracked { AreTracked share.old served.old → AreTracked share.new served.new }
+    ensures tracked { AreTracked share.new served.new }
 {
     let Some(place) = find_peer(&served.peers, number) else {
         return None;
@@ -159,8 +130,11 @@ fn end_peer<A: Authenticator + Drop, T: Tree + Drop, O: Opens + Drop>(
     served_peers: &mut Vec<ServedPeer>,
     number: u64,
 )
+    requires { AreInOrder served_peers.old.items }
     ensures share { share.new ≡ share_behind_end share.old served_peers.old.items number }
     ensures served_peers { served_peers.new.items ≡ peers_behind_end served_peers.old.items number }
+    ensures order { AreInOrder served_peers.new.items }
+    ensures counts { length served_peers.new.items ≡ length served_peers.old.items }
 {
     if let Some(place) = find_peer(served_peers, number) {
         let peer = &mut served_peers[place];
@@ -199,17 +173,15 @@ fn take_event<
     served: &mut ServedPeers,
     observer: &mut W,
 ) -> bool
+    requires { AreTracked share.old served.old }
     ensures follows { Keeping (P.keeps peers.old && C.keeps clock.old) (P.keeps peers.new && C.keeps clock.new)
         ((call : PeerCall) × OpensIn call (P.opened peers.old) (P.opened peers.new) × ((n : ℕ) →
         Follows A.meaning call (told (serving share.old served.old.peers.items (P.calls peers.old) (C.moments clock.old) n) call)
         (serving share.new served.new.peers.items (P.calls peers.new) (C.moments clock.new) (if result then n + 1 else n)))) }
-    ensures tracked { AreTracked share.old served.old → AreTracked share.new served.new }
+    ensures tracked { AreTracked share.new served.new }
 {
     match next_event(share, peers) {
-        PeerEvent::Opened(number) => {
-            served.all = true;
-            open_peer(share, peers, &mut served.peers, number)
-        }
+        PeerEvent::Opened(number) => open_peer(share, peers, served, number),
         PeerEvent::Bytes(number) => {
             match take_bytes(share, clock, served, number, peers.piece(), observer) {
                 Some(done) => {
@@ -237,6 +209,7 @@ fn send_owed<A: Authenticator + Drop, T: Tree + Drop, O: Opens + Drop, P: Peers>
     ensures sent { Keeping (P.keeps peers.old) (P.keeps peers.new)
         (IsSent peer.old share.old (P.calls peers.old) (record { share = share.new; peer = peer.new; calls = P.calls peers.new })) }
     ensures same { result ≡ true → share.new ≡ share.old }
+    ensures number { peer.new.number ≡ peer.old.number }
     ensures opened { P.opened peers.new ≡ P.opened peers.old }
 {
     if !peer.is_owed() {
@@ -284,6 +257,7 @@ fn serve_at<A: Authenticator + Drop, T: Tree + Drop, O: Opens + Drop, P: Peers>(
     ensures served { Keeping (P.keeps peers.old) (P.keeps peers.new)
         (HasPartAt place share.old served_peers.old.items (P.calls peers.old) share.new served_peers.new.items (P.calls peers.new) (next_place place result)) }
     ensures left { Leaves place share.old served_peers.old.items share.new served_peers.new.items result }
+    ensures order { AreInOrder served_peers.old.items → AreInOrder served_peers.new.items }
     ensures opened { P.opened peers.new ≡ P.opened peers.old }
 {
     let peer = &mut served_peers[place];
@@ -309,10 +283,11 @@ fn serve_noted<A: Authenticator + Drop, T: Tree + Drop, O: Opens + Drop, P: Peer
     served: &mut ServedPeers,
     place: usize,
 ) -> bool
-    requires { place < length served.old.peers.items }
+    requires within { place < length served.old.peers.items }
+    requires tracked { AreTrackedTo place share.old served.old }
     ensures served { Keeping (P.keeps peers.old) (P.keeps peers.new)
         (HasPartAt place share.old served.old.peers.items (P.calls peers.old) share.new served.new.peers.items (P.calls peers.new) (if result then place + 1 else place)) }
-    ensures tracked { AreTrackedTo place share.old served.old → AreTrackedTo (if result then place + 1 else place) share.new served.new }
+    ensures tracked { AreTrackedTo (if result then place + 1 else place) share.new served.new }
     ensures counts { length served.new.peers.items + (if result then 0 else 1) ≡ length served.old.peers.items }
     ensures opened { P.opened peers.new ≡ P.opened peers.old }
 {
@@ -340,10 +315,11 @@ fn send_from<A: Authenticator + Drop, T: Tree + Drop, O: Opens + Drop, P: Peers>
     served: &mut ServedPeers,
     first: usize,
 )
+    requires { AreTrackedTo first share.old served.old }
     ensures served { Keeping (P.keeps peers.old) (P.keeps peers.new) ((moments : List ℕ) (n : ℕ) →
         AreServed (drop first served.old.peers.items) (serving share.old (take first served.old.peers.items) (P.calls peers.old) moments n)
         (serving share.new served.new.peers.items (P.calls peers.new) moments n)) }
-    ensures tracked { AreTrackedTo first share.old served.old → AreTracked share.new served.new }
+    ensures tracked { AreTracked share.new served.new }
     ensures opened { P.opened peers.new ≡ P.opened peers.old }
 {
     let mut place = first;
@@ -360,10 +336,11 @@ fn send_restless<A: Authenticator + Drop, T: Tree + Drop, O: Opens + Drop, P: Pe
     peers: &mut P,
     served: &mut ServedPeers,
 )
-    ensures served { AreNoted share.old served.old.peers.items served.old.restless.items (length served.old.peers.items) →
-        Keeping (P.keeps peers.old) (P.keeps peers.new) ((moments : List ℕ) (n : ℕ) →
+    requires kept { AreKept served.old }
+    requires noted { AreNoted share.old served.old.peers.items served.old.restless.items (length served.old.peers.items) }
+    ensures served { Keeping (P.keeps peers.old) (P.keeps peers.new) ((moments : List ℕ) (n : ℕ) →
         AreServed served.old.peers.items (serving share.old [] (P.calls peers.old) moments n) (serving share.new served.new.peers.items (P.calls peers.new) moments n)) }
-    ensures tracked { AreNoted share.old served.old.peers.items served.old.restless.items (length served.old.peers.items) → AreTracked share.new served.new }
+    ensures tracked { AreTracked share.new served.new }
     ensures opened { P.opened peers.new ≡ P.opened peers.old }
 {
     let mut index = 0;
@@ -392,9 +369,10 @@ fn send_all<A: Authenticator + Drop, T: Tree + Drop, O: Opens + Drop, P: Peers>(
     peers: &mut P,
     served: &mut ServedPeers,
 )
-    ensures served { AreTracked share.old served.old → Keeping (P.keeps peers.old) (P.keeps peers.new) ((moments : List ℕ) (n : ℕ) →
+    requires { AreTracked share.old served.old }
+    ensures served { Keeping (P.keeps peers.old) (P.keeps peers.new) ((moments : List ℕ) (n : ℕ) →
         AreServed served.old.peers.items (serving share.old [] (P.calls peers.old) moments n) (serving share.new served.new.peers.items (P.calls peers.new) moments n)) }
-    ensures tracked { AreTracked share.old served.old → AreTracked share.new served.new }
+    ensures tracked { AreTracked share.new served.new }
     ensures opened { P.opened peers.new ≡ P.opened peers.old }
 {
     if !served.all {
@@ -413,11 +391,12 @@ fn turn<A: Authenticator + Drop, T: Tree + Drop, O: Opens + Drop, P: Peers, C: C
     served: &mut ServedPeers,
     observer: &mut W,
 ) -> bool
-    ensures turned { AreTracked share.old served.old → Keeping (P.keeps peers.old && C.keeps clock.old) (P.keeps peers.new && C.keeps clock.new)
+    requires { AreTracked share.old served.old }
+    ensures turned { Keeping (P.keeps peers.old && C.keeps clock.old) (P.keeps peers.new && C.keeps clock.new)
         ((call : PeerCall) × OpensIn call (P.opened peers.old) (P.opened peers.new) × ((n : ℕ) →
         TurnOf A.meaning call (serving share.old served.old.peers.items (P.calls peers.old) (C.moments clock.old) n)
         (serving share.new served.new.peers.items (P.calls peers.new) (C.moments clock.new) (if result then n + 1 else n)))) }
-    ensures tracked { AreTracked share.old served.old → AreTracked share.new served.new }
+    ensures tracked { AreTracked share.new served.new }
 {
     let ran_out = take_event(share, peers, clock, served, observer);
     send_all(share, peers, served);

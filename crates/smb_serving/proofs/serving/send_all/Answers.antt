@@ -1,14 +1,18 @@
+use Rattle.std.proofs.Common.{arith}
 use Rattle.smb_serving.proofs.Resting.{none_noted}
 use Rattle.smb_serving.proofs.serving.send_all.Goals as goal
 
-pub returns-then-not-served-clause-served : goal.returns-then-not-served-clause-served
-returns-then-not-served-clause-served g c = λ tracked. c.send_restless.ensures.served (tracked c.if-not-served.true)
+pub send_restless-requires-clause-kept : goal.send_restless-requires-clause-kept
+send_restless-requires-clause-kept g c = c.requires.kept
 
-pub returns-then-not-served-clause-tracked : goal.returns-then-not-served-clause-tracked
-returns-then-not-served-clause-tracked g c = λ tracked. c.send_restless.ensures.tracked (tracked c.if-not-served.true)
+pub send_restless-requires-clause-noted : goal.send_restless-requires-clause-noted
+send_restless-requires-clause-noted g c = c.requires.noted c.if-not-served.true
+
+pub send_from-requires : goal.send_from-requires
+send_from-requires g c = record {
+  kept = record { order = c.requires.kept.order; room = omega (arith, c.clear.ensures.capacity, c.requires.kept.room) };
+  noted = λ none. none_noted c.args.share.now c.args.served.now.peers.items c.clear.new.self.items c.clear.ensures.items;
+}
 
 pub returns-clause-served : goal.returns-clause-served
-returns-clause-served g c = λ tracked. c.send_from.ensures.served
-
-pub returns-clause-tracked : goal.returns-clause-tracked
-returns-clause-tracked g c = λ tracked. c.send_from.ensures.tracked (λ none. none_noted c.args.share.now c.args.served.now.peers.items c.clear.new.self.items c.clear.ensures.items)
+returns-clause-served g c = c.send_from.ensures.served

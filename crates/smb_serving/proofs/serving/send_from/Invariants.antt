@@ -8,7 +8,7 @@ abbrev pub invariant-loop-place : goal.invariant-loop-place
 invariant-loop-place g l = record {
   so_far : Keeping (g.P.Peers.keeps l.fn.peers) (g.P.Peers.keeps l.peers)
       (SentSoFar l.fn.share l.share (take l.first l.fn.served.peers.items) (drop l.first l.fn.served.peers.items) l.served.peers.items (g.P.Peers.calls l.fn.peers) (g.P.Peers.calls l.peers) l.place);
-  tracked : AreTrackedTo l.first l.fn.share l.fn.served → AreTrackedTo l.place l.share l.served;
+  tracked : AreTrackedTo l.place l.share l.served;
   opened : g.P.Peers.opened l.peers ≡ g.P.Peers.opened l.fn.peers;
 }
 

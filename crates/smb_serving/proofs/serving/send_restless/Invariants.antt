@@ -1,13 +1,13 @@
 use Rattle.std.proofs.Common.{◌≡◌, ◌-◌, length}
-use Rattle.smb_serving.specs.Restless.{AreNoted}
+use Rattle.smb_serving.specs.Restless.{AreKept}
 use Rattle.smb_serving.proofs.Skipping.{HasCome}
 use Rattle.smb_serving.proofs.serving.send_restless.Given as goal
 
 abbrev pub invariant-loop-index : goal.invariant-loop-index
 invariant-loop-index g l = record {
-  so_far : AreNoted l.fn.share l.fn.served.peers.items l.fn.served.restless.items (length l.fn.served.peers.items) →
-      HasCome (g.P.Peers.keeps l.fn.peers) (g.P.Peers.keeps l.peers) l.fn.share l.share l.fn.served.peers.items l.served.peers.items
+  so_far : HasCome (g.P.Peers.keeps l.fn.peers) (g.P.Peers.keeps l.peers) l.fn.share l.share l.fn.served.peers.items l.served.peers.items
       (g.P.Peers.calls l.fn.peers) (g.P.Peers.calls l.peers) l.served.restless.items l.index;
+  kept : AreKept l.served;
   opened : g.P.Peers.opened l.peers ≡ g.P.Peers.opened l.fn.peers;
 }
 

@@ -45,5 +45,5 @@ loop-turn-preserved g c =
     (serving c.turn.new.share c.turn.new.served.peers.items (g.P.Peers.calls c.turn.new.peers) (g.C.Clock.moments c.turn.new.clock) n) in
     let next = one_more g.A.Authenticator.meaning (g.P.Peers.keeps c.args.peers.now && g.C.Clock.keeps c.args.clock.now) (g.P.Peers.keeps c.loop-turn.peers && g.C.Clock.keeps c.loop-turn.clock) (g.P.Peers.keeps c.turn.new.peers && g.C.Clock.keeps c.turn.new.clock)
     c.loop-turn._turn before middle after (g.P.Peers.calls c.args.peers.now) (g.P.Peers.opened c.loop-turn.peers) (g.P.Peers.opened c.turn.new.peers) c.loop-turn.invariant.so_far
-    (λ k. let t = c.turn.ensures.turned c.loop-turn.invariant.tracked k in (t.0, (t.1.0, t.1.1, subst (P t.1.0) e (t.1.2 c.loop-turn.count)))) in
-    record { few = elim c.if-turn.branch [ then-turn w ↦ omega arith | else-turn w ↦ omega arith ]; tracked = c.turn.ensures.tracked c.loop-turn.invariant.tracked; so_far = next }
+    (λ k. let t = c.turn.ensures.turned k in (t.0, (t.1.0, t.1.1, subst (P t.1.0) e (t.1.2 c.loop-turn.count)))) in
+    record { few = elim c.if-turn.branch [ then-turn w ↦ omega arith | else-turn w ↦ omega arith ]; tracked = c.turn.ensures.tracked; so_far = next }

@@ -24,7 +24,7 @@ returns-then-is_stopped-clause-served g c =
     (serving c.turn.new.share c.turn.new.served.peers.items (g.P.Peers.calls c.turn.new.peers) (g.C.Clock.moments c.turn.new.clock) n) in
     let next = one_more g.A.Authenticator.meaning (g.P.Peers.keeps c.args.peers.now && g.C.Clock.keeps c.args.clock.now) (g.P.Peers.keeps c.loop-turn.peers && g.C.Clock.keeps c.loop-turn.clock) (g.P.Peers.keeps c.turn.new.peers && g.C.Clock.keeps c.turn.new.clock)
     c.loop-turn._turn before middle after (g.P.Peers.calls c.args.peers.now) (g.P.Peers.opened c.loop-turn.peers) (g.P.Peers.opened c.turn.new.peers) c.loop-turn.invariant.so_far
-    (λ k. let t = c.turn.ensures.turned c.loop-turn.invariant.tracked k in (t.0, (t.1.0, t.1.1, subst (P t.1.0) e (t.1.2 c.loop-turn.count)))) in
+    (λ k. let t = c.turn.ensures.turned k in (t.0, (t.1.0, t.1.1, subst (P t.1.0) e (t.1.2 c.loop-turn.count)))) in
     λ k.
     let b = next k in
     (b.0, (c.loop-turn._turn + 1, omega (arith, c.loop-turn-test.true), λ few. sym c.is_stopped.ensures ∙ c.if-is_stopped.true, (c.turn.new.served.peers.items, b.1.0)))
@@ -41,7 +41,7 @@ returns-then-is_stopped-clause-stops g c =
     (serving c.loop-turn.share c.loop-turn.served.peers.items (g.P.Peers.calls c.loop-turn.peers) (g.C.Clock.moments c.loop-turn.clock) c.loop-turn.count)
     (serving c.turn.new.share c.turn.new.served.peers.items (g.P.Peers.calls c.turn.new.peers) (g.C.Clock.moments c.turn.new.clock) n) in
     λ k.
-    let t = c.turn.ensures.turned c.loop-turn.invariant.tracked k in
+    let t = c.turn.ensures.turned k in
     let b = c.loop-turn.invariant.unstopped t.0 in
     let few : length b.1.0 < c.args.turns = omega (arith, b.1.1, c.loop-turn-test.true) in
     let one = turn_by g.A.Authenticator.meaning middle after t.1.0 (subst (P t.1.0) e (t.1.2 c.loop-turn.count)) in
@@ -61,7 +61,7 @@ returns-then-is_stopped-clause-once g c =
     (serving c.turn.new.share c.turn.new.served.peers.items (g.P.Peers.calls c.turn.new.peers) (g.C.Clock.moments c.turn.new.clock) n) in
     let next = one_more g.A.Authenticator.meaning (g.P.Peers.keeps c.args.peers.now && g.C.Clock.keeps c.args.clock.now) (g.P.Peers.keeps c.loop-turn.peers && g.C.Clock.keeps c.loop-turn.clock) (g.P.Peers.keeps c.turn.new.peers && g.C.Clock.keeps c.turn.new.clock)
     c.loop-turn._turn before middle after (g.P.Peers.calls c.args.peers.now) (g.P.Peers.opened c.loop-turn.peers) (g.P.Peers.opened c.turn.new.peers) c.loop-turn.invariant.so_far
-    (λ k. let t = c.turn.ensures.turned c.loop-turn.invariant.tracked k in (t.0, (t.1.0, t.1.1, subst (P t.1.0) e (t.1.2 c.loop-turn.count)))) in
+    (λ k. let t = c.turn.ensures.turned k in (t.0, (t.1.0, t.1.1, subst (P t.1.0) e (t.1.2 c.loop-turn.count)))) in
     λ k.
     let b = next k in
     let o = b.1.1 in (
@@ -112,13 +112,13 @@ loop-turn-preserved g c =
     (serving c.turn.new.share c.turn.new.served.peers.items (g.P.Peers.calls c.turn.new.peers) (g.C.Clock.moments c.turn.new.clock) n) in
     let next = one_more g.A.Authenticator.meaning (g.P.Peers.keeps c.args.peers.now && g.C.Clock.keeps c.args.clock.now) (g.P.Peers.keeps c.loop-turn.peers && g.C.Clock.keeps c.loop-turn.clock) (g.P.Peers.keeps c.turn.new.peers && g.C.Clock.keeps c.turn.new.clock)
     c.loop-turn._turn before middle after (g.P.Peers.calls c.args.peers.now) (g.P.Peers.opened c.loop-turn.peers) (g.P.Peers.opened c.turn.new.peers) c.loop-turn.invariant.so_far
-    (λ k. let t = c.turn.ensures.turned c.loop-turn.invariant.tracked k in (t.0, (t.1.0, t.1.1, subst (P t.1.0) e (t.1.2 c.loop-turn.count)))) in
+    (λ k. let t = c.turn.ensures.turned k in (t.0, (t.1.0, t.1.1, subst (P t.1.0) e (t.1.2 c.loop-turn.count)))) in
     record {
       few = elim c.if-turn.branch [ then-turn w ↦ omega arith | else-turn w ↦ omega arith ];
-      tracked = c.turn.ensures.tracked c.loop-turn.invariant.tracked;
+      tracked = c.turn.ensures.tracked;
       so_far = next;
       unstopped = λ k.
-          let t = c.turn.ensures.turned c.loop-turn.invariant.tracked k in
+          let t = c.turn.ensures.turned k in
           let b = c.loop-turn.invariant.unstopped t.0 in
           let one = turn_by g.A.Authenticator.meaning middle after t.1.0 (subst (P t.1.0) e (t.1.2 c.loop-turn.count)) in
           let count : length (c.turn.new.peers ∷ b.1.0) ≡ c.loop-turn._turn + 1 = omega (arith, b.1.1) in

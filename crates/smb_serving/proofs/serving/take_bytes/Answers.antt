@@ -1,10 +1,13 @@
-use Rattle.std.proofs.Common.{List, ◌<◌, length, rules, refl, sym, ap, subst, ◌∙◌}
+use Rattle.std.proofs.Common.{List, ◌<◌, length, rules, refl, sym, ap, subst, ◌∙◌, arith}
+use Rattle.std.proofs.lemmas.List.{length-set}
 use Rattle.smb_serving.specs.ServedPeers.{PeerState}
 use Rattle.smb_serving.specs.Serving.{PieceFollows}
 use Rattle.smb_serving.specs.ServingParts.{Taken, place_of, serving, takes_piece, stops_in_piece, leaves_piece}
+use Rattle.smb_serving.specs.Restless.{AreInOrder}
+use Rattle.smb_serving.proofs.Ordered.{order_same}
 use Rattle.smb_serving.proofs.Turning.{fed_at, unknown_piece}
 use Rattle.smb_serving.proofs.Numbers.{no_place}
-use Rattle.smb_serving.proofs.Resting.{piece_tracked}
+use Rattle.smb_serving.proofs.Resting.{piece_tracked, all_tracked, kept_same}
 use Rattle.smb_serving.proofs.StillOpen.{open_behind_piece}
 use Rattle.smb_serving.proofs.serving.take_bytes.Goals as goal
 
@@ -52,10 +55,13 @@ returns-else-not-is_open-2-clause-fed g c = λ k.
     )
 
 pub returns-else-not-is_open-2-clause-tracked : goal.returns-else-not-is_open-2-clause-tracked
-returns-else-not-is_open-2-clause-tracked g c = λ t.
+returns-else-not-is_open-2-clause-tracked g c =
     let P : List PeerState → Type 0 = λ xs. c.in-Some.place < length xs in
     piece_tracked c.args.share.now c.take_piece.new.share c.args.served.now.peers.items c.in-Some.place c.take_piece.new.self _ c.note.new.self c.note.ensures.noted c.note.ensures.peers
-    (subst P c.deref.ensures.value c.in-Some.ensures.within) t
+    (subst P c.deref.ensures.value c.in-Some.ensures.within)
+    (kept_same c.args.served.now c.note.new.self c.in-Some.place c.take_piece.new.self c.index_mut-peer.result.now c.requires.kept (subst P c.deref.ensures.value c.in-Some.ensures.within) c.index_mut-peer.ensures.value
+    (ap (λ (taken : Taken _). taken.peer.number) c.in-Ok.ensures.ok) c.note.ensures.peers c.note.ensures.room)
+    c.requires.noted
     (open_behind_piece g.A.Authenticator.meaning c.args.share.now c.take_piece.new.share c.index_mut-peer.result.now c.moment-moment.result c.args.piece.now
     (ap (λ (taken : Taken _). taken.share) c.in-Ok.ensures.ok) (search rules))
 
@@ -69,3 +75,37 @@ returns-in-Err-clause-fed g c = λ k.
           g.A.Authenticator.meaning c.args.piece.now c.args.share.now c.take_piece.new.share c.take_piece.new.self (g.C.Clock.moments c.args.clock.now) (g.C.Clock.moments c.moment-moment.new.self) _
           (stops_in_piece c.moment-moment.result c.in-Err.cut.done (search rules) c.in-Err.ensures.err t.1 refl),
     )
+
+pub find_peer-requires : goal.find_peer-requires
+find_peer-requires g c = let P : List PeerState → Type 0 = AreInOrder in subst P (sym c.deref.ensures.value) c.requires.kept.order
+
+pub note-requires-clause-within : goal.note-requires-clause-within
+note-requires-clause-within g c =
+    let P : List PeerState → Type 0 = λ xs. c.in-Some.place < length xs in
+    omega (arith, length-set c.args.served.now.peers.items c.in-Some.place c.take_piece.new.self, subst P c.deref.ensures.value c.in-Some.ensures.within)
+
+pub note-requires-clause-room : goal.note-requires-clause-room
+note-requires-clause-room g c = omega (arith, length-set c.args.served.now.peers.items c.in-Some.place c.take_piece.new.self, c.requires.kept.room)
+
+pub note-requires-clause-places : goal.note-requires-clause-places
+note-requires-clause-places g c = λ none.
+    let n = c.requires.noted none in
+    record { rising = n.rising; within = λ i l. omega (arith, length-set c.args.served.now.peers.items c.in-Some.place c.take_piece.new.self, n.within i l) }
+
+pub returns-then-not-is_open-2-clause-tracked : goal.returns-then-not-is_open-2-clause-tracked
+returns-then-not-is_open-2-clause-tracked g c =
+    let P : List PeerState → Type 0 = λ xs. c.in-Some.place < length xs in
+    all_tracked _ _ _ refl (record {
+      order = order_same c.args.served.now.peers.items c.in-Some.place c.take_piece.new.self c.index_mut-peer.result.now c.requires.kept.order (subst P c.deref.ensures.value c.in-Some.ensures.within) c.index_mut-peer.ensures.value
+          (ap (λ (taken : Taken _). taken.peer.number) c.in-Ok.ensures.ok);
+      room = omega (arith, length-set c.args.served.now.peers.items c.in-Some.place c.take_piece.new.self, c.requires.kept.room);
+    })
+
+pub returns-in-Err-clause-tracked : goal.returns-in-Err-clause-tracked
+returns-in-Err-clause-tracked g c =
+    let P : List PeerState → Type 0 = λ xs. c.in-Some.place < length xs in
+    all_tracked _ _ _ refl (record {
+      order = order_same c.args.served.now.peers.items c.in-Some.place c.take_piece.new.self c.index_mut-peer.result.now c.requires.kept.order (subst P c.deref.ensures.value c.in-Some.ensures.within) c.index_mut-peer.ensures.value
+          (ap (λ (peer : PeerState). peer.number) c.in-Err.ensures.err.drops);
+      room = omega (arith, length-set c.args.served.now.peers.items c.in-Some.place c.take_piece.new.self, c.requires.kept.room);
+    })

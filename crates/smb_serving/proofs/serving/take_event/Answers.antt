@@ -1,6 +1,7 @@
-use Rattle.std.proofs.Common.{ℕ, List, [], ◌∷◌, ◌++◌, sym, ap, ◌∙◌}
+use Rattle.std.proofs.Common.{ℕ, List, [], ◌∷◌, ◌++◌, refl, sym, ap, ◌∙◌, arith}
 use Rattle.std.proofs.lemmas.Bool.{and_parts, and_from}
 use Rattle.smb_peers.specs.Record.{next_opened, next_bytes, next_ended}
+use Rattle.smb_serving.proofs.Resting.{all_tracked}
 use Rattle.smb_serving.proofs.Turning.{follows_told, end_follows}
 use Rattle.smb_serving.proofs.serving.take_event.Goals as goal
 
@@ -13,7 +14,7 @@ returns-in-Opened-clause-follows g c = λ k.
       (
         next_opened c.in-Opened.number,
         (c.in-Opened.ensures.once.0, c.open_peer.ensures.opened ∙ c.in-Opened.ensures.once.1),
-        λ n. follows_told g.A.Authenticator.meaning c.args.share.now c.open_peer.new.share c.args.served.now.peers.items c.open_peer.new.served_peers.items
+        λ n. follows_told g.A.Authenticator.meaning c.args.share.now c.open_peer.new.share c.args.served.now.peers.items c.open_peer.new.served.peers.items
             (g.P.Peers.calls c.args.peers.now) (g.P.Peers.calls c.next_event.new.peers) (g.P.Peers.calls c.open_peer.new.peers) (g.C.Clock.moments c.args.clock.now) (g.C.Clock.moments c.args.clock.now) n _
             (next_opened c.in-Opened.number) t.1 (o.1 (g.C.Clock.moments c.args.clock.now) n),
       ),
@@ -68,3 +69,9 @@ returns-in-Ended-clause-follows g c = λ k.
             (end_follows g.A.Authenticator.meaning c.in-Ended.number c.args.share.now c.end_peer.new.share c.args.served.now.peers.items c.end_peer.new.served_peers.items (g.P.Peers.calls c.next_event.new.peers) (g.C.Clock.moments c.args.clock.now) n c.end_peer.ensures.share c.end_peer.ensures.served_peers),
       ),
     )
+
+pub end_peer-requires : goal.end_peer-requires
+end_peer-requires g c = c.requires.kept.order
+
+pub returns-in-Ended-clause-tracked : goal.returns-in-Ended-clause-tracked
+returns-in-Ended-clause-tracked g c = all_tracked _ _ _ refl (record { order = c.end_peer.ensures.order; room = omega (arith, c.end_peer.ensures.counts, c.requires.kept.room) })

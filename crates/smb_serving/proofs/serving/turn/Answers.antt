@@ -5,9 +5,9 @@ use Rattle.smb_serving.specs.Openings.{OpensIn}
 use Rattle.smb_serving.proofs.serving.turn.Goals as goal
 
 pub returns-clause-turned : goal.returns-clause-turned
-returns-clause-turned g c = λ tracked k.
+returns-clause-turned g c = λ k.
     let p = and_parts _ _ k in
-    let a = c.send_all.ensures.served (c.take_event-ran_out.ensures.tracked tracked) p.0 in
+    let a = c.send_all.ensures.served p.0 in
     let e = c.take_event-ran_out.ensures.follows (and_from _ _ a.0 p.1) in
     let P : List ℕ → Type 0 = λ opened. OpensIn e.1.0 (g.P.Peers.opened c.args.peers.now) opened in (
       e.0,

@@ -1,16 +1,19 @@
-use Rattle.std.proofs.Common.{refl, ◌∙◌, arith}
-use Rattle.std.proofs.lemmas.Grind.{get_or_default_zero}
-use Rattle.smb_serving.specs.Restless.{is_put}
+use Rattle.std.proofs.Common.{ℕ, List, length, refl, sym, ap, subst, arith}
+use Rattle.smb_serving.specs.Restless.{ArePlaces, is_put}
+use Rattle.smb_serving.proofs.Ordered.{ArePassed, passed, fewer_places}
 use Rattle.smb_serving.proofs.served_peers.ServedPeers.note.Goals as goal
-use Rattle.smb_serving.proofs.served_peers.ServedPeers.note.Goals.{then-loop-at-test+else-index-place, else-loop-at-test, else-at-len-via-then-at-len+else-index-place-2, else-at-len-via-else-at-len}
 
-pub returns-in-Ok-clause-noted : goal.returns-in-Ok-clause-noted
-returns-in-Ok-clause-noted c =
-    is_put c.loop-at.at refl c.in-Ok.ensures.items c.loop-at.invariant.within c.loop-at.invariant.before
-    (λ l. elim c.else-at-len.branch [
-      | else-at-len-via-then-at-len+else-index-place-2 w ↦ elim c.loop-at-test.branch [
-        | then-loop-at-test+else-index-place v ↦ omega (arith, v.index.ensures ∙ get_or_default_zero _ _ _ l, w.index-then-at-len.ensures ∙ get_or_default_zero _ _ _ l)
-        | else-loop-at-test v ↦ omega arith
-      ]
-      | else-at-len-via-else-at-len w ↦ omega arith
-    ])
+pub unreachable-requires : goal.unreachable-requires
+unreachable-requires c =
+    let P : List ℕ → Type 0 = λ xs. ArePlaces xs (length c.args.self.now.peers.items) in
+    let h = subst P (sym c.deref.ensures.value) (c.requires.places c.if-self.false) in
+    let r = passed c.deref.result.now _ c.in-Err.at c.args.place h c.in-Err.ensures.position in
+    omega (arith, fewer_places c.deref.result.now _ c.in-Err.at c.args.place h r.1 r.2 r.0 c.requires.within, ap length c.deref.ensures.value, c.in-Err-insert.ensures.full, c.requires.room)
+
+pub returns-in-Ok-insert-clause-noted : goal.returns-in-Ok-insert-clause-noted
+returns-in-Ok-insert-clause-noted c =
+    let P : List ℕ → Type 0 = λ xs. ArePlaces xs (length c.args.self.now.peers.items) in
+    let h = subst P (sym c.deref.ensures.value) (c.requires.places c.if-self.false) in
+    let Q : List ℕ → Type 0 = λ xs. ArePassed xs c.in-Err.at c.args.place in
+    let r = subst Q c.deref.ensures.value (passed c.deref.result.now _ c.in-Err.at c.args.place h c.in-Err.ensures.position) in
+    is_put c.in-Err.at refl c.in-Ok-insert.ensures.items r.0 r.1 (λ l. r.2 c.in-Err.at (omega arith) l)
