@@ -1,5 +1,5 @@
 -- One request as the code performs it: what its call and its body say.
-use Rattle.std.proofs.Common.{◌≡◌, ◌≤◌, ℕ, true, false, if◌then◌else◌, List, Option, None, Some, Result, Ok, Err, IfErr, refl, sym, subst, ap, ◌∙◌, arith}
+use Rattle.std.proofs.Common.{◌≡◌, ◌≤◌, ℕ, true, false, if◌then◌else◌, List, Option, None, Some, refl, sym, subst, ap, ◌∙◌, arith}
 use Rattle.std.specs.Option.{option_map_or}
 use Rattle.smb_wire.specs.Commands.{code_of}
 use Rattle.smb_wire.specs.declared.command.Command.{Command}
@@ -13,7 +13,7 @@ use Rattle.smb_request.specs.declared.context.Context.{Context}
 use Rattle.smb_request.specs.declared.response.NoReply.{NoReply}
 use Rattle.smb_request.specs.declared.response.Response.{Response}
 use Rattle.smb_request.specs.declared.response.Response.TheVariants.{Ready, Dialects, Token, Information, Bytes, Listing}
-use Rattle.smb_request.specs.Bodies.{is_listing, no_reply_of}
+use Rattle.smb_request.specs.Bodies.{response_step, is_listing, IsStill, no_reply_of}
 use Rattle.smb_head.specs.Headers.{header_of}
 use Rattle.smb_request.specs.Charge.{charge_of}
 use Rattle.smb_request.specs.Call.{body_of, call_of}
@@ -53,7 +53,7 @@ call_read connection moment dialect context request = record {
 }
 
 -- where no response could be written: a listing was not performed, and left the dialect
-dialect_unwritten : (response : Response) (no_reply : NoReply) (before after is : Option Dialect) → no_reply ≡ no_reply_of response → is ≡ after → (is_listing response ≡ true → is ≡ before) →
+pub dialect_unwritten : (response : Response) (no_reply : NoReply) (before after is : Option Dialect) → no_reply ≡ no_reply_of response → is ≡ after → (is_listing response ≡ true → is ≡ before) →
     is ≡ (if is_performed no_reply then after else before)
 dialect_unwritten (Ready answered reply) no_reply before after is e f g = rw e f
 dialect_unwritten (Dialects dialect) no_reply before after is e f g = rw e f
@@ -62,10 +62,24 @@ dialect_unwritten (Information answered bytes) no_reply before after is e f g = 
 dialect_unwritten (Bytes range) no_reply before after is e f g = rw e f
 dialect_unwritten (Listing asked) no_reply before after is e f g = rw e (g refl)
 
-pub reply_dialect : {X : Type 0} (result : Result X NoReply) (response : Response) (before after is : Option Dialect) → IfErr result (λ no_reply. no_reply ≡ no_reply_of response) → is ≡ after →
-    (is_listing response ≡ true → is ≡ before) → IfErr result (λ no_reply. is ≡ (if is_performed no_reply then after else before))
-reply_dialect (Ok x) response before after is e f g = tt
-reply_dialect (Err no_reply) response before after is e f g = dialect_unwritten response no_reply before after is e f g
+-- and it left the server
+pub server_unwritten : {S : Type 0} (m : Meaning S) (call : Call) (response : Response) (no_reply : NoReply) (before is whole : ServerState S) → no_reply ≡ no_reply_of response →
+    (response_step m is call response).server ≡ whole → (is_listing response ≡ true → is ≡ before) → is ≡ (if is_performed no_reply then whole else before)
+server_unwritten m call (Ready answered reply) no_reply before is whole e f g = rw e f
+server_unwritten m call (Dialects dialect) no_reply before is whole e f g = rw e f
+server_unwritten m call (Token answered flags token) no_reply before is whole e f g = rw e f
+server_unwritten m call (Information answered bytes) no_reply before is whole e f g = rw e f
+server_unwritten m call (Bytes range) no_reply before is whole e f g = rw e f
+server_unwritten m call (Listing asked) no_reply before is whole e f g = rw e (g refl)
+
+-- a listing that is still to be performed changed nothing
+pub still_listing : {S : Type 0} (before after : ServerState S) (response : Response) → IsStill before after response → is_listing response ≡ true → after ≡ before
+still_listing before after (Ready answered reply) s e = absurd (cc)
+still_listing before after (Dialects dialect) s e = absurd (cc)
+still_listing before after (Token answered flags token) s e = absurd (cc)
+still_listing before after (Information answered bytes) s e = absurd (cc)
+still_listing before after (Bytes range) s e = absurd (cc)
+still_listing before after (Listing asked) s e = s
 
 module _ {S : Type 0} (m : Meaning S) (connection moment : ℕ) (server : ServerState S) (dialect : Option Dialect) (context : Context) (request : List ℕ) (call : Call) (is : call ≡ call_of connection moment dialect context request) where
   pub cancelled : is_cancel_command call.command ≡ true → performed m connection moment server dialect context request
@@ -125,3 +139,11 @@ module _ {S : Type 0} (m : Meaning S) (connection moment : ℕ) (server : Server
       (let x : PerformedHeld S = record { server = server'; dialect = dialect'; context = context'; response = Some held } in x)
       ≡ performed_behind front (performed m connection moment server dialect context request)
   performed_put body b e front server' dialect' context' held s d h c = rw (answered e, c, s, d, h, b) refl
+
+  pub performed_server : (body : Option RequestValue) → body ≡ body_of call.command request → is_cancel_command call.command ≡ false →
+      (performed_by m server call body).server ≡ (performed m connection moment server dialect context request).server
+  performed_server body b e = rw (answered e, b) refl
+
+  pub performed_dialect : (body : Option RequestValue) → body ≡ body_of call.command request → is_cancel_command call.command ≡ false →
+      option_map_or (dialect_after dialect) body dialect ≡ (performed m connection moment server dialect context request).dialect
+  performed_dialect body b e = rw (answered e, b) refl

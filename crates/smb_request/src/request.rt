@@ -46,13 +46,6 @@ fn unread_refusal(call: Call) -> RequestRefusal
     }
 }
 
-/// Whether a request is a CANCEL, which is passed over and not answered ([MS-SMB2] 3.3.5.16).
-fn is_cancel_command(command: Option<Command>) -> bool
-    ensures { result ≡ is_cancel_command command }
-{
-    matches!(command, Some(Command::Cancel))
-}
-
 impl<A: Authenticator + Drop, T: Tree + Drop, O: Opens + Drop> Server<A, T, O> {
     /// Checks that a request which names this open may act on it.
     fn check_open(&self, ids: HeaderIds, named: ContextOpen) -> Result<(), RequestRefusal>
@@ -206,35 +199,6 @@ impl<A: Authenticator + Drop, T: Tree + Drop, O: Opens + Drop> Server<A, T, O> {
         self.act(call, dialect, &asked.request)
     }
 
-    /// Performs a request other than CANCEL, and adds the body of its response to `out`.
-    fn answer(
-        &mut self,
-        call: Call,
-        dialect: &mut Option<Dialect>,
-        body: &Option<Asked<'_>>,
-        out: &mut Vec<u8>,
-    ) -> Result<Answered, NoReply>
-        requires { IsCallOf call (option_map asked_value body.now) }
-        ensures server { OnOk result (self.new ≡ (performed_by A.meaning self.old call (option_map asked_value body.now)).server) }
-        ensures ok { IfOk result (λ r. answer_held r out.new.items
-            ≡ answer_behind out.old.items (performed_by A.meaning self.old call (option_map asked_value body.now)).response) }
-        ensures dialect { OnOk result (dialect.new ≡ option_map_or (dialect_after dialect.old) (option_map asked_value body.now) dialect.old) }
-        ensures len { OnOk result (length out.new.items ≤ length out.old.items + longest_body) }
-        ensures err { IfErr result (λ no_reply. self.new
-            ≡ (if is_performed no_reply then (performed_by A.meaning self.old call (option_map asked_value body.now)).server else self.old)) }
-        ensures err_dialect { IfErr result (λ no_reply. dialect.new
-            ≡ (if is_performed no_reply then option_map_or (dialect_after dialect.old) (option_map asked_value body.now) dialect.old else dialect.old)) }
-        ensures kept { take (length out.old.items) out.new.items ≡ out.old.items }
-        ensures known { self.new.sessions.table.connections ≡ self.old.sessions.table.connections }
-    {
-        let response = match self.respond(call, dialect, body) {
-            Ok(response) => response,
-            Err(RefusedBy::Row(refusal)) => Response::refused(call.ids, refusal),
-            Err(RefusedBy::NoMemory) => return Err(NoReply::NotPerformed),
-        };
-        self.put(call, &response, out)
-    }
-
     /// Performs one request of this header, and adds the body of its response to `out`. CANCEL has no response: None,
     /// and `out` is as it was.
     ///
@@ -269,13 +233,22 @@ impl<A: Authenticator + Drop, T: Tree + Drop, O: Opens + Drop> Server<A, T, O> {
         let call = Call::of(
             connection, moment, *dialect, *context, header, command, &body,
         );
-        if is_cancel_command(call.command) {
+        if matches!(command, Some(Command::Cancel)) {
             *context = call.context_without_response();
             return Ok(None);
         }
         let next = self.store.next_number();
-        let answered = self.answer(call, dialect, &body, out)?;
-        *context = call.context_behind(answered.ids, answered.status, next);
-        Ok(Some(answered))
+        let response = match self.respond(call, dialect, &body) {
+            Ok(response) => response,
+            Err(RefusedBy::Row(refusal)) => Response::refused(call.ids, refusal),
+            Err(RefusedBy::NoMemory) => return Err(NoReply::NotPerformed),
+        };
+        match self.put(call, &response, out) {
+            Ok(answered) => {
+                *context = call.context_behind(answered.ids, answered.status, next);
+                Ok(Some(answered))
+            }
+            Err(no_reply) => Err(no_reply),
+        }
     }
 }
