@@ -6,7 +6,7 @@ import time
 
 from tests.logging.replayed import a_recording_is_logged_as_it_was_served, uses_up_turns
 from tests.smb import ntlm
-from tests.smb.client import ALL_ACCESS
+from tests.smb.client import ALL_ACCESS, LONGEST_PIECE, OPEN_IF
 from tests.smb.frames import close, create, read, rename, write
 from tests.smb.kept import Looking, bytes_in, bytes_of, extracted, keeping, killed, tree_of
 from tests.smb.program import GUEST
@@ -170,6 +170,28 @@ def a_client_past_a_limit_is_logged(program):
         return [it[1] for it in events_of(file)] == ['started', 'opened', 'opened', 'refused: 2 connections are open']
 
 
+def asks_for_much(share, count=240):
+    """Asks for 15.7 MB at once, and takes none of it. Gives the client."""
+    client = Looking(share).comes_in()
+    number = client.opens('much', ALL_ACCESS, OPEN_IF)
+    client.asks(write(client.next_id(), number, 0, bytes(LONGEST_PIECE), client.session, 1), 0, None)
+    frames = [read(client.next_id(), number, 0, LONGEST_PIECE, client.session, 1) for _ in range(count)]
+    client.client.send(b''.join(frames))
+    return client
+
+
+def who_is_owed_most_is_logged(program):
+    """Of four who take none of their answers, where all together may be owed 33,554,432 bytes."""
+    with tempfile.TemporaryDirectory() as folder:
+        file = os.path.join(folder, 'log')
+        with keeping(program, '--log', file, '--owed', '33554432') as share:
+            clients = [asks_for_much(share) for _ in range(4)]
+            waits_for(file, 0, b'ended: ')
+            killed(share)
+        found = [it[1] for it in events_of(file)]
+        return len(clients) == 4 and found.count('ended: owed most, and all together too much') > 0
+
+
 def a_full_disk_stops_no_share(program):
     """It is said once; with --log-must the server ends."""
     with tempfile.TemporaryDirectory() as folder:
@@ -284,6 +306,6 @@ def a_replay_of_a_record_is_logged_too(program):
 
 
 TESTS = (refusals_are_logged, sessions_are_logged, requests_are_logged, denied_logins_are_logged, why_a_client_ended_is_logged,
-         a_client_past_a_limit_is_logged,
+         a_client_past_a_limit_is_logged, who_is_owed_most_is_logged,
          a_full_disk_stops_no_share, a_log_follows_its_name, one_that_cannot_be_made_is_refused, standard_error_has_the_lines,
          a_share_is_logged_and_kept, a_pipe_that_is_closed_stops_no_share, a_replay_of_a_record_is_logged_too)

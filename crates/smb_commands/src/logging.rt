@@ -3,8 +3,8 @@
 use crate::clock::ServeClock;
 use crate::fault::Fault;
 use crate::log_output::LogOutput;
-use smb_log::{ConnectionFacts, Level, Log, LoggedPeers};
-use smb_tcp::{PeerFacts, TcpPeers};
+use smb_log::{ConnectionFacts, Ending, Level, Log, LoggedPeers};
+use smb_tcp::{GivenUp, PeerFacts, TcpPeers};
 use smb_wire::limits::Limits;
 use std::alloc::{AllocError, Global};
 use std::cell::RefCell;
@@ -49,8 +49,12 @@ impl ConnectionFacts for TcpFacts {
         }
     }
 
-    fn was_silent(&self, number: u64) -> bool {
-        self.peers.was_silent(number)
+    fn ending(&self, number: u64) -> Ending {
+        match self.peers.given_up(number) {
+            Some(GivenUp::Silent) => Ending::Silence,
+            Some(GivenUp::OwedMost) => Ending::OwedMost,
+            None => Ending::ByClient,
+        }
     }
 }
 

@@ -14,6 +14,8 @@ pub enum Ending {
     ByRule(smb_peers::Ending),
     /// It was owed more bytes than the share keeps for one connection.
     Owed,
+    /// All connections were owed more bytes than they may be, and it most.
+    OwedMost,
     /// A limit of silence passed.
     Silence,
     /// Memory ran out.
@@ -32,6 +34,7 @@ impl fmt::Display for Ending {
                 return write!(f, "by the share, {why}");
             }
             Ending::Owed => "owed more than 33,554,432 bytes",
+            Ending::OwedMost => "owed most, and all together too much",
             Ending::Silence => "silence",
             Ending::Memory => "memory",
             Ending::SendFailed => "a send failed",

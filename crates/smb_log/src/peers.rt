@@ -19,8 +19,8 @@ pub trait ConnectionFacts {
     /// Adds the address of a connection's peer, or nothing where it is not known.
     fn put_address(&self, number: u64, text: &mut String) -> Result<(), AllocError>;
 
-    /// Whether a limit of silence is why a connection has ended, and not its client.
-    fn was_silent(&self, number: u64) -> bool;
+    /// Why a connection has ended that the share did not end.
+    fn ending(&self, number: u64) -> Ending;
 }
 
 /// An opening of which the share has not decided, and when it came.
@@ -147,12 +147,7 @@ impl<'a, P: Peers + Drop, F: ConnectionFacts, C: Clock + Drop, W: Write + Drop> 
                 }
             }
             PeerEvent::Ended(number) => {
-                let was_silent = self.facts.was_silent(number);
-                let why = if was_silent {
-                    Ending::Silence
-                } else {
-                    Ending::ByClient
-                };
+                let why = self.facts.ending(number);
                 self.log_end(number, why);
             }
             PeerEvent::Idle => {}

@@ -110,10 +110,24 @@ impl Connections {
         self.place_of(*self.ready.get(first)?)
     }
 
-    /// Notes whether a connection of a number may be read.
+    /// Notes whether a connection of a number may be read. One behind all that may be read, or the last of them, is found without a
+    /// search: so is the only one.
     fn note_ready(&mut self, number: u64, may_be_read: bool)
         ensures list { vec_len self.new.list ≡ vec_len self.old.list }
     {
+        let last = self.ready.last().copied();
+        if last == Some(number) {
+            if !may_be_read {
+                let _ = self.ready.pop();
+            }
+            return;
+        }
+        if last.is_none_or(|last| last < number) {
+            if may_be_read {
+                let _ = self.ready.push(number);
+            }
+            return;
+        }
         match self.ready.binary_search(&number) {
             Ok(place) => {
                 if !may_be_read {

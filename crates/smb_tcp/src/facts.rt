@@ -5,15 +5,24 @@ use std::alloc::{AllocError, Global};
 use std::cell::RefCell;
 use std::net::SocketAddr;
 
+/// Why the listener itself ended a connection.
+#[derive(Clone, Copy, Debug, PartialEq, Eq)]
+pub enum GivenUp {
+    /// A limit of silence passed, or it made room for another one.
+    Silent,
+    /// All were owed too much, and it most.
+    OwedMost,
+}
+
 /// What is known of a peer's connection, under its number.
 #[derive(Clone, Copy)]
 struct Fact {
     number: u64,
     address: Option<SocketAddr>,
-    was_silent: bool,
+    given_up: Option<GivenUp>,
 }
 
-/// The addresses of peers, and whom a limit of silence ended, for whoever logs them. Each is known from the opening of its
+/// The addresses of peers, and which of them the listener ended, for whoever logs them. Each is known from the opening of its
 /// connection until that is closed. All room is made first.
 #[derive(Drop)]
 pub struct PeerFacts {
@@ -50,13 +59,9 @@ impl PeerFacts {
         self.fact(number)?.address
     }
 
-    /// Whether a connection was ended as one that is silent: for a limit of silence, to make room for another one, or since all were owed too
-    /// much and it most.
-    pub fn was_silent(&self, number: u64) -> bool {
-        match self.fact(number) {
-            Some(fact) => fact.was_silent,
-            None => false,
-        }
+    /// Why the listener ended a connection; None where it did not.
+    pub fn given_up(&self, number: u64) -> Option<GivenUp> {
+        self.fact(number)?.given_up
     }
 
     /// Notes a connection that was opened.
@@ -65,17 +70,17 @@ impl PeerFacts {
             let _ = facts.push(Fact {
                 number,
                 address,
-                was_silent: false,
+                given_up: None,
             });
         }
     }
 
-    /// Notes that a connection was silent.
-    pub(crate) fn note_silent(&self, number: u64) {
+    /// Notes that the listener ended a connection, and why.
+    pub(crate) fn note_given_up(&self, number: u64, why: GivenUp) {
         if let Ok(mut facts) = self.facts.try_borrow_mut() {
             if let Ok(place) = facts.binary_search_by_key(&number, |fact| fact.number) {
                 if let Some(fact) = facts.get_mut(place) {
-                    fact.was_silent = true;
+                    fact.given_up = Some(why);
                 }
             }
         }

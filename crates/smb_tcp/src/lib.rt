@@ -16,6 +16,6 @@ mod piece;
 mod tcp;
 
 pub use clock::SystemClock;
-pub use facts::PeerFacts;
+pub use facts::{GivenUp, PeerFacts};
 pub use piece::PIECE_SIZE;
 pub use tcp::{DEFAULT_CONNECTIONS, MOST_CONNECTIONS, TcpPeers};

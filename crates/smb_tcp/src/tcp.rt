@@ -8,7 +8,7 @@ ghost use Rattle.smb_tcp.specs.Numbers.{numbers_to};
 use super::connection::{Connection, LISTENER};
 use super::connections::{Connections, Reading};
 use super::door::Door;
-use super::facts::PeerFacts;
+use super::facts::{GivenUp, PeerFacts};
 use super::piece::Piece;
 use mio::net::{TcpListener, TcpStream};
 use mio::{Events, Interest, Poll, Token};
@@ -160,15 +160,15 @@ impl<'a, R: Net + Clock> TcpPeers<'a, R> {
         self.connections.ready_above(self.turn)
     }
 
-    /// Ends the connection at a place, as if its peer had.
-    fn end(&mut self, place: usize) -> PeerEvent
+    /// Ends the connection at a place, as if its peer had, and notes why.
+    fn end(&mut self, place: usize, why: GivenUp) -> PeerEvent
         requires { place < vec_len self.old.connections.list }
         ensures opened { self.new.opened ≡ self.old.opened }
         ensures once { OpensOnce result (numbers_to self.old.opened) (numbers_to self.old.opened) }
     {
         let number = self.connections.end(place);
         if let Some(facts) = self.facts {
-            facts.note_silent(number);
+            facts.note_given_up(number, why);
         }
         PeerEvent::Ended(number)
     }
@@ -221,7 +221,7 @@ impl<'a, R: Net + Clock> TcpPeers<'a, R> {
             return None;
         }
         if let Some(place) = self.place_to_clear() {
-            return Some(self.end(place));
+            return Some(self.end(place, GivenUp::Silent));
         }
         if !self.has_room() {
             return None;
@@ -383,7 +383,7 @@ impl<R: Net + Clock> Peers for TcpPeers<'_, R> {
         }
         self.piece.clear();
         if let Some(place) = self.connections.owed_most() {
-            return self.end(place);
+            return self.end(place, GivenUp::OwedMost);
         }
         if self.next_place().is_none() {
             self.look();
@@ -391,7 +391,7 @@ impl<R: Net + Clock> Peers for TcpPeers<'_, R> {
                 return event;
             }
             if let Some(place) = self.connections.first_silent(self.time) {
-                return self.end(place);
+                return self.end(place, GivenUp::Silent);
             }
         }
         self.read_on()

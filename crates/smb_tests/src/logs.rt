@@ -208,8 +208,8 @@ impl ConnectionFacts for NoFacts {
         Ok(())
     }
 
-    fn was_silent(&self, _number: u64) -> bool {
-        false
+    fn ending(&self, _number: u64) -> Ending {
+        Ending::ByClient
     }
 }
 
