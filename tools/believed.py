@@ -29,8 +29,6 @@ import sys
 ROOT = pathlib.Path(__file__).resolve().parent.parent
 PAGE = ROOT / "docs" / "DEFINITIONS.md"
 MARK = "-- For the proofs; nothing here need be believed."
-# Files whose first line says so wrongly. It goes with the next change of their crate: alone it would have every crate above proved anew.
-MARKED_YET = {("smb_patterns", "PatternOrders")}
 NAME = r"[^\W\d][\w'-]*"
 IMPORT = re.compile(r"^\s*(pub |ghost )?use Rattle\.(\w+)\.specs\.([\w.]+)\.\{(.*)\};?\s*$", re.M)
 BEGIN = re.compile(rf"(?:(?:abbrev|unfoldable) pub|pub data|pub record|pub) (?!(?:use|mod|data|record) )({NAME})")
@@ -269,7 +267,7 @@ def by_file(specs, some):
 def marks(specs, reached):
     """What is wrong with the first lines of files: they say whether a file serves the proofs alone."""
     for crate, file in specs:
-        if file == "Lib" or (crate, file) in MARKED_YET:
+        if file == "Lib":
             continue
         path = ROOT / "crates" / crate / "specs" / f"{file}.antt"
         marked = path.read_text(encoding="utf-8").startswith(MARK)

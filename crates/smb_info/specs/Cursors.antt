@@ -41,6 +41,6 @@ Stands rows folder cursor = StandsBy rows folder cursor.at cursor.after cursor.c
 unfoldable pub matched : List ℕ → List Candidate → List Candidate
 matched pattern cs = filter (λ c. is_match pattern c.name) cs
 
--- a name stands there behind all names that a pattern matches
+-- a scan has given a child whose name comes after each name that a pattern matches
 abbrev pub IsPast : List ℕ → ScanLast → Type 0
 IsPast pattern at = (name : List ℕ) × (at ≡ last.Name name) × HasOrder pattern name Greater

@@ -111,7 +111,7 @@ impl Connections {
     }
 
     /// Notes whether a connection of a number may be read. One behind all that may be read, or the last of them, is found without a
-    /// search: so is the only one.
+    /// search: one that is served alone is the last.
     fn note_ready(&mut self, number: u64, may_be_read: bool)
         ensures list { vec_len self.new.list ≡ vec_len self.old.list }
     {
