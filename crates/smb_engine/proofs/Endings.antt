@@ -123,6 +123,17 @@ ends_by_runs connection payload requests window runs ending h keeps same ids e =
     (sym (ap (λ w. ending_by_ids w (message_ids connection.dialect requests)) same)
     ∙ sym (ap (λ (found : List (ℕ × ℕ)). ending_by_ids window (numbers_of found)) ids) ∙ e)
 
+-- a chain whose MessageIds may be used is admitted
+pub admitted_by_runs : (connection : Connection) (payload : List ℕ) (requests : List (List ℕ)) (runs : List (ℕ × ℕ)) →
+    chain_of payload ≡ Some requests → keeps_negotiate_rule connection.dialect requests ≡ true → runs ≡ runs_of connection.dialect requests →
+    may_use connection.window (numbers_of runs) ≡ true → admitted connection payload ≡ Some requests
+unfolding admitted
+admitted_by_runs connection payload requests runs h keeps ids may =
+    let used : may_use connection.window (message_ids connection.dialect requests) ≡ true = ap (λ (found : List (ℕ × ℕ)). may_use connection.window (numbers_of found)) (sym ids) ∙ may in
+    ap (admitted_by connection) h
+    ∙ ap (λ (b : Bool). if b && may_use connection.window (message_ids connection.dialect requests) then Some requests else None) keeps
+    ∙ ap (λ (b : Bool). if b then Some requests else None) used
+
 -- where none is missing, one is used twice
 pub ends_by_twice : (window : WindowState) (ids : List ℕ) → may_use window ids ≡ false → None ≡ missing window ids → ending_by_ids window ids ≡ Some MessageIdTwice
 ends_by_twice window ids h none = by (missing window ids) (are_distinct ids) (ids_end window ids ∙ ap not h) none

@@ -12,7 +12,7 @@ ghost use Rattle.smb_head.specs.Replies.{joined_replies};
 ghost use Rattle.smb_request.specs.Negotiate.{negotiate_answer};
 ghost use Rattle.smb_request.specs.Smb1.{reply_to_smb1};
 ghost use Rattle.smb_engine.specs.Run.{one_performed, smb1_step, chain_step, payload_step, ending_of};
-ghost use Rattle.smb_engine.specs.Parts.{longest_reply, reply_to, first_negotiate};
+ghost use Rattle.smb_engine.specs.Parts.{longest_reply, reply_to};
 ghost use Rattle.smb_engine.specs.Held.{StoppedAfter};
 ghost use Rattle.smb_request.specs.Held.{is_performed};
 ghost use Rattle.smb_engine.specs.Output.{output_bytes, reply_frame};
@@ -24,12 +24,13 @@ ghost use Rattle.smb_session.specs.Window.{credits_granted};
 use super::admission::{admit, request_at};
 use super::arrival::Arrival;
 use super::connection::Connection;
+use super::ending::fault_ending;
 use super::fault::CutShort;
 use super::reporting::{note_subject, report, report_smb1};
 use bitflags::Flags;
 use smb_body::{Smb1Dialects, read_smb1_negotiate};
 use smb_frame::{close_frame, open_frame};
-use smb_head::{Header, HeaderFlags, ReplyWriter};
+use smb_head::{Header, HeaderFlags, ReplyWriter, read_chain};
 use smb_opens::Opens;
 use smb_peers::{Ending, Observer};
 use smb_request::smb1::Smb1Answer;
@@ -65,16 +66,6 @@ fn reply_header(header: &Header, answered: Answered, credits: u16) -> Header
         session_id: answered.ids.session_id,
         signature: [0; 16],
     }
-}
-
-/// Which dialects a connection's first payload lists, where it is an SMB_COM_NEGOTIATE.
-fn first_negotiate(connection: &Connection, payload: &[u8]) -> Option<Smb1Dialects>
-    ensures { result ≡ first_negotiate connection.now payload.now }
-{
-    if connection.payload_came {
-        return None;
-    }
-    read_smb1_negotiate(payload)
 }
 
 /// A chain in progress: what its next related request acts under, and the writer of its replies.
@@ -133,7 +124,7 @@ fn perform_one<A: Authenticator + Drop, T: Tree + Drop, O: Opens + Drop, W: Obse
         return Err(NoReply::NotPerformed);
     };
     let acting = note_subject(server, arrival, progress.context, header, request, observer);
-    let answered = match server.perform(
+    let answered = server.perform(
         arrival.connection_id,
         arrival.moment,
         &mut connection.dialect,
@@ -141,10 +132,7 @@ fn perform_one<A: Authenticator + Drop, T: Tree + Drop, O: Opens + Drop, W: Obse
         header,
         request,
         out,
-    ) {
-        Ok(answered) => answered,
-        Err(no_reply) => return Err(no_reply),
-    };
+    )?;
     let Some(answered) = answered else {
         report(server, arrival, header, request, acting, None, observer);
         progress.writer.drop_reply(reply, out);
@@ -219,13 +207,18 @@ fn chain_payload<A: Authenticator + Drop, T: Tree + Drop, O: Opens + Drop, W: Ob
         ++ ending_observed arrival.connection_id (ending_of connection.old payload.now)))) }
     ensures known { server.new.sessions.table.connections ≡ server.old.sessions.table.connections }
 {
-    let chain = match admit(connection, payload) {
+    let chain = match read_chain(payload) {
         Ok(chain) => chain,
-        Err(ending) => {
+        Err(fault) => {
+            let ending = fault_ending(connection, payload, fault);
             observer.ended(arrival.connection_id, ending);
             return Ok(None);
         }
     };
+    if let Err(ending) = admit(connection, &chain) {
+        observer.ended(arrival.connection_id, ending);
+        return Ok(None);
+    }
     let Ok(start) = open_frame(out) else {
         return Err(CutShort { done: 0 });
     };
@@ -363,7 +356,12 @@ pub(crate) fn perform_payload<
         (W.observed observer.new ≡ W.observed observer.old ++ payload_observed A.meaning arrival server.old connection.old payload.now)) }
     ensures known { server.new.sessions.table.connections ≡ server.old.sessions.table.connections }
 {
-    match first_negotiate(connection, payload) {
+    let listed = if connection.payload_came {
+        None
+    } else {
+        read_smb1_negotiate(payload)
+    };
+    match listed {
         None => chain_payload(server, arrival, connection, payload, most, out, observer),
         Some(dialects) => {
             first_payload(

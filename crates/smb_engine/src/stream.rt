@@ -252,12 +252,9 @@ fn take_back<A: Authenticator + Drop, T: Tree + Drop, O: Opens + Drop, K: Sink, 
             server, arrival, buffer, connection, back, most, out, observer,
         );
     }
-    let (open_still, done, used) = match take_frames(
+    let (open_still, done, used) = take_frames(
         server, arrival, back, connection, most, out, observer,
-    ) {
-        Ok(taken) => taken,
-        Err(ran_out) => return Err(ran_out),
-    };
+    )?;
     if !open_still {
         return Ok((false, done));
     }
@@ -319,12 +316,9 @@ fn take_parts<A: Authenticator + Drop, T: Tree + Drop, O: Opens + Drop, K: Sink,
     let count = buffer.lacking().min(piece.len());
     let front = &piece[..count];
     let back = &piece[count..];
-    let (open_still, done) = match take_held(
+    let (open_still, done) = take_held(
         server, arrival, buffer, connection, front, most, out, observer,
-    ) {
-        Ok(taken) => taken,
-        Err(ran_out) => return Err(ran_out),
-    };
+    )?;
     if !open_still {
         return Ok((false, done));
     }

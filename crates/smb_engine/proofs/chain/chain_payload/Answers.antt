@@ -1,9 +1,29 @@
-use Rattle.std.proofs.Common.{refl, sym, ap, take, ◌∙◌, arith}
+use Rattle.std.proofs.Common.{refl, sym, ap, take, ◌∙◌, Some, arith, rules}
 use Rattle.std.proofs.lemmas.List.{take_all}
 use Rattle.smb_engine.proofs.Chains.{chain_begins, writer_at, out_at, chain_more, chain_stopped, chain_so_far, chain_left, chain_count, done_least, kept_on}
 use Rattle.smb_engine.proofs.Steps.{front_kept, kept_more}
 use Rattle.smb_engine.proofs.Observed.{grew_none, chain_heard_one, chain_heard_more, chain_heard_all, chain_heard_none}
+use Rattle.smb_engine.proofs.Endings.{ends_by_fault, none_admitted}
+use Rattle.smb_engine.specs.Run.{chain_step}
+use Rattle.smb_peers.specs.declared.ending.Ending.{Ending}
 use Rattle.smb_engine.proofs.chain.chain_payload.Goals as goal
+
+pub returns-in-Err-clause-ok : goal.returns-in-Err-clause-ok
+unfolding chain_step
+returns-in-Err-clause-ok g c =
+    let none = none_admitted c.args.connection.now c.args.payload.now _ (ends_by_fault c.args.connection.now c.args.payload.now _ c.in-Err.ensures.err) in
+    search rules
+
+pub returns-in-Err-admit-clause-ok : goal.returns-in-Err-admit-clause-ok
+unfolding chain_step
+returns-in-Err-admit-clause-ok g c =
+    let none = none_admitted c.args.connection.now c.args.payload.now _ (c.in-Err-admit.ensures.err c.args.payload.now c.in-Ok.ensures.ok) in
+    search rules
+
+pub returns-in-Err-admit-clause-observed : goal.returns-in-Err-admit-clause-observed
+returns-in-Err-admit-clause-observed g c =
+    chain_heard_none g.A.Authenticator.meaning c.args.arrival c.args.server.now c.args.connection.now c.args.payload.now _ _ _ _ _
+    (c.in-Err-admit.ensures.err c.args.payload.now c.in-Ok.ensures.ok) c.ended-in-Err-admit.ensures
 
 pub loop-i-init : goal.loop-i-init
 loop-i-init g c = record {
@@ -25,10 +45,10 @@ returns-in-Err-perform_one-clause-kept g c =
 pub returns-in-Err-perform_one-clause-err : goal.returns-in-Err-perform_one-clause-err
 returns-in-Err-perform_one-clause-err g c = record {
   within =
-      let count = chain_count g.A.Authenticator.meaning c.args.arrival c.args.server.now c.args.connection.now c.args.payload.now _ (sym c.in-Ok.ensures.chain) in
+      let count = chain_count g.A.Authenticator.meaning c.args.arrival c.args.server.now c.args.connection.now c.args.payload.now _ (c.in_default.ensures.admitted c.args.payload.now c.in-Ok.ensures.ok) in
       omega (arith, count, c.len-i-end.ensures.len, done_least c.in-Err-perform_one.no_reply c.loop-i.i c.done_behind-done.result c.done_behind-done.ensures, c.loop-i-test.true);
   state =
-      chain_left g.A.Authenticator.meaning c.args.arrival c.args.server.now c.args.connection.now c.args.payload.now _ c.admit.new.connection _ _ (sym c.in-Ok.ensures.chain) c.in-Ok.ensures.taken
+      chain_left g.A.Authenticator.meaning c.args.arrival c.args.server.now c.args.connection.now c.args.payload.now _ c.admit.new.connection _ _ (c.in_default.ensures.admitted c.args.payload.now c.in-Ok.ensures.ok) c.in_default.ensures.taken
       (rw c.done_behind-done.ensures
       (chain_stopped g.A.Authenticator.meaning _ _ _ _ _ _ _ _ c.in-Err-perform_one.no_reply c.loop-i.invariant.so_far c.request_at.ensures.request c.in-Err-perform_one.ensures.err));
 }
@@ -40,10 +60,10 @@ returns-then-i-most-clause-kept g c =
 pub returns-then-i-most-clause-err : goal.returns-then-i-most-clause-err
 returns-then-i-most-clause-err g c = record {
   within =
-      let count = chain_count g.A.Authenticator.meaning c.args.arrival c.args.server.now c.args.connection.now c.args.payload.now _ (sym c.in-Ok.ensures.chain) in
+      let count = chain_count g.A.Authenticator.meaning c.args.arrival c.args.server.now c.args.connection.now c.args.payload.now _ (c.in_default.ensures.admitted c.args.payload.now c.in-Ok.ensures.ok) in
       omega (arith, count, c.len-i-end.ensures.len, c.loop-i-test.true);
   state =
-      chain_left g.A.Authenticator.meaning c.args.arrival c.args.server.now c.args.connection.now c.args.payload.now _ c.admit.new.connection _ _ (sym c.in-Ok.ensures.chain) c.in-Ok.ensures.taken
+      chain_left g.A.Authenticator.meaning c.args.arrival c.args.server.now c.args.connection.now c.args.payload.now _ c.admit.new.connection _ _ (c.in_default.ensures.admitted c.args.payload.now c.in-Ok.ensures.ok) c.in_default.ensures.taken
       (chain_so_far g.A.Authenticator.meaning _ _ _ _ _ _ c.loop-i.invariant.so_far);
 }
 
@@ -64,12 +84,13 @@ loop-i-preserved g c = record {
 pub returns-clause-count : goal.returns-clause-count
 returns-clause-count g c =
     c.len-count.ensures.len
-    ∙ sym (chain_count g.A.Authenticator.meaning c.args.arrival c.args.server.now c.args.connection.now c.args.payload.now _ (sym c.in-Ok.ensures.chain))
+    ∙ sym (chain_count g.A.Authenticator.meaning c.args.arrival c.args.server.now c.args.connection.now c.args.payload.now _ (c.in_default.ensures.admitted c.args.payload.now c.in-Ok.ensures.ok))
 
 pub returns-in-Err-clause-observed : goal.returns-in-Err-clause-observed
 returns-in-Err-clause-observed g c =
-    chain_heard_none g.A.Authenticator.meaning c.args.arrival c.args.server.now c.args.connection.now c.args.payload.now _ _ _ _ _ c.in-Err.ensures.err c.ended.ensures
+    let ends = ends_by_fault c.args.connection.now c.args.payload.now _ c.in-Err.ensures.err ∙ ap (λ (e : Ending). Some e) (sym c.fault_ending-ending.ensures) in
+    chain_heard_none g.A.Authenticator.meaning c.args.arrival c.args.server.now c.args.connection.now c.args.payload.now _ _ _ _ _ ends c.ended.ensures
 
 pub returns-clause-observed : goal.returns-clause-observed
 returns-clause-observed g c =
-    chain_heard_all g.A.Authenticator.meaning c.args.arrival c.args.server.now c.args.connection.now _ c.args.payload.now _ _ _ _ _ _ (sym c.in-Ok.ensures.chain) c.in-Ok.ensures.taken (omega arith) c.loop-i.invariant.observed
+    chain_heard_all g.A.Authenticator.meaning c.args.arrival c.args.server.now c.args.connection.now _ c.args.payload.now _ _ _ _ _ _ (c.in_default.ensures.admitted c.args.payload.now c.in-Ok.ensures.ok) c.in_default.ensures.taken (omega arith) c.loop-i.invariant.observed

@@ -4,8 +4,8 @@ use Rattle.std.specs.List.{list_any}
 use Rattle.smb_engine.specs.Parts.{is_negotiate_request}
 use Rattle.smb_engine.proofs.Chains.{runs_skip, runs_more}
 use Rattle.smb_engine.proofs.Lists.{any_or_found, any_or_passed}
-use Rattle.smb_engine.proofs.admission.runs_of.Goals as goal
-use Rattle.smb_engine.proofs.admission.runs_of.Goals.{then-code, else-code, then-code-2, else-code-2}
+use Rattle.smb_engine.proofs.admission.put_runs.Goals as goal
+use Rattle.smb_engine.proofs.admission.put_runs.Goals.{then-code, else-code, then-code-2, else-code-2}
 
 pub loop-i-preserved : goal.loop-i-preserved
 loop-i-preserved c =

@@ -1,7 +1,7 @@
 use Rattle.std.proofs.Common.{◌≡◌, ◌≤◌, ◌++◌, ◌||◌, drop, length}
 use Rattle.std.specs.List.{list_any}
 use Rattle.smb_engine.specs.Parts.{is_negotiate_request, runs_of}
-use Rattle.smb_engine.proofs.admission.runs_of.Given as goal
+use Rattle.smb_engine.proofs.admission.put_runs.Given as goal
 
 abbrev pub invariant-loop-i : goal.invariant-loop-i
 invariant-loop-i l = record {
