@@ -1,14 +1,10 @@
 //! A connection of a peer.
 
 use super::lending::Lending;
-use mio::Token;
 use mio::event::Event;
 use mio::net::TcpStream;
 use std::alloc::Global;
 use std::time::Duration;
-
-/// The listener's token. No connection gets this number.
-pub(crate) const LISTENER: Token = Token(usize::MAX);
 
 /// When a limit passes that runs since then; at the end of all time where there is none.
 fn passes_at(since: Duration, limit: Option<Duration>) -> Duration {

@@ -2,7 +2,8 @@
 
 ghost use Rattle.std.specs.Prelude.{◌≡◌, ◌<◌, ◌≤◌, true, length, IfSome, IfOk, vec_len};
 
-use super::connection::{Connection, LISTENER, SilenceLimits};
+use super::connection::{Connection, SilenceLimits};
+use super::door::Doors;
 use super::piece::{Piece, READ_SIZE};
 use mio::Events;
 use std::alloc::{AllocError, Global};
@@ -12,7 +13,7 @@ use std::time::Duration;
 
 /// What came of a read.
 pub(crate) enum Reading {
-    /// Bytes: all of them wait in the piece.
+    /// Bytes: they wait in the piece, or were kept back before.
     Bytes,
     /// Nothing for now.
     Nothing,
@@ -226,18 +227,17 @@ impl Connections {
         connection.owed = owed;
     }
 
-    /// Notes what the system says of each connection, and tells whether one waits to be accepted.
-    pub(crate) fn mark_all(&mut self, events: &Events) -> bool {
-        let mut waits = false;
+    /// Notes what the system says of each connection, and of each listener.
+    pub(crate) fn mark_all(&mut self, events: &Events, doors: &mut Doors) {
         for event in events {
-            if event.token() == LISTENER {
-                waits = true;
-            } else if let Some(place) = self.place_of(event.token().0 as u64) {
+            let token = event.token();
+            if let Some(place) = self.place_of(token.0 as u64) {
                 self.list[place].mark(event);
                 self.note(place);
+            } else {
+                doors.mark(token);
             }
         }
-        waits
     }
 
     /// Takes in a new connection, and tells whether there was memory for it.
@@ -275,13 +275,6 @@ impl Connections {
         self.list[place].number
     }
 
-    /// Whether bytes of the one at a place are kept back.
-    pub(crate) fn has_more(&self, place: usize) -> bool
-        requires { place < vec_len self.now.list }
-    {
-        self.list[place].lending.has_more()
-    }
-
     /// Notes whether a turn of the one at a place took long.
     pub(crate) fn note_turn(&mut self, place: usize, took_long: bool)
         requires { place < vec_len self.old.list }
@@ -315,12 +308,15 @@ impl Connections {
         connection.blocked && connection.lending.keep_waiting(piece)
     }
 
-    /// Reads from the one at a place.
+    /// Reads from the one at a place, where no bytes of it are kept back.
     pub(crate) fn read(&mut self, place: usize, piece: &mut Piece, now: Duration) -> Reading
         requires { place < vec_len self.old.list }
         ensures { vec_len self.new.list ≡ vec_len self.old.list }
     {
         let connection = &mut self.list[place];
+        if connection.lending.has_more() {
+            return Reading::Bytes;
+        }
         match piece.read(&mut connection.stream) {
             Ok(0) => {
                 self.end(place);

@@ -1,6 +1,6 @@
-//! The peers of a TCP listener, in one thread, and the system's clock: what `serve` of smb_serving is given by the program.
+//! The peers of TCP listeners, in one thread, and the system's clock: what `serve` of smb_serving is given by the program.
 //!
-//! [`TcpPeers`] are the streams of a listener, [`PeerFacts`] what is known of them beside their bytes, [`SystemClock`] tells the time. Neither keeps a record of its calls.
+//! [`TcpPeers`] are the streams of one or several, [`PeerFacts`] what is known of them beside their bytes, [`SystemClock`] tells the time. Neither keeps a record of its calls.
 //! Proved of the peers is what the trait asks: each connection is opened once, under the next number, and a send is
 //! refused only where a failure is counted. Of the clock it is, inside the crate, that no moment is before the last
 //! one.
@@ -16,6 +16,7 @@ mod piece;
 mod tcp;
 
 pub use clock::SystemClock;
+pub use door::MOST_LISTENERS;
 pub use facts::{GivenUp, PeerFacts};
 pub use piece::PIECE_SIZE;
 pub use tcp::{DEFAULT_CONNECTIONS, MOST_CONNECTIONS, TcpPeers};

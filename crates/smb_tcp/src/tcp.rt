@@ -1,19 +1,20 @@
-//! The peers of a TCP listener.
+//! The peers of TCP listeners.
 
 ghost use Rattle.std.specs.Prelude.{◌≡◌, ◌<◌, ◌≤◌, ◌+◌, true, IfSome, IfNone, vec_len};
 ghost use Rattle.smb_peers.specs.Peers.{OpensOnce};
 ghost use Rattle.smb_peers.specs.declared.peers.PeerEvent.TheVariants.{Opened};
 ghost use Rattle.smb_tcp.specs.Numbers.{numbers_to};
 
-use super::connection::{Connection, LISTENER};
+use super::connection::Connection;
 use super::connections::{Connections, Reading};
-use super::door::Door;
+use super::door::{Doors, LAST_NUMBER, MOST_LISTENERS, Waiting};
 use super::facts::{GivenUp, PeerFacts};
 use super::piece::Piece;
 use mio::net::{TcpListener, TcpStream};
 use mio::{Events, Interest, Poll, Token};
 use smb_peers::{PeerEvent, Peers, SendFault};
 use std::alloc::Global;
+use std::io::ErrorKind;
 use std::net::Net;
 use std::time::{Clock, Duration};
 use std::{io, net};
@@ -30,8 +31,8 @@ const DEAR_TURN_MILLISECONDS: u64 = 4;
 /// Fewer bytes than these that are owed to a peer wait for its answers to those that came with their requests.
 const SHORT_SEND: usize = 16_384;
 
-/// The streams of a listener, numbered from 1 as they are accepted, and read in turn: at most those of the connections that it is made
-/// for, and a newcomer's. All their room is made first. All are looked at only where a limit of silence may have passed, and where a newcomer
+/// The streams of one listener or several, numbered from 1 as they are accepted, and read in turn: at most those of the connections that they
+/// are made for, and a newcomer's. All their room is made first. All are looked at only where a limit of silence may have passed, and where a newcomer
 /// finds all places taken.
 ///
 /// No call waits for a peer. A stream of which a send took only a part is not read until one takes all. One that neither says nor takes
@@ -44,7 +45,7 @@ pub struct TcpPeers<'a, R: Net + Clock> {
     alloc: Global,
     poll: Poll,
     events: Events,
-    door: Door,
+    doors: Doors,
     connections: Connections,
     opened: u64,
     // The number of the stream that was looked at last.
@@ -92,19 +93,13 @@ impl<'a, R: Net + Clock> TcpPeers<'a, R> {
         wait: Duration,
         connections: usize,
     ) -> io::Result<Self> {
-        listener.set_nonblocking(true)?;
-        let mut listener = TcpListener::from_std(listener);
-        let poll = Poll::new(system)?;
-        poll.registry()
-            .register(&mut listener, LISTENER, Interest::READABLE)?;
         let streams = streams_for(connections);
-        let events = Events::with_capacity(alloc, streams + 1)?;
-        Ok(TcpPeers {
+        let peers = TcpPeers {
             system,
             alloc,
-            poll,
-            events,
-            door: Door::new(listener),
+            poll: Poll::new(system)?,
+            events: Events::with_capacity(alloc, streams + MOST_LISTENERS)?,
+            doors: Doors::with_room(alloc)?,
             connections: Connections::with_room(alloc, streams)?,
             opened: 0,
             turn: 0,
@@ -114,7 +109,22 @@ impl<'a, R: Net + Clock> TcpPeers<'a, R> {
             wait,
             time: system.monotonic()?,
             facts: None,
-        })
+        };
+        peers.with_listener(listener)
+    }
+
+    /// With one more listener: there are 16 at most. The error of kind `InvalidInput` says that there are as many.
+    pub fn with_listener(mut self, listener: net::TcpListener) -> io::Result<Self> {
+        let Some(token) = self.doors.next_token() else {
+            return Err(io::Error::from(ErrorKind::InvalidInput));
+        };
+        listener.set_nonblocking(true)?;
+        let mut listener = TcpListener::from_std(listener);
+        self.poll
+            .registry()
+            .register(&mut listener, token, Interest::READABLE)?;
+        self.doors.add(listener)?;
+        Ok(self)
     }
 
     /// With a time after which a connection has ended that says nothing and takes nothing of what is sent to it. It is looked at
@@ -150,7 +160,7 @@ impl<'a, R: Net + Clock> TcpPeers<'a, R> {
         ensures room { result ≡ true → self.now.opened < 0xffff_ffff_ffff_fffe }
         ensures free { result ≡ true → vec_len self.now.connections.list < self.now.connections.most }
     {
-        self.connections.has_room() && self.opened < u64::MAX - 1
+        self.connections.has_room() && self.opened < LAST_NUMBER
     }
 
     /// The first connection after the turn that may be read.
@@ -189,9 +199,12 @@ impl<'a, R: Net + Clock> TcpPeers<'a, R> {
     fn look(&mut self)
         ensures opened { self.new.opened ≡ self.old.opened }
     {
-        let is_busy = self.door.has_newcomer()
-            || self.door.may_accept() && self.has_room()
-            || self.connections.has_ready();
+        let comes = match self.doors.waiting() {
+            Waiting::Newcomer => true,
+            Waiting::AtDoor(_) => self.has_room(),
+            Waiting::Nobody => false,
+        };
+        let is_busy = comes || self.connections.has_ready();
         let wait = if is_busy { Duration::ZERO } else { self.wait };
         if self.poll.poll(&mut self.events, Some(wait)).is_err() {
             self.failures = self.failures.saturating_add(1);
@@ -199,10 +212,8 @@ impl<'a, R: Net + Clock> TcpPeers<'a, R> {
         if let Ok(time) = self.system.monotonic() {
             self.time = time;
         }
-        self.door.try_again();
-        if self.connections.mark_all(&self.events) {
-            self.door.mark();
-        }
+        self.doors.try_again();
+        self.connections.mark_all(&self.events, &mut self.doors);
         if self.next_place().is_none() {
             self.turn = 0;
         }
@@ -214,19 +225,22 @@ impl<'a, R: Net + Clock> TcpPeers<'a, R> {
         ensures none { IfNone result (self.new.opened ≡ self.old.opened) }
         ensures once { IfSome result (λ event. OpensOnce event (numbers_to self.old.opened) (numbers_to self.new.opened)) }
     {
-        if self.door.may_accept() && self.has_room() && !self.door.accept() {
+        if let Waiting::AtDoor(place) = self.doors.waiting()
+            && self.has_room()
+            && !self.doors.accept(place)
+        {
             self.failures = self.failures.saturating_add(1);
         }
-        if !self.door.has_newcomer() {
+        let Waiting::Newcomer = self.doors.waiting() else {
             return None;
-        }
+        };
         if let Some(place) = self.place_to_clear() {
             return Some(self.end(place, GivenUp::Silent));
         }
         if !self.has_room() {
             return None;
         }
-        let stream = self.door.take()?;
+        let stream = self.doors.take()?;
         let number = self.admit(stream)?;
         Some(PeerEvent::Opened(number))
     }
@@ -343,9 +357,6 @@ impl<'a, R: Net + Clock> TcpPeers<'a, R> {
     {
         let number = self.connections.number_at(place);
         self.turn = number;
-        if self.connections.has_more(place) {
-            return Some(self.lend(place));
-        }
         match self.connections.read(place, &mut self.piece, self.time) {
             Reading::Bytes => Some(self.lend(place)),
             Reading::Nothing => None,
@@ -423,7 +434,7 @@ impl<R: Net + Clock> Peers for TcpPeers<'_, R> {
         if let Some(facts) = self.facts {
             facts.remove(number);
         }
-        self.door.try_again();
+        self.doors.try_again();
     }
 
     fn failures(&self) -> u64 {
