@@ -27,6 +27,7 @@ HEAD = """# Figures
 `python3 -m bench.run` writes this page: a section for each script of this directory, which prints its rows. The program is the
 proved one. Each section says on which day and machine it ran, and what the machine did beside it.
 """
+USUAL = 'Where a section names no machine it is this: '
 # In the order of the page: a script, its words behind its name, and what its figures are of.
 SCRIPTS = [
     ('beside.py', [PROGRAM, CHART], 'Processor time of a request beside smbd, and beside two limits: a server that answers each request and does '
@@ -101,12 +102,11 @@ def processor():
 
 
 def machine():
-    """When and where a script runs, and beside what."""
+    """Where a script runs."""
     kit = first_line(['rt', 'version']).partition(' ')[0]
     beside = [it for it in (first_line(['smbd', '--version']), first_line(['smbclient', '--version'])) if it]
     samba = f'; Samba: {beside[0].replace("Version ", "")}' if beside else ''
-    return (f'{datetime.date.today()}; {os.cpu_count()} processors, {processor()}; {platform.system()} {platform.release()}; {kit}{samba}; '
-            f'load before it {os.getloadavg()[0]:.1f}.')
+    return f'{os.cpu_count()} processors, {processor()}; {platform.system()} {platform.release()}; {kit}{samba}'
 
 
 def sections_of(page):
@@ -114,16 +114,33 @@ def sections_of(page):
     return {part.partition('\n')[0].strip(): part.partition('\n')[2].strip() for part in re.split(r'^## ', page, flags=re.M)[1:]}
 
 
-def page_of(sections):
-    """The page: the sections of scripts in their order, and behind them those of none."""
+def usual_of(page):
+    """The machine of the sections that name none."""
+    found = re.search(f'^{USUAL}(.*?)\\.\n\n', page, re.M | re.S)
+    return ' '.join(found[1].split()) if found else machine()
+
+
+def named(section, place):
+    """A section with its machine, which is this where it names none."""
+    return re.sub(r'^(\d{4}-\d\d-\d\d); (load before)', lambda it: f'{it[1]}; {place}; {it[2]}', section, flags=re.M)
+
+
+def unnamed(section, place):
+    """A section that does not name its machine where that is this."""
+    return re.sub(r';\s+'.join(['', *map(re.escape, place.split('; ')), '']).replace('\\ ', r'\s+'), '; ', section)
+
+
+def page_of(sections, place):
+    """The page: the sections of scripts in their order, and behind them those of none; where the machine is this none names it."""
     names = [name for name, _, _ in SCRIPTS if name in sections]
     names += [name for name in sections if name not in names]
-    return HEAD + ''.join(f'\n## {name}\n\n{sections[name]}\n' for name in names)
+    head = f'{HEAD}\n{folded(USUAL + place)}.\n'
+    return head + ''.join(f'\n## {name}\n\n{unnamed(sections[name], place)}\n' for name in names)
 
 
 def section(script, words, about):
     """What a script prints, behind what its figures are of and where it ran."""
-    where = machine()
+    where = f'{datetime.date.today()}; {machine()}; load before it {os.getloadavg()[0]:.1f}.'
     print(f'{script} ..', flush=True)
     command = [sys.executable, '-m', f'bench.{script[:-len(".py")]}', *map(str, words)]
     ran = subprocess.run(command, cwd=HERE.parent, stdout=subprocess.PIPE, stdin=subprocess.DEVNULL, check=False)
@@ -136,13 +153,15 @@ def main(wanted):
     unknown = set(wanted) - {script for script, _, _ in SCRIPTS}
     if unknown or not PROGRAM.is_file():
         sys.exit(f'there is no {unknown.pop()}' if unknown else __doc__)
-    sections = sections_of(PAGE.read_text(encoding='utf-8')) if PAGE.exists() else {}
+    page = PAGE.read_text(encoding='utf-8') if PAGE.exists() else HEAD
+    place = usual_of(page) if wanted else machine()
+    sections = {name: named(it, usual_of(page)) for name, it in sections_of(page).items()}
     for script, words, about in SCRIPTS:
         if script in wanted or not wanted:
             if not all(map(shutil.which, WANTED_BY.get(script, ()))):
                 continue
             sections[script] = section(script, words, about)
-            PAGE.write_text(page_of(sections), encoding='utf-8')
+            PAGE.write_text(page_of(sections, place), encoding='utf-8')
 
 
 if __name__ == '__main__':

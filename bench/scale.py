@@ -14,8 +14,10 @@ waits        the longest time that an ECHO of another client waits while request
 
 What is measured is the server's processor time, with the system's part in it, in microseconds a request: the client's
 time is not in it. The servers that are compared stand beside each other and take turns, so that other work on the
-machine meets all of them alike; a figure is the median of the turns. Waits are by the clock, of a process that does
+machine meets all of them alike; processors are kept awake (bench/awake.py). A figure is the median of the turns. Waits are by the clock, of a process that does
 nothing else: the median of some runs, and the longest. Where the machine is busy they say more than the server takes.
+
+With GLIBC_TUNABLES=glibc.malloc.hugetlb=1 before it the servers have large pages, as examples/smbshare.service says.
 """
 import argparse
 import contextlib
@@ -30,6 +32,7 @@ import sys
 import time
 
 from bench.asking import CHAIN, OPEN, SETTLED, Asker, closing, ended_by, listing, number_of, opening, served
+from bench.awake import awake
 from bench.beside import Guest, status_of
 from bench.exchanging import processor_seconds
 from bench.waits import longest_wait
@@ -157,7 +160,7 @@ def compared(few, many):
 
 
 def files(program, options):
-    with served(program, 2) as servers:
+    with served(program, 2) as servers, awake(servers):
         shares = [Files(server, count) for server, count in zip(servers, (FEW, options.entries))]
         found = {}
         for length in (1, CHAIN):
@@ -224,7 +227,7 @@ def room(wanted):
 
 def bytes_of_files(program, options):
     gib = room(options.gib)
-    with served(program) as [server]:
+    with served(program) as [server], awake([server]):
         places, (cold, large) = filled(Asker(server), gib)
         head('request of 65,536 bytes', 'places', 'one file of 16 MiB, us', '64 files of 16 MiB, us',
              f'a file of {gib} GiB, us', 'times the first', 'times the second')
@@ -238,7 +241,7 @@ def bytes_of_files(program, options):
 
 def connections(program, _):
     counts = (0, 1_000, 4_000)
-    with served(program, len(counts)) as servers:
+    with served(program, len(counts)) as servers, awake(servers):
         askers, memory, others = [Asker(server) for server in servers], [], []
         for server, count in zip(servers, counts):
             before = memory_of(server)

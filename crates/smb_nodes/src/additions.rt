@@ -11,7 +11,7 @@ ghost use Rattle.smb_nodes.specs.Changes.{Grown};
 ghost use Rattle.smb_nodes.specs.Nodes.{child_in, entry_down, entry_on, walk, Under};
 ghost use Rattle.smb_nodes.specs.Seen.{heap_of, entry_seen, SameHeap};
 
-use super::children::put_child;
+use super::children::add_child;
 use super::look::name_of;
 use super::moves::{has_folder, target_in};
 use super::node::Node;
@@ -73,7 +73,7 @@ fn hang(alloc: Global, nodes: &mut Slab<Node>, node: Node) -> Result<(), AllocEr
 {
     nodes.reserve(1)?;
     let slot = nodes.vacant_key();
-    put_child(alloc, nodes, node.parent, name_of(&node), slot)?;
+    add_child(alloc, nodes, node.parent, name_of(&node), slot)?;
     let _ = nodes.insert_reserved(node);
     Ok(())
 }

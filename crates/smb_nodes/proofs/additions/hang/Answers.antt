@@ -13,7 +13,7 @@ returns-clause-ok c =
     let key : mid.vacant_key ≡ old.vacant_key = ap (λ (s : Slab Node). s.vacant_key) kept in
     let slot : c.vacant_key-slot.result ≡ old.vacant_key = c.vacant_key-slot.ensures.value ∙ key in
     let vacant : get old old.vacant_key ≡ None = rw (← slots, ← slot) c.vacant_key-slot.ensures.vacant in
-    let at : c.insert_reserved.result ≡ old.vacant_key = c.insert_reserved.ensures.key ∙ c.in_ok-put_child.ensures.room.vacant_key ∙ key in
-    hung old mid c.put_child.new.nodes c.insert_reserved.new.self c.args.node old.vacant_key vacant (not_root old old.vacant_key c.requires.root vacant) slots c.requires.above c.requires.free c.requires.leaf
-    (rw (c.name_of.ensures, slot) at c.in_ok-put_child.ensures.ok)
+    let at : c.insert_reserved.result ≡ old.vacant_key = c.insert_reserved.ensures.key ∙ c.in_ok-add_child.ensures.room.vacant_key ∙ key in
+    hung old mid c.add_child.new.nodes c.insert_reserved.new.self c.args.node old.vacant_key vacant (not_root old old.vacant_key c.requires.root vacant) slots c.requires.above c.requires.free c.requires.leaf
+    (rw (c.name_of.ensures, slot) at c.in_ok-add_child.ensures.ok)
     (rw at at c.insert_reserved.ensures.updates)

@@ -1,9 +1,9 @@
-use Rattle.std.proofs.Common.{◌≡◌, ℕ, if◌then◌else◌, List, rules, Some, ap, ◌∙◌}
-use Rattle.std.specs.Box.{boxed_slice_items}
+use Rattle.std.proofs.Common.{ℕ, if◌then◌else◌, rules, Some, ap, ◌∙◌}
 use Rattle.std.specs.BTreeMap.{BTreeMap}
 use Rattle.smb_nodes.specs.Nodes.{is_same_component}
 use Rattle.smb_nodes.specs.Seen.{Key, named_in}
 use Rattle.smb_nodes.proofs.Keyed.{updated}
+use Rattle.smb_nodes.proofs.Putting.{on_ok_from}
 use Rattle.smb_nodes.proofs.children.put_named.Goals as goal
 
 pub returns-in-Some-clause-ok : goal.returns-in-Some-clause-ok
@@ -12,7 +12,4 @@ returns-in-Some-clause-ok c =
 
 pub returns-clause-ok : goal.returns-clause-ok
 returns-clause-ok c =
-    let old : BTreeMap Key ℕ = c.get_mut.follows.lender-at-none in
-    let put : (other : List ℕ) → named_in c.insert.new.self other ≡ (if is_same_component c.args.name.now other then Some c.args.child else named_in old other) =
-    updated old c.insert.new.self (boxed_slice_items c.in_ok-key.key) c.args.name.now (Some c.args.child) (c.in_ok-key.ensures.ok ∙ c.units-2.ensures) c.in_ok-insert.ensures.updates in
-    λ other. put other ∙ ap (λ (m : BTreeMap Key ℕ). if is_same_component c.args.name.now other then Some c.args.child else named_in m other) c.get_mut.follows.holds-at-none
+    on_ok_from c.add_named.result c.add_named.ensures.ok (λ put other. put other ∙ ap (λ (m : BTreeMap Key ℕ). if is_same_component c.args.name.now other then Some c.args.child else named_in m other) c.get_mut.follows.holds-at-none)
