@@ -57,6 +57,14 @@ fn read_list(alloc: Global, table: &Table) -> Result<Vec<Account>, ConfigFault> 
     Ok(list)
 }
 
+/// The accounts of a text, in which no rule of names is looked at: who takes them asks [`account_fault`], or the same
+/// otherwise. It takes time in proportion to the text.
+pub fn read_account_list(alloc: Global, document: &str) -> Result<Vec<Account>, ConfigFault> {
+    let table = read_table(alloc, document)?;
+    only_keys(&table, &ACCOUNTS_KEYS, ConfigRule::AccountsKeys)?;
+    read_list(alloc, &table)
+}
+
 impl Accounts {
     /// No accounts.
     #[tactic(auto, unfolding(smb_ntlm::specs::Accounts::fault_behind))]
@@ -72,9 +80,7 @@ impl Accounts {
     pub fn read(alloc: Global, document: &str) -> Result<Self, ConfigFault>
         ensures lawful { IfOk result (λ read. AreLawful (map known read.list.items)) }
     {
-        let table = read_table(alloc, document)?;
-        only_keys(&table, &ACCOUNTS_KEYS, ConfigRule::AccountsKeys)?;
-        let list = read_list(alloc, &table)?;
+        let list = read_account_list(alloc, document)?;
         match account_fault(&list) {
             Some(fault) => Err(ConfigFault::Refused(ConfigRule::OfAccount(fault))),
             None => Ok(Accounts { list }),

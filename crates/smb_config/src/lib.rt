@@ -15,7 +15,7 @@ mod key_place;
 mod limits;
 mod rule;
 
-pub use accounts::Accounts;
+pub use accounts::{Accounts, read_account_list};
 pub use configuration::{BUILT_IN, ConfigFault, Configuration};
 pub use file::{CONFIG_LIMIT, read_config, read_past};
 pub use key_place::write_place;
