@@ -281,6 +281,19 @@ def check_says_what_would_be_served(program):
     return True
 
 
+def examples_are_what_they_say(program):
+    """Each configuration of examples/ is taken, with these lines of what is served."""
+    for name, lines in (('office', (b'limits: 200 clients, 16384 opens,', b'guests: no\n')),
+                        ('device', (b'limits: 16 clients, 256 opens,', b'guests: yes\n')),
+                        ('readers', (b'guests: yes, to read only\n',))):
+        config = os.path.join(TOP, 'examples', f'{name}.toml')
+        status, output, _ = ran(program, ('check', '--config', config, '--login', 'ntlm'))
+        if status != 0 or not all(line in output for line in lines):
+            print(f'  {name}: {status}, {output!r}')
+            return False
+    return True
+
+
 def check_refuses_as_serve_does(program):
     """The same words and status for a configuration, for accounts, and for options that don't go together."""
     at = ('--listen', '127.0.0.1:0', '--turns', '1')
@@ -539,7 +552,7 @@ TESTS = (
     broken_accounts_are_explained, accounts_are_read_as_a_configuration_is, accounts_are_their_owners_alone,
     serve_takes_accounts_too, a_seed_that_is_given_is_said, words_of_ntlm_go_together, replays_by_ntlm_repeat,
     passwords_are_hashed, a_hash_that_is_not_written_failed, serve_explains_too,
-    check_says_what_would_be_served, check_refuses_as_serve_does,
+    check_says_what_would_be_served, check_refuses_as_serve_does, examples_are_what_they_say,
     addresses_are_explained, files_that_are_not_read_are_explained, a_terminal_is_told_more,
     serve_says_that_nobody_can_log_in, serve_says_what_is_not_as_it_may_be_wanted, serve_says_what_the_machine_lacks,
     unreadable_lines_are_explained, bad_events_are_explained,

@@ -7,7 +7,9 @@ import re
 import sys
 
 TOP = pathlib.Path(__file__).resolve().parent.parent.parent
-ROWS, PAGE = TOP / "crates/smb_command_line/src/commands.rt", TOP / "docs/smbshare.1"
+ROWS = [TOP / "crates/smb_command_line/src" / it for it in ("commands.rt", "account.rt", "share.rt")]
+PAGE = TOP / "docs/smbshare.1"
+PLACED = ("First", "FirstWord", "Second", "Third")
 BEGIN, END = ".SH OPTIONS\n", ".TP\n.BR \\-h"
 
 
@@ -24,7 +26,7 @@ def options(source):
         takes = re.search(r'takes: Takes::(\w+)(?:\(\s*"(\w+)")?', row)
         text = re.search(r'help: (?:"((?:[^"\\]|\\.)*)"|(\w+))', row)
         words = re.findall(r'"([\w-]+)"', row.partition("&[")[2].partition("]")[0]) if takes[1] == "Word" else []
-        if takes[1] != "First":
+        if takes[1] not in PLACED:
             words = f" ({', '.join(words)})" if words else ""
             found.setdefault(name, (takes[2], (text[1] or named[text[2]]) + words))
     return [(name, *it) for name, it in found.items()]
@@ -42,7 +44,7 @@ def written(rows):
 def main(words):
     page = PAGE.read_text(encoding="utf-8")
     begin = page.index(BEGIN) + len(BEGIN)
-    wanted = page[:begin] + written(options(ROWS.read_text(encoding="utf-8"))) + page[page.index(END, begin):]
+    wanted = page[:begin] + written(options("".join(it.read_text(encoding="utf-8") for it in ROWS))) + page[page.index(END, begin):]
     if words == ["--check"]:
         sys.exit(None if page == wanted else "docs/smbshare.1 has other texts than the program's help: run tools/lib/manual.py")
     PAGE.write_text(wanted, encoding="utf-8")

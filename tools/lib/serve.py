@@ -4,7 +4,7 @@
     bash tools/serve.sh --demo           plays stored runs, and a client over TCP, and shows what is asked and answered
     bash tools/serve.sh replay < FILE    does what the program itself does with these words,
     bash tools/serve.sh show < FILE      its standard input and its exit status; so do
-    printf %s Password | bash tools/serve.sh nt-hash
+    printf %s Password | bash tools/serve.sh account add accounts.toml ann
     bash tools/serve.sh serve --listen 127.0.0.1:4455 --config guest.toml --login ntlm
                                          and every other command of the program, which says itself what it does not know
     bash tools/serve.sh --build          builds the program, and prints its path

@@ -1,6 +1,8 @@
 //! The words that the command line may have.
 
+use super::account::ACCOUNT;
 use super::options::{CommandRow, Needed, OptionRow, Takes, command_of};
+use super::share::SHARE;
 use clap::Command;
 use std::alloc::{AllocError, Global};
 
@@ -10,15 +12,16 @@ const HELP: &str =
 whose token is 61 in hex, the letter `a`; guests are not let in. A token is the whole security buffer of a
 SESSION_SETUP and no password: no client of Samba's sends `a`, so serve with --config guest.toml.
 
-Who has an account logs in by NTLM, with a password that nt-hash makes a hash of for the file of accounts.
+Who has an account logs in by NTLM, with the password that `account` made a hash of in the file of accounts.
 Who comes in may write too, but for a user or an account with `readonly = true`, and for guests where the configuration
 has `guest_readonly = true`: these may only read.
 
 Examples:
+  smbshare share FOLDER
   smbshare replay --explain < examples/two_clients
   smbshare serve --listen 127.0.0.1:4450 --config guest.toml --login ntlm
   smbshare serve --listen 127.0.0.1:4450 --login ntlm --accounts accounts.toml
-  printf %s Password | smbshare nt-hash
+  printf %s Password | smbshare account add accounts.toml ann
   echo 00000044fe534d42 | smbshare show
 
 With --explain, and always on a terminal, `replay` and `serve` say in a second line what is wrong: of a
@@ -37,7 +40,7 @@ const SERVE_HELP: &str =
   smbshare serve --listen 127.0.0.1:4450 --config guest.toml --login ntlm
   smbshare serve --listen 127.0.0.1:4450 --login ntlm --accounts accounts.toml
 
-A file of accounts has a table for each, and nobody but its owner has a right to it (chmod 600):
+A file of accounts, which `account` makes and changes, has a table for each, and nobody but its owner has a right to it:
   [[account]]
   name = \"ann\"
   nt_hash = \"a4f49c406510bdcab6824ee7c30fd852\"
@@ -104,10 +107,10 @@ const REASONS: OptionRow = OptionRow {
 /// An address.
 const LISTEN: OptionRow = OptionRow {
     name: "listen",
-    takes: Takes::Text("ADDR"),
+    takes: Takes::Texts("ADDR"),
     needed: Needed::Always,
     bars: &[],
-    help: "The IP address and port to listen on, such as 127.0.0.1:4450; port 0 for a free one",
+    help: "The IP address and port to listen on, such as 127.0.0.1:4450; port 0 for a free one; again for each address",
 };
 
 /// How clients log in.
@@ -285,8 +288,11 @@ const SEED_OF_REPLAY: OptionRow = OptionRow {
     help: SEED_HELP,
 };
 
-/// The commands, in the order of the program's help.
-const COMMANDS: &[CommandRow] = &[
+// The commands stand in the order of the program's help, in three lists, each with a function of its own: one of all of them
+// is too long for the search that proves its function safe.
+
+/// The commands that perform what comes.
+const PERFORMING: &[CommandRow] = &[
     CommandRow {
         name: "replay",
         about: "Replays the events of standard input on a new share, and prints what it answers",
@@ -312,12 +318,21 @@ const COMMANDS: &[CommandRow] = &[
             RECORD, SYNC, LOG, LOG_LEVEL, LOG_MUST, FROM, CLOCK,
         ],
     },
+];
+
+/// The command that serves a folder, and the one that says what would be served.
+const SHARING: &[CommandRow] = &[
+    SHARE,
     CommandRow {
         name: "check",
         about: "Prints what `serve` would serve by these files, for whom and within which limits; or what is wrong with them",
         examples: CHECK_HELP,
         options: &[CONFIG, EXPLAIN, LOGIN, ACCOUNTS],
     },
+];
+
+/// The commands that read or write files and serve nothing.
+const OF_FILES: &[CommandRow] = &[
     CommandRow {
         name: "show",
         about: "Lists the requests of a client's stream, hex on standard input",
@@ -342,16 +357,40 @@ const COMMANDS: &[CommandRow] = &[
         examples: NT_HASH_HELP,
         options: &[],
     },
+    ACCOUNT,
 ];
 
-/// The command line.
-pub fn command<'a>(alloc: Global) -> Result<Command<'a>, AllocError> {
-    let mut command = Command::new(alloc, "smbshare")
-        .version("0.1.0")
-        .about("A proved SMB2 file share. Without a command it replays standard input.")
-        .after_help(HELP);
-    for row in COMMANDS {
+/// Adds commands.
+fn with_rows<'a>(
+    alloc: Global,
+    mut command: Command<'a>,
+    rows: &[CommandRow],
+) -> Result<Command<'a>, AllocError> {
+    for row in rows {
         command = command.subcommand(command_of(alloc, row)?)?;
     }
     Ok(command)
+}
+
+fn with_performing<'a>(alloc: Global, command: Command<'a>) -> Result<Command<'a>, AllocError> {
+    with_rows(alloc, command, PERFORMING)
+}
+
+fn with_sharing<'a>(alloc: Global, command: Command<'a>) -> Result<Command<'a>, AllocError> {
+    with_rows(alloc, command, SHARING)
+}
+
+fn with_files<'a>(alloc: Global, command: Command<'a>) -> Result<Command<'a>, AllocError> {
+    with_rows(alloc, command, OF_FILES)
+}
+
+/// The command line.
+pub fn command<'a>(alloc: Global) -> Result<Command<'a>, AllocError> {
+    let command = Command::new(alloc, "smbshare")
+        .version("0.1.0")
+        .about("A proved SMB2 file share. Without a command it replays standard input.")
+        .after_help(HELP);
+    let command = with_performing(alloc, command)?;
+    let command = with_sharing(alloc, command)?;
+    with_files(alloc, command)
 }

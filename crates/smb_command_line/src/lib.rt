@@ -4,6 +4,7 @@
 //!    CommandLine   the words as the system has them: a file's name need not be text
 //!    command       which commands there are, each with its options and its help
 //!    login_of      how clients log in by them, where they go together
+//!    account_of    what `account` is asked for
 //!    Texts         the configuration and the accounts, out of the files that the words name
 //! ```
 //!
@@ -11,6 +12,7 @@
 //! (tests/words).
 #![tactic(auto)]
 
+mod account;
 mod command_line;
 mod commands;
 mod credential;
@@ -18,8 +20,10 @@ mod login;
 mod mode;
 mod named_file;
 mod options;
+mod share;
 mod texts;
 
+pub use account::{AccountAction, AccountWords, account_of};
 pub use command_line::{CommandLine, FileOption};
 pub use commands::command;
 pub use login::{Login, login_of};

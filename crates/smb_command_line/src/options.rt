@@ -10,12 +10,22 @@ pub(crate) enum Takes {
     /// Nothing: the option is there, or it isn't.
     Nothing,
     Text(&'static str),
+    /// A text each time that it is there.
+    Texts(&'static str),
+    /// A text that may begin with a hyphen and a digit, so that it is not taken for another option.
+    Size(&'static str),
     /// One of these words.
     Word(&'static str, &'static [&'static str]),
     /// A number, this one at least.
     Number(&'static str, u64),
     /// A text, in the first place behind the command, and not behind the option's name.
     First(&'static str),
+    /// One of these words, in the first place behind the command.
+    FirstWord(&'static str, &'static [&'static str]),
+    /// A text, in the second place behind the command.
+    Second(&'static str),
+    /// A text, in the third place behind the command.
+    Third(&'static str),
 }
 
 /// When an option has to be there.
@@ -54,6 +64,11 @@ fn taking<'a>(arg: Arg<'a>, name: &'static str, takes: Takes) -> Arg<'a> {
     match takes {
         Takes::Nothing => arg.long(name).action(ArgAction::SetTrue),
         Takes::Text(value) => arg.long(name).value_name(value),
+        Takes::Texts(value) => arg.long(name).value_name(value).action(ArgAction::Append),
+        Takes::Size(value) => arg
+            .long(name)
+            .value_name(value)
+            .allow_negative_numbers(true),
         Takes::Word(value, words) => arg
             .long(name)
             .value_name(value)
@@ -63,6 +78,12 @@ fn taking<'a>(arg: Arg<'a>, name: &'static str, takes: Takes) -> Arg<'a> {
             .value_name(value)
             .value_parser(ValueParser::Unsigned(least, u64::MAX)),
         Takes::First(value) => arg.index(1).value_name(value),
+        Takes::FirstWord(value, words) => arg
+            .index(1)
+            .value_name(value)
+            .value_parser(ValueParser::Names(words)),
+        Takes::Second(value) => arg.index(2).value_name(value),
+        Takes::Third(value) => arg.index(3).value_name(value),
     }
 }
 

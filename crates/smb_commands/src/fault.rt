@@ -1,11 +1,14 @@
 //! What ends the program, and what is printed of it.
 
+use smb_accounts_file::{AccountsFault, PasswordFault};
 use smb_config::ConfigFault;
 use smb_folder::FolderFault;
 use smb_journal::{Form, JournalFault};
 use smb_kept::KeptFault;
 use smb_reason::{Reason, Shown};
-use smb_replay::{CommandFault, Detail};
+use smb_replay::{CommandFault, Detail, Given, ListenFault};
+use smb_sharing::SharingFault;
+use smb_tcp::MOST_LISTENERS;
 use std::alloc::{AllocError, Global};
 use std::io::Write;
 
@@ -15,6 +18,12 @@ pub enum Fault {
     Command(CommandFault),
     /// A share cannot be kept in a file, or not be made of one.
     Kept(KeptFault),
+    /// The share cannot listen at an address.
+    Listen(AddressFault),
+    /// The share cannot listen at so many addresses.
+    TooManyAddresses,
+    /// A folder cannot be shared.
+    Sharing(SharingFault),
     /// A file that a share is recorded in can't be read or written.
     Recording(RecordingFault),
     /// The file of a log can't be opened or made, for this reason.
@@ -23,6 +32,26 @@ pub enum Fault {
     LogFailed,
     /// Files could not be taken out of a recording. Standard error has a line for each already.
     NotExtracted,
+    /// A file of accounts is not changed or not listed.
+    Accounts(AccountsFileFault),
+    /// A password is not taken.
+    Password(PasswordFault),
+}
+
+/// Why a file of accounts is not changed or not listed.
+#[derive(Debug, Drop)]
+pub struct AccountsFileFault {
+    /// The file's name, as it was given.
+    path: String,
+    fault: AccountsFault,
+}
+
+/// Why the share cannot listen at an address.
+#[derive(Debug, Drop)]
+pub struct AddressFault {
+    /// As it was given.
+    address: String,
+    fault: ListenFault,
 }
 
 /// Why a file can't be read or written that a share is recorded in.
@@ -68,6 +97,34 @@ fn file_fault_of(fault: &KeptFault) -> Option<JournalFault> {
     }
 }
 
+impl AccountsFileFault {
+    /// A fault with the name of its file; of want of memory the fault of commands.
+    pub(crate) fn of(alloc: Global, path: &str, fault: AccountsFault) -> Fault {
+        match (String::from_str(alloc, path), fault) {
+            (_, AccountsFault::NoMemory) | (Err(_), _) => Fault::Command(CommandFault::NoMemory),
+            (Ok(path), fault) => Fault::Accounts(AccountsFileFault { path, fault }),
+        }
+    }
+
+    /// Writes what is printed of it, in one line.
+    fn report<E: Write>(&self, errors: &mut E) {
+        let path = Shown(self.path.as_bytes());
+        let _ = writeln!(errors, "account: {path}: {}", self.fault);
+    }
+}
+
+impl AddressFault {
+    /// Writes what is printed of it, and gives the exit status.
+    fn report<E: Write>(&self, alloc: Global, detail: Detail<'_>, errors: &mut E) -> u8 {
+        let address = self.address.as_str();
+        let detail = match detail {
+            Detail::Brief => Detail::Brief,
+            Detail::Explained(given) => Detail::Explained(Given { address, ..given }),
+        };
+        CommandFault::ListenFailed(self.fault).report(alloc, detail, errors)
+    }
+}
+
 impl RecordingFault {
     /// Writes what is printed of it, in one line.
     fn report<E: Write>(&self, errors: &mut E) {
@@ -91,6 +148,20 @@ impl Fault {
         }
     }
 
+    /// The same fault with the address that it is of, where it is that the share cannot listen.
+    pub(crate) fn of_address(self, alloc: Global, address: &str) -> Fault {
+        let Fault::Command(CommandFault::ListenFailed(fault)) = &self else {
+            return self;
+        };
+        match String::from_str(alloc, address) {
+            Ok(address) => Fault::Listen(AddressFault {
+                address,
+                fault: *fault,
+            }),
+            Err(error) => Fault::from(error),
+        }
+    }
+
     /// Writes what is printed of it, and gives the exit status: 3 for want of memory, else 1. That the writer fails is passed over.
     pub fn report<E: Write>(&self, alloc: Global, detail: Detail<'_>, errors: &mut E) -> u8 {
         match self {
@@ -102,6 +173,21 @@ impl Fault {
                     1
                 }
             },
+            Fault::Listen(fault) => fault.report(alloc, detail, errors),
+            Fault::TooManyAddresses => {
+                let _ = writeln!(
+                    errors,
+                    "listen: too many addresses: give at most {MOST_LISTENERS}"
+                );
+                1
+            }
+            Fault::Sharing(SharingFault::NoMemory) => {
+                CommandFault::NoMemory.report(alloc, detail, errors)
+            }
+            Fault::Sharing(fault) => {
+                let _ = writeln!(errors, "{fault}");
+                1
+            }
             Fault::Recording(fault) => {
                 fault.report(errors);
                 1
@@ -111,6 +197,17 @@ impl Fault {
                 1
             }
             Fault::LogFailed | Fault::NotExtracted => 1,
+            Fault::Accounts(fault) => {
+                fault.report(errors);
+                1
+            }
+            Fault::Password(PasswordFault::NoMemory) => {
+                CommandFault::NoMemory.report(alloc, detail, errors)
+            }
+            Fault::Password(fault) => {
+                let _ = writeln!(errors, "password: {fault}");
+                1
+            }
         }
     }
 }
@@ -130,6 +227,12 @@ impl From<ConfigFault> for Fault {
 impl From<KeptFault> for Fault {
     fn from(fault: KeptFault) -> Fault {
         Fault::Kept(fault)
+    }
+}
+
+impl From<SharingFault> for Fault {
+    fn from(fault: SharingFault) -> Fault {
+        Fault::Sharing(fault)
     }
 }
 

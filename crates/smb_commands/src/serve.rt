@@ -17,7 +17,9 @@ use smb_log::{LogObserver, LoggedPeers};
 use smb_peers::Usage;
 use smb_replay::{CommandFault, ListenFault};
 use smb_serving::serve_until_observed;
-use smb_tcp::TcpPeers;
+use smb_sharing::Said;
+use smb_tcp::{MOST_LISTENERS, TcpPeers};
+use std::alloc::AllocError;
 use std::io::ErrorKind;
 use std::net::SocketAddr;
 use std::time::Duration;
@@ -32,8 +34,8 @@ pub struct ServeWords<'a> {
     /// The texts of the files that they name.
     pub texts: &'a Texts,
     pub login: Login,
-    /// An IP address with a port.
-    pub listen: &'a str,
+    /// IP addresses with a port.
+    pub listen: &'a [&'a str],
     pub turns: u64,
     /// After how many seconds a connection ends that says nothing and takes nothing; 0: after none.
     pub idle_seconds: u64,
@@ -53,6 +55,8 @@ pub struct ServeWords<'a> {
     pub facts: &'a TcpFacts,
     /// Whether a journal is written anew first that is much longer than its files ask for.
     pub writes_anew: bool,
+    /// What is said of a folder that is shared, once it listens.
+    pub said: Option<&'a Said>,
 }
 
 /// Why a call of the system failed that makes a listener or its peers.
@@ -74,35 +78,79 @@ fn listen(rt: &HostRuntime, address: &str) -> Result<net::TcpListener, CommandFa
     }
 }
 
-/// Says on standard error where a listener is, with the port that the system gave for port 0.
-fn announce(rt: &HostRuntime, listener: &net::TcpListener) {
-    if let Ok(address) = listener.local_addr() {
+/// A listener at each of these addresses, of which there are 16 at most. A fault names the address that it is of.
+fn listen_all(rt: &HostRuntime, addresses: &[&str]) -> Result<Vec<net::TcpListener>, Fault> {
+    if addresses.len() > MOST_LISTENERS {
+        return Err(Fault::TooManyAddresses);
+    }
+    let mut listeners = Vec::new(rt.alloc());
+    for address in addresses {
+        match listen(rt, address) {
+            Ok(listener) => listeners.push(listener).map_err(AllocError::from)?,
+            Err(fault) => return Err(Fault::from(fault).of_address(rt.alloc(), address)),
+        }
+    }
+    Ok(listeners)
+}
+
+/// Says on standard error where listeners are, with the port that the system gave for port 0, and of a folder what is shared there: at
+/// the first address that other machines reach, or the first one.
+fn announce(rt: &HostRuntime, listeners: &[net::TcpListener], said: Option<&Said>) {
+    let mut shown: Option<SocketAddr> = None;
+    for listener in listeners {
+        let Ok(address) = listener.local_addr() else {
+            continue;
+        };
         let _ = eprintln!(rt; "listening on {address}");
+        shown = Some(match shown {
+            Some(shown) if address.ip().is_loopback() || !shown.ip().is_loopback() => shown,
+            _ => address,
+        });
+    }
+    if let (Some(said), Some(address)) = (said, shown) {
+        let mut errors = rt.stderr();
+        let _ = said.write(address, &mut errors);
     }
 }
 
-/// A listener where the words say, once the share is ready. Standard error says so, and who can't log in.
+/// Listeners where the words say, once the share is ready. Standard error says so, and who can't log in.
 fn begin_to_listen(
     rt: &HostRuntime,
     words: &ServeWords<'_>,
     entrance: Entrance,
-) -> Result<net::TcpListener, CommandFault> {
-    let listener = listen(rt, words.listen)?;
-    announce(rt, &listener);
+) -> Result<Vec<net::TcpListener>, Fault> {
+    let listeners = listen_all(rt, words.listen)?;
+    announce(rt, &listeners, words.said);
     say_notices(rt, words.texts, words.login, entrance);
-    Ok(listener)
+    Ok(listeners)
 }
 
-/// The peers of a listener, as many as there may be connections, with the limits that the words say.
+/// The peers of listeners, as many as there may be connections.
+fn waiting_peers<'a>(
+    rt: &'a HostRuntime,
+    connections: u64,
+    listeners: Vec<net::TcpListener>,
+) -> io::Result<TcpPeers<'a, HostRuntime>> {
+    let wait = Duration::from_secs(LONGEST_WAIT);
+    let mut listeners = listeners.into_iter();
+    let Some(first) = listeners.next() else {
+        return Err(io::Error::from(ErrorKind::InvalidInput));
+    };
+    let mut peers = TcpPeers::waiting_within(rt, rt.alloc(), first, wait, connections as usize)?;
+    for listener in listeners {
+        peers = peers.with_listener(listener)?;
+    }
+    Ok(peers)
+}
+
+/// The peers of listeners, as many as there may be connections, with the limits that the words say.
 fn peers_of<'a>(
     rt: &'a HostRuntime,
     words: &ServeWords<'a>,
     connections: u64,
-    listener: net::TcpListener,
+    listeners: Vec<net::TcpListener>,
 ) -> Result<TcpPeers<'a, HostRuntime>, CommandFault> {
-    let wait = Duration::from_secs(LONGEST_WAIT);
-    let made = TcpPeers::waiting_within(rt, rt.alloc(), listener, wait, connections as usize);
-    let mut peers = match made {
+    let mut peers = match waiting_peers(rt, connections, listeners) {
         Ok(peers) => peers,
         Err(error) => return Err(fault_of(error)),
     };
@@ -128,8 +176,8 @@ pub fn listening_peers<'l, 'a: 'l>(
     next: u64,
 ) -> Result<ServedPeers<'l, 'a>, Fault> {
     let stops = words.log.is_some_and(|log| log.must);
-    let listener = begin_to_listen(rt, words, entrance)?;
-    let peers = peers_of(rt, words, entrance.connections, listener)?;
+    let listeners = begin_to_listen(rt, words, entrance)?;
+    let peers = peers_of(rt, words, entrance.connections, listeners)?;
     let clock = ServeClock::new(rt, words.clock);
     let mut logged = LoggedPeers::new(
         rt.alloc(),
@@ -213,7 +261,7 @@ fn serve_by<A: Authenticator + Drop>(
         entrance,
         limits: limited.limits,
     };
-    drop(listen(rt, words.listen)?);
+    drop(listen_all(rt, words.listen)?);
     match (words.record, words.from) {
         (Some(record), Some(folder)) => {
             serve_recorded_folder(serving, record, folder, limited, authenticator)

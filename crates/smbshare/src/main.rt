@@ -3,15 +3,18 @@
 
 use clap::ArgMatches;
 use clap::error::ErrorKind as WordFault;
-use smb_command_line::{CommandLine, Login, Texts, command, login_of};
+use smb_command_line::{CommandLine, Login, Texts, account_of, command, login_of};
 use smb_commands::{
-    Fault, Form, KeepWords, Level, LogWords, ServeWords, TcpFacts, check, compact, extract,
-    print_recording, replay_input, serve_share,
+    Fault, Form, KeepWords, Level, LogWords, ServeWords, SharingWords, TcpFacts, account, check,
+    compact, extract, print_recording, replay_input, serve_share, share_folder,
 };
 use smb_config::BUILT_IN;
 use smb_replay::{CommandFault, Detail, Given, ReplayWords, hash_password, show_fields, show_text};
 use std::io::{BufWriter, ErrorKind, IsTerminal};
 use std::process::ExitCode;
+
+/// Where `share` listens where its words say nothing of it.
+const SHARED_AT: &[&str] = &["127.0.0.1:4450"];
 
 /// Prints a fault on standard error, and gives its exit status.
 fn report(rt: &HostRuntime, fault: CommandFault, detail: Detail<'_>) -> ExitCode {
@@ -164,7 +167,7 @@ fn serve_clients(
     let serve_words = ServeWords {
         texts,
         login,
-        listen: word_of(words, "listen"),
+        listen: words.get_strs("listen").unwrap_or(&[]),
         turns: words.get_one("turns").unwrap_or(u64::MAX),
         idle_seconds: words.get_one("idle").unwrap_or(3600),
         unanswered_seconds: words.get_one("idle-new").unwrap_or(30),
@@ -175,9 +178,36 @@ fn serve_clients(
         log: log_words_of(words, words.get_flag("log-must")),
         facts: &facts,
         writes_anew: true,
+        said: None,
     };
     let ended = serve_share(rt, &serve_words);
     status_of(rt, ended, detail_of(rt, words, Some(texts)))
+}
+
+/// Shares a folder by the words of the command, and gives the exit status. Of a fault all is said.
+fn share_with_clients(rt: &HostRuntime, words: &ArgMatches<'_>) -> ExitCode {
+    let Ok(facts) = TcpFacts::new(rt.alloc()) else {
+        return report(rt, CommandFault::NoMemory, Detail::Brief);
+    };
+    let sharing = SharingWords {
+        folder: word_of(words, "folder"),
+        name: words.get_str("name"),
+        accounts: words.get_strs("account").unwrap_or(&[]),
+        passwords: words.get_str("passwords"),
+        guests: words.get_flag("guests"),
+        capacity: words.get_str("capacity"),
+        listen: words.get_strs("listen").unwrap_or(SHARED_AT),
+        journal: words.get_str("journal"),
+    };
+    let ended = share_folder(rt, sharing, &facts);
+    let given = Given {
+        file: "",
+        document: "",
+        accounts_file: "",
+        accounts: "",
+        address: "",
+    };
+    status_of(rt, ended, Detail::Explained(given))
 }
 
 /// Runs a command that has a share.
@@ -221,6 +251,7 @@ fn run_command(
     login: Login,
 ) -> ExitCode {
     match command {
+        Some(("share", words)) => share_with_clients(rt, words),
         Some(("show", words)) => show_input(rt, words.get_flag("fields")),
         Some(("nt-hash", _)) => hash_input(rt),
         Some(("extract", words)) => {
@@ -256,12 +287,23 @@ fn refuse_words(
     print_instead(rt, &error)
 }
 
+/// Runs the command `account`, where its words go together.
+fn run_account(rt: &HostRuntime, words: &ArgMatches<'_>) -> Result<ExitCode, CommandFault> {
+    match account_of(words) {
+        Ok(words) => Ok(status_of(rt, account(rt, &words), Detail::Brief)),
+        Err(message) => refuse_words(rt, WordFault::ArgumentConflict, message),
+    }
+}
+
 /// Runs the command of words that are taken one by one, where they go together.
 fn run_matched(
     rt: &HostRuntime,
     line: &CommandLine,
     matches: &ArgMatches<'_>,
 ) -> Result<ExitCode, CommandFault> {
+    if let Some(("account", words)) = matches.subcommand() {
+        return run_account(rt, words);
+    }
     match login_of(matches.subcommand()) {
         Ok(login) => Ok(run_command(rt, line, matches.subcommand(), login)),
         Err(message) => refuse_words(rt, WordFault::ArgumentConflict, message),
