@@ -154,17 +154,14 @@ fn log_words_of<'a>(words: &'a ArgMatches<'_>, must: bool) -> Option<LogWords<'a
     })
 }
 
-/// Serves a share by the words of the command, and gives the exit status.
-fn serve_clients(
-    rt: &HostRuntime,
-    texts: &Texts,
+/// The words by which a share is served.
+fn serve_words<'a>(
+    texts: &'a Texts,
     login: Login,
-    words: &ArgMatches<'_>,
-) -> ExitCode {
-    let Ok(facts) = TcpFacts::new(rt.alloc()) else {
-        return report(rt, CommandFault::NoMemory, Detail::Brief);
-    };
-    let serve_words = ServeWords {
+    words: &'a ArgMatches<'_>,
+    facts: &'a TcpFacts,
+) -> ServeWords<'a> {
+    ServeWords {
         texts,
         login,
         listen: words.get_strs("listen").unwrap_or(&[]),
@@ -176,11 +173,21 @@ fn serve_clients(
         from: words.get_str("from"),
         clock: words.get_one("clock"),
         log: log_words_of(words, words.get_flag("log-must")),
-        facts: &facts,
+        facts,
         writes_anew: true,
         said: None,
-    };
-    let ended = serve_share(rt, &serve_words);
+    }
+}
+
+/// Serves a share by the words of the command, and gives the exit status.
+fn serve_clients<'a>(
+    rt: &HostRuntime,
+    texts: &'a Texts,
+    login: Login,
+    words: &'a ArgMatches<'_>,
+    facts: &'a TcpFacts,
+) -> ExitCode {
+    let ended = serve_share(rt, &serve_words(texts, login, words, facts));
     status_of(rt, ended, detail_of(rt, words, Some(texts)))
 }
 
@@ -229,7 +236,10 @@ fn run_with_share(
         Err(fault) => return report(rt, fault, detail_of(rt, words, None)),
     };
     if name == "serve" {
-        return serve_clients(rt, &texts, login, words);
+        return match TcpFacts::new(rt.alloc()) {
+            Ok(facts) => serve_clients(rt, &texts, login, words, &facts),
+            Err(_) => report(rt, CommandFault::NoMemory, Detail::Brief),
+        };
     }
     if name == "check" {
         let checked = check(rt, &texts, login);
