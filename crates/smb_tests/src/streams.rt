@@ -1,7 +1,7 @@
-//! Many streams of one listener, and several listeners.
+//! Many streams of one listener.
 
 use smb_peers::{PeerEvent, Peers};
-use smb_tcp::{MOST_LISTENERS, TcpPeers};
+use smb_tcp::TcpPeers;
 use std::io;
 use std::io::Write;
 use std::net::{TcpListener, TcpStream};
@@ -134,41 +134,4 @@ fn the_most_owed_ends(rt: &HostRuntime) -> io::Result<bool> {
 fn who_is_owed_most_ends_where_all_are_owed_too_much(rt: HostRuntime) {
     let has_ended = matches!(the_most_owed_ends(&rt), Ok(true));
     assert!(rt; has_ended);
-}
-
-/// Has a client come to each of 16 listeners, and tells whether each is opened, in rising number, and heard; and whether there are 16
-/// listeners at most.
-fn all_listeners_are_heard(rt: &HostRuntime) -> io::Result<bool> {
-    let wait = Duration::from_millis(10);
-    let listener = TcpListener::bind(rt, "127.0.0.1:0")?;
-    let mut addresses = Vec::with_capacity(rt.alloc(), MOST_LISTENERS)?;
-    addresses.push(listener.local_addr()?)?;
-    let mut peers = TcpPeers::waiting(rt, rt.alloc(), listener, wait)?;
-    for _ in 1..MOST_LISTENERS {
-        let listener = TcpListener::bind(rt, "127.0.0.1:0")?;
-        addresses.push(listener.local_addr()?)?;
-        peers = peers.with_listener(listener)?;
-    }
-    let mut clients = Vec::with_capacity(rt.alloc(), MOST_LISTENERS)?;
-    for address in addresses.iter() {
-        clients.push(TcpStream::connect(rt, *address)?)?;
-    }
-    let coming = take_events(rt, &mut peers, MOST_LISTENERS)?;
-    for client in clients.iter_mut() {
-        client.write_all(&[1])?;
-    }
-    let sending = take_events(rt, &mut peers, MOST_LISTENERS)?;
-    let one_more = TcpListener::bind(rt, "127.0.0.1:0")?;
-    let is_refused = peers.with_listener(one_more).is_err();
-    Ok(
-        rise_by(&coming.opened, 1, MOST_LISTENERS)
-            && sending.heard.len() == MOST_LISTENERS
-            && is_refused,
-    )
-}
-
-#[test]
-fn sixteen_listeners_are_heard(rt: HostRuntime) {
-    let are_heard = matches!(all_listeners_are_heard(&rt), Ok(true));
-    assert!(rt; are_heard);
 }
