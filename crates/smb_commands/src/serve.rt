@@ -113,7 +113,8 @@ fn announce(rt: &HostRuntime, listeners: &[net::TcpListener], said: Option<&Said
     }
 }
 
-/// Listeners where the words say, once the share is ready. Standard error says so, and who can't log in.
+/// Listeners at the addresses of the words, once the share is ready. Standard error has a line for each address, and each reason why
+/// somebody can't log in.
 fn begin_to_listen(
     rt: &HostRuntime,
     words: &ServeWords<'_>,

@@ -45,7 +45,7 @@ fn shown(alloc: Global, name: Option<&str>) -> Result<Option<String>, AllocError
     }
 }
 
-/// What stands for a name of the machine.
+/// The word in place of the machine's name.
 const HOST: &str = "HOST";
 
 /// An address as a client names it: [`HOST`] where it is that of all networks, or one of IPv6, which clients write each
