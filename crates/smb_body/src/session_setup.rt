@@ -22,7 +22,7 @@ impl SessionSetupFlags {
     pub const BINDING: SessionSetupFlags = SessionSetupFlags(1);
 }
 
-/// Whether the client enables (1) and requires (2) signing ([MS-SMB2] 2.2.5). The profile ignores it.
+/// Whether the client enables (1) and requires (2) signing ([MS-SMB2] 2.2.5).
 #[derive(Clone, Copy)]
 pub struct SessionSecurityMode(pub u8);
 

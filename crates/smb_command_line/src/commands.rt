@@ -131,6 +131,15 @@ const ACCOUNTS: OptionRow = OptionRow {
     help: "Who may log in by NTLM, a TOML file of at most 1 MiB, its owner's alone [default: guests alone]",
 };
 
+/// How sessions of accounts are signed.
+const SIGNING: OptionRow = OptionRow {
+    name: "signing",
+    takes: Takes::Word("MODE", &["off", "offered", "required"]),
+    needed: Needed::Never,
+    bars: &[],
+    help: "Whether accounts may sign what they send, or have to [default: the configuration's `signing`, or offered; of a replay off]",
+};
+
 /// What a seed is.
 const SEED_HELP: &str =
     "The seed of NTLM's challenges, 32 hex digits, for tests [default, of `serve` alone: the system's]";
@@ -257,7 +266,7 @@ const RECORDING: OptionRow = OptionRow {
     name: "recording",
     takes: Takes::Text("FILE"),
     needed: Needed::Never,
-    bars: &["config", "login", "accounts", "seed"],
+    bars: &["config", "login", "accounts", "signing", "seed"],
     help: "Replays what `serve` kept in FILE by --record or --journal, which says itself of what share it is",
 };
 
@@ -305,6 +314,7 @@ const PERFORMING: &[CommandRow] = &[
             LOG_LEVEL,
             LOGIN,
             ACCOUNTS,
+            SIGNING,
             SEED_OF_REPLAY,
             RECORDING,
         ],
@@ -314,8 +324,8 @@ const PERFORMING: &[CommandRow] = &[
         about: "Serves a share over TCP",
         examples: SERVE_HELP,
         options: &[
-            CONFIG, EXPLAIN, LISTEN, LOGIN, ACCOUNTS, SEED, TURNS, IDLE, IDLE_NEW, OWED, JOURNAL,
-            RECORD, SYNC, LOG, LOG_LEVEL, LOG_MUST, FROM, CLOCK,
+            CONFIG, EXPLAIN, LISTEN, LOGIN, ACCOUNTS, SIGNING, SEED, TURNS, IDLE, IDLE_NEW, OWED,
+            JOURNAL, RECORD, SYNC, LOG, LOG_LEVEL, LOG_MUST, FROM, CLOCK,
         ],
     },
 ];
@@ -327,7 +337,7 @@ const SHARING: &[CommandRow] = &[
         name: "check",
         about: "Prints what `serve` would serve by these files, for whom and within which limits; or what is wrong with them",
         examples: CHECK_HELP,
-        options: &[CONFIG, EXPLAIN, LOGIN, ACCOUNTS],
+        options: &[CONFIG, EXPLAIN, LOGIN, ACCOUNTS, SIGNING],
     },
 ];
 

@@ -26,6 +26,6 @@ mod texts;
 pub use account::{AccountAction, AccountWords, account_of};
 pub use command_line::{CommandLine, FileOption};
 pub use commands::command;
-pub use login::{Login, login_of};
+pub use login::{Login, NtlmWords, login_of};
 pub use named_file::NamedFile;
 pub use texts::Texts;

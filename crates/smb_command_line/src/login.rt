@@ -2,14 +2,24 @@
 
 use clap::ArgMatches;
 use hex::FromHex;
+use smb_config::{SigningMode, signing_mode};
 
 /// How clients log in.
 #[derive(Clone, Copy)]
 pub enum Login {
     /// By one token, as the configuration's users have them.
     Token,
-    /// By NTLM, a login of two messages, whose challenges come from this seed, or from one of the system's.
-    Ntlm(Option<[u8; 16]>),
+    /// By NTLM, a login of two messages.
+    Ntlm(NtlmWords),
+}
+
+/// What the words of a command say of logins by NTLM.
+#[derive(Clone, Copy)]
+pub struct NtlmWords {
+    /// The seed of the challenges; None for one of the system's.
+    pub seed: Option<[u8; 16]>,
+    /// How accounts' sessions are signed; None where the configuration says it.
+    pub signing: Option<SigningMode>,
 }
 
 /// The seed that the words give.
@@ -23,14 +33,27 @@ fn seed_of(words: &ArgMatches<'_>) -> Result<Option<[u8; 16]>, &'static str> {
     }
 }
 
+/// How accounts' sessions are signed, where the words say it.
+fn signing_of(words: &ArgMatches<'_>) -> Option<SigningMode> {
+    words.get_str("signing").and_then(signing_mode)
+}
+
 impl Login {
     /// How the words of a command say that clients log in; where words do not go together, what is wrong with them.
     fn of(words: &ArgMatches<'_>) -> Result<Login, &'static str> {
         let seed = seed_of(words)?;
-        if words.get_str("login") == Some("ntlm") {
-            return Ok(Login::Ntlm(seed));
+        let signing = signing_of(words);
+        let has_accounts = words.get_str("accounts").is_some();
+        let is_signed = matches!(signing, Some(SigningMode::Offered | SigningMode::Required));
+        if is_signed && !has_accounts {
+            return Err(
+                "--signing offered and required are only taken with --login ntlm and --accounts",
+            );
         }
-        if seed.is_some() || words.get_str("accounts").is_some() {
+        if words.get_str("login") == Some("ntlm") {
+            return Ok(Login::Ntlm(NtlmWords { seed, signing }));
+        }
+        if seed.is_some() || has_accounts {
             return Err("--accounts and --seed are only taken with --login ntlm");
         }
         Ok(Login::Token)

@@ -1,11 +1,12 @@
 //! The command `check`: what `serve` would serve by a configuration and accounts, for whom, and within which limits.
 
 use crate::fault::Fault;
-use crate::login::read_accounts;
+use crate::login::{SERVED_SIGNING, read_accounts};
 use crate::notices::{Entrance, say_notices};
 use smb_command_line::{Login, Texts};
 use smb_config::{Accounts, Configuration};
-use smb_replay::CommandFault;
+use smb_ntlm::SigningMode;
+use smb_replay::{CommandFault, check_unsigned, signing_of};
 use std::io::{BufWriter, Write};
 use std::{io, str};
 
@@ -37,6 +38,30 @@ fn write_accounts<W: Write>(accounts: &Accounts, output: &mut W) -> io::Result<(
     Ok(())
 }
 
+/// How sessions are signed of those who log in so.
+fn signing_for(
+    configuration: &Configuration,
+    accounts: &Accounts,
+    login: Login,
+) -> Result<SigningMode, CommandFault> {
+    match login {
+        Login::Token => {
+            check_unsigned(configuration)?;
+            Ok(SigningMode::Off)
+        }
+        Login::Ntlm(words) => signing_of(configuration, accounts, words.signing, SERVED_SIGNING),
+    }
+}
+
+/// Writes whether accounts may sign what they send, or have to; nothing where they can't.
+fn write_signing<W: Write>(signing: SigningMode, output: &mut W) -> io::Result<()> {
+    match signing {
+        SigningMode::Off => Ok(()),
+        SigningMode::Offered => writeln!(output, "signing: offered"),
+        SigningMode::Required => writeln!(output, "signing: required of accounts"),
+    }
+}
+
 /// Writes how clients log in, and whether guests may come.
 fn write_logins<W: Write>(
     configuration: &Configuration,
@@ -65,10 +90,12 @@ fn write_all<W: Write>(
     configuration: &Configuration,
     accounts: &Accounts,
     login: Login,
+    signing: SigningMode,
     output: &mut W,
 ) -> io::Result<()> {
     write_share(configuration, output)?;
     write_logins(configuration, accounts, login, output)?;
+    write_signing(signing, output)?;
     output.flush()
 }
 
@@ -78,13 +105,15 @@ pub fn check(rt: &HostRuntime, texts: &Texts, login: Login) -> Result<(), Fault>
     let alloc = rt.alloc();
     let configuration = Configuration::read(alloc, texts.config.as_str())?;
     let accounts = read_accounts(alloc, texts.accounts())?;
+    let signing = signing_for(&configuration, &accounts, login)?;
     let Ok(mut output) = BufWriter::new(alloc, rt.stdout()) else {
         return Err(Fault::Command(CommandFault::NoMemory));
     };
-    if write_all(&configuration, &accounts, login, &mut output).is_err() {
+    if write_all(&configuration, &accounts, login, signing, &mut output).is_err() {
         return Err(Fault::Command(CommandFault::OutputFailed));
     }
-    let entrance = Entrance::of(&configuration, accounts.list.len());
+    let mut entrance = Entrance::of(&configuration, accounts.list.len());
+    entrance.requires_signing = matches!(signing, SigningMode::Required);
     say_notices(rt, texts, login, entrance);
     Ok(())
 }

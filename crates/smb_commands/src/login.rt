@@ -1,11 +1,14 @@
 //! Who lets clients in by NTLM, and its random seed.
 
-use smb_command_line::NamedFile;
+use smb_command_line::{NamedFile, NtlmWords};
 use smb_config::{Accounts, Configuration};
-use smb_ntlm::Ntlm;
-use smb_replay::{CommandFault, new_ntlm};
+use smb_ntlm::{Ntlm, SigningMode};
+use smb_replay::{CommandFault, new_ntlm, signing_of};
 use std::alloc::Global;
 use std::io::Read;
+
+/// How accounts' sessions are signed that are served, where nothing says how.
+pub const SERVED_SIGNING: SigningMode = SigningMode::Offered;
 
 /// Where the system gives random bytes.
 const RANDOM: &[u8] = b"/dev/urandom";
@@ -38,14 +41,17 @@ fn given_or_random(seed: Option<[u8; 16]>) -> Result<[u8; 16], CommandFault> {
     }
 }
 
-/// Who lets clients in by NTLM: as an account, or as a guest where the configuration lets guests in. Where no seed is given it
-/// is one of the system's.
+/// Who lets clients in by NTLM, as the words say: as an account, or as a guest where the configuration lets guests in. Where
+/// no seed is given it is one of the system's; accounts' sessions are signed as is usual, where neither words nor configuration
+/// say how.
 pub fn ntlm_of(
     alloc: Global,
     configuration: &Configuration,
     accounts: Accounts,
-    seed: Option<[u8; 16]>,
+    words: NtlmWords,
+    usual: SigningMode,
 ) -> Result<Ntlm, CommandFault> {
-    let seed = given_or_random(seed)?;
-    new_ntlm(alloc, configuration, accounts, seed)
+    let seed = given_or_random(words.seed)?;
+    let signing = signing_of(configuration, &accounts, words.signing, usual)?;
+    new_ntlm(alloc, configuration, accounts, seed, signing)
 }

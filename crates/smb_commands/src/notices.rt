@@ -16,7 +16,7 @@ const NO_USER: &str =
 
 /// What is said of a configuration with users where clients log in by NTLM.
 const NO_TOKENS: &str =
-    "login by NTLM: of the configuration `guest` and `guest_readonly` count; its users' tokens are not used, accounts are in the file of --accounts";
+    "login by NTLM: of the configuration `guest`, `guest_readonly` and `signing` count; its users' tokens are not used, accounts are in the file of --accounts";
 
 /// What is said where clients log in by NTLM, and no login is right.
 const NO_ACCOUNT: &str =
@@ -25,6 +25,10 @@ const NO_ACCOUNT: &str =
 /// What is said where the challenges of NTLM come from a seed that was given.
 const SEED_IS_GIVEN: &str =
     "login by NTLM: the challenges come from --seed, so a login that was seen once can be played again";
+
+/// What is said where accounts have to sign what they send, and guests come in too.
+const GUESTS_DO_NOT_SIGN: &str =
+    "signing is required of accounts alone: guests come in too, and what they send is not signed; `guest = false` keeps them out";
 
 /// What is said where who may write to the configuration is everyone, and it has tokens.
 const EVERYONE_WRITES: &str =
@@ -46,6 +50,8 @@ pub struct Entrance {
     pub users: usize,
     /// How many accounts there are; none where clients do not log in by NTLM.
     pub accounts: usize,
+    /// Whether accounts have to sign what they send.
+    pub requires_signing: bool,
     /// Whether the share's name is `IPC$`, in any case.
     pub is_named_ipc: bool,
     /// How many bytes its files may take.
@@ -55,12 +61,13 @@ pub struct Entrance {
 }
 
 impl Entrance {
-    /// Who may come in by a configuration and so many accounts, and what its share may want.
+    /// Who may come in by a configuration and so many accounts, which need not sign what they send, and what its share may want.
     pub fn of(configuration: &Configuration, accounts: usize) -> Self {
         Entrance {
             guest: configuration.guest,
             users: configuration.users,
             accounts,
+            requires_signing: false,
             is_named_ipc: configuration.config.share.eq_ignore_ascii_case("IPC$"),
             capacity: configuration.config.capacity,
             connections: configuration.limits.connections as u64,
@@ -101,6 +108,7 @@ pub fn say_notices(rt: &HostRuntime, texts: &Texts, login: Login, entrance: Entr
         guest,
         users,
         accounts,
+        requires_signing,
         is_named_ipc,
         capacity,
         connections,
@@ -110,10 +118,11 @@ pub fn say_notices(rt: &HostRuntime, texts: &Texts, login: Login, entrance: Entr
             say(rt, texts.is_built_in, BUILT_IN_USER);
             say(rt, !guest && users == 0, NO_USER);
         }
-        Login::Ntlm(seed) => {
+        Login::Ntlm(words) => {
             say(rt, users > 0, NO_TOKENS);
             say(rt, !guest && accounts == 0, NO_ACCOUNT);
-            say(rt, seed.is_some(), SEED_IS_GIVEN);
+            say(rt, words.seed.is_some(), SEED_IS_GIVEN);
+            say(rt, requires_signing && guest, GUESTS_DO_NOT_SIGN);
         }
     }
     say(rt, texts.everyone_writes && users > 0, EVERYONE_WRITES);

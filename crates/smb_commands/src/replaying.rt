@@ -6,15 +6,16 @@ use crate::hearing::Hearing;
 use crate::logging::LogWords;
 use crate::login::{ntlm_of, random_seed, read_accounts};
 use crate::notices::say_cut;
-use smb_command_line::{Login, Texts};
+use smb_command_line::{Login, NtlmWords, Texts};
 use smb_config::Configuration;
 use smb_engine::{Answer, Authenticator, Event, HandleTable, NodeTree, Share, Tokens};
 use smb_journal::{Form, JournalFault, LimitedConfig, Mailbox, RecordedLogin};
 use smb_kept::{Hears, KeptFault, nobody, perform_file, read_recording, recorded_login, share_of};
+use smb_ntlm::SigningMode;
 use smb_peers::{Acting, Ending, Observer, Responded};
 use smb_reason::Reason;
 use smb_refusals::LoginRefusal;
-use smb_replay::{CommandFault, ReplayWords, replay_heard, write_answers};
+use smb_replay::{CommandFault, ReplayWords, check_unsigned, replay_heard, write_answers};
 use smb_wire::limits::Limits;
 use std::fs;
 use std::io::{BufWriter, ErrorKind, Write};
@@ -54,12 +55,18 @@ fn replay_by_ntlm(
     rt: &HostRuntime,
     texts: &Texts,
     configuration: Configuration,
-    seed: Option<[u8; 16]>,
+    ntlm_words: NtlmWords,
     log: Option<LogWords<'_>>,
     words: ReplayWords<'_>,
 ) -> Result<u8, Fault> {
     let accounts = read_accounts(rt.alloc(), texts.accounts())?;
-    let ntlm = ntlm_of(rt.alloc(), &configuration, accounts, seed)?;
+    let ntlm = ntlm_of(
+        rt.alloc(),
+        &configuration,
+        accounts,
+        ntlm_words,
+        SigningMode::Off,
+    )?;
     let Configuration { limits, config, .. } = configuration;
     let hearing = Hearing::open(rt, log, limits, config.created)?;
     replay_by(rt, LimitedConfig { limits, config }, ntlm, hearing, words)
@@ -72,6 +79,7 @@ fn replay_by_token(
     log: Option<LogWords<'_>>,
     words: ReplayWords<'_>,
 ) -> Result<u8, Fault> {
+    check_unsigned(&configuration)?;
     let Configuration {
         limits,
         config,
@@ -94,7 +102,7 @@ pub fn replay_input(
     let configuration = Configuration::read(rt.alloc(), texts.config.as_str())?;
     match login {
         Login::Token => replay_by_token(rt, configuration, log, words),
-        Login::Ntlm(seed) => replay_by_ntlm(rt, texts, configuration, seed, log, words),
+        Login::Ntlm(ntlm_words) => replay_by_ntlm(rt, texts, configuration, ntlm_words, log, words),
     }
 }
 
@@ -188,7 +196,13 @@ fn printed_of<'m>(
     let (header, given) = read_recording(rt, path)?;
     let limited = header.config(alloc).map_err(KeptFault::Journal)?;
     let (limits, created) = (limited.limits, limited.config.created);
-    let login = recorded_login(header.hello, given, nobody(alloc)?, mailbox)?;
+    let login = recorded_login(
+        header.hello,
+        header.signing_required,
+        given,
+        nobody(alloc)?,
+        mailbox,
+    )?;
     let share = share_of(alloc, limited, login)?;
     Ok(Printed {
         share,

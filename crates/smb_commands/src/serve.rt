@@ -4,18 +4,18 @@ use crate::clock::ServeClock;
 use crate::compaction::write_anew_or_say;
 use crate::fault::Fault;
 use crate::logging::{LogWords, ServedLog, ServedPeers, TcpFacts, served_log};
-use crate::login::{ntlm_of, read_accounts};
+use crate::login::{SERVED_SIGNING, ntlm_of, read_accounts};
 use crate::notices::{Entrance, say_notices};
 use crate::served_record::{Serving, serve_folder, serve_recorded, serve_recorded_folder};
 use mio::net::TcpListener;
-use smb_command_line::{Login, Texts};
+use smb_command_line::{Login, NtlmWords, Texts};
 use smb_config::Configuration;
 use smb_engine::{Authenticator, HandleTable, NodeTree, Share};
 use smb_journal::LimitedConfig;
 use smb_kept::{KeepWords, share_of};
 use smb_log::{LogObserver, LoggedPeers};
 use smb_peers::Usage;
-use smb_replay::{CommandFault, ListenFault};
+use smb_replay::{CommandFault, ListenFault, check_unsigned};
 use smb_serving::serve_until_observed;
 use smb_sharing::Said;
 use smb_tcp::{MOST_LISTENERS, TcpPeers};
@@ -280,6 +280,7 @@ fn serve_by_token(
     entrance: Entrance,
     configuration: Configuration,
 ) -> Result<Served, Fault> {
+    check_unsigned(&configuration)?;
     let Configuration {
         limits,
         config,
@@ -296,12 +297,13 @@ fn serve_by_ntlm(
     words: &ServeWords<'_>,
     mut entrance: Entrance,
     configuration: Configuration,
-    seed: Option<[u8; 16]>,
+    ntlm_words: NtlmWords,
 ) -> Result<Served, Fault> {
     let alloc = rt.alloc();
     let accounts = read_accounts(alloc, words.texts.accounts())?;
     entrance.accounts = accounts.list.len();
-    let ntlm = ntlm_of(alloc, &configuration, accounts, seed)?;
+    let ntlm = ntlm_of(alloc, &configuration, accounts, ntlm_words, SERVED_SIGNING)?;
+    entrance.requires_signing = ntlm.requires_signing();
     let Configuration { limits, config, .. } = configuration;
     serve_by(rt, words, entrance, LimitedConfig { limits, config }, ntlm)
 }
@@ -312,7 +314,7 @@ fn serve_configured(rt: &HostRuntime, words: &ServeWords<'_>) -> Result<Served, 
     let entrance = Entrance::of(&configuration, 0);
     match words.login {
         Login::Token => serve_by_token(rt, words, entrance, configuration),
-        Login::Ntlm(seed) => serve_by_ntlm(rt, words, entrance, configuration, seed),
+        Login::Ntlm(ntlm_words) => serve_by_ntlm(rt, words, entrance, configuration, ntlm_words),
     }
 }
 

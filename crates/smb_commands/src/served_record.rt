@@ -218,7 +218,16 @@ fn share_of_parts<'m, A: Authenticator + Drop>(
         given,
         authenticator,
     } = parts;
-    Ok(recorded_share(rt.alloc(), limited, hello, given, authenticator, mailbox)?)
+    let requires_signing = authenticator.requires_signing();
+    Ok(recorded_share(
+        rt.alloc(),
+        limited,
+        hello,
+        requires_signing,
+        given,
+        authenticator,
+        mailbox,
+    )?)
 }
 
 /// Serves a share of its parts, which is kept.
@@ -299,7 +308,13 @@ pub fn serve_recorded<A: Authenticator + Drop>(
     limited: LimitedConfig,
     authenticator: A,
 ) -> Result<Served, Fault> {
-    let keeping = Keeping::open(serving.rt, record, &limited, authenticator.hello())?;
+    let keeping = Keeping::open(
+        serving.rt,
+        record,
+        &limited,
+        authenticator.requires_signing(),
+        authenticator.hello(),
+    )?;
     let parts = parts_of(serving.rt, &keeping, limited, authenticator)?;
     serve_parts(serving, keeping, parts)
 }
@@ -321,7 +336,13 @@ pub fn serve_recorded_folder<A: Authenticator + Drop>(
         path: made_path.as_str(),
         ..record
     };
-    let keeping = Keeping::make(serving.rt, made, &limited, authenticator.hello())?;
+    let keeping = Keeping::make(
+        serving.rt,
+        made,
+        &limited,
+        authenticator.requires_signing(),
+        authenticator.hello(),
+    )?;
     let parts = parts_to_fill(serving.rt, limited, authenticator)?;
     serve_filled_parts(serving, folder, path.as_str(), made, name, keeping, parts)
 }

@@ -5,7 +5,7 @@ use crate::logging::TcpFacts;
 use crate::login::random_seed;
 use crate::machine::memory;
 use crate::serve::{ServeWords, serve_share};
-use smb_command_line::{Login, Texts};
+use smb_command_line::{Login, NtlmWords, Texts};
 use smb_journal::{Form, JournalFault, LimitedConfig, Lines};
 use smb_kept::{KeepWords, KeptFault};
 use smb_ntlm::Account;
@@ -164,7 +164,10 @@ fn serve_words<'a>(
     };
     ServeWords {
         texts,
-        login: Login::Ntlm(None),
+        login: Login::Ntlm(NtlmWords {
+            seed: None,
+            signing: None,
+        }),
         listen: words.listen,
         turns: u64::MAX,
         idle_seconds: IDLE_SECONDS,

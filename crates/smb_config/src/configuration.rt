@@ -10,6 +10,7 @@ ghost use Rattle.smb_request.specs.Settings.{settings_within, is_lawful};
 use crate::limits::read_limits;
 use crate::rule::ConfigRule;
 use hex::{FromHex, FromHexError};
+use smb_ntlm::SigningMode;
 use smb_reason::Reason;
 use smb_request::Config;
 use smb_session::{Tokens, User};
@@ -32,8 +33,8 @@ name = \"ann\"
 token = \"61\"
 ";
 
-/// The keys that a configuration has, all but `guest_readonly`, `limits` and `user` required.
-pub(crate) const KEYS: [&str; 10] = [
+/// The keys that a configuration has, all but `guest_readonly`, `signing`, `limits` and `user` required.
+pub(crate) const KEYS: [&str; 11] = [
     "share",
     "label",
     "guid",
@@ -42,6 +43,7 @@ pub(crate) const KEYS: [&str; 10] = [
     "hello",
     "guest",
     "guest_readonly",
+    "signing",
     "limits",
     "user",
 ];
@@ -88,6 +90,8 @@ pub struct Configuration {
     pub guest: bool,
     /// Whether guests may only read.
     pub guest_read_only: bool,
+    /// How sessions of accounts are signed, where it says so.
+    pub signing: Option<SigningMode>,
     /// How many users there are, each with a token.
     pub users: usize,
     /// Knows the users by their tokens, and lets guests in where they may come.
@@ -273,6 +277,17 @@ fn read_share(alloc: Global, limits: Limits, table: &Table) -> Result<Config, Co
     Ok(config)
 }
 
+/// How sessions of accounts are signed; None where the table does not say.
+fn read_signing(table: &Table) -> Result<Option<SigningMode>, ConfigFault> {
+    let Some(value) = table.get("signing") else {
+        return Ok(None);
+    };
+    match value.as_str().and_then(signing_mode) {
+        Some(mode) => Ok(Some(mode)),
+        None => Err(ConfigFault::Refused(ConfigRule::Signing)),
+    }
+}
+
 /// The number of the line in which a place of a text is, counted from 1.
 fn line_at(document: &str, place: usize) -> usize {
     let lines = document.bytes().take(place).filter(|byte| *byte == b'\n');
@@ -288,6 +303,16 @@ pub(crate) fn read_table(alloc: Global, document: &str) -> Result<Table, ConfigF
             let line = error.span().map(|span| line_at(document, span.start));
             Err(ConfigFault::Refused(ConfigRule::Toml(line)))
         }
+    }
+}
+
+/// How sessions of accounts are signed by a word.
+pub fn signing_mode(word: &str) -> Option<SigningMode> {
+    match word {
+        "off" => Some(SigningMode::Off),
+        "offered" => Some(SigningMode::Offered),
+        "required" => Some(SigningMode::Required),
+        _ => None,
     }
 }
 
@@ -308,6 +333,7 @@ impl Configuration {
             .and_then(Value::as_bool)
             .ok_or(ConfigFault::Refused(ConfigRule::Guest))?;
         let guest_read_only = flag(&table, "guest_readonly", ConfigRule::GuestReadonly)?;
+        let signing = read_signing(&table)?;
         let list = read_users(alloc, &table)?;
         let users = list.len();
         let authenticator = Tokens::new(alloc, &hello, guest, guest_read_only, list)?;
@@ -316,6 +342,7 @@ impl Configuration {
             config,
             guest,
             guest_read_only,
+            signing,
             users,
             authenticator,
         })

@@ -329,6 +329,7 @@ fn subject_of(rule: ConfigRule) -> Option<(Section, Option<&'static str>)> {
         ConfigRule::Hello => Some((Section::Share, Some("hello"))),
         ConfigRule::Guest => Some((Section::Share, Some("guest"))),
         ConfigRule::GuestReadonly => Some((Section::Share, Some("guest_readonly"))),
+        ConfigRule::Signing | ConfigRule::SigningUnused => Some((Section::Share, Some("signing"))),
         ConfigRule::Users => Some((Section::Share, Some("user"))),
         ConfigRule::UserKeys(number) => Some((user(number), None)),
         ConfigRule::UserName(number) => Some((user(number), Some("name"))),

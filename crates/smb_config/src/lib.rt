@@ -16,8 +16,9 @@ mod limits;
 mod rule;
 
 pub use accounts::{Accounts, read_account_list};
-pub use configuration::{BUILT_IN, ConfigFault, Configuration};
+pub use configuration::{BUILT_IN, ConfigFault, Configuration, signing_mode};
 pub use file::{CONFIG_LIMIT, read_config, read_past};
 pub use key_place::write_place;
 pub use limits::LimitKey;
 pub use rule::ConfigRule;
+pub use smb_ntlm::SigningMode;

@@ -27,6 +27,9 @@ pub enum ConfigRule {
     Hello,
     Guest,
     GuestReadonly,
+    Signing,
+    /// Nothing is signed where nobody logs in by an account.
+    SigningUnused,
     Users,
     /// Which keys the user of this number has; users are counted from 1.
     UserKeys(usize),
@@ -64,7 +67,7 @@ impl ConfigRule {
             ConfigRule::Text => "file: a text in UTF-8",
             ConfigRule::Toml(_) => "file: a text in TOML, no key given twice",
             ConfigRule::Keys => {
-                "keys: none but share, label, guid, capacity, created, hello, guest, guest_readonly, limits and user"
+                "keys: none but share, label, guid, capacity, created, hello, guest, guest_readonly, signing, limits and user"
             }
             ConfigRule::Limits => "limits: a table [limits], where it is given",
             ConfigRule::LimitKeys => {
@@ -82,6 +85,8 @@ impl ConfigRule {
             ConfigRule::Hello => "hello: at most 4096 bytes in hex, as a text",
             ConfigRule::Guest => "guest: true or false",
             ConfigRule::GuestReadonly => "guest_readonly: true or false, where it is given",
+            ConfigRule::Signing => "signing: off, offered or required, where it is given",
+            ConfigRule::SigningUnused => "signing: off, without accounts",
             ConfigRule::Users => "user: a table [[user]] for each user",
             ConfigRule::UserKeys(_) => "user: no keys but name, token and readonly",
             ConfigRule::UserName(_) => "user.name: a text of 1 to 256 bytes",

@@ -17,7 +17,7 @@ use Rattle.smb_request.specs.declared.smb1.Smb1Answer.{Smb1Answer}
 use Rattle.smb_request.specs.Smb1.{answer_to_smb1}
 use Rattle.std.proofs.lemmas.Bool.{ne_eqb}
 use Rattle.smb_head.specs.Headers.{header_of}
-use Rattle.smb_head.specs.Replies.{joined_replies}
+use Rattle.smb_head.specs.Replies.{joined_replies, unsigned_replies}
 use Rattle.smb_head.specs.Placed.{placed, replies_written}
 use Rattle.smb_engine.specs.declared.arrival.Arrival.{Arrival}
 use Rattle.smb_engine.specs.declared.connection.Connection.{Connection}
@@ -100,7 +100,7 @@ chain_of_placed front chain now h = rw h refl
 pub chain_begins : {S : Type 0} (m : Meaning S) (arrival : Arrival) (front : List ℕ) (start : ChainState S) (now : ChainStatePlaced S) (requests : List (List ℕ)) → start.replies ≡ [] →
     now.server ≡ start.server → now.connection ≡ start.connection → now.context ≡ start.context → now.writer ≡ placed front [] → now.out ≡ front →
     ChainSoFar m arrival front start now requests 0
-unfolding joined_replies
+unfolding unsigned_replies
 chain_begins m arrival front start now requests none s c x w o =
     record { so_far = rw (none, s, c, x, w, o) (ap (λ bytes. record { server = start.server; connection = start.connection; context = start.context; writer = placed front []; out = bytes }) (sym (append-nil front))) }
 
@@ -122,14 +122,14 @@ chain_more m arrival front start now new requests request i h at e = record {
       ∙ ap (chain_state_behind front) (sym (performed-more m arrival start i requests request at));
 }
 
-server-replied : {S : Type 0} (now : ChainState S) (request : List ℕ) (p : Performed S) → (replied now request p).server ≡ p.server
-server-replied now request p = elim (p.response) as (λ r. (replied now request (record p { response = r })).server ≡ p.server) [ None ↦ refl | Some response ↦ refl ]
+server-replied : {S : Type 0} (connection : ℕ) (now : ChainState S) (request : List ℕ) (p : Performed S) → (replied connection now request p).server ≡ p.server
+server-replied connection now request p = elim (p.response) as (λ r. (replied connection now request (record p { response = r })).server ≡ p.server) [ None ↦ refl | Some response ↦ refl ]
 
 -- a reply changes nothing of the server
 pub server-one_performed : {S : Type 0} (m : Meaning S) (arrival : Arrival) (now : ChainState S) (request : List ℕ) →
     (one_performed m arrival now request).server ≡ (performed m arrival.connection_id arrival.moment now.server now.connection.dialect now.context request).server
 unfolding one_performed
-server-one_performed m arrival now request = server-replied now request (performed m arrival.connection_id arrival.moment now.server now.connection.dialect now.context request)
+server-one_performed m arrival now request = server-replied arrival.connection_id now request (performed m arrival.connection_id arrival.moment now.server now.connection.dialect now.context request)
 
 -- the server after the first k requests of a chain
 chain-after : {S : Type 0} (m : Meaning S) (arrival : Arrival) (chain : ChainState S) (requests : List (List ℕ)) (k : ℕ) →

@@ -2,6 +2,7 @@ pub mod Heard
 pub mod Lists
 pub mod Short
 pub mod Chains
+pub mod Written
 pub mod Steps
 pub mod Pieces
 pub mod Streams

@@ -100,12 +100,12 @@ module _ {S : Type 0} (m : Meaning S) (arrival : Arrival) where
   abbrev IsFresh : Connection → Type 0
   IsFresh connection = connection.payload_came ≡ false → connection ≡ new_stream.connection
 
-  came_replied : (now : ChainState S) (request : List ℕ) (p : Performed S) → (replied now request p).connection.payload_came ≡ now.connection.payload_came
-  came_replied now request p = elim (p.response) as (λ r. (replied now request (record p { response = r })).connection.payload_came ≡ now.connection.payload_came) [ None ↦ refl | Some response ↦ refl ]
+  came_replied : (connection : ℕ) (now : ChainState S) (request : List ℕ) (p : Performed S) → (replied connection now request p).connection.payload_came ≡ now.connection.payload_came
+  came_replied connection now request p = elim (p.response) as (λ r. (replied connection now request (record p { response = r })).connection.payload_came ≡ now.connection.payload_came) [ None ↦ refl | Some response ↦ refl ]
 
   came_one : (now : ChainState S) (request : List ℕ) → (one_performed m arrival now request).connection.payload_came ≡ now.connection.payload_came
   unfolding one_performed
-  came_one now request = came_replied now request (performed m arrival.connection_id arrival.moment now.server now.connection.dialect now.context request)
+  came_one now request = came_replied arrival.connection_id now request (performed m arrival.connection_id arrival.moment now.server now.connection.dialect now.context request)
 
   came_all : (now : ChainState S) (requests : List (List ℕ)) → (all_performed m arrival now requests).connection.payload_came ≡ now.connection.payload_came
   came_all now [] = refl

@@ -2,8 +2,7 @@
 -- Chains and steps as the code holds them: their replies follow the bytes that were in the output before.
 use Rattle.std.specs.Prelude.{ℕ, ◌++◌, Bool, List}
 use Rattle.std.specs.List.{flat_map}
-use Rattle.smb_head.specs.declared.writer.ReplyWriter.{ReplyWriter}
-use Rattle.smb_head.specs.Placed.{placed, replies_written}
+use Rattle.smb_head.specs.Placed.{ReplyPlaces, placed, replies_written}
 use Rattle.smb_request.specs.declared.context.Context.{Context}
 use Rattle.smb_request.specs.State.{ServerState}
 use Rattle.smb_engine.specs.declared.connection.Connection.{Connection}
@@ -15,7 +14,7 @@ pub record ChainStatePlaced (S : Type 0) : Type 0 where
   pub server : ServerState S
   pub connection : Connection
   pub context : Context
-  pub writer : ReplyWriter
+  pub writer : ReplyPlaces
   pub out : List ℕ
 
 abbrev pub chain_state_behind : {S : Type 0} → List ℕ → ChainState S → ChainStatePlaced S

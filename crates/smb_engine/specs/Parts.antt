@@ -1,6 +1,6 @@
 -- For the proofs; nothing here need be believed.
 -- Parts of the definitions that the proofs and private functions speak of.
-use Rattle.std.specs.Prelude.{ℕ, Bool, true, ◌&&◌, ◌==◌, not, nat_lt, List, [], ◌∷◌, ◌++◌, filter, map, replicate, Option, Some, None, is_none, if◌then◌else◌, slice_get, ◌+◌, ◌*◌, ◌≤◌, length, ◌≡◌, take, drop, false, suc}
+use Rattle.std.specs.Prelude.{ℕ, Bool, true, ◌&&◌, ◌==◌, not, nat_lt, List, [], ◌∷◌, ◌++◌, filter, map, replicate, Option, Some, None, is_none, is_some, if◌then◌else◌, slice_get, ◌+◌, ◌*◌, ◌≤◌, length, ◌≡◌, take, drop, false, suc}
 use Rattle.std.specs.Option.{option_map_or, option_map}
 use Rattle.smb_wire.specs.Limits.{longest_payload, most_requests, longest_response}
 use Rattle.smb_wire.specs.Commands.{code_of}
@@ -12,12 +12,14 @@ use Rattle.smb_session.specs.Window.{WindowState, contains, without_ids, credits
 use Rattle.smb_request.specs.Charge.{charge_of}
 use Rattle.smb_request.specs.Context.{first_context}
 use Rattle.smb_request.specs.State.{ServerState}
+use Rattle.smb_request.specs.Request.{response_key}
 use Rattle.smb_request.specs.Response.{ResponseState, Performed}
 use Rattle.smb_engine.specs.declared.connection.Connection.{Connection}
 use Rattle.smb_engine.specs.declared.fault.ServeFault.{ServeFault}
 use Rattle.smb_engine.specs.declared.fault.ServeFault.TheVariants.{BadEvent, TooManyConnections, NoMemory, BadConfig}
 use Rattle.smb_engine.specs.State.{ShareState, ended, StreamState, is_open}
 use Rattle.smb_engine.specs.Output.{reply_frame, end_of, Output, frame_to, output_bytes}
+use Rattle.smb_signing.specs.declared.key.Key.{Key}
 use Rattle.smb_head.specs.Replies.{Reply, joined_replies}
 use Rattle.smb_head.specs.Chains.{is_related}
 use Rattle.smb_wire.specs.NtStatus.{status_code}
@@ -38,15 +40,15 @@ use Rattle.std.specs.Ordering.{nat_cmp}
 use Rattle.smb_peers.specs.declared.event.Event.{Event}
 
 -- the reply to a request: its header has the request's numbers, the flag SERVER_TO_REDIR (1), RELATED_OPERATIONS (4)
--- where the request had it, and the credits that are granted (3.3.4.1)
-abbrev pub reply_to : List ℕ → ResponseState → ℕ → Reply
-reply_to request response credits = record {
+-- where the request had it, SIGNED (8) where it is signed, and the credits that are granted (3.3.4.1)
+abbrev pub reply_to : List ℕ → ResponseState → Option Key → ℕ → Reply
+reply_to request response key credits = record {
   header = record {
     credit_charge = (header_of request).credit_charge;
     status = status_code response.status;
     command = (header_of request).command;
     credits = credits;
-    flags = record { 0 = if is_related request then 5 else 1 };
+    flags = record { 0 = (if is_related request then 5 else 1) + (if is_some key then 8 else 0) };
     next_command = 0;
     message_id = (header_of request).message_id;
     reserved = (header_of request).reserved;
@@ -55,6 +57,7 @@ reply_to request response credits = record {
     signature = replicate 16 0;
   };
   body = response.body;
+  key = key;
 }
 
 -- a payload that ends the connection: nothing of it is performed
@@ -84,13 +87,16 @@ without_stream connection streams = remove_entry (is_at (nat_cmp connection)) st
 
 -- a chain after a request that was performed: its response grants credits and joins the replies (3.3.1.2); without a
 -- response neither changes
-abbrev pub replied : {S : Type 0} → ChainState S → List ℕ → Performed S → ChainState S
-replied chain request p = option_map_or
-    (λ response. let credits = credits_granted chain.connection.window (header_of request).credits in record {
+abbrev pub replied : {S : Type 0} → ℕ → ChainState S → List ℕ → Performed S → ChainState S
+replied connection chain request p = option_map_or
+    (λ response.
+    let credits = credits_granted chain.connection.window (header_of request).credits in
+    let key = response_key chain.server p.server connection chain.context request response.ids response.status in
+    record {
       server = p.server;
       connection = record chain.connection { dialect = p.dialect; window = with_more chain.connection.window credits };
       context = p.context;
-      replies = chain.replies ++ reply_to request response credits ∷ [];
+      replies = chain.replies ++ reply_to request response key credits ∷ [];
     })
     p.response
     (record { server = p.server; connection = record chain.connection { dialect = p.dialect }; context = p.context; replies = chain.replies })

@@ -1,6 +1,6 @@
 -- What a share does, to be read once from top to bottom: a request of a chain, the chain, a payload, a piece of a
 -- connection's stream, an event and a run of events, each over the definition before it ([MS-SMB2] 3.3.5).
-use Rattle.std.specs.Prelude.{ℕ, suc, Bool, true, false, ◌&&◌, ◌||◌, ◌==◌, not, nat_lt, nat_le, List, [], ◌∷◌, ◌++◌, length, drop, filter, map, replicate, Option, Some, None, is_none, nat_eq, if◌then◌else◌}
+use Rattle.std.specs.Prelude.{ℕ, suc, ◌+◌, Bool, true, false, ◌&&◌, ◌||◌, ◌==◌, not, nat_lt, nat_le, List, [], ◌∷◌, ◌++◌, length, drop, filter, map, replicate, Option, Some, None, is_none, is_some, nat_eq, if◌then◌else◌}
 use Rattle.std.specs.Option.{option_map, option_map_or}
 use Rattle.std.specs.List.{list_any, list_all, find, fold, starts_with}
 use Rattle.std.specs.Map.{set_value}
@@ -33,7 +33,7 @@ use Rattle.smb_request.specs.declared.smb1.Smb1Answer.{Smb1Answer}
 use Rattle.smb_request.specs.Context.{first_context}
 use Rattle.smb_request.specs.State.{ServerState}
 use Rattle.smb_request.specs.Response.{ResponseState}
-use Rattle.smb_request.specs.Request.{performed}
+use Rattle.smb_request.specs.Request.{performed, response_key}
 use Rattle.smb_engine.specs.declared.arrival.Arrival.{Arrival}
 use Rattle.smb_engine.specs.declared.connection.Connection.{Connection}
 use Rattle.smb_engine.specs.declared.fault.ServeFault.{ServeFault}
@@ -69,7 +69,8 @@ pub record ChainState (S : Type 0) : Type 0 where
 module _ {S : Type 0} (authenticator : Meaning S) (arrival : Arrival) where
   -- one request of a chain on a connection (3.3.5.2): its response grants credits and joins the replies (3.3.1.2);
   -- without a response neither changes. The reply's header has the request's numbers, the flag SERVER_TO_REDIR (1),
-  -- RELATED_OPERATIONS (4) where the request had it, and the credits that are granted (3.3.4.1)
+  -- RELATED_OPERATIONS (4) where the request had it, SIGNED (8) where the reply is signed, and the credits that are
+  -- granted (3.3.4.1)
   unfoldable pub one_performed : ChainState S → List ℕ → ChainState S
   one_performed chain request =
       let before = chain.connection in
@@ -78,13 +79,15 @@ module _ {S : Type 0} (authenticator : Meaning S) (arrival : Arrival) where
       option_map_or
       (λ (response : ResponseState).
       let credits = credits_granted before.window asked.credits in
+      let key = response_key
+      chain.server p.server arrival.connection_id chain.context request response.ids response.status in
       let reply : Reply = record {
         header = record {
           credit_charge = asked.credit_charge;
           status = status_code response.status;
           command = asked.command;
           credits = credits;
-          flags = record { 0 = if is_related request then 5 else 1 };
+          flags = record { 0 = (if is_related request then 5 else 1) + (if is_some key then 8 else 0) };
           next_command = 0;
           message_id = asked.message_id;
           reserved = asked.reserved;
@@ -93,6 +96,7 @@ module _ {S : Type 0} (authenticator : Meaning S) (arrival : Arrival) where
           signature = replicate 16 0;
         };
         body = response.body;
+        key = key;
       } in
       record {
         server = p.server;
@@ -228,11 +232,13 @@ module _ {S : Type 0} (authenticator : Meaning S) (arrival : Arrival) where
           signature = replicate 16 0;
         };
         body = reply_spelling (negotiate_answer
+            (authenticator.requires_signing server.sessions.authenticator)
             server.settings.guid
             (authenticator.hello server.sessions.authenticator)
             arrival.moment
             answer.dialect
             answer.dialect_revision);
+        key = None;
       } in
       record {
         server = server;

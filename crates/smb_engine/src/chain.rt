@@ -2,6 +2,7 @@
 
 ghost use Rattle.std.specs.Prelude.{ℕ, List, ◌≡◌, ◌≤◌, ◌<◌, ◌+◌, ◌-◌, ◌^◌, [], ◌∷◌, ◌++◌, Some, Option, true, is_some, OnOk, OnErr, IfOk, IfErr, IfSome, IfNone, length, take, replicate, if◌then◌else◌};
 ghost use Rattle.std.specs.List.{flat_map};
+ghost use Rattle.smb_signing.specs.declared.key.Key.{Key};
 ghost use Rattle.smb_head.specs.Headers.{header_of};
 ghost use Rattle.smb_head.specs.Replies.{Reply, rounded_up};
 ghost use Rattle.smb_head.specs.Placed.{placed, replies_written};
@@ -39,18 +40,25 @@ use smb_session::{Authenticator, Window};
 use smb_tree::Tree;
 use smb_wire::limits::MOST_REQUESTS;
 
-/// The flags of a response to a request that is not related to the one before it, and of one to a related request.
-const RESPONSE: HeaderFlags = HeaderFlags::SERVER_TO_REDIR;
+/// The flags of a response: RELATED_OPERATIONS where its request had it, and SIGNED where it is signed.
+fn response_flags(related: bool, signed: bool) -> HeaderFlags
+    ensures { result ≡ record { 0 = (if related then 5 else 1) + (if signed then 8 else 0) } }
+{
+    let answers = HeaderFlags::SERVER_TO_REDIR;
+    let answers_related = HeaderFlags(answers.0 | HeaderFlags::RELATED.0);
+    match (related, signed) {
+        (false, false) => answers,
+        (true, false) => answers_related,
+        (false, true) => HeaderFlags(answers.0 | HeaderFlags::SIGNED.0),
+        (true, true) => HeaderFlags(answers_related.0 | HeaderFlags::SIGNED.0),
+    }
+}
 
-const RELATED_RESPONSE: HeaderFlags = HeaderFlags(
-    HeaderFlags::SERVER_TO_REDIR.0 | HeaderFlags::RELATED.0,
-);
-
-/// The header of the reply to a request of this header.
-fn reply_header(header: &Header, answered: Answered, credits: u16) -> Header
+/// The header of the reply to a request of this header, which is signed or is not.
+fn reply_header(header: &Header, answered: Answered, signed: bool, credits: u16) -> Header
     requires { credits < 2 ^ 16 }
-    ensures { (request body : List ℕ) → header.now ≡ header_of request →
-        result ≡ (reply_to request (record { status = answered.status; refusal = answered.refusal; ids = answered.ids; body = body }) credits).header }
+    ensures { (request body : List ℕ) (key : Option Key) → header.now ≡ header_of request → signed ≡ is_some key →
+        result ≡ (reply_to request (record { status = answered.status; refusal = answered.refusal; ids = answered.ids; body = body }) key credits).header }
 {
     let related = header.flags.contains(HeaderFlags::RELATED);
     Header {
@@ -58,7 +66,7 @@ fn reply_header(header: &Header, answered: Answered, credits: u16) -> Header
         status: answered.status.code(),
         command: header.command,
         credits,
-        flags: if related { RELATED_RESPONSE } else { RESPONSE },
+        flags: response_flags(related, signed),
         next_command: 0,
         message_id: header.message_id,
         reserved: header.reserved,
@@ -92,6 +100,7 @@ fn perform_one<A: Authenticator + Drop, T: Tree + Drop, O: Opens + Drop, W: Obse
     requires order { progress.old.writer.base ≤ progress.old.writer.last }
     requires within { progress.old.writer.last ≤ length out.old.items }
     requires room { rounded_up (length out.old.items - progress.old.writer.base) + longest_response < 2 ^ 24 }
+    requires few { length progress.old.writer.keys < MOST_REQUESTS }
     ensures ok { (front : List ℕ) (before : List Reply) →
         progress.old.writer ≡ placed front before → out.old.items ≡ replies_written front before →
         OnOk result (record {
@@ -110,6 +119,7 @@ fn perform_one<A: Authenticator + Drop, T: Tree + Drop, O: Opens + Drop, W: Obse
     ensures len { OnOk result (rounded_up (length out.new.items - progress.old.writer.base)
         ≤ rounded_up (length out.old.items - progress.old.writer.base) + longest_response) }
     ensures kept { take progress.old.writer.base out.new.items ≡ take progress.old.writer.base out.old.items }
+    ensures few { length progress.new.writer.keys ≤ length progress.old.writer.keys + 1 }
     ensures known { server.new.sessions.table.connections ≡ server.old.sessions.table.connections }
     ensures err { IfErr result (λ no_reply. server.new ≡ (if is_performed no_reply
         then (performed A.meaning arrival.connection_id arrival.moment server.old connection.old.dialect
@@ -124,11 +134,13 @@ fn perform_one<A: Authenticator + Drop, T: Tree + Drop, O: Opens + Drop, W: Obse
         return Err(NoReply::NotPerformed);
     };
     let acting = note_subject(server, arrival, progress.context, header, request, observer);
+    let signing = server.signing(arrival.connection_id, progress.context, header);
     let answered = server.perform(
         arrival.connection_id,
         arrival.moment,
         &mut connection.dialect,
         &mut progress.context,
+        signing,
         header,
         request,
         out,
@@ -148,8 +160,9 @@ fn perform_one<A: Authenticator + Drop, T: Tree + Drop, O: Opens + Drop, W: Obse
         Some((answered, credits)),
         observer,
     );
-    let header = reply_header(header, answered, credits);
-    progress.writer.close_reply(reply, &header, out);
+    let key = server.response_key(arrival.connection_id, signing, header, &answered);
+    let header = reply_header(header, answered, key.is_some(), credits);
+    progress.writer.close_reply(reply, &header, key, out);
     Ok(())
 }
 
@@ -250,6 +263,7 @@ fn chain_payload<A: Authenticator + Drop, T: Tree + Drop, O: Opens + Drop, W: Ob
             }
         }
     }
+    progress.writer.sign(out);
     end_frame(start, out);
     let count = chain.len();
     Ok(Some(count))
@@ -265,7 +279,7 @@ fn frame_smb1<A: Authenticator + Drop, T: Tree + Drop, O: Opens + Drop>(
 ) -> bool
     ensures ok { OnTrue result (out.new.items ≡ out.old.items
         ++ flat_map output_bytes (reply_frame arrival.connection_id (joined_replies (reply_to_smb1
-        (negotiate_answer server.now.settings.guid (A.meaning.hello server.now.sessions.authenticator) arrival.moment answer.dialect answer.dialect_revision) ∷ [])))) }
+        (negotiate_answer (A.meaning.requires_signing server.now.sessions.authenticator) server.now.settings.guid (A.meaning.hello server.now.sessions.authenticator) arrival.moment answer.dialect answer.dialect_revision) ∷ [])))) }
     ensures len { OnTrue result (length out.new.items ≤ length out.old.items + (4 + longest_reply)) }
     ensures kept { OnFalse result (out.new.items ≡ out.old.items) }
 {
@@ -281,7 +295,7 @@ fn frame_smb1<A: Authenticator + Drop, T: Tree + Drop, O: Opens + Drop>(
         out.truncate(start);
         return false;
     };
-    writer.close_reply(reply, &smb1::reply_header(), out);
+    writer.close_reply(reply, &smb1::reply_header(), None, out);
     end_frame(start, out);
     true
 }

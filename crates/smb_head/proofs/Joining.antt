@@ -7,7 +7,7 @@ use Rattle.smb_wire.specs.Fields.{Field, joined}
 use Rattle.smb_wire.proofs.Numbers.{length-spelling}
 use Rattle.smb_head.specs.declared.header.Header.{Header}
 use Rattle.smb_head.specs.Headers.{protocol_id}
-use Rattle.smb_head.specs.Replies.{Reply, reply_bytes, rounded_up, joined_replies, last_place, so_far}
+use Rattle.smb_head.specs.Replies.{Reply, reply_bytes, rounded_up, followed_reply, unsigned_replies, last_place, so_far}
 use Rattle.smb_head.specs.Parts.{padded, padded_length}
 
 -- a header and a body put behind a front
@@ -51,6 +51,13 @@ length-reply_bytes : (next : ℕ) (r : Reply) → length (reply_bytes next r) �
 length-reply_bytes next r =
     rw (reply_parts next r) (omega (arith, length-append (front_of r.header) (spelling 4 next ++ back_of r), length-append (spelling 4 next) (back_of r), length-spelling 4 next, length-front_of r.header))
 
+-- a reply has 64 bytes or more
+pub last_long : (r : Reply) → length r.header.signature ≡ 16 → 64 ≤ length (reply_bytes 0 r)
+unfolding back_of
+last_long r h =
+    let long : length (back_of r) ≡ 24 + (length r.header.signature + length r.body) = simp (length-append, length-spelling) (omega arith) in
+    omega (arith, long, h, length-reply_bytes 0 r)
+
 -- rounding
 rounded_is : (n : ℕ) → n ≤ rounded_up n
 rounded_is n = omega arith
@@ -63,6 +70,13 @@ rounded_behind front n h = omega arith
 
 pub length-padded : (bytes : List ℕ) → length (padded bytes) ≡ rounded_up (length bytes)
 length-padded bytes = omega (arith, length-append bytes (replicate (rounded_up (length bytes) - length bytes) 0), length-replicate {A = ℕ} (rounded_up (length bytes) - length bytes) 0, rounded_is (length bytes))
+
+pub length-followed : (reply : Reply) → length (followed_reply reply) ≡ padded_length reply
+length-followed reply =
+    length-padded (reply_bytes (padded_length reply) reply) ∙ ap rounded_up (length-reply_bytes (padded_length reply) reply ∙ sym (length-reply_bytes 0 reply))
+
+pub followed_long : (r : Reply) → length r.header.signature ≡ 16 → 64 ≤ length (followed_reply r)
+followed_long r h = omega (arith, length-followed r, last_long r h, rounded_is (length (reply_bytes 0 r)))
 
 -- behind a front
 pub patched_behind : (next place n : ℕ) (front bytes : List ℕ) → length front ≡ n → patched next (n + place) (front ++ bytes) ≡ front ++ patched next place bytes
@@ -82,14 +96,14 @@ patched_before next place bytes more h =
 -- what is held of some replies, and what of one more
 record Grows (r : Reply) (replies : List Reply) (reply : Reply) : Type 0 where
   aligned : last_place (r ∷ replies) % 8 ≡ 0
-  within : last_place (r ∷ replies) + 24 ≤ length (joined_replies (r ∷ replies))
-  bytes : joined_replies (r ∷ (replies ++ reply ∷ [])) ≡
-      patched (rounded_up (length (joined_replies (r ∷ replies))) - last_place (r ∷ replies)) (last_place (r ∷ replies)) (joined_replies (r ∷ replies))
-      ++ (replicate (rounded_up (length (joined_replies (r ∷ replies))) - length (joined_replies (r ∷ replies))) 0 ++ reply_bytes 0 reply)
-  last : last_place (r ∷ (replies ++ reply ∷ [])) ≡ rounded_up (length (joined_replies (r ∷ replies)))
+  within : last_place (r ∷ replies) + 24 ≤ length (unsigned_replies (r ∷ replies))
+  bytes : unsigned_replies (r ∷ (replies ++ reply ∷ [])) ≡
+      patched (rounded_up (length (unsigned_replies (r ∷ replies))) - last_place (r ∷ replies)) (last_place (r ∷ replies)) (unsigned_replies (r ∷ replies))
+      ++ (replicate (rounded_up (length (unsigned_replies (r ∷ replies))) - length (unsigned_replies (r ∷ replies))) 0 ++ reply_bytes 0 reply)
+  last : last_place (r ∷ (replies ++ reply ∷ [])) ≡ rounded_up (length (unsigned_replies (r ∷ replies)))
 
 grows : (r : Reply) (replies : List Reply) (reply : Reply) → Grows r replies reply
-unfolding joined_replies last_place
+unfolding unsigned_replies last_place
 grows r [] reply =
     let one = reply_bytes (padded_length r) r in
     let long = length-reply_bytes 0 r in
@@ -108,9 +122,9 @@ grows r [] reply =
 grows r (s ∷ replies) reply =
     let ih = grows s replies reply in
     let front = padded (reply_bytes (padded_length r) r) in
-    let held = joined_replies (s ∷ replies) in
+    let held = unsigned_replies (s ∷ replies) in
     let place = last_place (s ∷ replies) in
-    let long : length front ≡ padded_length r = length-padded (reply_bytes (padded_length r) r) ∙ ap rounded_up (length-reply_bytes (padded_length r) r ∙ sym (length-reply_bytes 0 r)) in
+    let long : length front ≡ padded_length r = length-followed r in
     let all : length (front ++ held) ≡ padded_length r + length held = length-append front held ∙ ap (λ (n : ℕ). n + length held) long in
     let up : rounded_up (length (front ++ held)) ≡ padded_length r + rounded_up (length held) =
     ap rounded_up all ∙ rounded_behind (padded_length r) (length held) (rounded_aligned (length (reply_bytes 0 r))) in
@@ -128,23 +142,23 @@ grows r (s ∷ replies) reply =
       last = omega (arith, ih.last, up);
     }
 
-none_held : (bytes : List ℕ) → bytes ≡ joined_replies [] → 0 < length bytes → ⊥
-unfolding joined_replies
+none_held : (bytes : List ℕ) → bytes ≡ unsigned_replies [] → 0 < length bytes → ⊥
+unfolding unsigned_replies
 none_held bytes e some = omega (arith, ap length e)
 
 -- what a chain holds after a push
-held_is : (bytes : List ℕ) (last : ℕ) (replies : List Reply) → bytes ≡ joined_replies replies → last ≡ last_place replies →
+held_is : (bytes : List ℕ) (last : ℕ) (replies : List Reply) → bytes ≡ unsigned_replies replies → last ≡ last_place replies →
     record { bytes = bytes; last = last } ≡ so_far replies
 held_is bytes last replies e f = λ i. record { bytes = e i; last = f i }
 
 pub push_more : (replies : List Reply) (reply : Reply) (bytes all new : List ℕ) (last size place : ℕ) →
-    bytes ≡ joined_replies replies → last ≡ last_place replies → size ≡ length bytes → 0 < size → place ≡ rounded_up size →
+    bytes ≡ unsigned_replies replies → last ≡ last_place replies → size ≡ length bytes → 0 < size → place ≡ rounded_up size →
     all ≡ bytes ++ (replicate (place - size) 0 ++ reply_bytes 0 reply) → new ≡ patched (place - last) last all →
     record { bytes = new; last = place } ≡ so_far (replies ++ reply ∷ [])
 push_more [] reply bytes all new last size place e f long some p a b = absurd (none_held bytes e (omega arith))
 push_more (r ∷ replies) reply bytes all new last size place e f long some p a b =
     let g = grows r replies reply in
-    let held = joined_replies (r ∷ replies) in
+    let held = unsigned_replies (r ∷ replies) in
     let before = last_place (r ∷ replies) in
     let same : size ≡ length held = long ∙ ap length e in
     let up : place ≡ rounded_up (length held) = p ∙ ap rounded_up same in
@@ -156,10 +170,10 @@ push_more (r ∷ replies) reply bytes all new last size place e f long some p a 
     (up ∙ sym g.last)
 
 pub push_first : (replies : List Reply) (reply : Reply) (bytes all : List ℕ) (size place : ℕ) →
-    bytes ≡ joined_replies replies → size ≡ length bytes → size ≤ 0 → place ≡ rounded_up size →
+    bytes ≡ unsigned_replies replies → size ≡ length bytes → size ≤ 0 → place ≡ rounded_up size →
     all ≡ bytes ++ (replicate (place - size) 0 ++ reply_bytes 0 reply) →
     record { bytes = all; last = place } ≡ so_far (replies ++ reply ∷ [])
-unfolding joined_replies last_place
+unfolding unsigned_replies last_place
 push_first [] reply bytes all size place e long none p a =
     let zero_size : size ≡ 0 = long ∙ ap length e in
     let zero_place : place ≡ 0 = p ∙ ap rounded_up zero_size in
@@ -169,16 +183,16 @@ push_first (r ∷ replies) reply bytes all size place e long none p a =
     absurd (omega (arith, g.within, ap length e))
 
 -- a chain holds no bytes where it holds no replies
-pub holds_none : (replies : List Reply) (bytes : List ℕ) → bytes ≡ joined_replies replies →
+pub holds_none : (replies : List Reply) (bytes : List ℕ) → bytes ≡ unsigned_replies replies →
     (length bytes ≡ 0 → replies ≡ []) × (replies ≡ [] → length bytes ≡ 0)
-unfolding joined_replies
+unfolding unsigned_replies
 holds_none [] bytes e = ((λ h. refl), (λ h. ap length e))
 holds_none (r ∷ replies) bytes e =
     let g = grows r replies r in
     ((λ h. absurd (omega (arith, g.within, ap length e))), (λ h. cc))
 
 -- where the last reply begins after one more
-pub last_after : (replies : List Reply) (reply : Reply) → last_place (replies ++ reply ∷ []) ≡ rounded_up (length (joined_replies replies))
-unfolding joined_replies last_place
+pub last_after : (replies : List Reply) (reply : Reply) → last_place (replies ++ reply ∷ []) ≡ rounded_up (length (unsigned_replies replies))
+unfolding unsigned_replies last_place
 last_after [] reply = refl
 last_after (r ∷ replies) reply = let g = grows r replies reply in g.last

@@ -5,5 +5,6 @@ pub mod Chaining
 pub mod Joining
 pub mod Faults
 pub mod Placing
+pub mod Signing
 pub mod Spelled
 pub mod Firsts

@@ -2,10 +2,10 @@
 use Rattle.std.proofs.Common.{◌≡◌, ℕ, ◌+◌, ◌-◌, ◌<◌, ◌≤◌, List, [], ◌∷◌, ◌++◌, length, take, drop, replicate, refl, sym, ◌∙◌, ap, arith, length-append, append_assoc}
 use Rattle.std.proofs.Math.Seq.{drop-append-add}
 use Rattle.std.proofs.lemmas.List.{take_at, drop_at, length-take, take-take, take-append-le, drop-drop, replicate-append-replicate}
-use Rattle.smb_head.specs.Replies.{Reply, Held, reply_bytes, rounded_up, joined_replies, last_place, so_far}
+use Rattle.smb_head.specs.Replies.{Reply, Held, reply_bytes, rounded_up, unsigned_replies, last_place, so_far}
 use Rattle.smb_head.specs.Parts.{padded}
-use Rattle.smb_head.specs.Placed.{placed, replies_written, with_open_reply}
-use Rattle.smb_head.proofs.Joining.{patched, patched_behind, length-padded, push_more, push_first, last_after, holds_none}
+use Rattle.smb_head.specs.Placed.{replies_written, with_open_reply}
+use Rattle.smb_head.proofs.Joining.{patched, patched_behind, length-padded, push_more, push_first, holds_none}
 
 -- bytes put over those at a place
 abbrev pub over : List ℕ → ℕ → List ℕ → List ℕ
@@ -41,7 +41,7 @@ header_over one two header old mid new place m n h e a b =
 pub open_is : (before out new : List ℕ) (replies : List Reply) (base end up : ℕ) → base ≡ length before → out ≡ replies_written before replies → end ≡ length out →
     up ≡ rounded_up (end - base) → new ≡ out ++ replicate (base + up - end + 64) 0 → new ≡ with_open_reply before replies
 open_is before out new replies base end up b o e u n =
-    let held : List ℕ = joined_replies replies in
+    let held : List ℕ = unsigned_replies replies in
     let zeros : List ℕ = replicate (rounded_up (length held) - length held) 0 in
     let long : end ≡ length before + length held = e ∙ ap length o ∙ length-append before held in
     let short : end - base ≡ length held = omega (arith, long, b) in
@@ -51,26 +51,26 @@ open_is before out new replies base end up b o e u n =
     n ∙ rw (o, split) (append_assoc before held (zeros ++ replicate 64 0) ∙ ap (λ (l : List ℕ). before ++ l) (sym (append_assoc held zeros (replicate 64 0))))
 
 -- its header is written
-pub filled : (before body header out mid : List ℕ) (replies : List Reply) (place : ℕ) → place ≡ length before + rounded_up (length (joined_replies replies)) →
+pub filled : (before body header out mid : List ℕ) (replies : List Reply) (place : ℕ) → place ≡ length before + rounded_up (length (unsigned_replies replies)) →
     out ≡ with_open_reply before replies ++ body → mid ≡ take place out ++ (header ++ drop (place + 64) out) →
-    mid ≡ before ++ (padded (joined_replies replies) ++ (header ++ body))
+    mid ≡ before ++ (padded (unsigned_replies replies) ++ (header ++ body))
 filled before body header out mid replies place p o m =
-    let front : List ℕ = before ++ padded (joined_replies replies) in
+    let front : List ℕ = before ++ padded (unsigned_replies replies) in
     let room : List ℕ = replicate 64 0 in
-    let long : length front ≡ place = length-append before (padded (joined_replies replies)) ∙ ap (λ (n : ℕ). length before + n) (length-padded (joined_replies replies)) ∙ sym p in
-    let same : out ≡ (front ++ room) ++ body = o ∙ ap (λ (l : List ℕ). l ++ body) (sym (append_assoc before (padded (joined_replies replies)) room)) in
+    let long : length front ≡ place = length-append before (padded (unsigned_replies replies)) ∙ ap (λ (n : ℕ). length before + n) (length-padded (unsigned_replies replies)) ∙ sym p in
+    let same : out ≡ (front ++ room) ++ body = o ∙ ap (λ (l : List ℕ). l ++ body) (sym (append_assoc before (padded (unsigned_replies replies)) room)) in
     let wide : length (front ++ room) ≡ place + 64 = length-append front room ∙ ap (λ (n : ℕ). n + 64) long in
     let t : take place out ≡ front = rw (same, append_assoc front room body) (take_at front (room ++ body) place long) in
     let d : drop (place + 64) out ≡ body = rw same (drop_at (front ++ room) body (place + 64) wide) in
-    m ∙ rw (t, d) (append_assoc before (padded (joined_replies replies)) (header ++ body))
+    m ∙ rw (t, d) (append_assoc before (padded (unsigned_replies replies)) (header ++ body))
 
 -- and it is joined to the others
 pub close_more : (before mid new : List ℕ) (replies : List Reply) (reply : Reply) (base last place : ℕ) → base ≡ length before → last ≡ length before + last_place replies →
-    place ≡ length before + rounded_up (length (joined_replies replies)) → base < place →
-    mid ≡ before ++ (padded (joined_replies replies) ++ reply_bytes 0 reply) → new ≡ patched (place - last) last mid →
+    place ≡ length before + rounded_up (length (unsigned_replies replies)) → base < place →
+    mid ≡ before ++ (padded (unsigned_replies replies) ++ reply_bytes 0 reply) → new ≡ patched (place - last) last mid →
     new ≡ replies_written before (replies ++ reply ∷ [])
 close_more before mid new replies reply base last place b l p more m n =
-    let held : List ℕ = joined_replies replies in
+    let held : List ℕ = unsigned_replies replies in
     let zeros : List ℕ = replicate (rounded_up (length held) - length held) 0 in
     let all : List ℕ = held ++ (zeros ++ reply_bytes 0 reply) in
     let some : 0 < length held = omega (arith, b, p, more) in
@@ -83,21 +83,15 @@ close_more before mid new replies reply base last place b l p more m n =
     ∙ ap (λ (h : Held). before ++ h.bytes) pushed
 
 pub close_first : (before mid : List ℕ) (replies : List Reply) (reply : Reply) (base place : ℕ) → base ≡ length before →
-    place ≡ length before + rounded_up (length (joined_replies replies)) → place ≤ base →
-    mid ≡ before ++ (padded (joined_replies replies) ++ reply_bytes 0 reply) → mid ≡ replies_written before (replies ++ reply ∷ [])
+    place ≡ length before + rounded_up (length (unsigned_replies replies)) → place ≤ base →
+    mid ≡ before ++ (padded (unsigned_replies replies) ++ reply_bytes 0 reply) → mid ≡ replies_written before (replies ++ reply ∷ [])
 close_first before mid replies reply base place b p none m =
-    let held : List ℕ = joined_replies replies in
+    let held : List ℕ = unsigned_replies replies in
     let zeros : List ℕ = replicate (rounded_up (length held) - length held) 0 in
     let few : length held ≤ 0 = omega (arith, b, p, none) in
     let pushed : record { bytes = held ++ (zeros ++ reply_bytes 0 reply); last = rounded_up (length held) } ≡ so_far (replies ++ reply ∷ []) =
     push_first replies reply held (held ++ (zeros ++ reply_bytes 0 reply)) (length held) (rounded_up (length held)) refl refl few refl refl in
     m ∙ ap (λ (l : List ℕ). before ++ l) (append_assoc held zeros (reply_bytes 0 reply)) ∙ ap (λ (h : Held). before ++ h.bytes) pushed
-
-pub places_are : (before : List ℕ) (replies : List Reply) (reply : Reply) (base place : ℕ) → base ≡ length before →
-    place ≡ length before + rounded_up (length (joined_replies replies)) → record { base = base; last = place } ≡ placed before (replies ++ reply ∷ [])
-places_are before replies reply base place b p =
-    let last : place ≡ length before + last_place (replies ++ reply ∷ []) = p ∙ ap (λ (n : ℕ). length before + n) (sym (last_after replies reply)) in
-    λ i. record { base = b i; last = last i }
 
 -- what stands before the replies is kept
 kept_front : (base place : ℕ) (old more : List ℕ) → base ≤ place → place ≤ length old → take base (take place old ++ more) ≡ take base old
@@ -110,6 +104,6 @@ kept_once base place old mid more b p m = rw m (kept_front base place old more b
 pub empty_is : (before out : List ℕ) (replies : List Reply) (base : ℕ) → base ≡ length before → out ≡ replies_written before replies →
     (length out ≡ base → replies ≡ []) × (replies ≡ [] → length out ≡ base)
 empty_is before out replies base b o =
-    let both = holds_none replies (joined_replies replies) refl in
-    let long : length out ≡ length before + length (joined_replies replies) = ap length o ∙ length-append before (joined_replies replies) in
+    let both = holds_none replies (unsigned_replies replies) refl in
+    let long : length out ≡ length before + length (unsigned_replies replies) = ap length o ∙ length-append before (unsigned_replies replies) in
     ((λ e. both.0 (omega (arith, e, long, b))), (λ e. let none = both.1 e in omega (arith, none, long, b)))

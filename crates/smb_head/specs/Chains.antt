@@ -12,6 +12,10 @@ use Rattle.smb_head.specs.Headers.{SpellsHeader, header_of, header_fault}
 abbrev pub is_related : List ℕ → Bool
 is_related bytes = bit_and (header_of bytes).flags.0 4 == 4
 
+-- SIGNED is set: the message bears a signature (2.2.1.2)
+abbrev pub is_signed : List ℕ → Bool
+is_signed bytes = bit_and (header_of bytes).flags.0 8 == 8
+
 -- a request begins with a header, so it has 64 bytes or more, and SERVER_TO_REDIR, which a reply has, is not set there
 pub record IsRequest (request : List ℕ) : Type 0 where
   pub header : SpellsHeader request (header_of request)

@@ -1,9 +1,11 @@
 -- For the proofs; nothing here need be believed.
 -- Parts of chains and of replies.
-use Rattle.std.specs.Prelude.{◌≡◌, ℕ, Some, slice_get, ◌+◌, ◌%◌, Bool, ◌&&◌, ◌||◌, ◌==◌, List, ◌++◌, Result, nat_le, bit_and, ◌-◌, length, replicate}
+use Rattle.std.specs.Prelude.{◌≡◌, ℕ, None, Some, slice_get, ◌+◌, ◌%◌, ◌≤◌, Bool, false, ◌&&◌, ◌||◌, ◌==◌, List, [], ◌∷◌, ◌++◌, Result, nat_le, bit_and, ◌-◌, length, replicate}
+use Rattle.std.specs.List.{AllByRecursion}
 use Rattle.std.specs.Result.{result_map_both}
 use Rattle.smb_head.specs.declared.fault.HeadFault.{HeadFault}
 use Rattle.smb_head.specs.declared.header.Header.{Header}
+use Rattle.smb_head.specs.declared.writer.KeyedReply.{KeyedReply}
 use Rattle.smb_head.specs.Headers.{header_of}
 use Rattle.smb_head.specs.Replies.{Reply, reply_bytes, rounded_up}
 
@@ -35,3 +37,18 @@ padded bytes = bytes ++ replicate (rounded_up (length bytes) - length bytes) 0
 -- a reply's length when it is padded
 abbrev pub padded_length : Reply → ℕ
 padded_length reply = rounded_up (length (reply_bytes 0 reply))
+
+-- places that rise from one to another
+abbrev pub AreRising : ℕ → List KeyedReply → ℕ → Type 0
+AreRising from [] end = from ≤ end
+AreRising from (reply ∷ replies) end = (from ≤ reply.place) × AreRising reply.place replies end
+
+-- where replies are said to be: they rise from the first place to the last, and without keys none has one
+pub record KeepsPlaces (base last : ℕ) (keys : List KeyedReply) (has_keys : Bool) : Type 0 where
+  pub rising : AreRising base keys last
+  pub unsigned : has_keys ≡ false → AllByRecursion (λ reply. reply.key ≡ None) keys
+
+-- where a reply ends that others follow, in so many bytes: where the first of them begins, or where the bytes end
+abbrev pub end_before : List KeyedReply → ℕ → ℕ
+end_before [] size = size
+end_before (next ∷ replies) size = next.place

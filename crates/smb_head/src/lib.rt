@@ -1,5 +1,5 @@
 //! Headers and chains: the payload of a frame as requests, and replies as a payload
-//! ([MS-SMB2] 2.2.1, 3.3.5.2.7, 3.3.4.1.3).
+//! ([MS-SMB2] 2.2.1, 3.3.5.2.7, 3.3.4.1.1, 3.3.4.1.3).
 //!
 //! A request or a reply begins with a [`Header`] of 64 bytes, which [`read_header`] and [`write_header`] read
 //! and write: `specs/Headers.antt` has it as a table of fields, in the order of the standard. [`read_chain`]
@@ -8,7 +8,9 @@
 //! each payload is a chain in one way or has one first fault is the contract of [`laws_of_chains`].
 //!
 //! A [`ReplyChain`] takes replies one by one and gives the payload that joins them, by
-//! `specs/Replies.antt`: each but the last padded, its NextCommand the distance to the next. This layer
+//! `specs/Replies.antt`: each but the last padded, its NextCommand the distance to the next. A [`ReplyWriter`]
+//! joins them where they are sent from, and signs those that have a key, once all are joined: each with its
+//! padding, in place. That what is sent bears the signatures is the contract of [`laws_of_replies`]. This layer
 //! knows nothing of bodies.
 #![tactic(auto)]
 
@@ -23,5 +25,5 @@ pub use fault::{ChainFault, HeadFault};
 pub use header::{
     Header, HeaderFlags, each_header_fits, laws_of_headers, read_header, write_header,
 };
-pub use reply::ReplyChain;
+pub use reply::{ReplyChain, laws_of_replies};
 pub use writer::{OpenReply, ReplyWriter};

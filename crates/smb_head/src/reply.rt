@@ -1,8 +1,9 @@
 //! Replies joined in one payload ([MS-SMB2] 3.3.4.1.3).
 
-ghost use Rattle.std.specs.Prelude.{◌≡◌, ◌↔◌, ◌==◌, ◌<◌, ◌≤◌, ◌+◌, ◌^◌, List, [], ◌∷◌, ◌++◌, IsTrue, OnOk, OnErr, IfErr, length, take, drop, replicate};
+ghost use Rattle.std.specs.Prelude.{◌≡◌, ◌↔◌, ◌==◌, ◌<◌, ◌≤◌, ◌+◌, ◌^◌, List, [], ◌∷◌, ◌++◌, None, IsTrue, OnOk, OnErr, IfErr, length, take, drop, replicate};
 ghost use Rattle.smb_wire.specs.Number.{spelling};
-ghost use Rattle.smb_head.specs.Replies.{Reply, joined_replies, length_with, reply_bytes, rounded_up, so_far};
+ghost use Rattle.std.specs.List.{AllByRecursion};
+ghost use Rattle.smb_head.specs.Replies.{Reply, joined_replies, length_with, reply_bytes, rounded_up, so_far, HasNoKey, WithoutKeysRepliesAreUnsigned, EachReplyBearsItsSignature};
 
 use super::fault::HeadFault;
 use super::header::{Header, write_header};
@@ -10,7 +11,7 @@ use smb_wire::{WireFault, put_bytes};
 use std::alloc::Global;
 use std::marker::Model;
 
-/// Replies one after the other in one payload. Each is written once, and none is moved.
+/// Replies one after the other in one payload, none of them signed. Each is written once, and none is moved.
 #[derive(Drop)]
 pub struct ReplyChain {
     bytes: Vec<u8>,
@@ -66,7 +67,7 @@ fn put_zeros(count: usize, out: &mut Vec<u8>) -> Result<(), WireFault>
 
 /// Adds a reply as the last one. After a refusal its header may stand there.
 fn put_last(header: &Header, body: &[u8], out: &mut Vec<u8>) -> Result<(), HeadFault>
-    ensures ok { OnOk result (out.new.items ≡ out.old.items ++ reply_bytes 0 (record { header = header.now; body = body.now })) }
+    ensures ok { OnOk result (out.new.items ≡ out.old.items ++ reply_bytes 0 (record { header = header.now; body = body.now; key = None })) }
     ensures len { OnOk result (length out.new.items ≡ length out.old.items + 64 + length body.now) }
     ensures kept { take (length out.old.items) out.new.items ≡ out.old.items }
     ensures memory { IfErr result (λ fault. fault ≡ HeadFault.NoMemory) }
@@ -84,7 +85,7 @@ fn put_last(header: &Header, body: &[u8], out: &mut Vec<u8>) -> Result<(), HeadF
 #[tactic(auto, using(std::proofs::Common::append_assoc))]
 fn put_all(padding: usize, header: &Header, body: &[u8], out: &mut Vec<u8>) -> Result<(), HeadFault>
     requires { padding < 8 }
-    ensures ok { OnOk result (out.new.items ≡ out.old.items ++ (replicate padding 0 ++ reply_bytes 0 (record { header = header.now; body = body.now }))) }
+    ensures ok { OnOk result (out.new.items ≡ out.old.items ++ (replicate padding 0 ++ reply_bytes 0 (record { header = header.now; body = body.now; key = None }))) }
     ensures len { OnOk result (length out.new.items ≡ length out.old.items + padding + 64 + length body.now) }
     ensures kept { take (length out.old.items) out.new.items ≡ out.old.items }
     ensures memory { IfErr result (λ fault. fault ≡ HeadFault.NoMemory) }
@@ -102,7 +103,7 @@ fn put_reply(
     out: &mut Vec<u8>,
 ) -> Result<(), HeadFault>
     requires { padding < 8 }
-    ensures ok { OnOk result (out.new.items ≡ out.old.items ++ (replicate padding 0 ++ reply_bytes 0 (record { header = header.now; body = body.now }))) }
+    ensures ok { OnOk result (out.new.items ≡ out.old.items ++ (replicate padding 0 ++ reply_bytes 0 (record { header = header.now; body = body.now; key = None }))) }
     ensures len { OnOk result (length out.new.items ≡ length out.old.items + padding + 64 + length body.now) }
     ensures memory { IfErr result (λ fault. fault ≡ HeadFault.NoMemory) }
     ensures err { OnErr result (out.new.items ≡ out.old.items) }
@@ -119,7 +120,7 @@ fn put_reply(
 
 impl ReplyChain {
     /// A chain of no replies. It takes no memory yet.
-    #[tactic(auto, unfolding(crate::specs::Replies::joined_replies, crate::specs::Replies::last_place))]
+    #[tactic(auto, unfolding(crate::specs::Replies::unsigned_replies, crate::specs::Replies::last_place))]
     pub fn begin(alloc: Global) -> ReplyChain
         ensures joined { result ≡ so_far [] }
         ensures empty { length result.bytes ≡ 0 }
@@ -153,7 +154,7 @@ impl ReplyChain {
     pub fn push(&mut self, header: &Header, body: &[u8]) -> Result<(), HeadFault>
         requires { length_with self.old body.now < 2 ^ 24 }
         ensures joined { (replies : List Reply) → self.old ≡ so_far replies →
-            OnOk result (self.new ≡ so_far (replies ++ record { header = header.now; body = body.now } ∷ [])) }
+            OnOk result (self.new ≡ so_far (replies ++ record { header = header.now; body = body.now; key = None } ∷ [])) }
         ensures len { OnOk result (length self.new.bytes ≡ rounded_up (length self.old.bytes) + 64 + length body.now) }
         ensures memory { IfErr result (λ fault. fault ≡ HeadFault.NoMemory) }
         ensures err { OnErr result (self.new ≡ self.old) }
@@ -171,9 +172,15 @@ impl ReplyChain {
     /// The payload: the replies that were pushed, joined.
     pub fn finish(self) -> Vec<u8>
         ensures bytes { result.items ≡ self.bytes }
-        ensures joined { (replies : List Reply) → self ≡ so_far replies → result.items ≡ joined_replies replies }
+        ensures joined { (replies : List Reply) → self ≡ so_far replies → AllByRecursion HasNoKey replies → result.items ≡ joined_replies replies }
     {
         let ReplyChain { bytes, last: _ } = self;
         bytes
     }
 }
+
+/// The laws of joined replies: the contract is the statement, and the body does nothing.
+pub fn laws_of_replies()
+    ensures unsigned { WithoutKeysRepliesAreUnsigned }
+    ensures signed { EachReplyBearsItsSignature }
+{}

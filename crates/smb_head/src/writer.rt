@@ -1,23 +1,49 @@
 //! Replies joined where they are sent from: each is written once, behind what stands there
-//! ([MS-SMB2] 3.3.4.1.3).
+//! ([MS-SMB2] 3.3.4.1.3), and those that have a key are signed there, once all are joined (3.3.4.1.1).
 
 ghost use Rattle.std.specs.Prelude.{ℕ, ◌≡◌, ◌↔◌, ◌==◌, ◌<◌, ◌≤◌, ◌+◌, ◌-◌, ◌^◌, List, [], ◌∷◌, ◌++◌, IsTrue, OnOk, OnErr, IfOk, IfErr, length, take, drop, replicate};
 ghost use Rattle.smb_wire.specs.Number.{spelling};
 ghost use Rattle.smb_wire.specs.Fields.{joined};
 ghost use Rattle.smb_head.specs.Headers.{fields, protocol_id};
-ghost use Rattle.smb_head.specs.Replies.{Reply, reply_bytes, rounded_up};
-ghost use Rattle.smb_head.specs.Placed.{placed, replies_written, with_open_reply, open_place};
+ghost use Rattle.smb_head.specs.Replies.{Reply, joined_replies, reply_bytes, rounded_up, signed_if, unsigned_replies};
+ghost use Rattle.smb_head.specs.Placed.{keys_from, placed, replies_written, with_open_reply, open_place};
+ghost use Rattle.smb_head.specs.Parts.{AreRising, end_before};
 
 use super::fault::HeadFault;
 use super::header::Header;
 use super::reply::{rounded_up, set_next};
+use arrayvec::ArrayVec;
+use smb_signing::Key;
+use smb_wire::limits::MOST_REQUESTS;
 use smb_wire::put_bytes;
+use std::marker::Model;
 
-/// Where replies stand in a vector, behind other bytes.
-#[derive(Clone, Copy, Debug)]
+/// Where a reply begins, and the key that it is signed by, if it is.
+#[derive(Clone, Copy, Default)]
+struct KeyedReply {
+    place: usize,
+    key: Option<Key>,
+}
+
+/// Where replies stand in a vector, behind other bytes, and by which keys they are signed.
+#[derive(Drop)]
 pub struct ReplyWriter {
     base: usize,
     last: usize,
+    keys: ArrayVec<KeyedReply, MOST_REQUESTS>,
+    // Whether any of them has a key.
+    has_keys: bool,
+}
+
+impl Model for ReplyWriter {
+    ghost use Rattle.smb_head.specs.Placed.{ReplyPlaces};
+    ghost use Rattle.smb_head.specs.Parts.{KeepsPlaces};
+
+    ghost Value = { ReplyPlaces };
+
+    ghost view = { λ writer. record { base = writer.base; last = writer.last; keys = writer.keys.items } };
+
+    ghost invariant = { λ writer. KeepsPlaces writer.base writer.last writer.keys.items writer.has_keys };
 }
 
 /// A reply whose header is still to come: where the vector ended before it, and where its header goes.
@@ -96,18 +122,60 @@ fn put_room(count: usize, out: &mut Vec<u8>) -> Result<(), HeadFault>
     Ok(())
 }
 
+/// Where a reply ends that these others follow: where the first of them begins, or where `out` ends.
+fn end_before(others: &[KeyedReply], out: &Vec<u8>) -> usize
+    ensures { result ≡ end_before others.now (length out.now.items) }
+{
+    match others.first() {
+        Some(next) => next.place,
+        None => out.len(),
+    }
+}
+
+/// Signs the reply that ends at `end`, where it has a key.
+fn sign_reply(reply: KeyedReply, end: usize, out: &mut Vec<u8>)
+    requires order { reply.place ≤ end }
+    requires within { end ≤ length out.old.items }
+    ensures signed { out.new.items ≡ take reply.place out.old.items
+        ++ (signed_if reply.key (take (end - reply.place) (drop reply.place out.old.items)) ++ drop end out.old.items) }
+    ensures len { length out.new.items ≡ length out.old.items }
+{
+    if let Some(key) = reply.key {
+        key.sign(&mut out[reply.place..end]);
+    }
+}
+
+/// Signs each of some replies that has a key: one ends where the next begins, and the last where `out` does.
+fn sign_replies(replies: &[KeyedReply], out: &mut Vec<u8>)
+    requires { AreRising 0 replies.now (length out.old.items) }
+    ensures signed { (before : List ℕ) (others : List Reply) → replies.now ≡ keys_from (length before) others →
+        out.old.items ≡ before ++ unsigned_replies others → out.new.items ≡ before ++ joined_replies others }
+    ensures len { length out.new.items ≡ length out.old.items }
+    ensures kept { (base : ℕ) → AreRising base replies.now (length out.old.items) → take base out.new.items ≡ take base out.old.items }
+{
+    let mut replies = replies;
+    while let Some((reply, others)) = replies.split_first() {
+        let end = end_before(others, out);
+        sign_reply(*reply, end, out);
+        replies = others;
+    }
+}
+
 impl ReplyWriter {
     /// No replies yet, behind all that stands in `out`. Nothing is written.
-    #[tactic(auto, unfolding(crate::specs::Replies::last_place))]
+    #[tactic(auto, unfolding(crate::specs::Replies::last_place, crate::specs::Placed::keys_from))]
     pub fn begin(out: &Vec<u8>) -> ReplyWriter
         ensures placed { result ≡ placed out.now.items [] }
         ensures base { result.base ≡ length out.now.items }
         ensures last { result.last ≡ length out.now.items }
+        ensures count { length result.keys ≡ 0 }
     {
         let end = out.len();
         ReplyWriter {
             base: end,
             last: end,
+            keys: ArrayVec::new(),
+            has_keys: false,
         }
     }
 
@@ -153,20 +221,28 @@ impl ReplyWriter {
 
     /// Closes an open reply, whose body is what stands behind the bytes for its header: writes the header, and the
     /// NextCommand of the reply before it. What `header` says as NextCommand is not used: it is 0, until the
-    /// next reply is closed. It takes no memory.
-    pub fn close_reply(&mut self, reply: OpenReply, header: &Header, out: &mut Vec<u8>)
+    /// next reply is closed. Where there is a key the reply is signed by it, once `sign` is called. It takes no memory.
+    pub fn close_reply(
+        &mut self,
+        reply: OpenReply,
+        header: &Header,
+        key: Option<Key>,
+        out: &mut Vec<u8>,
+    )
+        requires few { length self.old.keys < MOST_REQUESTS }
         requires order { self.old.base ≤ self.old.last }
         requires behind { self.old.last ≤ reply.place }
         requires room { reply.place < self.old.last + 2 ^ 32 }
         requires within { reply.place + 64 ≤ length out.old.items }
         ensures closed { (before : List ℕ) (replies : List Reply) (body : List ℕ) → self.old ≡ placed before replies →
             reply ≡ open_place before replies → out.old.items ≡ with_open_reply before replies ++ body →
-            out.new.items ≡ replies_written before (replies ++ record { header = header.now; body = body } ∷ []) }
+            out.new.items ≡ replies_written before (replies ++ record { header = header.now; body = body; key = key } ∷ []) }
         ensures placed { (before : List ℕ) (replies : List Reply) (body : List ℕ) → self.old ≡ placed before replies →
             reply ≡ open_place before replies →
-            self.new ≡ placed before (replies ++ record { header = header.now; body = body } ∷ []) }
+            self.new ≡ placed before (replies ++ record { header = header.now; body = body; key = key } ∷ []) }
         ensures base { self.new.base ≡ self.old.base }
         ensures last { self.new.last ≡ reply.place }
+        ensures count { length self.new.keys ≡ length self.old.keys + 1 }
         ensures len { length out.new.items ≡ length out.old.items }
         ensures kept { take self.old.base out.new.items ≡ take self.old.base out.old.items }
     {
@@ -175,6 +251,25 @@ impl ReplyWriter {
             set_next(out, self.last, (reply.place - self.last) as u32);
         }
         self.last = reply.place;
+        self.keys.push(KeyedReply {
+            place: reply.place,
+            key,
+        });
+        self.has_keys |= key.is_some();
+    }
+
+    /// Signs each reply that has a key, over its header, its body and its padding, where it stands. It is called once, when
+    /// all replies are closed. It takes no memory.
+    pub fn sign(&self, out: &mut Vec<u8>)
+        requires { self.now.last ≤ length out.old.items }
+        ensures signed { (before : List ℕ) (replies : List Reply) → self.now ≡ placed before replies → out.old.items ≡ replies_written before replies →
+            out.new.items ≡ before ++ joined_replies replies }
+        ensures len { length out.new.items ≡ length out.old.items }
+        ensures kept { take self.now.base out.new.items ≡ take self.now.base out.old.items }
+    {
+        if self.has_keys {
+            sign_replies(self.keys.as_slice(), out);
+        }
     }
 
     /// Cuts off an open reply, its padding too.

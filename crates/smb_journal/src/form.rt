@@ -50,6 +50,9 @@ const CAPACITY: &[u8] = b" capacity=";
 
 const CREATED: &[u8] = b" created=";
 
+/// The words that say that each session that is signed has to sign its requests.
+const SIGNING_REQUIRED: &[u8] = b" signing=required";
+
 /// The word before the authenticator's first token.
 const HELLO: &[u8] = b" hello=";
 
@@ -59,6 +62,8 @@ pub struct Header {
     pub form: Form,
     /// The share's name, label, GUID, capacity, moment and limits, as they stand in the line.
     share: Vec<u8>,
+    /// Whether each session that is signed has to sign its requests, which a NEGOTIATE response says.
+    pub signing_required: bool,
     /// At most 4,096 bytes.
     pub hello: Vec<u8>,
 }
@@ -141,6 +146,7 @@ impl Header {
         alloc: Global,
         form: Form,
         limited: &LimitedConfig,
+        signing_required: bool,
         hello: &[u8],
     ) -> Result<Header, JournalFault> {
         let mut share = Vec::new(alloc);
@@ -148,6 +154,7 @@ impl Header {
         Ok(Header {
             form,
             share,
+            signing_required,
             hello: Vec::from_slice(alloc, hello)?,
         })
     }
@@ -169,9 +176,14 @@ impl Header {
         let Some(hello) = token_of(alloc, digits)? else {
             return Err(JournalFault::NoRecording);
         };
+        let (share, signing_required) = match share.strip_suffix(SIGNING_REQUIRED) {
+            Some(share) => (share, true),
+            None => (share, false),
+        };
         Ok(Header {
             form,
             share: Vec::from_slice(alloc, share)?,
+            signing_required,
             hello,
         })
     }
@@ -190,6 +202,9 @@ impl Header {
             Form::Journal => JOURNAL,
         })?;
         line.extend_from_slice(&self.share)?;
+        if self.signing_required {
+            line.extend_from_slice(SIGNING_REQUIRED)?;
+        }
         line.extend_from_slice(HELLO)?;
         line.append(&mut hex::encode(alloc, &self.hello)?.into_bytes())?;
         line.push(b'\n')?;

@@ -10,7 +10,7 @@
 //! | `+ N` | connection N was opened |
 //! | `> N MOMENT HEX` | a piece of its stream came |
 //! | `b N MOMENT LENGTH SUM` | so too: that many bytes follow the line, and a line feed; SUM is their check |
-//! | `= continue TOKEN`, `= accept USER FLAGS READONLY TOKEN`, `= deny` | what the authenticator answered in the piece before |
+//! | `= continue TOKEN`, `= accept USER FLAGS READONLY TOKEN [KEY REQUIRED]`, `= deny` | what the authenticator answered in the piece before |
 //! | `~ N DONE` | memory ran out in the piece before, behind so many of its requests |
 //! | `- N` | connection N has ended |
 //!

@@ -7,7 +7,8 @@ ghost use Rattle.smb_journal.specs.Lines.{decimal_number, line_text, bytes_line,
 use crate::given::GivenAnswer;
 use crate::text::{at_blank, check_of_digits, number_of, piece_of, piece_parts, token_of};
 use smb_peers::Event;
-use smb_session::Answer;
+use smb_session::{Answer, Signing};
+use smb_signing::Key;
 use std::alloc::{AllocError, Global};
 
 /// A line.
@@ -88,16 +89,51 @@ fn flag_of(word: &[u8]) -> Option<bool> {
     }
 }
 
-/// The words of `USER FLAGS READONLY TOKEN`.
-fn accept_parts(text: &[u8]) -> Option<(&[u8], u16, bool, &[u8])> {
-    let (user, others) = at_blank(text)?;
-    let (flags, others) = at_blank(others)?;
-    let (read_only, token) = at_blank(others)?;
-    let flags = u16::try_from(number_of(flags)?).ok()?;
-    Some((user, flags, flag_of(read_only)?, token))
+/// What `KEY REQUIRED` says of how a session's messages are signed.
+fn signing_of(text: &[u8]) -> Option<Signing> {
+    let (digits, required) = at_blank(text)?;
+    let mut key = [0u8; 16];
+    hex::decode_to_slice(digits, &mut key).ok()?;
+    Some(Signing {
+        key: Key::new(key),
+        required: flag_of(required)?,
+    })
 }
 
-/// What an authenticator answered: `continue TOKEN`, `accept USER FLAGS READONLY TOKEN` or `deny`.
+/// A token, and how the session's messages are signed: `TOKEN`, or `TOKEN KEY REQUIRED`.
+fn token_parts(text: &[u8]) -> Option<(&[u8], Option<Signing>)> {
+    match at_blank(text) {
+        Some((token, others)) => Some((token, Some(signing_of(others)?))),
+        None => Some((text, None)),
+    }
+}
+
+/// The words behind `accept`, its user and token as they are spelled.
+#[derive(Clone, Copy)]
+struct AcceptParts<'a> {
+    user: &'a [u8],
+    flags: u16,
+    read_only: bool,
+    token: &'a [u8],
+    signing: Option<Signing>,
+}
+
+/// The words of `USER FLAGS READONLY TOKEN [KEY REQUIRED]`.
+fn accept_parts(text: &[u8]) -> Option<AcceptParts<'_>> {
+    let (user, others) = at_blank(text)?;
+    let (flags, others) = at_blank(others)?;
+    let (read_only, others) = at_blank(others)?;
+    let (token, signing) = token_parts(others)?;
+    Some(AcceptParts {
+        user,
+        flags: u16::try_from(number_of(flags)?).ok()?,
+        read_only: flag_of(read_only)?,
+        token,
+        signing,
+    })
+}
+
+/// What an authenticator answered: `continue TOKEN`, `accept USER FLAGS READONLY TOKEN [KEY REQUIRED]` or `deny`.
 fn answer_of(alloc: Global, text: &[u8]) -> Result<Option<Answer>, AllocError> {
     if text == b"deny".as_slice() {
         return Ok(Some(Answer::Deny));
@@ -105,15 +141,15 @@ fn answer_of(alloc: Global, text: &[u8]) -> Result<Option<Answer>, AllocError> {
     if let Some(digits) = text.strip_prefix(b"continue ") {
         return Ok(token_of(alloc, digits)?.map(Answer::Continue));
     }
-    let Some((user, flags, read_only, token)) = text.strip_prefix(b"accept ").and_then(accept_parts)
-    else {
+    let Some(parts) = text.strip_prefix(b"accept ").and_then(accept_parts) else {
         return Ok(None);
     };
-    match (token_of(alloc, user)?, token_of(alloc, token)?) {
+    match (token_of(alloc, parts.user)?, token_of(alloc, parts.token)?) {
         (Some(user), Some(token)) => Ok(Some(Answer::Accept {
             user,
-            flags,
-            read_only,
+            flags: parts.flags,
+            read_only: parts.read_only,
+            signing: parts.signing,
             token,
         })),
         _ => Ok(None),

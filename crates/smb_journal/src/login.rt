@@ -18,6 +18,7 @@ use std::marker::Model;
 #[derive(Drop)]
 pub struct RecordedLogin<'a, A: Authenticator + Drop> {
     hello: Vec<u8>,
+    requires_signing: bool,
     given: VecDeque<GivenAnswer>,
     behind: A,
     mailbox: &'a Mailbox,
@@ -30,21 +31,22 @@ impl<'a, A: Authenticator + Drop> Model for RecordedLogin<'a, A> {
 
     ghost Value = { RecordedState A };
 
-    ghost view = { λ l. record { hello = l.hello.items; given = l.given.items; behind = l.behind } };
+    ghost view = { λ l. record { hello = l.hello.items; requires_signing = l.requires_signing; given = l.given.items; behind = l.behind } };
 
     ghost invariant = { λ l. length l.hello.items ≤ longest_token };
 }
 
 impl<'a, A: Authenticator + Drop> RecordedLogin<'a, A> {
     /// One that offers `hello` first, of at most 4,096 bytes, and gives these answers before the other one is asked. None where
-    /// `hello` is longer.
+    /// `hello` is longer. It says of each session that is signed whether it has to sign its requests.
     pub fn new(
         hello: Vec<u8>,
+        requires_signing: bool,
         given: VecDeque<GivenAnswer>,
         behind: A,
         mailbox: &'a Mailbox,
     ) -> Option<Self>
-        ensures some { IfSome result (λ login. login ≡ record { hello = hello.items; given = given.items; behind = behind }) }
+        ensures some { IfSome result (λ login. login ≡ record { hello = hello.items; requires_signing = requires_signing; given = given.items; behind = behind }) }
         ensures none { IfNone result (longest_token < length hello.items) }
     {
         if hello.len() > LONGEST_TOKEN {
@@ -52,6 +54,7 @@ impl<'a, A: Authenticator + Drop> RecordedLogin<'a, A> {
         }
         Some(RecordedLogin {
             hello,
+            requires_signing,
             given,
             behind,
             mailbox,
@@ -79,6 +82,10 @@ impl<A: Authenticator + Drop> Authenticator for RecordedLogin<'_, A> {
 
     fn hello(&self) -> &[u8] {
         &self.hello
+    }
+
+    fn requires_signing(&self) -> bool {
+        self.requires_signing
     }
 
     fn step(&mut self, session: u64, token: &[u8]) -> Result<Answer, AllocError> {

@@ -1,7 +1,7 @@
 //! What an authenticator answered, on its way to the recording.
 
 use crate::text::write_hex;
-use smb_session::Answer;
+use smb_session::{Answer, Signing};
 use std::alloc::{AllocError, Global};
 use std::cell::{Cell, RefCell};
 use std::io::Write;
@@ -30,6 +30,16 @@ fn write_token(bytes: &[u8], out: &mut Vec<u8>) -> io::Result<()> {
     write_hex(bytes, out)
 }
 
+/// Writes the key of a session's messages, and whether each of its requests has to be signed; nothing where none is.
+fn write_signing(signing: Option<Signing>, out: &mut Vec<u8>) -> io::Result<()> {
+    let Some(Signing { key, required }) = signing else {
+        return Ok(());
+    };
+    out.write_all(b" ")?;
+    write_hex(&key.bytes(), out)?;
+    write!(out, " {}", u8::from(required))
+}
+
 /// Writes an answer as a line.
 fn write_answer(answer: &Answer, out: &mut Vec<u8>) -> io::Result<()> {
     match answer {
@@ -41,12 +51,14 @@ fn write_answer(answer: &Answer, out: &mut Vec<u8>) -> io::Result<()> {
             user,
             flags,
             read_only,
+            signing,
             token,
         } => {
             out.write_all(b"= accept ")?;
             write_token(user, out)?;
             write!(out, " {flags} {} ", u8::from(*read_only))?;
             write_token(token, out)?;
+            write_signing(*signing, out)?;
         }
         Answer::Deny => out.write_all(b"= deny")?,
     }

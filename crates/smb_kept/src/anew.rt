@@ -75,7 +75,15 @@ fn new_share_of<'m>(
     let limited = header.config(alloc)?;
     let hello = Vec::from_slice(alloc, &header.hello)?;
     let given = own_answers(alloc)?;
-    recorded_share(alloc, limited, hello, given, nobody(alloc)?, mailbox)
+    recorded_share(
+        alloc,
+        limited,
+        hello,
+        header.signing_required,
+        given,
+        nobody(alloc)?,
+        mailbox,
+    )
 }
 
 /// A recorder that begins a journal in a store.

@@ -114,14 +114,16 @@ fn check_header(found: &Header, header: &Header) -> Result<(), JournalFault> {
 }
 
 impl<'w> Keeping<'w> {
-    /// Opens the file, or makes it, for a share of a configuration whose authenticator offers `hello` first.
+    /// Opens the file, or makes it, for a share of a configuration whose authenticator offers `hello` first, and has each
+    /// session that it signs sign its requests, or not.
     pub fn open(
         rt: &HostRuntime,
         words: KeepWords<'w>,
         limited: &LimitedConfig,
+        requires_signing: bool,
         hello: &[u8],
     ) -> Result<Self, KeptFault> {
-        let header = Header::of(rt.alloc(), words.form, limited, hello)?;
+        let header = Header::of(rt.alloc(), words.form, limited, requires_signing, hello)?;
         let (file, is_made) = open_file(rt, words)?;
         let begun = if is_made {
             Some(0)
@@ -220,10 +222,11 @@ impl<'w> Keeping<'w> {
         rt: &HostRuntime,
         made: KeepWords<'w>,
         limited: &LimitedConfig,
+        requires_signing: bool,
         hello: &[u8],
     ) -> Result<Self, KeptFault> {
         let _ = fs::remove_file(rt, made.path);
-        Keeping::open(rt, made, limited, hello)
+        Keeping::open(rt, made, limited, requires_signing, hello)
     }
 }
 

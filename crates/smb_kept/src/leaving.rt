@@ -56,7 +56,15 @@ impl Leaving {
         let limited = self.header.config(alloc)?;
         let hello = Vec::from_slice(alloc, &self.header.hello)?;
         let behind = own_login(alloc, &self.token)?;
-        recorded_share(alloc, limited, hello, given, behind, mailbox)
+        recorded_share(
+            alloc,
+            limited,
+            hello,
+            self.header.signing_required,
+            given,
+            behind,
+            mailbox,
+        )
     }
 }
 

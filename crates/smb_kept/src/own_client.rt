@@ -20,6 +20,7 @@ pub fn own_answer(alloc: Global) -> Result<Answer, AllocError> {
         user: Vec::from_slice(alloc, USER)?,
         flags: 0,
         read_only: false,
+        signing: None,
         token: Vec::new(alloc),
     })
 }

@@ -30,11 +30,12 @@ pub fn share_of<A: Authenticator + Drop>(
 /// [`JournalFault::NoRecording`] where `hello` is longer.
 pub fn recorded_login<'m, A: Authenticator + Drop>(
     hello: Vec<u8>,
+    requires_signing: bool,
     given: VecDeque<GivenAnswer>,
     behind: A,
     mailbox: &'m Mailbox,
 ) -> Result<RecordedLogin<'m, A>, KeptFault> {
-    match RecordedLogin::new(hello, given, behind, mailbox) {
+    match RecordedLogin::new(hello, requires_signing, given, behind, mailbox) {
         Some(login) => Ok(login),
         None => Err(KeptFault::Journal(JournalFault::NoRecording)),
     }
@@ -45,11 +46,12 @@ pub fn recorded_share<'m, A: Authenticator + Drop>(
     alloc: Global,
     limited: LimitedConfig,
     hello: Vec<u8>,
+    requires_signing: bool,
     given: VecDeque<GivenAnswer>,
     behind: A,
     mailbox: &'m Mailbox,
 ) -> Result<RecordedShare<'m, A>, KeptFault> {
-    let login = recorded_login(hello, given, behind, mailbox)?;
+    let login = recorded_login(hello, requires_signing, given, behind, mailbox)?;
     share_of(alloc, limited, login)
 }
 

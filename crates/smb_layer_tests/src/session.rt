@@ -69,6 +69,7 @@ fn setup(
     let ask = SetupAsk {
         flags: token / 128,
         previous_session,
+        signing_required: false,
         token: &[token],
     };
     match sessions.setup(connection, session, &ask) {

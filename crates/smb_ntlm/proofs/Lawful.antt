@@ -1,20 +1,25 @@
 -- Every answer is lawful.
-use Rattle.std.proofs.Common.{◌≡◌, inl, inr, cond, lit≤, ℕ, ◌<◌, ◌≤◌, ◌^◌, Bool, true, false, List, [], ◌∷◌, ◌++◌, length, find, Option, Some, None, unwrap_or, refl, subst, arith, length-take-le}
+use Rattle.std.proofs.Common.{◌≡◌, inl, inr, cond, lit≤, ℕ, ◌<◌, ◌≤◌, ◌^◌, Bool, true, false, List, [], ◌∷◌, ◌++◌, length, drop, find, Option, Some, None, IfSome, unwrap_or, refl, subst, arith, length-take-le}
 use Rattle.std.proofs.lemmas.Bool.{cases_Bool, and_parts, leb-true, not-false}
 use Rattle.std.proofs.lemmas.Fmt.{length-decimal-le}
 use Rattle.std.specs.List.{list_all, AllByRecursion}
 use Rattle.md5.specs.Md5.{md5}
 use Rattle.md5.proofs.StandardFacts.{length-md5}
 use Rattle.smb_wire.specs.Number.{spelling}
+use Rattle.smb_session.specs.declared.signing.Signing.{Signing}
+use Rattle.smb_ntlm.specs.declared.signing.SigningMode.{SigningMode}
+use Rattle.smb_ntlm.specs.declared.signing.SigningMode.TheVariants.{Off, Offered, Required}
+use Rattle.smb_ntlm.specs.SigningModes.{signing_by}
+use Rattle.smb_ntlm.specs.Hmac.{hmac}
 use Rattle.smb_session.specs.Authenticator.{Answered, IsLawful}
 use Rattle.smb_ntlm.specs.declared.token.Wrapping.{Wrapping}
 use Rattle.smb_ntlm.specs.declared.token.Wrapping.TheVariants.{Raw, Init, Response}
 use Rattle.smb_ntlm.specs.declared.account.AccountFault.{AccountFault}
 use Rattle.smb_ntlm.specs.Accounts.{KnownAccount, is_printable, fault_rows, first_fault, or_later, fault_behind, AreLawful}
-use Rattle.smb_ntlm.specs.Messages.{LoginAsked, asked_flags, challenge_message, login_in}
-use Rattle.smb_ntlm.specs.Proof.{challenge, account_of, is_named}
+use Rattle.smb_ntlm.specs.Messages.{LoginAsked, asked_flags, answered_flags, challenge_message, login_in}
+use Rattle.smb_ntlm.specs.Proof.{challenge, session_key, account_of, is_named}
 use Rattle.smb_ntlm.specs.Tokens.{Wrapped, element_of, ask_token, answer_token, last_token, wrapped_in}
-use Rattle.smb_ntlm.specs.Login.{NtlmState, AnswerRow, first_answer, login_rows, message_rows, token_rows, login_answer, name_of, no_login, no_token, guest_user}
+use Rattle.smb_ntlm.specs.Login.{NtlmState, AnswerRow, first_answer, login_rows, message_rows, token_rows, login_answer, lets_in, lets_account_in, no_login, no_token, guest_user}
 use Rattle.smb_ntlm.proofs.TokenBytes.{front_raw, front_first, front_later, length-challenge_message}
 
 -- ---- names
@@ -57,13 +62,6 @@ found_name test (a ∷ accounts) account all h = elim (cases_Bool (test a)) [
   | inr f ↦ let is = rw f at h in found_name test accounts account all.1 is
 ]
 
-pub name_short : (accounts : List KnownAccount) (user : List ℕ) → AreLawful accounts → length (name_of (account_of accounts user)) ≤ 256
-name_short accounts user h = short_of (account_of accounts user) (λ account e. found_name (is_named user) accounts account (lawful_names accounts h) e)
-  where
-    short_of : (account : Option KnownAccount) → ((a : KnownAccount) → account ≡ Some a → IsName a) → length (name_of account) ≤ 256
-    short_of None f = omega arith
-    short_of (Some a) f = (f a refl).short
-
 -- ---- tokens
 
 ask_short : length ask_token ≤ 4096
@@ -99,18 +97,40 @@ rows_lawful (row ∷ rows) h = row_lawful row.0 row.1 (first_answer rows) h.0 (r
     row_lawful true answer rest h k = h
     row_lawful false answer rest h k = k
 
+lets_lawful : (wrapping : Wrapping) (user : List ℕ) (read_only : Bool) (signing : Option Signing) → length user ≤ 256 → IfSome signing (λ signing. length signing.key.bytes ≡ 16) →
+    IsLawful (lets_in wrapping user read_only signing)
+lets_lawful wrapping user read_only None h k = (h, omega arith, last_short wrapping, k)
+lets_lawful wrapping user read_only (Some signing) h k = (h, omega arith, last_short wrapping, k)
+
+length-session_key : (account : KnownAccount) (domain challenge blob : List ℕ) → length (session_key account domain challenge blob) ≡ 16
+unfolding session_key hmac
+length-session_key account domain challenge blob = length-md5 _
+
+key_long : (mode : SigningMode) (key : List ℕ) → length key ≡ 16 → IfSome (signing_by mode key) (λ signing. length signing.key.bytes ≡ 16)
+key_long Off key e = tt
+key_long Offered key e = e
+key_long Required key e = e
+
+account_lawful : (mode : SigningMode) (wrapping : Wrapping) (account : Option KnownAccount) (challenge : List ℕ) (login : LoginAsked) → ((a : KnownAccount) → account ≡ Some a → IsName a) →
+    IsLawful (lets_account_in mode wrapping account challenge login)
+account_lawful mode wrapping None challenge login f = tt
+account_lawful mode wrapping (Some a) challenge login f =
+    lets_lawful wrapping a.name a.read_only _ (f a refl).short (key_long mode _ (length-session_key a login.domain challenge (drop 16 login.response)))
+
 login_lawful : (state : NtlmState) (session : ℕ) (wrapping : Wrapping) (login : LoginAsked) → AreLawful state.accounts → session < 2 ^ 64 →
     AllByRecursion (λ row. IsLawful row.1) (login_rows state session wrapping login)
 unfolding login_rows
 login_lawful state session wrapping login h k =
-    ((name_short state.accounts login.user h, omega arith, last_short wrapping), (tt, ((guest_short session k, omega arith, last_short wrapping), (tt, tt))))
+    let named : (a : KnownAccount) → account_of state.accounts login.user ≡ Some a → IsName a = λ a e. found_name (is_named login.user) state.accounts a (lawful_names state.accounts h) e in
+    (account_lawful state.signing wrapping (account_of state.accounts login.user) (challenge state.seed session) login named, (tt, (lets_lawful wrapping (guest_user session) state.guest_read_only None (guest_short session k) tt, (tt, tt))))
 
 message_lawful : (state : NtlmState) (session : ℕ) (wrapping : Wrapping) (message : List ℕ) → AreLawful state.accounts → session < 2 ^ 64 →
     AllByRecursion (λ row. IsLawful row.1) (message_rows state session wrapping message)
 unfolding message_rows
 message_lawful state session wrapping message h k =
-    let size = length-challenge_message (asked_flags message) (challenge state.seed session) (length-challenge state.seed session) in
-    (tt, (tt, (answer_short wrapping (challenge_message (asked_flags message) (challenge state.seed session)) size, (tt, login_lawful state session wrapping (unwrap_or (login_in message) no_login) h k))))
+    let flags = answered_flags state.signing (asked_flags message) in
+    let size = length-challenge_message flags (challenge state.seed session) (length-challenge state.seed session) in
+    (tt, (tt, (answer_short wrapping (challenge_message flags (challenge state.seed session)) size, (tt, login_lawful state session wrapping (unwrap_or (login_in message) no_login) h k))))
 
 pub answer_lawful : (state : NtlmState) (session : ℕ) (token : List ℕ) → AreLawful state.accounts → session < 2 ^ 64 → IsLawful (login_answer state session token)
 unfolding login_answer

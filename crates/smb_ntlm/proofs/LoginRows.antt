@@ -1,13 +1,14 @@
 -- The rows of a login, by what was found.
-use Rattle.std.proofs.Common.{◌≡◌, ℕ, Bool, true, false, List, [], ◌∷◌, map, find, Option, Some, None, Result, Ok, Err, refl, sym, ap, ◌∙◌}
+use Rattle.std.proofs.Common.{◌≡◌, ℕ, Bool, true, false, List, [], ◌∷◌, map, drop, find, Option, Some, None, Result, Ok, Err, refl, sym, ap, ◌∙◌}
 use Rattle.std.specs.Option.{option_map}
 use Rattle.std.specs.Result.{IfOk}
 use Rattle.smb_session.specs.Authenticator.{denies}
 use Rattle.smb_ntlm.specs.declared.token.Wrapping.{Wrapping}
 use Rattle.smb_ntlm.specs.declared.entry.Entry.{Entry}
 use Rattle.smb_ntlm.specs.Accounts.{KnownAccount}
+use Rattle.smb_ntlm.specs.SigningModes.{signing_by}
 use Rattle.smb_ntlm.specs.Messages.{LoginAsked}
-use Rattle.smb_ntlm.specs.Proof.{challenge, account_of, has_proof, is_named}
+use Rattle.smb_ntlm.specs.Proof.{challenge, session_key, account_of, has_proof, is_named}
 use Rattle.smb_ntlm.specs.Login.{NtlmState, first_answer, login_rows, lets_in, guest_user}
 use Rattle.smb_ntlm.specs.Gates.{known_entry}
 
@@ -26,7 +27,7 @@ pub account_found : (user : List ℕ) (entries : List Entry) (found : Option Ent
 account_found user entries found e = found_in user entries ∙ ap (option_map known_entry) (sym e)
 
 pub row_proved : (state : NtlmState) (session : ℕ) (wrapping : Wrapping) (login : LoginAsked) (account : KnownAccount) → account_of state.accounts login.user ≡ Some account →
-    has_proof account (challenge state.seed session) login ≡ true → first_answer (login_rows state session wrapping login) ≡ lets_in wrapping account.name account.read_only
+    has_proof account (challenge state.seed session) login ≡ true → first_answer (login_rows state session wrapping login) ≡ lets_in wrapping account.name account.read_only (signing_by state.signing (session_key account login.domain (challenge state.seed session) (drop 16 login.response)))
 unfolding login_rows
 row_proved state session wrapping login account e p = rw (e, p) refl
 
@@ -36,7 +37,7 @@ unfolding login_rows
 row_denied state session wrapping login account e p = rw (e, p) refl
 
 pub row_guest : (state : NtlmState) (session : ℕ) (wrapping : Wrapping) (login : LoginAsked) → account_of state.accounts login.user ≡ None →
-    state.guest ≡ true → first_answer (login_rows state session wrapping login) ≡ lets_in wrapping (guest_user session) state.guest_read_only
+    state.guest ≡ true → first_answer (login_rows state session wrapping login) ≡ lets_in wrapping (guest_user session) state.guest_read_only None
 unfolding login_rows
 row_guest state session wrapping login e g = rw (e, g) refl
 

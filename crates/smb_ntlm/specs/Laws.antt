@@ -1,13 +1,18 @@
 -- What holds of every login.
-use Rattle.std.specs.Prelude.{◌≡◌, ◌≢◌, ◌⊎◌, ℕ, ◌^◌, ◌<◌, ◌≤◌, ◌==◌, ◌&&◌, if◌then◌else◌, Bool, true, false, List, [], ◌∷◌, length, take, drop, codes, replicate, Option, Some, None, IsSome}
+use Rattle.std.specs.Prelude.{◌≡◌, ◌≢◌, ◌⊎◌, ℕ, ◌^◌, ◌<◌, ◌≤◌, ◌==◌, ◌&&◌, if◌then◌else◌, Bool, true, false, List, [], ◌∷◌, length, take, drop, codes, replicate, bit_and, Option, Some, None, IsSome, IfSome}
 use Rattle.std.specs.List.{Contains}
+use Rattle.smb_wire.specs.Fields.{number_in}
 use Rattle.smb_session.specs.Authenticator.{accepts, denies, IsLawful}
+use Rattle.smb_session.specs.declared.signing.Signing.{Signing}
+use Rattle.smb_ntlm.specs.declared.signing.SigningMode.{SigningMode}
+use Rattle.smb_ntlm.specs.declared.signing.SigningMode.TheVariants.{Off, Required}
+use Rattle.smb_ntlm.specs.SigningModes.{is_on}
 use Rattle.smb_ntlm.specs.Der.{and_then}
 use Rattle.smb_ntlm.specs.Spnego.{init_token, response_token}
 use Rattle.smb_ntlm.specs.Hmac.{hmac}
-use Rattle.smb_ntlm.specs.Messages.{LoginAsked, is_message, message_type, login_in, challenge_message}
+use Rattle.smb_ntlm.specs.Messages.{LoginAsked, is_message, message_type, login_in, answered_flags, challenge_message}
 use Rattle.smb_ntlm.specs.Accounts.{KnownAccount, AreLawful}
-use Rattle.smb_ntlm.specs.Proof.{challenge, response_key, proof, is_named}
+use Rattle.smb_ntlm.specs.Proof.{challenge, response_key, proof, session_key, is_named}
 use Rattle.smb_ntlm.specs.Md4.{md4}
 use Rattle.smb_ntlm.specs.Passwords.{nt_hash}
 use Rattle.smb_ntlm.specs.Tokens.{Wrapped, wrapped_in}
@@ -22,8 +27,10 @@ unfoldable pub login_of : List ℕ → Option LoginAsked
 login_of token = and_then (wrapped_in token) login_message
 
 -- a user is an account's, which is named in this token and has its proof there, over the token's domain and blob, and
--- the challenge of this session; the user is let in to read only where the account may only read, and else to write too
-pub record IsProved (state : NtlmState) (session : ℕ) (token user : List ℕ) (read_only : Bool) : Type 0 where
+-- the challenge of this session; the user is let in to read only where the account may only read, and else to write
+-- too; where its session has a key, that is the session key of this proof
+pub record IsProved (state : NtlmState) (session : ℕ) (token user : List ℕ) (read_only : Bool)
+    (signing : Option Signing) : Type 0 where
   pub account : KnownAccount
   pub login : LoginAsked
   pub among : Contains state.accounts account
@@ -34,46 +41,101 @@ pub record IsProved (state : NtlmState) (session : ℕ) (token user : List ℕ) 
   pub long : 44 ≤ length login.response
   pub proved : take 16 login.response
       ≡ proof account login.domain (challenge state.seed session) (drop 16 login.response)
+  pub keyed : IfSome signing (λ signing. signing.key.bytes
+      ≡ session_key account login.domain (challenge state.seed session) (drop 16 login.response))
 
 -- who is let in as another than the session's guest has proved to be that user, and may only read where its account may
 abbrev pub UsersAreProved : Type 0
 UsersAreProved =
-    (state : NtlmState) (session : ℕ) (token user last : List ℕ) (flags : ℕ) (read_only : Bool) →
-    login_answer state session token ≡ accepts user flags read_only last →
-    user ≢ guest_user session → IsProved state session token user read_only
+    (state : NtlmState) (session : ℕ) (token user last : List ℕ) (flags : ℕ) (read_only : Bool)
+    (signing : Option Signing) →
+    login_answer state session token ≡ accepts user flags read_only signing last →
+    user ≢ guest_user session → IsProved state session token user read_only signing
 
 -- where guests may not come, whoever is let in has proved to be that user, and is no guest
 abbrev pub NoGuestComesUnasked : Type 0
 NoGuestComesUnasked =
-    (state : NtlmState) (session : ℕ) (token user last : List ℕ) (flags : ℕ) (read_only : Bool) →
+    (state : NtlmState) (session : ℕ) (token user last : List ℕ) (flags : ℕ) (read_only : Bool)
+    (signing : Option Signing) →
     AreLawful state.accounts → state.guest ≡ false →
-    login_answer state session token ≡ accepts user flags read_only last →
-    IsProved state session token user read_only × ((other : ℕ) → user ≢ guest_user other)
+    login_answer state session token ≡ accepts user flags read_only signing last →
+    IsProved state session token user read_only signing × ((other : ℕ) → user ≢ guest_user other)
 
 -- where there are no accounts, whoever is let in is the session's guest
 abbrev pub WithoutAccountsAllAreGuests : Type 0
 WithoutAccountsAllAreGuests =
-    (state : NtlmState) (session : ℕ) (token user last : List ℕ) (flags : ℕ) (read_only : Bool) →
-    state.accounts ≡ [] → login_answer state session token ≡ accepts user flags read_only last →
+    (state : NtlmState) (session : ℕ) (token user last : List ℕ) (flags : ℕ) (read_only : Bool)
+    (signing : Option Signing) →
+    state.accounts ≡ [] → login_answer state session token ≡ accepts user flags read_only signing last →
     user ≡ guest_user session
 
 -- the session's guest is let in to read only where guests may only read, and else to write too
 abbrev pub GuestsHaveTheRightOfGuests : Type 0
 GuestsHaveTheRightOfGuests =
-    (state : NtlmState) (session : ℕ) (token last : List ℕ) (flags : ℕ) (read_only : Bool) →
-    AreLawful state.accounts → login_answer state session token ≡ accepts (guest_user session) flags read_only last →
+    (state : NtlmState) (session : ℕ) (token last : List ℕ) (flags : ℕ) (read_only : Bool) (signing : Option Signing) →
+    AreLawful state.accounts →
+    login_answer state session token ≡ accepts (guest_user session) flags read_only signing last →
     read_only ≡ state.guest_read_only
+
+-- who has a key has proved to be an account's user, and the key is the session key of that proof
+abbrev pub KeysAreOfProofs : Type 0
+KeysAreOfProofs =
+    (state : NtlmState) (session : ℕ) (token user last : List ℕ) (flags : ℕ) (read_only : Bool) (signing : Signing) →
+    login_answer state session token ≡ accepts user flags read_only (Some signing) last →
+    IsProved state session token user read_only (Some signing)
+
+-- with signing off nobody has a key
+abbrev pub WithSigningOffNobodyHasAKey : Type 0
+WithSigningOffNobodyHasAKey =
+    (state : NtlmState) (session : ℕ) (token user last : List ℕ) (flags : ℕ) (read_only : Bool)
+    (signing : Option Signing) →
+    state.signing ≡ Off → login_answer state session token ≡ accepts user flags read_only signing last →
+    signing ≡ None
+
+-- with signing on who is let in as another than the session's guest has a key, and is no guest to its client either
+-- ([MS-SMB2] 2.2.6)
+abbrev pub WithSigningOnUsersHaveKeys : Type 0
+WithSigningOnUsersHaveKeys =
+    (state : NtlmState) (session : ℕ) (token user last : List ℕ) (flags : ℕ) (read_only : Bool)
+    (signing : Option Signing) →
+    is_on state.signing ≡ true → login_answer state session token ≡ accepts user flags read_only signing last →
+    user ≢ guest_user session → IsSome signing × (flags ≡ 0)
+
+-- where signing is required, each session that has a key has to sign
+abbrev pub WhereRequiredKeysMustSign : Type 0
+WhereRequiredKeysMustSign =
+    (state : NtlmState) (session : ℕ) (token user last : List ℕ) (flags : ℕ) (read_only : Bool) (signing : Signing) →
+    state.signing ≡ Required → login_answer state session token ≡ accepts user flags read_only (Some signing) last →
+    signing.required ≡ true
+
+-- the session's guest has no key, and is a guest to its client ([MS-SMB2] 2.2.6, IS_GUEST)
+abbrev pub GuestsHaveNoKey : Type 0
+GuestsHaveNoKey =
+    (state : NtlmState) (session : ℕ) (token last : List ℕ) (flags : ℕ) (read_only : Bool) (signing : Option Signing) →
+    AreLawful state.accounts →
+    login_answer state session token ≡ accepts (guest_user session) flags read_only signing last →
+    (signing ≡ None) × (flags ≡ 1)
+
+-- where signing is on no CHALLENGE grants KEY_EXCH, 0x40000000 of its flags, which stand at 20
+-- ([MS-NLMP] 2.2.1.2, 2.2.2.5)
+abbrev pub WithSigningOnNoKeyIsExchanged : Type 0
+WithSigningOnNoKeyIsExchanged =
+    (state : NtlmState) (session asked : ℕ) → is_on state.signing ≡ true →
+    let flags = answered_flags state.signing asked in
+    bit_and (number_in 4 20 (challenge_message flags (challenge state.seed session))) 0x40000000 ≡ 0
 
 -- a token without an AUTHENTICATE is answered alike whatever the accounts are, whether or not guests may come, and
 -- whether or not these may only read
 abbrev pub AccountsDoNotShow : Type 0
 AccountsDoNotShow =
     (seed : List ℕ) (accounts others : List KnownAccount) (guest other guest_read_only other_read_only : Bool)
-    (session : ℕ) (token : List ℕ) → login_of token ≡ None →
+    (signing : SigningMode) (session : ℕ) (token : List ℕ) → login_of token ≡ None →
     login_answer
-    (record { seed = seed; accounts = accounts; guest = guest; guest_read_only = guest_read_only }) session token
+    (record { seed = seed; accounts = accounts; guest = guest; guest_read_only = guest_read_only; signing = signing })
+    session token
     ≡ login_answer
-    (record { seed = seed; accounts = others; guest = other; guest_read_only = other_read_only }) session token
+    (record { seed = seed; accounts = others; guest = other; guest_read_only = other_read_only; signing = signing })
+    session token
 
 -- the front of a token that is a NegTokenInit or a NegTokenResp is denied
 abbrev pub WhatIsCutIsDenied : Type 0
@@ -93,8 +155,8 @@ NothingChanges = (state : NtlmState) (session : ℕ) (token : List ℕ) → by_n
 -- the challenge stands in a CHALLENGE at 24, 8 bytes long ([MS-NLMP] 2.2.1.2)
 abbrev pub ChallengeIsRead : Type 0
 ChallengeIsRead =
-    (seed : List ℕ) (session asked : ℕ) → (length (challenge seed session) ≡ 8)
-    × (take 8 (drop 24 (challenge_message asked (challenge seed session))) ≡ challenge seed session)
+    (seed : List ℕ) (session flags : ℕ) → (length (challenge seed session) ≡ 8)
+    × (take 8 (drop 24 (challenge_message flags (challenge seed session))) ≡ challenge seed session)
 
 -- guests of two sessions are two users, and none is an account's
 abbrev pub GuestsAreStrangers : Type 0

@@ -1,6 +1,7 @@
 pub mod Der
 pub mod Spnego
 pub mod Hmac
+pub mod SigningModes
 pub mod Messages
 pub mod Accounts
 pub mod Proof

@@ -4,6 +4,8 @@ use Rattle.std.specs.List.{starts_with}
 use Rattle.smb_wire.specs.Number.{field_at}
 use Rattle.smb_wire.specs.Fields.{Field, num, raw, number_in, joined}
 use Rattle.smb_ntlm.specs.Der.{and_then}
+use Rattle.smb_ntlm.specs.SigningModes.{is_on}
+use Rattle.smb_ntlm.specs.declared.signing.SigningMode.{SigningMode}
 use Rattle.smb_ntlm.specs.declared.messages.Login.{Login}
 
 -- Signature: "NTLMSSP" and a zero byte
@@ -57,24 +59,25 @@ login_in message =
     and_then (payload 36 message) λ user.
     Some (record { response = response; domain = domain; user = user })
 
--- the flags of a CHALLENGE (2.2.2.5). Of those asked for it repeats 56, KEY_EXCH, 128, EXTENDED_SESSIONSECURITY,
--- ALWAYS_SIGN, SEAL, SIGN, REQUEST_TARGET and UNICODE; it always has TARGET_INFO, TARGET_TYPE_SERVER, NTLM and UNICODE
-abbrev pub answered_flags : ℕ → ℕ
-answered_flags asked = bit_or (bit_and asked 0xE0088035) 0x00820201
+-- the flags of a CHALLENGE (2.2.2.5). Of those asked for it repeats 56, 128, EXTENDED_SESSIONSECURITY, ALWAYS_SIGN,
+-- SEAL, SIGN, REQUEST_TARGET and UNICODE, and KEY_EXCH, 0x40000000, unless signing is on; it always has TARGET_INFO,
+-- TARGET_TYPE_SERVER, NTLM and UNICODE
+abbrev pub answered_flags : SigningMode → ℕ → ℕ
+answered_flags mode asked = bit_or (bit_and asked (if is_on mode then 0xA0088035 else 0xE0088035)) 0x00820201
 
 -- the server's name, "SMBSHARE" in UTF-16LE
 abbrev pub target_name : List ℕ
 target_name = 83 ∷ 0 ∷ 77 ∷ 0 ∷ 66 ∷ 0 ∷ 83 ∷ 0 ∷ 72 ∷ 0 ∷ 65 ∷ 0 ∷ 82 ∷ 0 ∷ 69 ∷ 0 ∷ []
 
--- a CHALLENGE (2.2.1.2) in answer to these flags, with this challenge, up to where its payload begins
+-- a CHALLENGE (2.2.1.2) with these flags and this challenge, up to where its payload begins
 abbrev pub head_fields : ℕ → List ℕ → List Field
-head_fields asked challenge =
+head_fields flags challenge =
     raw 0 8 signature  -- Signature
     ∷ num 8 4 2  -- MessageType
     ∷ num 12 2 16  -- TargetNameFields: Len
     ∷ num 14 2 16  -- MaxLen
     ∷ num 16 4 56  -- BufferOffset
-    ∷ num 20 4 (answered_flags asked)  -- NegotiateFlags
+    ∷ num 20 4 flags  -- NegotiateFlags
     ∷ raw 24 8 challenge  -- ServerChallenge
     ∷ num 32 8 0  -- Reserved
     ∷ num 40 2 44  -- TargetInfoFields: Len
@@ -98,4 +101,4 @@ target_fields =
 
 -- the bytes of that CHALLENGE
 unfoldable pub challenge_message : ℕ → List ℕ → List ℕ
-challenge_message asked challenge = joined (head_fields asked challenge ++ target_fields)
+challenge_message flags challenge = joined (head_fields flags challenge ++ target_fields)

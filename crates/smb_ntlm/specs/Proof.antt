@@ -25,6 +25,10 @@ response_key account domain = hmac account.nt_hash (capitals account.name ++ dom
 unfoldable pub proof : KnownAccount → List ℕ → List ℕ → List ℕ → List ℕ
 proof account domain challenge blob = hmac (response_key account domain) (challenge ++ blob)
 
+-- SessionBaseKey (3.3.2), over the same: the session's key, where KEY_EXCH is not granted (3.2.5.1.2, 3.4.5.1)
+unfoldable pub session_key : KnownAccount → List ℕ → List ℕ → List ℕ → List ℕ
+session_key account domain challenge blob = hmac (response_key account domain) (proof account domain challenge blob)
+
 -- the response has the 16 bytes of a proof and at least the 28 of a blob (2.2.2.7, 2.2.2.8), and it is the account's
 -- proof
 unfoldable pub has_proof : KnownAccount → List ℕ → LoginAsked → Bool

@@ -28,10 +28,10 @@ pub struct Entry {
 }
 
 impl Entry {
-    ghost use Rattle.std.specs.Prelude.{IfOk};
+    ghost use Rattle.std.specs.Prelude.{IfOk, IfSome, is_some, drop};
     ghost use Rattle.smb_ntlm.specs.Accounts.{known};
     ghost use Rattle.smb_ntlm.specs.Messages.{login_asked};
-    ghost use Rattle.smb_ntlm.specs.Proof.{proof, has_proof, is_named};
+    ghost use Rattle.smb_ntlm.specs.Proof.{response_key, session_key, has_proof, is_named};
 
     /// An account made ready. Fails where its name in capitals cannot be made.
     pub fn of(alloc: Global, account: Account) -> Result<Entry, AllocError>
@@ -58,24 +58,30 @@ impl Entry {
         same_name(user, name)
     }
 
-    /// NTProofStr ([MS-NLMP] 3.3.2).
-    #[tactic(auto, unfolding(crate::specs::Proof::proof))]
-    fn proof(&self, domain: &[u8], challenge: &[u8; 8], blob: &[u8]) -> [u8; 16]
-        ensures { result ≡ proof (known self.now.account) domain.now challenge.now blob.now }
+    /// ResponseKeyNT ([MS-NLMP] 3.3.2), for a domain as a client sent it.
+    fn response_key(&self, domain: &[u8]) -> [u8; 16]
+        ensures { result ≡ response_key (known self.now.account) domain.now }
     {
-        let key = hmac_md5(&self.account.nt_hash, &self.name_units, domain);
-        hmac_md5(&key, challenge.as_slice(), blob)
+        hmac_md5(&self.account.nt_hash, &self.name_units, domain)
     }
 
-    /// Whether a login's response shows that its client knows the account's password.
-    #[tactic(auto, unfolding(crate::specs::Proof::has_proof))]
-    pub fn has_proof(&self, challenge: &[u8; 8], login: &Login<'_>) -> bool
-        ensures { result ≡ has_proof (known self.now.account) challenge.now (login_asked login.now) }
+    /// SessionBaseKey ([MS-NLMP] 3.3.2) of a login whose response shows that its client knows the account's password,
+    /// and None of any other.
+    #[tactic(auto, unfolding(crate::specs::Proof::has_proof, crate::specs::Proof::proof, crate::specs::Proof::session_key))]
+    pub fn session_key(&self, challenge: &[u8; 8], login: &Login<'_>) -> Option<[u8; 16]>
+        ensures proved { is_some result ≡ has_proof (known self.now.account) challenge.now (login_asked login.now) }
+        ensures key { IfSome result (λ key. key ≡
+            session_key (known self.now.account) login.now.domain.now challenge.now (drop 16 login.now.response.now)) }
     {
         if login.response.len() < SHORTEST_RESPONSE {
-            return false;
+            return None;
         }
         let (given, blob) = login.response.split_at(PROOF);
-        given == self.proof(login.domain, challenge, blob).as_slice()
+        let response_key = self.response_key(login.domain);
+        let proof = hmac_md5(&response_key, challenge.as_slice(), blob);
+        if given != proof.as_slice() {
+            return None;
+        }
+        Some(hmac_md5(&response_key, proof.as_slice(), &[]))
     }
 }

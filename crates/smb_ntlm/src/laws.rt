@@ -1,6 +1,6 @@
 //! The laws of logins.
 
-ghost use Rattle.smb_ntlm.specs.Laws.{UsersAreProved, NoGuestComesUnasked, WithoutAccountsAllAreGuests, GuestsHaveTheRightOfGuests, AccountsDoNotShow, WhatIsCutIsDenied, AnswersAreLawful, NothingChanges, ChallengeIsRead, GuestsAreStrangers, GuestsAreNoAccounts, HmacIsTheStandards, ProofIsTheStandards, Md4IsTheStandards, NtHashIsTheStandards};
+ghost use Rattle.smb_ntlm.specs.Laws.{UsersAreProved, NoGuestComesUnasked, WithoutAccountsAllAreGuests, GuestsHaveTheRightOfGuests, KeysAreOfProofs, WithSigningOffNobodyHasAKey, WithSigningOnUsersHaveKeys, WhereRequiredKeysMustSign, GuestsHaveNoKey, WithSigningOnNoKeyIsExchanged, AccountsDoNotShow, WhatIsCutIsDenied, AnswersAreLawful, NothingChanges, ChallengeIsRead, GuestsAreStrangers, GuestsAreNoAccounts, HmacIsTheStandards, ProofIsTheStandards, Md4IsTheStandards, NtHashIsTheStandards};
 
 /// What holds of every login: the contract is the statement, and the body does nothing.
 pub fn laws_of_ntlm()
@@ -8,6 +8,12 @@ pub fn laws_of_ntlm()
     ensures unasked { NoGuestComesUnasked }
     ensures guests { WithoutAccountsAllAreGuests }
     ensures rights { GuestsHaveTheRightOfGuests }
+    ensures keyed { KeysAreOfProofs }
+    ensures off { WithSigningOffNobodyHasAKey }
+    ensures on { WithSigningOnUsersHaveKeys }
+    ensures required { WhereRequiredKeysMustSign }
+    ensures keyless { GuestsHaveNoKey }
+    ensures unexchanged { WithSigningOnNoKeyIsExchanged }
     ensures hidden { AccountsDoNotShow }
     ensures cut { WhatIsCutIsDenied }
     ensures lawful { AnswersAreLawful }

@@ -10,13 +10,14 @@ ghost use Rattle.smb_ntlm.specs.Gates.{known_entry, gate_state, negotiate_answer
 use super::decision::Decision;
 use super::entry::Entry;
 use super::messages::{
-    CHALLENGE_SIZE, Login, NEGOTIATE, asked_flags, has_unicode, is_message, message_type,
-    put_challenge,
+    CHALLENGE_SIZE, Login, NEGOTIATE, answered_flags, asked_flags, has_unicode, is_message,
+    message_type, put_challenge,
 };
+use super::signing::SigningMode;
 use super::token::{Token, Wrapping, ask_token};
 use md5::{Digest, Md5};
 use smb_refusals::LoginRefusal;
-use smb_session::Answer;
+use smb_session::{Answer, Signing};
 use smb_wire::WireFault;
 use smb_wire::limits::LONGEST_TOKEN;
 use std::alloc::{AllocError, Global};
@@ -32,6 +33,7 @@ pub struct Gate<'a> {
     pub entries: &'a [Entry],
     pub guest: bool,
     pub guest_read_only: bool,
+    pub signing: SigningMode,
 }
 
 /// The challenge of a session.
@@ -63,35 +65,37 @@ fn find_entry<'a>(entries: &'a [Entry], user: &[u8]) -> Option<&'a Entry>
     entries.iter().find(|entry| entry.is_named(user))
 }
 
-/// The token of a CHALLENGE.
+/// The token of a CHALLENGE with these flags.
 fn challenge_token(
     alloc: Global,
     wrapping: Wrapping,
-    asked: u32,
+    flags: u32,
     challenge: &[u8; 8],
 ) -> Result<Vec<u8>, WireFault>
-    ensures { IfOk result (λ token. token.items ≡ answer_token wrapping (challenge_message asked challenge.now)) }
+    ensures { IfOk result (λ token. token.items ≡ answer_token wrapping (challenge_message flags challenge.now)) }
 {
     let front = wrapping.front();
     let mut token = Vec::with_capacity(alloc, front.len() + CHALLENGE_SIZE)?;
     token.extend_from_slice(front)?;
-    put_challenge(&mut token, asked, challenge)?;
+    put_challenge(&mut token, flags, challenge)?;
     Ok(token)
 }
 
-/// Lets a user in, to read only or to write too.
+/// Lets a user in, to read only or to write too; as a guest unless its session is signed.
 fn let_in<'a>(
     alloc: Global,
     wrapping: Wrapping,
     user: Vec<u8>,
     read_only: bool,
+    signing: Option<Signing>,
 ) -> Result<Decision<'a>, AllocError>
-    ensures { IfOk result (λ decision. decided decision ≡ lets_in wrapping user.items read_only) }
+    ensures { IfOk result (λ decision. decided decision ≡ lets_in wrapping user.items read_only signing) }
 {
     Ok(Decision::Answers(Answer::Accept {
         user,
-        flags: IS_GUEST,
+        flags: if signing.is_some() { 0 } else { IS_GUEST },
         read_only,
+        signing,
         token: Vec::from_slice(alloc, wrapping.last_token())?,
     }))
 }
@@ -107,14 +111,17 @@ fn answer_login<'a>(
         first_answer (login_rows (gate_state gate.entry) session wrapping (login_asked login.now))) }
 {
     match find_entry(gate.entries, login.user) {
-        Some(entry) if entry.has_proof(&challenge(gate.seed, session), login) => {
-            let user = Vec::from_slice(gate.alloc, &entry.account.name)?;
-            let_in(gate.alloc, wrapping, user, entry.account.read_only)
-        }
-        Some(_) => Ok(Decision::denial(LoginRefusal::ProofWrong, login.user)),
+        Some(entry) => match entry.session_key(&challenge(gate.seed, session), login) {
+            Some(key) => {
+                let user = Vec::from_slice(gate.alloc, &entry.account.name)?;
+                let signing = gate.signing.signing_by(key);
+                let_in(gate.alloc, wrapping, user, entry.account.read_only, signing)
+            }
+            None => Ok(Decision::denial(LoginRefusal::ProofWrong, login.user)),
+        },
         None if gate.guest => {
             let user = guest_user(gate.alloc, session)?;
-            let_in(gate.alloc, wrapping, user, gate.guest_read_only)
+            let_in(gate.alloc, wrapping, user, gate.guest_read_only, None)
         }
         None => Ok(Decision::denial(LoginRefusal::NoGuests, login.user)),
     }
@@ -129,14 +136,15 @@ fn answer_negotiate<'a>(
 ) -> Result<Decision<'a>, AllocError>
     requires { 16 ≤ length message.now }
     ensures { IfOk result (λ decision. decided decision ≡
-        negotiate_answer gate.entry.seed.now session wrapping message.now) }
+        negotiate_answer gate.entry.signing gate.entry.seed.now session wrapping message.now) }
 {
     let asked = asked_flags(message);
     if !has_unicode(asked) {
         return Ok(Decision::denial(LoginRefusal::NoUnicode, &[]));
     }
+    let flags = answered_flags(gate.signing, asked);
     let challenge = challenge(gate.seed, session);
-    match challenge_token(gate.alloc, wrapping, asked, &challenge) {
+    match challenge_token(gate.alloc, wrapping, flags, &challenge) {
         Ok(token) => Ok(Decision::Answers(Answer::Continue(token))),
         Err(_) => Err(AllocError),
     }

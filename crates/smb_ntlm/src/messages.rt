@@ -5,6 +5,7 @@ ghost use Rattle.std.specs.Option.{option_map};
 ghost use Rattle.smb_wire.specs.Fields.{appended};
 ghost use Rattle.smb_ntlm.specs.Messages.{has_signature, has_unicode, message_type, is_message, asked_flags, login_asked, payload, login_in, answered_flags, challenge_message, head_fields, target_fields};
 
+use super::signing::SigningMode;
 use smb_wire::{WireFault, put_bytes, put_u16, put_u32, put_u64, u16_in, u32_in};
 
 /// What each message begins with.
@@ -26,9 +27,12 @@ const AUTHENTICATE: u32 = 3;
 /// NTLMSSP_NEGOTIATE_UNICODE ([MS-NLMP] 2.2.2.5).
 const UNICODE: u32 = 1;
 
-/// The flags of a NEGOTIATE that a CHALLENGE repeats: 56, KEY_EXCH, 128, EXTENDED_SESSIONSECURITY, ALWAYS_SIGN, SEAL,
-/// SIGN, REQUEST_TARGET and UNICODE.
-const REPEATED: u32 = 0xE008_8035;
+/// The flags of a NEGOTIATE that a CHALLENGE repeats: 56, 128, EXTENDED_SESSIONSECURITY, ALWAYS_SIGN, SEAL, SIGN,
+/// REQUEST_TARGET and UNICODE.
+const REPEATED: u32 = 0xA008_8035;
+
+/// NTLMSSP_NEGOTIATE_KEY_EXCH, which a CHALLENGE repeats unless signing is on.
+const KEY_EXCH: u32 = 0x4000_0000;
 
 /// The flags that a CHALLENGE always has: TARGET_INFO, TARGET_TYPE_SERVER, NTLM and UNICODE.
 const ALWAYS: u32 = 0x0082_0201;
@@ -127,23 +131,29 @@ impl<'a> Login<'a> {
     }
 }
 
-/// The flags of a CHALLENGE in answer to those asked for.
-fn answered_flags(asked: u32) -> u32
-    ensures { result ≡ answered_flags asked }
+/// The flags of a CHALLENGE in answer to those asked for. Where signing is on keys are not exchanged: an account's
+/// session has the key of its proof.
+pub fn answered_flags(mode: SigningMode, asked: u32) -> u32
+    ensures { result ≡ answered_flags mode asked }
 {
-    asked & REPEATED | ALWAYS
+    let repeated = if mode.is_on() {
+        REPEATED
+    } else {
+        REPEATED | KEY_EXCH
+    };
+    asked & repeated | ALWAYS
 }
 
 /// Adds a CHALLENGE up to its target information ([MS-NLMP] 2.2.1.2). After an error some of it stands there.
-fn put_head(out: &mut Vec<u8>, asked: u32, challenge: &[u8; 8]) -> Result<(), WireFault>
-    ensures { OnOk result (out.new.items ≡ appended out.old.items (head_fields asked challenge.now)) }
+fn put_head(out: &mut Vec<u8>, flags: u32, challenge: &[u8; 8]) -> Result<(), WireFault>
+    ensures { OnOk result (out.new.items ≡ appended out.old.items (head_fields flags challenge.now)) }
 {
     put_bytes(out, &SIGNATURE)?;
     put_u32(out, CHALLENGE)?;
     put_u16(out, 16)?;
     put_u16(out, 16)?;
     put_u32(out, 56)?;
-    put_u32(out, answered_flags(asked))?;
+    put_u32(out, flags)?;
     put_bytes(out, challenge)?;
     put_u64(out, 0)?;
     put_u16(out, 44)?;
@@ -169,11 +179,11 @@ fn put_target(out: &mut Vec<u8>) -> Result<(), WireFault>
     Ok(())
 }
 
-/// Adds a CHALLENGE ([MS-NLMP] 2.2.1.2) of 116 bytes. After an error some of it stands there.
-pub fn put_challenge(out: &mut Vec<u8>, asked: u32, challenge: &[u8; 8]) -> Result<(), WireFault>
-    ensures { OnOk result (out.new.items ≡ out.old.items ++ challenge_message asked challenge.now) }
+/// Adds a CHALLENGE ([MS-NLMP] 2.2.1.2) with these flags, of 116 bytes. After an error some of it stands there.
+pub fn put_challenge(out: &mut Vec<u8>, flags: u32, challenge: &[u8; 8]) -> Result<(), WireFault>
+    ensures { OnOk result (out.new.items ≡ out.old.items ++ challenge_message flags challenge.now) }
 {
-    put_head(out, asked, challenge)?;
+    put_head(out, flags, challenge)?;
     put_target(out)?;
     Ok(())
 }

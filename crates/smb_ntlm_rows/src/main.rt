@@ -1,11 +1,12 @@
 //! Plays the rows of standard input: logins, with the answer to each token, from outside vectors. Prints `ok NAME` for
 //! each row whose answers are those that an [`smb_ntlm::Ntlm`] gives, and else what it gave; then the status is 1.
 //!
-//! A row is a line `== NAME` and these: `seed` with 16 bytes; `account` with a name and an NT hash; `guest`, where
-//! guests may come; `>` with a session's number and a token, and behind it `deny` with the label of the reason and the
-//! name that was typed, where one was read, `continue` with a token, or `accept` with a user, flags and a token; `hash`
-//! with an NT hash and the password; or `fault` with what is wrong with the accounts. The word `readonly` ends a line of
-//! an account, of guests or of a user that may only read. Bytes are in hex, and `#` begins a comment.
+//! A row is a line `== NAME` and these: `seed` with 16 bytes; `signing`, where accounts' sessions have a key; `account`
+//! with a name and an NT hash; `guest`, where guests may come; `>` with a session's number and a token, and behind it
+//! `deny` with the label of the reason and the name that was typed, where one was read, `continue` with a token, or
+//! `accept` with a user, flags and a token; `hash` with an NT hash and the password; or `fault` with what is wrong with
+//! the accounts. The word `readonly` ends a line of an account, of guests or of a user that may only read, and `key`
+//! with 16 bytes that of a user whose session has this key. Bytes are in hex, and `#` begins a comment.
 #![tactic(auto)]
 
 mod play;

@@ -3,7 +3,8 @@
 use crate::row::{Hashed, Row, Step};
 use hex::encode;
 use smb_ntlm::{Account, Ntlm, account_fault, nt_hash_of};
-use smb_session::{Answer, Authenticator, Denial};
+use smb_session::{Answer, Authenticator, Denial, Signing};
+use smb_signing::Key;
 use std::alloc::{AllocError, Global};
 
 /// A denial in words: `deny`, with the label of the reason and the name in hex, where one was read.
@@ -37,6 +38,7 @@ fn words_of(
             flags,
             read_only,
             token,
+            ..
         } => {
             let user = encode(alloc, user.as_slice())?;
             let token = encode(alloc, token.as_slice())?;
@@ -60,14 +62,37 @@ fn copies(alloc: Global, accounts: &[Account]) -> Result<Vec<Account>, AllocErro
     Ok(copies)
 }
 
+/// How the session of an answer is signed, if it is.
+fn signing_of(answer: &Answer) -> Option<Signing> {
+    match answer {
+        Answer::Accept { signing, .. } => *signing,
+        Answer::Continue(_) | Answer::Deny => None,
+    }
+}
+
+/// Whether a session has this key, or none where there is none. A key shows by its signature of a header of zeros.
+fn has_key(signing: Option<Signing>, key: Option<[u8; 16]>) -> bool {
+    match (signing, key) {
+        (None, None) => true,
+        (Some(signing), Some(bytes)) => {
+            let message = [0; 64];
+            signing.key.signature(&message) == Key::new(bytes).signature(&message)
+        }
+        (None, Some(_)) | (Some(_), None) => false,
+    }
+}
+
 /// What a step gave in place of its answer, or None where it gave that.
 fn differs(alloc: Global, ntlm: &mut Ntlm, step: &Step) -> Result<Option<String>, AllocError> {
     let answer = ntlm.step(step.session, step.token.as_slice())?;
     let words = words_of(alloc, &answer, ntlm.denial())?;
-    if words.as_str() == step.answer.as_str() {
+    if words.as_str() != step.answer.as_str() {
+        return Ok(Some(words));
+    }
+    if has_key(signing_of(&answer), step.key) {
         Ok(None)
     } else {
-        Ok(Some(words))
+        Ok(Some(String::from_str(alloc, "another key, or none")?))
     }
 }
 
@@ -109,7 +134,14 @@ fn play_login(alloc: Global, row: &Row) -> Result<Option<String>, AllocError> {
             }
         }
         None if row.fault.is_empty() => {
-            let mut ntlm = Ntlm::new(alloc, row.seed, accounts, row.guest, row.guest_read_only)?;
+            let mut ntlm = Ntlm::with_signing(
+                alloc,
+                row.seed,
+                accounts,
+                row.guest,
+                row.guest_read_only,
+                row.signing,
+            )?;
             play_steps(alloc, &mut ntlm, row.steps.as_slice())
         }
         None => Ok(Some(String::from_str(alloc, "no fault")?)),

@@ -1,7 +1,7 @@
 //! A row: who may log in, what tokens come, and what answers each.
 
 use hex::{FromHex, decode};
-use smb_ntlm::Account;
+use smb_ntlm::{Account, SigningMode};
 use std::alloc::{AllocError, Global};
 use thiserror::Error;
 
@@ -36,6 +36,8 @@ pub struct Step {
     pub session: u64,
     pub token: Vec<u8>,
     pub answer: String,
+    /// The key of the session, where it has one.
+    pub key: Option<[u8; 16]>,
 }
 
 /// A password, and its NT hash.
@@ -52,6 +54,7 @@ pub struct Row {
     pub seed: [u8; 16],
     pub guest: bool,
     pub guest_read_only: bool,
+    pub signing: SigningMode,
     pub accounts: Vec<Account>,
     /// What is wrong with the accounts, in words; else empty.
     pub fault: String,
@@ -86,6 +89,7 @@ impl Row {
             seed: [0; 16],
             guest: false,
             guest_read_only: false,
+            signing: SigningMode::Off,
             accounts: Vec::new(alloc),
             fault: String::new(alloc),
             steps: Vec::new(alloc),
@@ -119,16 +123,21 @@ impl Row {
             session: session.parse::<u64>().map_err(|_| RowFault::NoNumber)?,
             token: bytes_of(alloc, token)?,
             answer: String::new(alloc),
+            key: None,
         };
         self.steps.push(step).map_err(|_| RowFault::NoMemory)
     }
 
-    /// Takes the answer to the last token.
+    /// Takes the answer to the last token, and behind `key` the key of the session.
     fn take_answer(&mut self, line: &str) -> Result<(), RowFault> {
         let Some(step) = self.steps.last_mut() else {
             return Err(RowFault::NoToken);
         };
-        step.answer.push_str(line).map_err(|_| RowFault::NoMemory)
+        let (answer, key) = line.split_once(" key ").unwrap_or((line, ""));
+        if !key.is_empty() {
+            step.key = Some(sixteen_of(key)?);
+        }
+        step.answer.push_str(answer).map_err(|_| RowFault::NoMemory)
     }
 
     /// Takes an NT hash in hex, and behind it the password.
@@ -146,6 +155,7 @@ impl Row {
         let (word, words) = line.split_once(' ').unwrap_or((line, ""));
         match word {
             "seed" => self.seed = sixteen_of(words)?,
+            "signing" => self.signing = SigningMode::Offered,
             "guest" => self.take_guests(words)?,
             "account" => self.take_account(alloc, words)?,
             "fault" => self.fault = String::from_str(alloc, words)?,

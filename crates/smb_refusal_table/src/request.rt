@@ -8,6 +8,8 @@ use smb_wire::NtStatus;
 pub(crate) const EVERY_REQUEST: Table = Table {
     name: "Every request",
     rows: &[
+        Refusal::Request(RequestRefusal::NotSigned),
+        Refusal::Request(RequestRefusal::SignatureWrong),
         Refusal::Request(RequestRefusal::UnknownCommand),
         Refusal::Request(RequestRefusal::CommandNotPerformed),
         Refusal::Request(RequestRefusal::BodyUnreadable),

@@ -5,6 +5,10 @@ use smb_refusals::{NegotiateRefusal, RequestRefusal};
 /// Why a request of any command is refused.
 pub(crate) fn request_refusal(refusal: RequestRefusal) -> &'static str {
     match refusal {
+        RequestRefusal::NotSigned =>
+            "the request is not signed, and the requests of its session are to be",
+        RequestRefusal::SignatureWrong =>
+            "the signature is not that of the request by the key of its session",
         RequestRefusal::UnknownCommand => "the command is past 0x12",
         RequestRefusal::CommandNotPerformed =>
             "the command is IOCTL, CHANGE_NOTIFY or OPLOCK_BREAK, whatever its body",

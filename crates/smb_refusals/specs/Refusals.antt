@@ -27,6 +27,8 @@ use Rattle.smb_refusals.specs.declared.login.LoginRefusal.TheVariants.{TokenUnre
 
 -- the status that answers a refused request ([MS-SMB2] 3.3.5)
 abbrev pub refusal_status : Refusal → NtStatus
+refusal_status (Request RequestRefusal.NotSigned) = AccessDenied
+refusal_status (Request RequestRefusal.SignatureWrong) = AccessDenied
 refusal_status (Request RequestRefusal.UnknownCommand) = InvalidParameter
 refusal_status (Request RequestRefusal.CommandNotPerformed) = NotSupported
 refusal_status (Request RequestRefusal.BodyUnreadable) = InvalidParameter
@@ -125,6 +127,8 @@ refusal_status (Rename RenameRefusal.PathTooDeep) = ObjectNameInvalid
 
 -- the label of a row, as docs/PROFILE.md has it
 abbrev pub refusal_label : Refusal → List ℕ
+refusal_label (Request RequestRefusal.NotSigned) = codes "P0a"
+refusal_label (Request RequestRefusal.SignatureWrong) = codes "P0b"
 refusal_label (Request RequestRefusal.UnknownCommand) = codes "P1"
 refusal_label (Request RequestRefusal.CommandNotPerformed) = codes "P2"
 refusal_label (Request RequestRefusal.BodyUnreadable) = codes "P3"

@@ -9,6 +9,10 @@ use smb_wire::NtStatus;
 /// Why a request of any command is refused, in the order in which it is looked at ([MS-SMB2] 3.3.5.2).
 #[derive(Clone, Copy)]
 pub enum RequestRefusal {
+    /// P0a: the request is not signed, and the requests of its session are to be.
+    NotSigned,
+    /// P0b: the signature is not that of the request by the key of its session.
+    SignatureWrong,
     /// P1: the command is past 0x12.
     UnknownCommand,
     /// P2: the command is IOCTL, CHANGE_NOTIFY or OPLOCK_BREAK, whatever its body.
@@ -39,6 +43,7 @@ impl RequestRefusal {
             | RequestRefusal::BodyUnreadable
             | RequestRefusal::ChargeTooSmall
             | RequestRefusal::NoOpenHandedOn => NtStatus::InvalidParameter,
+            RequestRefusal::NotSigned | RequestRefusal::SignatureWrong => NtStatus::AccessDenied,
             RequestRefusal::CommandNotPerformed => NtStatus::NotSupported,
             RequestRefusal::UnknownSession => NtStatus::UserSessionDeleted,
             RequestRefusal::UnknownTreeConnect => NtStatus::NetworkNameDeleted,
@@ -52,6 +57,8 @@ impl RequestRefusal {
         ensures { result.now ≡ refusal_label (Refusal.Request self) }
     {
         match self {
+            RequestRefusal::NotSigned => "P0a",
+            RequestRefusal::SignatureWrong => "P0b",
             RequestRefusal::UnknownCommand => "P1",
             RequestRefusal::CommandNotPerformed => "P2",
             RequestRefusal::BodyUnreadable => "P3",

@@ -31,7 +31,7 @@ pub use fault::{CommandFault, Detail, Given, ListenFault};
 pub use hears::{Deaf, Hears};
 pub use input::{INPUT_LIMIT, read_input};
 pub use listing::show_fields;
-pub use ntlm::{new_ntlm, new_ntlm_share, replay_ntlm_text};
+pub use ntlm::{check_unsigned, new_ntlm, new_ntlm_share, replay_ntlm_text, signing_of};
 pub use password::hash_password;
 pub use playing::ReplayWords;
 pub use replay::{

@@ -2,13 +2,45 @@
 
 use crate::fault::{CommandFault, Detail};
 use crate::replay::replay_on_share;
-use smb_config::{Accounts, Configuration};
+use smb_config::{Accounts, ConfigRule, Configuration};
 use smb_engine::{ServeFault, Share};
 use smb_handles::HandleTable;
 use smb_nodes::NodeTree;
-use smb_ntlm::Ntlm;
+use smb_ntlm::{Ntlm, SigningMode};
 use std::alloc::Global;
 use std::io::{Read, Write};
+
+/// Sees that a configuration has no sessions signed: without accounts none has a key.
+///
+/// [`CommandFault::ConfigRefused`] where it has.
+pub fn check_unsigned(configuration: &Configuration) -> Result<(), CommandFault> {
+    match configuration.signing {
+        None | Some(SigningMode::Off) => Ok(()),
+        Some(SigningMode::Offered | SigningMode::Required) => {
+            Err(CommandFault::ConfigRefused(Some(ConfigRule::SigningUnused)))
+        }
+    }
+}
+
+/// How accounts' sessions are signed: as the words of a command say, or else the configuration, or as is usual; and not at all
+/// without accounts.
+///
+/// [`CommandFault::ConfigRefused`] where the configuration has sessions signed, and there are no accounts.
+pub fn signing_of(
+    configuration: &Configuration,
+    accounts: &Accounts,
+    words: Option<SigningMode>,
+    usual: SigningMode,
+) -> Result<SigningMode, CommandFault> {
+    if let Some(mode) = words {
+        return Ok(mode);
+    }
+    if accounts.list.is_empty() {
+        check_unsigned(configuration)?;
+        return Ok(SigningMode::Off);
+    }
+    Ok(configuration.signing.unwrap_or(usual))
+}
 
 /// Who lets in the clients of a configuration by NTLM: as an account, or as a guest where the configuration lets guests in.
 /// The challenges come from the seed. An account with `readonly = true` may only read, and so may guests where the
@@ -18,25 +50,29 @@ pub fn new_ntlm(
     configuration: &Configuration,
     accounts: Accounts,
     seed: [u8; 16],
+    signing: SigningMode,
 ) -> Result<Ntlm, CommandFault> {
-    let ntlm = Ntlm::new(
+    let ntlm = Ntlm::with_signing(
         alloc,
         seed,
         accounts.list,
         configuration.guest,
         configuration.guest_read_only,
+        signing,
     )?;
     Ok(ntlm)
 }
 
-/// A new share of a configuration to which clients log in by NTLM, as [`new_ntlm`] lets them in.
+/// A new share of a configuration to which clients log in by NTLM, as [`new_ntlm`] lets them in. Nothing is signed, unless the
+/// configuration says so.
 pub fn new_ntlm_share(
     alloc: Global,
     configuration: Configuration,
     accounts: Accounts,
     seed: [u8; 16],
 ) -> Result<Share<Ntlm, NodeTree, HandleTable>, CommandFault> {
-    let ntlm = new_ntlm(alloc, &configuration, accounts, seed)?;
+    let signing = signing_of(&configuration, &accounts, None, SigningMode::Off)?;
+    let ntlm = new_ntlm(alloc, &configuration, accounts, seed, signing)?;
     let Configuration { limits, config, .. } = configuration;
     match Share::in_memory_within(alloc, limits, config, ntlm) {
         Ok(share) => Ok(share),

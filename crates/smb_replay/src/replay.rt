@@ -58,10 +58,8 @@ fn share_over<T: Tree + Drop, O: Opens + Drop>(
     let Configuration {
         limits,
         config,
-        guest: _,
-        guest_read_only: _,
-        users: _,
         authenticator,
+        ..
     } = configuration;
     match Share::within(alloc, limits, config, authenticator, tree, opens) {
         Ok(share) => Ok(share),

@@ -19,11 +19,12 @@ use Rattle.smb_request.specs.declared.context.Context.{Context}
 use Rattle.smb_request.specs.declared.context.ContextOpen.{ContextOpen}
 use Rattle.smb_request.specs.declared.context.ContextOpen.TheVariants.{Nothing, Named, Refused}
 use Rattle.smb_request.specs.Context.{open_named, named_on, open_for_next_related}
-use Rattle.smb_request.specs.Parts.{number_named, named_open, names_open, file_asked, close_response, asks_unlock, needs_session, is_unsupported, is_cancel_command, check_session_tree_and_open, dialect_after, lock_asks, hello_of, open_refusal, performed_by, success, with_store, set_through, negotiated, file_locked, file_unlocked}
+use Rattle.smb_request.specs.Parts.{number_named, named_open, names_open, file_asked, close_response, asks_unlock, needs_session, is_unsupported, is_cancel_command, check_session_tree_and_open, dialect_after, lock_asks, hello_of, requires_of, open_refusal, performed_by, success, with_store, set_through, negotiated, file_locked, file_unlocked}
 use Rattle.smb_body.specs.Needs.{needs_of}
 use Rattle.smb_request.specs.Negotiate.{negotiate_answer}
 use Rattle.smb_request.specs.Call.{body_of, call_of}
-use Rattle.smb_request.specs.Request.{check_request, acted, performed}
+use Rattle.smb_request.specs.Request.{check_request, acted, verified, performed}
+use Rattle.smb_request.proofs.Verified.{by_signature}
 use Rattle.smb_request.specs.Held.{IsCallOf}
 use Rattle.smb_session.specs.Authenticator.{Meaning}
 use Rattle.smb_opens.specs.Close.{closed_all}
@@ -263,7 +264,7 @@ module _ {S : Type 0} (may : ℕ → SessionState → Type 0) (acts : ℕ → Bo
 
   -- NEGOTIATE
   negotiated_at : (m : Meaning S) (best : Option Dialect) →
-      Left (option_map_or (λ best. let x : CommandStep S = record { server = server; response = success call.ids (negotiate_answer server.settings.guid (hello_of m server) call.moment (Some best) (revision_of best)) } in x) best (refused server call.ids (Refusal.Negotiate NoDialect))).server
+      Left (option_map_or (λ best. let x : CommandStep S = record { server = server; response = success call.ids (negotiate_answer (requires_of m server) server.settings.guid (hello_of m server) call.moment (Some best) (revision_of best)) } in x) best (refused server call.ids (Refusal.Negotiate NoDialect))).server
   negotiated_at m None = same
   negotiated_at m (Some best) = same
 
@@ -337,16 +338,17 @@ module _ {S : Type 0} (may : ℕ → SessionState → Type 0) (acts : ℕ → Bo
 
 module _ {S : Type 0} (may : ℕ → SessionState → Type 0) (acts : ℕ → Bool) (c : ℕ) (a : acts c ≡ true) (server : ServerState S) (o : NumbersInOrder server.sessions.table server.store) where
   request_left_but : (m : Meaning S) (moment : ℕ) (dialect : Option Dialect) (context : Context) (request : List ℕ) →
-      ((n : ℕ) (session : SessionState) → ReplacesSession m server context request n session → may n session) → LeavesSharedBut may acts server (performed m c moment server dialect context request).server
-  unfolding performed
+      ((n : ℕ) (session : SessionState) → ReplacesSession m server context request n session → may n session) → LeavesSharedBut may acts server (verified m c moment server dialect context request).server
+  unfolding verified
   request_left_but m moment dialect context request replaces =
       let call = call_of c moment dialect context request in
       let left = performed_left may acts call a server o m (body_of call.command request) (call_read c moment dialect context request)
-      (λ value says setup is user flags read_only token session accepted same_user. replaces setup.previous_session_id session (record {
+      (λ value says setup is user flags read_only signing token session accepted same_user. replaces setup.previous_session_id session (record {
         asked = setup;
         user = user;
         flags = flags;
         read_only = read_only;
+        signing = signing;
         token = token;
         says = says ∙ ap (λ (v : RequestValue). Some v) is;
         accepted = accepted;
@@ -371,7 +373,10 @@ module _ {S : Type 0} (may : ℕ → SessionState → Type 0) (acts : ℕ → Bo
 -- the session that it replaces may be over
 pub request_left : {S : Type 0} (acts : ℕ → Bool) (c : ℕ) → acts c ≡ true → (server : ServerState S) → NumbersInOrder server.sessions.table server.store → (m : Meaning S) (moment : ℕ) (dialect : Option Dialect) (context : Context) (request : List ℕ) →
     LeavesSharedBut (ReplacesSession m server context request) acts server (performed m c moment server dialect context request).server
-request_left acts c a server o m moment dialect context request = request_left_but (ReplacesSession m server context request) acts c a server o m moment dialect context request (λ n session replaces. replaces)
+request_left acts c a server o m moment dialect context request =
+    by_signature m c moment server dialect context request (λ done. LeavesSharedBut (ReplacesSession m server context request) acts server done.server)
+    (λ refusal. leaves_same acts server.sessions.table server.store o)
+    (request_left_but (ReplacesSession m server context request) acts c a server o m moment dialect context request (λ n session replaces. replaces))
 
 -- all connections but one
 same_connection : (c : ℕ) → (c == c) ≡ true

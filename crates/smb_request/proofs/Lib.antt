@@ -11,6 +11,8 @@ pub mod Asks
 pub mod SetUp
 pub mod InfoApart
 pub mod Listings
+pub mod Signed
+pub mod Verified
 pub mod Apart
 pub mod Handed
 pub mod Refused

@@ -14,7 +14,8 @@ use Rattle.smb_session.specs.Numbers.{contains}
 use Rattle.smb_session.specs.Session.{SessionState}
 use Rattle.smb_session.specs.Parts.{fresh_session, finished_by, with_tree, without_tree, begun, known_session_refusal, tree_connected, tree_disconnected}
 use Rattle.smb_session.specs.Table.{TableState, session_at, changed_at, connected, session_ended, session_changed, knows_session, knows_tree, read_only_of}
-use Rattle.smb_session.specs.Setup.{setup_refusal, previous_ended, table_answered, setup_result}
+use Rattle.smb_session.specs.Setup.{setup_refusal, previous_ended, signing_asked, table_answered, setup_result}
+use Rattle.smb_session.specs.declared.signing.Signing.{Signing}
 use Rattle.smb_session.specs.Laws.{setup_number, setup_table}
 use Rattle.smb_session.proofs.Numbers.{equal_back, contains-without}
 use Rattle.smb_session.specs.Sessions.{SessionsState, setup_step}
@@ -198,11 +199,11 @@ others_filter n test [] others = tt
 others_filter n test (row ∷ rows) others = others_at n test row rows (test row) refl others.0 (others_filter n test rows others.1)
 
 -- a session is finished that has no opens
-owned_finished : (table : TableState) (user : List ℕ) (read_only : Bool) (n : ℕ) (rows : List OpenRow) → AreOfOthers n rows → AreOwned table rows →
-    AreOwned (session_changed (finished_by user read_only) table n) rows
-owned_finished table user read_only n [] others a = tt
-owned_finished table user read_only n (row ∷ rows) others a =
-    (passes-changed (owns row) row.session (finished_by user read_only) n table.sessions (λ e s u. let d = others.0 in cc) a.0, owned_finished table user read_only n rows others.1 a.1)
+owned_finished : (table : TableState) (user : List ℕ) (read_only : Bool) (signing : Option Signing) (n : ℕ) (rows : List OpenRow) → AreOfOthers n rows → AreOwned table rows →
+    AreOwned (session_changed (finished_by user read_only signing) table n) rows
+owned_finished table user read_only signing n [] others a = tt
+owned_finished table user read_only signing n (row ∷ rows) others a =
+    (passes-changed (owns row) row.session (finished_by user read_only signing) n table.sessions (λ e s u. let d = others.0 in cc) a.0, owned_finished table user read_only signing n rows others.1 a.1)
 
 -- a session that stands nowhere ends
 owned_denied : (table : TableState) (n : ℕ) (rows : List OpenRow) → AreOfOthers n rows → AreOwned table rows → AreOwned (session_ended table n) rows
@@ -210,17 +211,17 @@ owned_denied table n [] others a = tt
 owned_denied table n (row ∷ rows) others a = (passes-removed (owns row) row.session n table.sessions others.0 ∙ a.0, owned_denied table n rows others.1 a.1)
 
 -- an answer about a session
-owned_accepted : (table : TableState) (user : List ℕ) (read_only : Bool) (n : ℕ) (previous : Option ℕ) (rows : List OpenRow) → AreOfOthers n rows → AreOwned table rows →
-    AreOwned (session_changed (finished_by user read_only) (option_map_or (session_ended table) previous table) n) (opens_left previous rows)
-owned_accepted table user read_only n None rows others a = owned_finished table user read_only n rows others a
-owned_accepted table user read_only n (Some previous) rows others a =
-    owned_finished (session_ended table previous) user read_only n _ (others_filter n (λ row. not (is_held_by (Session previous) row)) rows others) (owned_ended table previous rows a)
+owned_accepted : (table : TableState) (user : List ℕ) (read_only : Bool) (signing : Option Signing) (n : ℕ) (previous : Option ℕ) (rows : List OpenRow) → AreOfOthers n rows → AreOwned table rows →
+    AreOwned (session_changed (finished_by user read_only signing) (option_map_or (session_ended table) previous table) n) (opens_left previous rows)
+owned_accepted table user read_only signing n None rows others a = owned_finished table user read_only signing n rows others a
+owned_accepted table user read_only signing n (Some previous) rows others a =
+    owned_finished (session_ended table previous) user read_only signing n _ (others_filter n (λ row. not (is_held_by (Session previous) row)) rows others) (owned_ended table previous rows a)
 
 owned_answered : (table : TableState) (n previous : ℕ) (answer : Answered) (rows : List OpenRow) → ((tree : ℕ) → stands table n tree ≡ false) → AreOwned table rows →
     AreOwned (table_answered table n previous answer) (opens_left (setup_result table n previous answer).ended rows)
 owned_answered table n previous (continues token) rows none a = a
-owned_answered table n previous (accepts user flags read_only token) rows none a =
-    owned_accepted table user read_only n (previous_ended table user previous) rows (of_others table n rows none a) a
+owned_answered table n previous (accepts user flags read_only signing token) rows none a =
+    owned_accepted table user read_only signing n (previous_ended table user previous) rows (of_others table n rows none a) a
 owned_answered table n previous denies rows none a = owned_denied table n rows (of_others table n rows none a) a
 
 -- a refusal that is none passes its first row
@@ -256,11 +257,11 @@ module _ (table : TableState) (c number flags : ℕ) (given : AllByRecursion (λ
       at false t = rw t a
 
 -- a SESSION_SETUP leaves the opens but those of the session that it ends, and they are owned
-pub owned_setup : {S : Type 0} (m : Meaning S) (s : SessionsState S) (c number previous flags : ℕ) (token : List ℕ) (rows : List OpenRow) → AllByRecursion (λ e. e.0 < s.table.next) s.table.sessions →
+pub owned_setup : {S : Type 0} (m : Meaning S) (s : SessionsState S) (c number previous flags : ℕ) (required : Bool) (token : List ℕ) (rows : List OpenRow) → AllByRecursion (λ e. e.0 < s.table.next) s.table.sessions →
     setup_refusal s.table c number flags ≡ None → AreOwned s.table rows →
-    AreOwned (setup_step m s c number previous token).state.table (opens_left (setup_step m s c number previous token).told.ended rows)
-owned_setup m s c number previous flags token rows given h a =
-    owned_answered (setup_table s.table c number) (setup_number s.table number) previous (m.answer s.authenticator (setup_number s.table number) token) rows
+    AreOwned (setup_step m s c number previous required token).state.table (opens_left (setup_step m s c number previous required token).told.ended rows)
+owned_setup m s c number previous flags required token rows given h a =
+    owned_answered (setup_table s.table c number) (setup_number s.table number) previous (signing_asked required (m.answer s.authenticator (setup_number s.table number) token)) rows
     (none_stands s.table c number flags given h) (begun_owned s.table c number flags given h rows a)
 
 -- an open that was made under a session and a tree that the connection knows is owned

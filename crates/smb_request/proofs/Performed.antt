@@ -21,7 +21,7 @@ use Rattle.smb_request.specs.Context.{named_on, open_for_next_related}
 use Rattle.smb_request.specs.Held.{is_performed, IsCallOf}
 use Rattle.smb_request.specs.InPlace.{AnswerHeld, answer_behind, PerformedHeld, performed_behind}
 use Rattle.smb_request.specs.Parts.{is_unsupported, is_cancel_command, dialect_after, performed_by}
-use Rattle.smb_request.specs.Request.{performed}
+use Rattle.smb_request.specs.Request.{verified}
 use Rattle.smb_request.specs.Response.{Performed}
 use Rattle.smb_request.specs.State.{ServerState}
 
@@ -82,15 +82,15 @@ still_listing before after (Bytes range) s e = absurd (cc)
 still_listing before after (Listing asked) s e = s
 
 module _ {S : Type 0} (m : Meaning S) (connection moment : ℕ) (server : ServerState S) (dialect : Option Dialect) (context : Context) (request : List ℕ) (call : Call) (is : call ≡ call_of connection moment dialect context request) where
-  pub cancelled : is_cancel_command call.command ≡ true → performed m connection moment server dialect context request
+  pub cancelled : is_cancel_command call.command ≡ true → verified m connection moment server dialect context request
       ≡ record { server = server; dialect = dialect; context = record { ids = call.ids; last_open = named_on call.inherited call.file_id }; response = None }
-  unfolding performed
+  unfolding verified
   cancelled e =
       let cancel : is_cancel_command (call_of connection moment dialect context request).command ≡ true = ap (λ (c : Call). is_cancel_command c.command) (sym is) ∙ e in
       rw (cancel, is) refl
 
   -- what a request is, by its parts
-  same_step : performed m connection moment server dialect context request
+  same_step : verified m connection moment server dialect context request
       ≡ (let call = call_of connection moment dialect context request in
       let step = performed_by m server call (body_of call.command request) in
       let x : Performed S = if is_cancel_command call.command
@@ -104,10 +104,10 @@ module _ {S : Type 0} (m : Meaning S) (connection moment : ℕ) (server : Server
         };
         response = Some step.response;
       } in x)
-  unfolding performed
+  unfolding verified
   same_step = refl
 
-  answered : is_cancel_command call.command ≡ false → performed m connection moment server dialect context request
+  answered : is_cancel_command call.command ≡ false → verified m connection moment server dialect context request
       ≡ (let step = performed_by m server call (body_of call.command request) in let x : Performed S = record {
         server = step.server;
         dialect = option_map_or (dialect_after dialect) (body_of call.command request) dialect;
@@ -119,7 +119,7 @@ module _ {S : Type 0} (m : Meaning S) (connection moment : ℕ) (server : Server
       } in x)
   answered e =
       let cancel : is_cancel_command (call_of connection moment dialect context request).command ≡ false = ap (λ (c : Call). is_cancel_command c.command) (sym is) ∙ e in
-      let P : Call → Type 0 = λ c. performed m connection moment server dialect context request
+      let P : Call → Type 0 = λ c. verified m connection moment server dialect context request
       ≡ (let step = performed_by m server c (body_of c.command request) in let x : Performed S = record {
         server = step.server;
         dialect = option_map_or (dialect_after dialect) (body_of c.command request) dialect;
@@ -137,13 +137,13 @@ module _ {S : Type 0} (m : Meaning S) (connection moment : ℕ) (server : Server
       dialect' ≡ option_map_or (dialect_after dialect) body dialect → held ≡ answer_behind front (performed_by m server call body).response →
       context' ≡ record { ids = held.ids; last_open = open_for_next_related call.inherited server.store.next call.command call.file_id held.status } →
       (let x : PerformedHeld S = record { server = server'; dialect = dialect'; context = context'; response = Some held } in x)
-      ≡ performed_behind front (performed m connection moment server dialect context request)
+      ≡ performed_behind front (verified m connection moment server dialect context request)
   performed_put body b e front server' dialect' context' held s d h c = rw (answered e, c, s, d, h, b) refl
 
   pub performed_server : (body : Option RequestValue) → body ≡ body_of call.command request → is_cancel_command call.command ≡ false →
-      (performed_by m server call body).server ≡ (performed m connection moment server dialect context request).server
+      (performed_by m server call body).server ≡ (verified m connection moment server dialect context request).server
   performed_server body b e = rw (answered e, b) refl
 
   pub performed_dialect : (body : Option RequestValue) → body ≡ body_of call.command request → is_cancel_command call.command ≡ false →
-      option_map_or (dialect_after dialect) body dialect ≡ (performed m connection moment server dialect context request).dialect
+      option_map_or (dialect_after dialect) body dialect ≡ (verified m connection moment server dialect context request).dialect
   performed_dialect body b e = rw (answered e, b) refl

@@ -59,15 +59,16 @@ use Rattle.smb_request.specs.Bytes.{file_read, file_written}
 use Rattle.smb_request.specs.Call.{body_of, call_of}
 use Rattle.smb_request.specs.Context.{named_on, open_for_next_related}
 use Rattle.smb_request.specs.Files.{file_created, file_closed}
-use Rattle.smb_request.specs.Parts.{file_asked, close_response, asks_unlock, needs_session, is_unsupported, is_cancel_command, has_tree, only_reads, owns, is_owned, check_session_tree_and_open, dialect_after, closed_for, setup_answered, without_connection, lock_asks, hello_of, performed_by, success, set_status, set_through, with_store, closed_with, file_locked, file_unlocked, negotiated}
+use Rattle.smb_request.specs.Parts.{file_asked, close_response, asks_unlock, needs_session, is_unsupported, is_cancel_command, has_tree, only_reads, owns, is_owned, check_session_tree_and_open, dialect_after, closed_for, setup_answered, without_connection, lock_asks, hello_of, requires_of, performed_by, success, set_status, set_through, with_store, closed_with, file_locked, file_unlocked, negotiated}
 use Rattle.smb_request.specs.Held.{IsCallOf, opens_left}
 use Rattle.smb_request.specs.Laws.{NumbersInOrder, AllMayOnlyRead, ChangesNoFile}
 use Rattle.smb_body.specs.Needs.{needs_of}
 use Rattle.smb_request.specs.Negotiate.{negotiate_answer}
 use Rattle.smb_request.specs.Owners.{AreOwned}
-use Rattle.smb_request.specs.Request.{check_request, acted, performed}
+use Rattle.smb_request.specs.Request.{check_request, acted, verified, performed}
+use Rattle.smb_request.proofs.Verified.{by_signature}
 use Rattle.smb_request.specs.Response.{CommandStep, Performed, refused, through_open, unless_refused}
-use Rattle.smb_request.specs.Session.{may_only_read, session_set_up, session_logged_off, tree_joined, tree_left}
+use Rattle.smb_request.specs.Session.{asks_to_sign, may_only_read, session_set_up, session_logged_off, tree_joined, tree_left}
 use Rattle.smb_request.specs.State.{ServerState, connection_ended}
 use Rattle.smb_request.proofs.Apart.{acts_known, id_held}
 use Rattle.smb_request.proofs.Configured.{locks_opens}
@@ -167,14 +168,14 @@ module _ {S : Type 0} (call : Call) (server : ServerState S) (o : NumbersInOrder
 
   -- SESSION_SETUP
   set_up_at : (m : Meaning S) (asked : SessionSetupAsked) (refusal : Option Refusal) → option_map (λ refusal. Refusal.SessionSetup refusal) (setup_refusal table c s asked.flags.0) ≡ refusal →
-      Left (unless_refused server call.ids refusal (setup_answered server call.ids (setup_step m server.sessions c s asked.previous_session_id asked.security_buffer))).server
+      Left (unless_refused server call.ids refusal (setup_answered server call.ids (setup_step m server.sessions c s asked.previous_session_id (asks_to_sign asked) asked.security_buffer))).server
   set_up_at m asked (Some refusal) e = same
   set_up_at m asked None e =
-      let step = setup_step m server.sessions c s asked.previous_session_id asked.security_buffer in
+      let step = setup_step m server.sessions c s asked.previous_session_id (asks_to_sign asked) asked.security_buffer in
       let unrefused : setup_refusal table c s asked.flags.0 ≡ None = none_named (λ refusal. Refusal.SessionSetup refusal) (setup_refusal table c s asked.flags.0) e in
       record {
         files = closed_for_files server.store step.told.ended;
-        owned = rw (closed_for_opens table server.store step.told.ended o) (owned_setup m server.sessions c s asked.previous_session_id asked.flags.0 asked.security_buffer server.store.opens o.sessions_given unrefused own);
+        owned = rw (closed_for_opens table server.store step.told.ended o) (owned_setup m server.sessions c s asked.previous_session_id asked.flags.0 (asks_to_sign asked) asked.security_buffer server.store.opens o.sessions_given unrefused own);
       }
 
   set_up_reads : (m : Meaning S) (asked : SessionSetupAsked) → Left (session_set_up m server call asked).server
@@ -298,7 +299,7 @@ module _ {S : Type 0} (call : Call) (server : ServerState S) (o : NumbersInOrder
 
   -- NEGOTIATE
   negotiated_at : (m : Meaning S) (best : Option Dialect) →
-      Left (option_map_or (λ best. let x : CommandStep S = record { server = server; response = success call.ids (negotiate_answer server.settings.guid (hello_of m server) call.moment (Some best) (revision_of best)) } in x) best (refused server call.ids (Refusal.Negotiate NoDialect))).server
+      Left (option_map_or (λ best. let x : CommandStep S = record { server = server; response = success call.ids (negotiate_answer (requires_of m server) server.settings.guid (hello_of m server) call.moment (Some best) (revision_of best)) } in x) best (refused server call.ids (Refusal.Negotiate NoDialect))).server
   negotiated_at m None = same
   negotiated_at m (Some best) = same
 
@@ -350,10 +351,10 @@ module _ {S : Type 0} (call : Call) (server : ServerState S) (o : NumbersInOrder
   performed_reads : (m : Meaning S) (body : Option RequestValue) → IsCallOf call body → Left (performed_by m server call body).server
   performed_reads m body read = body_reads m (option_map_or is_unsupported call.command false) body read
 
-pub request_reads : {S : Type 0} (m : Meaning S) (c moment : ℕ) (server : ServerState S) (dialect : Option Dialect) (context : Context) (request : List ℕ) → NumbersInOrder server.sessions.table server.store →
-    AreOwned server.sessions.table server.store.opens → AllMayOnlyRead server.sessions.table c → ChangesNoFile server (performed m c moment server dialect context request).server
-unfolding performed
-request_reads {S} m c moment server dialect context request o own all =
+verified_reads : {S : Type 0} (m : Meaning S) (c moment : ℕ) (server : ServerState S) (dialect : Option Dialect) (context : Context) (request : List ℕ) → NumbersInOrder server.sessions.table server.store →
+    AreOwned server.sessions.table server.store.opens → AllMayOnlyRead server.sessions.table c → ChangesNoFile server (verified m c moment server dialect context request).server
+unfolding verified
+verified_reads {S} m c moment server dialect context request o own all =
     let call = call_of c moment dialect context request in
     let left = performed_reads call server o own all m (body_of call.command request) (call_read c moment dialect context request) in
     elim (is_cancel_command call.command) as (λ b. ChangesNoFile server (let x : Performed S = if b then record {
@@ -370,6 +371,13 @@ request_reads {S} m c moment server dialect context request o own all =
       };
       response = Some (performed_by m server call (body_of call.command request)).response;
     } in x).server) [ true ↦ record { files = leaves_files_refl server.store; owned = own } | false ↦ left ]
+
+pub request_reads : {S : Type 0} (m : Meaning S) (c moment : ℕ) (server : ServerState S) (dialect : Option Dialect) (context : Context) (request : List ℕ) → NumbersInOrder server.sessions.table server.store →
+    AreOwned server.sessions.table server.store.opens → AllMayOnlyRead server.sessions.table c → ChangesNoFile server (performed m c moment server dialect context request).server
+request_reads m c moment server dialect context request o own all =
+    by_signature m c moment server dialect context request (λ done. ChangesNoFile server done.server)
+    (λ refusal. record { files = leaves_files_refl server.store; owned = own })
+    (verified_reads m c moment server dialect context request o own all)
 
 -- THE END OF A CONNECTION
 

@@ -21,7 +21,7 @@ ended-connections table (Some n) = refl
 
 answered-connections : (table : TableState) (number previous : ℕ) (answer : Answered) → (table_answered table number previous answer).connections ≡ table.connections
 answered-connections table number previous (continues token) = refl
-answered-connections table number previous (accepts user flags read_only token) = ended-connections table (previous_ended table user previous)
+answered-connections table number previous (accepts user flags read_only signing token) = ended-connections table (previous_ended table user previous)
 answered-connections table number previous denies = refl
 
 begun-connections : (table : TableState) (connection : ℕ) (b : Bool) → (if b then begun table connection else table).connections ≡ table.connections
@@ -29,9 +29,9 @@ begun-connections table connection true = refl
 begun-connections table connection false = refl
 
 -- no connection comes or goes by a SESSION_SETUP
-pub setup-connections : {S : Type 0} (m : Meaning S) (s : SessionsState S) (connection number previous : ℕ) (token : List ℕ) →
-    (setup_step m s connection number previous token).state.table.connections ≡ s.table.connections
-setup-connections m s connection number previous token =
+pub setup-connections : {S : Type 0} (m : Meaning S) (s : SessionsState S) (connection number previous : ℕ) (required : Bool) (token : List ℕ) →
+    (setup_step m s connection number previous required token).state.table.connections ≡ s.table.connections
+setup-connections m s connection number previous required token =
     answered-connections (setup_table s.table connection number) _ previous _ ∙ begun-connections s.table connection _
 
 -- the dialect that is told
@@ -45,5 +45,5 @@ best_err (Some other) fault h = cc
 
 -- the reply to an SMB_COM_NEGOTIATE
 pub smb1_joined : (header : Header) (body : List ℕ) (v : ReplyValue) → header ≡ (reply_to_smb1 v).header → body ≡ reply_spelling v →
-    joined_replies (record { header = header; body = body } ∷ []) ≡ joined_replies (reply_to_smb1 v ∷ [])
+    joined_replies (record { header = header; body = body; key = None } ∷ []) ≡ joined_replies (reply_to_smb1 v ∷ [])
 smb1_joined header body v e f = rw (e, f) refl

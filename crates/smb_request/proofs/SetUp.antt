@@ -17,11 +17,12 @@ use Rattle.smb_refusals.specs.declared.session.SetupRefusal.TheVariants.{Unknown
 use Rattle.smb_session.specs.Authenticator.{Answered, continues, accepts, denies, Meaning}
 use Rattle.smb_session.specs.Parts.{fresh_session, finished_by, begun, known_session_refusal, is_of_user}
 use Rattle.smb_session.specs.Sessions.{setup_step}
-use Rattle.smb_session.specs.Setup.{setup_refusal, table_answered, setup_result}
+use Rattle.smb_session.specs.Setup.{setup_refusal, signing_asked, table_answered, setup_result}
+use Rattle.smb_session.specs.declared.signing.Signing.{Signing}
 use Rattle.smb_session.specs.Laws.{setup_number}
 use Rattle.smb_body.specs.SessionSetup.{SessionSetupAsked}
 use Rattle.smb_opens.specs.Close.{closed_all}
-use Rattle.smb_request.specs.Session.{session_set_up}
+use Rattle.smb_request.specs.Session.{asks_to_sign, session_set_up}
 use Rattle.smb_request.specs.Parts.{closed_for, setup_answered}
 use Rattle.smb_refusals.specs.declared.refusal.Refusal.{Refusal}
 use Rattle.smb_refusals.specs.declared.refusal.Refusal.TheVariants.{SessionSetup}
@@ -42,7 +43,13 @@ user_is user (Some u) q = ap (λ (text : List ℕ). Some text) ((bytes_eq-Decide
 -- why the session that an answer names as the previous one may be over
 abbrev pub MayReplace : (ℕ → SessionState → Type 0) → ℕ → Answered → Type 0
 MayReplace may previous answer =
-    (user : List ℕ) (flags : ℕ) (read_only : Bool) (token : List ℕ) (session : SessionState) → answer ≡ accepts user flags read_only token → session.user ≡ Some user → may previous session
+    (user : List ℕ) (flags : ℕ) (read_only : Bool) (signing : Option Signing) (token : List ℕ) (session : SessionState) → answer ≡ accepts user flags read_only signing token → session.user ≡ Some user → may previous session
+
+-- nor may more be over where the client asks that its requests are signed
+may_sign : (may : ℕ → SessionState → Type 0) (previous : ℕ) (required : Bool) (answer : Answered) → MayReplace may previous answer → MayReplace may previous (signing_asked required answer)
+may_sign may previous required (continues token) cause user flags read_only signing token' session e same = cc
+may_sign may previous required (accepts u f r s t) cause user flags read_only signing token session e same = cause user flags read_only s token session (cc) same
+may_sign may previous required denies cause user flags read_only signing token session e same = cc
 
 -- what is given the next number is found there
 at_last : (n : ℕ) (x : SessionState) (es : List (ℕ × SessionState)) → AllByRecursion (λ e. e.0 < n) es → lookup (is_at (nat_cmp n)) (es ++ (n, x) ∷ []) ≡ Some x
@@ -82,30 +89,30 @@ module _ (may : ℕ → SessionState → Type 0) (acts : ℕ → Bool) (c : ℕ)
         | false ↦ λ t. apart n session (sym (look_removed n previous table.sessions t) ∙ at) other
       ] refl
 
-  accepted_found : (number previous : ℕ) (user : List ℕ) (read_only : Bool) (found : Option SessionState) → session_at table previous ≡ found → IsApart acts table number →
+  accepted_found : (number previous : ℕ) (user : List ℕ) (read_only : Bool) (signing : Option Signing) (found : Option SessionState) → session_at table previous ≡ found → IsApart acts table number →
       ((session : SessionState) → session.user ≡ Some user → may previous session) →
       LeavesBut may acts table store
-      (session_changed (finished_by user read_only) (option_map_or (session_ended table) (if option_map_or (is_of_user user) found false then Some previous else None) table) number)
+      (session_changed (finished_by user read_only signing) (option_map_or (session_ended table) (if option_map_or (is_of_user user) found false then Some previous else None) table) number)
       (closed_for store (if option_map_or (is_of_user user) found false then Some previous else None))
-  accepted_found number previous user read_only None e apart cause = leaves_changed acts table store o number apart (finished_by user read_only)
-  accepted_found number previous user read_only (Some session) e apart cause =
+  accepted_found number previous user read_only signing None e apart cause = leaves_changed acts table store o number apart (finished_by user read_only signing)
+  accepted_found number previous user read_only signing (Some session) e apart cause =
       elim (is_of_user user session) as (λ b. is_of_user user session ≡ b →
       LeavesBut may acts table store
-      (session_changed (finished_by user read_only) (option_map_or (session_ended table) (if b then Some previous else None) table) number)
+      (session_changed (finished_by user read_only signing) (option_map_or (session_ended table) (if b then Some previous else None) table) number)
       (closed_for store (if b then Some previous else None))) [
         | true ↦ λ t. (
             let whole = leaves_whole acts table store o previous session e (cause session (user_is user session.user t)) in
-            leaves_then acts table (session_ended table previous) (session_changed (finished_by user read_only) (session_ended table previous) number) store (closed_all store (Session previous)) (closed_all store (Session previous)) o whole
-            (leaves_changed acts (session_ended table previous) (closed_all store (Session previous)) whole.order number (apart_ended number previous apart) (finished_by user read_only)))
-        | false ↦ λ t. leaves_changed acts table store o number apart (finished_by user read_only)
+            leaves_then acts table (session_ended table previous) (session_changed (finished_by user read_only signing) (session_ended table previous) number) store (closed_all store (Session previous)) (closed_all store (Session previous)) o whole
+            (leaves_changed acts (session_ended table previous) (closed_all store (Session previous)) whole.order number (apart_ended number previous apart) (finished_by user read_only signing)))
+        | false ↦ λ t. leaves_changed acts table store o number apart (finished_by user read_only signing)
       ] refl
 
   -- what an answer leaves
   answered_left : (number previous : ℕ) (answer : Answered) → MayReplace may previous answer → IsApart acts table number → LeavesBut may acts table store (table_answered table number previous answer) (closed_for store (setup_result table number previous answer).ended)
   answered_left number previous (continues token) cause apart = leaves_same acts table store o
   answered_left number previous denies cause apart = leaves_ended acts table store o number apart
-  answered_left number previous (accepts user flags read_only token) cause apart =
-      accepted_found number previous user read_only (session_at table previous) refl apart (λ session same. cause user flags read_only token session refl same)
+  answered_left number previous (accepts user flags read_only signing token) cause apart =
+      accepted_found number previous user read_only signing (session_at table previous) refl apart (λ session same. cause user flags read_only signing token session refl same)
 
 module _ (may : ℕ → SessionState → Type 0) (acts : ℕ → Bool) (c : ℕ) (a : acts c ≡ true) (table : TableState) (store : StoreState) (o : NumbersInOrder table store) where
   step_left : (s flags previous : ℕ) (answer : Answered) (b : Bool) → MayReplace may previous answer → (s == 0) ≡ b → setup_refusal table c s flags ≡ None →
@@ -119,11 +126,13 @@ module _ (may : ℕ → SessionState → Type 0) (acts : ℕ → Bool) (c : ℕ)
 module _ {S : Type 0} (may : ℕ → SessionState → Type 0) (m : Meaning S) (acts : ℕ → Bool) (c : ℕ) (a : acts c ≡ true) (server : ServerState S) (o : NumbersInOrder server.sessions.table server.store) where
   set_up_at : (ids : HeaderIds) (asked : SessionSetupAsked) (reason : Option Refusal) →
       MayReplace may asked.previous_session_id (m.answer server.sessions.authenticator (setup_number server.sessions.table ids.session_id) asked.security_buffer) → option_map (λ refusal. SessionSetup refusal) (setup_refusal server.sessions.table c ids.session_id asked.flags.0) ≡ reason →
-      LeavesSharedBut may acts server (unless_refused server ids reason (setup_answered server ids (setup_step m server.sessions c ids.session_id asked.previous_session_id asked.security_buffer))).server
+      LeavesSharedBut may acts server (unless_refused server ids reason (setup_answered server ids (setup_step m server.sessions c ids.session_id asked.previous_session_id (asks_to_sign asked) asked.security_buffer))).server
   set_up_at ids asked (Some reason) cause e = leaves_same acts server.sessions.table server.store o
   set_up_at ids asked None cause e =
       let s = ids.session_id in
-      step_left may acts c a server.sessions.table server.store o s asked.flags.0 asked.previous_session_id (m.answer server.sessions.authenticator (setup_number server.sessions.table s) asked.security_buffer) (s == 0) cause refl
+      let answer = m.answer server.sessions.authenticator (setup_number server.sessions.table s) asked.security_buffer in
+      step_left may acts c a server.sessions.table server.store o s asked.flags.0 asked.previous_session_id (signing_asked (asks_to_sign asked) answer) (s == 0)
+      (may_sign may asked.previous_session_id (asks_to_sign asked) answer cause) refl
       (none_named (λ refusal. SessionSetup refusal) (setup_refusal server.sessions.table c s asked.flags.0) e)
 
 module _ {S : Type 0} (may : ℕ → SessionState → Type 0) (m : Meaning S) (acts : ℕ → Bool) (call : Call) (a : acts call.connection ≡ true) (server : ServerState S) (o : NumbersInOrder server.sessions.table server.store) where

@@ -20,7 +20,7 @@ use Rattle.smb_request.specs.declared.response.NoReply.{NoReply}
 use Rattle.smb_request.specs.declared.response.NoReply.TheVariants.{NotPerformed, Performed}
 use Rattle.smb_request.specs.Negotiate.{negotiate_answer}
 use Rattle.smb_request.specs.State.{ServerState}
-use Rattle.smb_request.specs.Parts.{hello_of, success}
+use Rattle.smb_request.specs.Parts.{hello_of, requires_of, success}
 use Rattle.smb_request.specs.QueryDirectory.{directory_queried}
 use Rattle.smb_request.specs.Response.{CommandStep, ResponseState, refused}
 
@@ -31,7 +31,7 @@ response_of answered reply = record { status = answered.status; refusal = answer
 -- what a response comes to, from the server after its command: a listing is still to be performed
 abbrev pub response_step : {S : Type 0} → Meaning S → ServerState S → Call → Response → CommandStep S
 response_step authenticator server call (Ready answered reply) = record { server = server; response = response_of answered (reply_value reply) }
-response_step authenticator server call (Dialects dialect) = record { server = server; response = success call.ids (negotiate_answer server.settings.guid (hello_of authenticator server) call.moment (Some dialect) (revision_of dialect)) }
+response_step authenticator server call (Dialects dialect) = record { server = server; response = success call.ids (negotiate_answer (requires_of authenticator server) server.settings.guid (hello_of authenticator server) call.moment (Some dialect) (revision_of dialect)) }
 response_step authenticator server call (Token answered flags token) = record { server = server; response = response_of answered (answers_session_setup (record { session_flags = flags; security_buffer = token.items })) }
 response_step authenticator server call (Information answered bytes) = record { server = server; response = response_of answered (answers_query_info bytes.items) }
 response_step authenticator server call (Bytes part) = record { server = server; response = success call.ids (answers_read (part_bytes server.store part)) }

@@ -9,6 +9,7 @@ use Rattle.smb_wire.specs.declared.dialect.Dialect.{Dialect}
 use Rattle.smb_body.specs.Requests.{RequestValue, file_id_of, request_of}
 use Rattle.smb_request.specs.declared.call.Call.{Call}
 use Rattle.smb_request.specs.declared.context.Context.{Context}
+use Rattle.smb_request.specs.declared.context.HeaderIds.{HeaderIds}
 use Rattle.smb_request.specs.declared.context.ContextOpen.TheVariants.{Nothing, Named, Refused}
 use Rattle.smb_request.specs.Charge.{charge_of}
 use Rattle.smb_request.specs.Context.{open_named}
@@ -17,9 +18,15 @@ use Rattle.smb_request.specs.Context.{open_named}
 abbrev pub body_of : Option Command → List ℕ → Option RequestValue
 body_of command request = option_and_then (λ known. request_of (code_of known) request) command
 
--- a request on a connection of a dialect at a moment, but for its body. One that is related acts under the session and
--- the tree connect of the request before it, and inherits the open that this one hands on (3.3.5.2.7.2). The open that
--- a request names, by its FileId, has a number, and 0 is that of none
+-- the session and the tree connect that a request acts under: its own, or of a related one those of the request before
+-- (3.3.5.2.7.2)
+abbrev pub request_ids : Context → List ℕ → HeaderIds
+request_ids context request =
+    if is_related request then context.ids
+    else record { session_id = (header_of request).session_id; tree_id = (header_of request).tree_id }
+
+-- a request on a connection of a dialect at a moment, but for its body. One that is related inherits the open that the
+-- request before it hands on (3.3.5.2.7.2). The open that a request names, by its FileId, has a number, and 0 is that of none
 abbrev pub call_of : ℕ → ℕ → Option Dialect → Context → List ℕ → Call
 call_of connection moment dialect context request =
     let command = known_command (header_of request).command.0 in
@@ -32,9 +39,7 @@ call_of connection moment dialect context request =
       dialect = dialect;
       charge = charge_of dialect (header_of request).credit_charge;
       command = command;
-      ids =
-          if is_related request then context.ids
-          else record { session_id = (header_of request).session_id; tree_id = (header_of request).tree_id };
+      ids = request_ids context request;
       inherited = inherited;
       file_id = file_id;
       open_number = option_map_or

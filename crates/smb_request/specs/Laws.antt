@@ -6,6 +6,7 @@ use Rattle.smb_head.specs.Headers.{header_of}
 use Rattle.smb_body.specs.Requests.{asks_session_setup}
 use Rattle.smb_body.specs.SessionSetup.{SessionSetupAsked}
 use Rattle.smb_session.specs.Authenticator.{Meaning, accepts}
+use Rattle.smb_session.specs.declared.signing.Signing.{Signing}
 use Rattle.smb_session.specs.Good.{GoodTable}
 use Rattle.smb_session.specs.Numbers.{IsRising}
 use Rattle.smb_session.specs.Session.{SessionState}
@@ -20,11 +21,10 @@ use Rattle.smb_opens.specs.State.{StoreState}
 use Rattle.smb_wire.specs.declared.dialect.Dialect.{Dialect}
 use Rattle.smb_request.specs.declared.context.Context.{Context}
 use Rattle.smb_request.specs.Call.{body_of}
+pub use Rattle.smb_request.specs.Call.{request_ids}
 use Rattle.smb_request.specs.Owners.{AreOwned}
 use Rattle.smb_request.specs.Request.{performed}
 use Rattle.smb_request.specs.State.{ServerState, connection_added, connection_ended}
-use Rattle.smb_head.specs.Chains.{is_related}
-use Rattle.smb_request.specs.declared.context.HeaderIds.{HeaderIds}
 
 -- the sessions and the opens stand in rising number, and each number was given
 pub record NumbersInOrder (table : TableState) (store : StoreState) : Type 0 where
@@ -63,24 +63,18 @@ AnEndIsAlone {S} authenticator =
     session_at server.sessions.table number ≡ Some session → session.connection == connection ≡ false →
     IsAsItWas server (connection_ended server connection) number
 
--- the session and the tree connect that a request acts under: its own, or of a related one those of the request before
--- (3.3.5.2.7.2)
-abbrev pub request_ids : Context → List ℕ → HeaderIds
-request_ids context request =
-    if is_related request then context.ids
-    else record { session_id = (header_of request).session_id; tree_id = (header_of request).tree_id }
-
 -- a request is a SESSION_SETUP that lets a session's user in, and names this session as the previous one (3.3.5.5.3)
 pub record ReplacesSession {S : Type 0} (authenticator : Meaning S) (server : ServerState S) (context : Context) (request : List ℕ) (number : ℕ) (session : SessionState) : Type 0 where
   pub asked : SessionSetupAsked
   pub user : List ℕ
   pub flags : ℕ
   pub read_only : Bool
+  pub signing : Option Signing
   pub token : List ℕ
   pub says : body_of (known_command (header_of request).command.0) request ≡ Some (asks_session_setup asked)
   pub accepted :
       authenticator.answer server.sessions.authenticator (setup_number server.sessions.table (request_ids context request).session_id) asked.security_buffer
-      ≡ accepts user flags read_only token
+      ≡ accepts user flags read_only signing token
   pub same_user : session.user ≡ Some user
   pub previous : asked.previous_session_id ≡ number
 

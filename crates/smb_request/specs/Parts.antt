@@ -463,6 +463,10 @@ without_connection table connection = record table {
 abbrev pub lock_asks : List LockElement → List LockAsk
 lock_asks elements = map lock_ask elements
 
+-- whether the authenticator has each session that it signs sign its requests
+abbrev pub requires_of : {S : Type 0} → Meaning S → ServerState S → Bool
+requires_of authenticator server = authenticator.requires_signing server.sessions.authenticator
+
 -- the token that the authenticator offers first
 abbrev pub hello_of : {S : Type 0} → Meaning S → ServerState S → List ℕ
 hello_of authenticator server = authenticator.hello server.sessions.authenticator
@@ -484,6 +488,7 @@ negotiated authenticator server call dialects = option_map_or
     (λ best. record {
       server = server;
       response = success call.ids (negotiate_answer
+          (authenticator.requires_signing server.sessions.authenticator)
           server.settings.guid
           (authenticator.hello server.sessions.authenticator)
           call.moment

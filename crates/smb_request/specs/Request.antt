@@ -1,34 +1,42 @@
 -- One request: the checks in their order, and the table of commands ([MS-SMB2] 3.3.5.2).
-use Rattle.std.specs.Prelude.{ℕ, ◌+◌, ◌-◌, ◌/◌, ◌==◌, Bool, ◌&&◌, true, false, not, nat_lt, List, Option, Some, None, if◌then◌else◌}
+use Rattle.std.specs.Prelude.{ℕ, ◌+◌, ◌-◌, ◌/◌, ◌==◌, Bool, ◌&&◌, true, false, not, nat_lt, List, Option, Some, None, is_some, if◌then◌else◌}
 use Rattle.std.specs.Option.{is_none, option_map, option_map_or, option_and_then}
+use Rattle.std.specs.Str.{bytes_eq}
 use Rattle.smb_wire.specs.Dialects.{revision_of}
 use Rattle.smb_wire.specs.declared.dialect.Dialect.{Dialect}
 use Rattle.smb_session.specs.Authenticator.{Meaning}
 use Rattle.smb_session.specs.Negotiate.{best_of}
-use Rattle.smb_session.specs.Table.{knows_session, knows_tree}
+use Rattle.smb_session.specs.Table.{knows_session, knows_tree, signing_of}
+use Rattle.smb_session.specs.declared.signing.Signing.{Signing}
+use Rattle.smb_signing.specs.Signature.{signature}
+use Rattle.smb_signing.specs.declared.key.Key.{Key}
+use Rattle.smb_head.specs.Headers.{header_of}
+use Rattle.smb_head.specs.Chains.{is_signed}
 use Rattle.smb_wire.specs.declared.command.Command.{Command}
-use Rattle.smb_wire.specs.declared.command.Command.TheVariants.{Ioctl, Cancel, ChangeNotify, OplockBreak}
+use Rattle.smb_wire.specs.declared.command.Command.TheVariants.{Ioctl, Cancel, ChangeNotify, OplockBreak, SessionSetup}
 use Rattle.smb_access.specs.declared.open_row.Owner.{Owner}
 use Rattle.smb_access.specs.Opens.{open_of, is_held_by}
 use Rattle.smb_body.specs.Requests.{RequestValue, payload_of, request_of, asks_negotiate, asks_session_setup, asks_logoff, asks_tree_connect, asks_tree_disconnect, asks_create, asks_close, asks_flush, asks_read, asks_write, asks_lock, asks_cancel, asks_echo, asks_query_directory, asks_query_info, asks_set_info}
 use Rattle.smb_body.specs.Replies.{answers_flush, answers_echo}
 use Rattle.smb_request.specs.declared.call.Call.{Call}
 use Rattle.smb_request.specs.declared.context.Context.{Context}
+use Rattle.smb_request.specs.declared.context.HeaderIds.{HeaderIds}
 use Rattle.smb_request.specs.declared.context.ContextOpen.{ContextOpen}
 use Rattle.smb_request.specs.declared.context.ContextOpen.TheVariants.{Nothing, Named, Refused}
+use Rattle.smb_wire.specs.declared.nt_status.NtStatus.{NtStatus}
 use Rattle.smb_wire.specs.declared.nt_status.NtStatus.TheVariants.{Success}
 use Rattle.smb_refusals.specs.declared.refusal.Refusal.{Refusal}
 use Rattle.smb_refusals.specs.declared.request.RequestRefusal.{RequestRefusal}
-use Rattle.smb_refusals.specs.declared.request.RequestRefusal.TheVariants.{UnknownCommand, CommandNotPerformed, BodyUnreadable, ChargeTooSmall, UnknownTreeConnect, NoOpenHandedOn, CreateBeforeRefused, UnknownOpen}
+use Rattle.smb_refusals.specs.declared.request.RequestRefusal.TheVariants.{NotSigned, SignatureWrong, UnknownCommand, CommandNotPerformed, BodyUnreadable, ChargeTooSmall, UnknownTreeConnect, NoOpenHandedOn, CreateBeforeRefused, UnknownOpen}
 use Rattle.smb_refusals.specs.declared.request.NegotiateRefusal.TheVariants.{NoDialect}
-use Rattle.smb_request.specs.Call.{call_of}
+use Rattle.smb_request.specs.Call.{call_of, request_ids}
 use Rattle.smb_wire.specs.Commands.{code_of}
 use Rattle.smb_request.specs.Context.{open_named, open_for_next_related, named_on}
 use Rattle.smb_body.specs.Needs.{needs_of}
 use Rattle.smb_body.specs.declared.needs.Needs.TheVariants.{Session, Tree, Open}
 use Rattle.smb_request.specs.Negotiate.{negotiate_answer}
 use Rattle.smb_request.specs.State.{ServerState}
-use Rattle.smb_request.specs.Response.{CommandStep, Performed, with_body, refused, unless_refused}
+use Rattle.smb_request.specs.Response.{CommandStep, Performed, with_body, failure, refused, unless_refused}
 use Rattle.smb_request.specs.Session.{session_set_up, session_logged_off, tree_joined, tree_left}
 use Rattle.smb_request.specs.Files.{file_created, file_closed}
 use Rattle.smb_request.specs.Bytes.{file_read, file_written}
@@ -45,6 +53,7 @@ module _ {S : Type 0} (authenticator : Meaning S) (server : ServerState S) (call
       (λ best. record {
         server = server;
         response = with_body call.ids Success (negotiate_answer
+            (authenticator.requires_signing server.sessions.authenticator)
             server.settings.guid
             (authenticator.hello server.sessions.authenticator)
             call.moment
@@ -63,7 +72,7 @@ module _ {S : Type 0} (authenticator : Meaning S) (server : ServerState S) (call
   acted (asks_read asked) = file_read server call asked
   acted (asks_write asked) = file_written server call asked
   acted (asks_lock asked) = locks_changed server call asked.locks
-  -- never the step of a CANCEL, which `performed` passes over
+  -- never the step of a CANCEL, which `verified` passes over
   acted (asks_cancel asked) = refused server call.ids (Refusal.Request CommandNotPerformed)
   acted (asks_echo asked) = record { server = server; response = with_body call.ids Success answers_echo }
   acted (asks_query_directory asked) = directory_queried server call asked
@@ -104,11 +113,11 @@ check_request server call asked =
     ])
     (option_map (open_named call.inherited) call.file_id)
 
--- one request: what it leaves, and its response. It is refused by the first row that holds, or performed; but a CANCEL
--- is passed over and not answered (3.3.5.16). The next related request acts under the ids of the response
--- (3.3.5.2.7.2), behind a CANCEL under those of the CANCEL
-unfoldable pub performed : {S : Type 0} → Meaning S → ℕ → ℕ → ServerState S → Option Dialect → Context → List ℕ → Performed S
-performed authenticator connection moment server dialect context request =
+-- a request whose signature does not refuse it: what it leaves, and its response. It is refused by the first row that
+-- holds, or performed; but a CANCEL is passed over and not answered (3.3.5.16). The next related request acts under the
+-- ids of the response (3.3.5.2.7.2), behind a CANCEL under those of the CANCEL
+unfoldable pub verified : {S : Type 0} → Meaning S → ℕ → ℕ → ServerState S → Option Dialect → Context → List ℕ → Performed S
+verified authenticator connection moment server dialect context request =
     let call = call_of connection moment dialect context request in
     let body : Option RequestValue = option_and_then (λ command. request_of (code_of command) request) call.command in
     let is_unsupported : Command → Bool =
@@ -148,3 +157,54 @@ performed authenticator connection moment server dialect context request =
       };
       response = Some step.response;
     }
+
+-- why a request is refused by its signature, where the messages of its session are signed so (3.3.5.2.4)
+abbrev pub signature_refusal : Option Signing → List ℕ → Option RequestRefusal
+signature_refusal signing request = option_and_then
+    (λ (signing : Signing).
+    -- P0a. it is not signed, and each request of the session is to be
+    if not (is_signed request) then (if signing.required then Some NotSigned else None) else
+    -- P0b. its signature is another than the key's
+    if bytes_eq (header_of request).signature (signature signing.key.bytes request) then None else Some SignatureWrong)
+    signing
+
+-- a request that is refused by its signature, which changes nothing
+abbrev pub refused_by_signature : {S : Type 0} → ServerState S → Call → Option Dialect → RequestRefusal → Performed S
+refused_by_signature server call dialect refusal =
+    let response = failure call.ids (Refusal.Request refusal) in
+    record {
+      server = server;
+      dialect = dialect;
+      context = record {
+        ids = call.ids;
+        last_open = open_for_next_related call.inherited server.store.next call.command call.file_id response.status;
+      };
+      response = Some response;
+    }
+
+-- one request: what it leaves, and its response. It is refused by its signature, or else verified; a CANCEL is never
+-- answered, whatever its signature
+unfoldable pub performed : {S : Type 0} → Meaning S → ℕ → ℕ → ServerState S → Option Dialect → Context → List ℕ → Performed S
+performed authenticator connection moment server dialect context request =
+    let call = call_of connection moment dialect context request in
+    let is_cancel : Bool = option_map_or (λ command. elim command [ Cancel ↦ true | _ ↦ false ]) call.command false in
+    option_map_or
+    (refused_by_signature server call dialect)
+    (if is_cancel then None else
+    signature_refusal (signing_of server.sessions.table connection call.ids.session_id) request)
+    (verified authenticator connection moment server dialect context request)
+
+-- a SESSION_SETUP that succeeds, by its command's code and its status: it lets a session in (3.3.5.5.3)
+abbrev pub is_set_up : ℕ → NtStatus → Bool
+is_set_up command status = elim status [ Success ↦ true | _ ↦ false ] && command == code_of SessionSetup
+
+-- the key that the response to a request is signed by (3.3.4.1.1): to a request that is signed that of the session that
+-- it acts under, as this was before the request; to a SESSION_SETUP that lets a session in that of this session. The
+-- response has these ids and this status
+abbrev pub response_key : {S : Type 0} → ServerState S → ServerState S → ℕ → Context → List ℕ → HeaderIds → NtStatus → Option Key
+response_key before after connection context request ids status =
+    let own = signing_of before.sessions.table connection (request_ids context request).session_id in
+    option_map (λ (signing : Signing). signing.key) (
+    if is_some own && is_signed request then own else
+    if is_set_up (header_of request).command.0 status then signing_of after.sessions.table connection ids.session_id else
+    None)

@@ -1,5 +1,5 @@
 -- SESSION_SETUP, LOGOFF, TREE_CONNECT and TREE_DISCONNECT ([MS-SMB2] 3.3.5.5 to 3.3.5.8).
-use Rattle.std.specs.Prelude.{ℕ, ◌+◌, ◌==◌, ◌||◌, Bool, false, true, not, nat_le, List, [], ◌∷◌, ◌++◌, length, filter, Some, None, unwrap_or, if◌then◌else◌}
+use Rattle.std.specs.Prelude.{ℕ, ◌+◌, ◌==◌, ◌||◌, bit_and, Bool, false, true, not, nat_le, List, [], ◌∷◌, ◌++◌, length, filter, Some, None, unwrap_or, if◌then◌else◌}
 use Rattle.std.specs.Option.{option_map, option_map_or}
 use Rattle.smb_wire.specs.Counters.{is_spent}
 use Rattle.smb_wire.specs.Limits.{most_tree_connects}
@@ -9,7 +9,7 @@ use Rattle.smb_body.specs.SessionSetup.{SessionSetupAsked}
 use Rattle.smb_session.specs.Authenticator.{Meaning}
 use Rattle.smb_session.specs.Path.{path_parts, share_in}
 use Rattle.smb_session.specs.Session.{SessionState}
-use Rattle.smb_session.specs.Setup.{setup_refusal, setup_result, table_answered}
+use Rattle.smb_session.specs.Setup.{setup_refusal, setup_result, signing_asked, table_answered}
 use Rattle.smb_session.specs.Table.{knows_session, knows_tree, session_at, session_ended, session_changed}
 use Rattle.smb_session.specs.declared.setup.SetupStatus.TheVariants.{MoreProcessingRequired, LogonFailure, Success as SetUp}
 use Rattle.smb_access.specs.Access.{most_allowed}
@@ -28,8 +28,12 @@ use Rattle.smb_refusals.specs.declared.session.TreeDisconnectRefusal.{TreeDiscon
 use Rattle.smb_refusals.specs.declared.session.SetupRefusal.TheVariants.{Denied}
 use Rattle.smb_refusals.specs.declared.session.TreeConnectRefusal.TheVariants.{UnknownShare, NoTreeConnectLeft}
 
+-- the client asks that each request of the session is signed: SecurityMode has SIGNING_REQUIRED (2.2.5)
+abbrev pub asks_to_sign : SessionSetupAsked → Bool
+asks_to_sign asked = bit_and asked.security_mode.0 2 == 2
+
 -- SESSION_SETUP (3.3.5.5): where no row of `setup_refusal` holds, the authenticator is asked once about the session,
--- and its answer is performed (3.3.5.5.3). The previous session, where one ended, ends with its opens
+-- and its answer is performed; where the client asks for it each request of the session is to be signed (3.3.5.5.3). The previous session, where one ended, ends with its opens
 unfoldable pub session_set_up : {S : Type 0} → Meaning S → ServerState S → Call → SessionSetupAsked → CommandStep S
 session_set_up authenticator server call asked =
     let ids = call.ids in
@@ -40,6 +44,7 @@ session_set_up authenticator server call asked =
       connection = call.connection;
       user = None;
       read_only = false;
+      signing = None;
       trees = [];
       next_tree = 1;
     } in
@@ -50,7 +55,8 @@ session_set_up authenticator server call asked =
       next = sessions.table.next + 1;
     }
     else sessions.table in
-    let answer = authenticator.answer sessions.authenticator number asked.security_buffer in
+    let answer =
+    signing_asked (asks_to_sign asked) (authenticator.answer sessions.authenticator number asked.security_buffer) in
     let setup = setup_result table number asked.previous_session_id answer in
     let answered_ids : HeaderIds = record ids { session_id = setup.session } in
     -- flags and a token, where the client goes on or is in (2.2.6)

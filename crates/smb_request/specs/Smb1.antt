@@ -34,4 +34,5 @@ reply_to_smb1 response = record {
     signature = replicate 16 0;
   };
   body = reply_spelling response;
+  key = None;
 }

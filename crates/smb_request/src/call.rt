@@ -7,8 +7,7 @@ ghost use Rattle.smb_wire.specs.Limits.{most_at_once, most_in_any_dialect};
 ghost use Rattle.smb_head.specs.Headers.{header_of};
 ghost use Rattle.smb_wire.specs.Commands.{known_command};
 ghost use Rattle.smb_request.specs.Held.{asked_value};
-ghost use Rattle.smb_request.specs.Call.{body_of, call_of};
-ghost use Rattle.smb_request.specs.Laws.{request_ids};
+ghost use Rattle.smb_request.specs.Call.{body_of, call_of, request_ids};
 ghost use Rattle.smb_request.specs.Parts.{inherited_open};
 ghost use Rattle.smb_request.specs.Context.{named_on, open_for_next_related};
 
@@ -57,6 +56,13 @@ fn inherited_by(context: Context, header: &Header) -> (HeaderIds, Option<Context
         };
         (ids, None)
     }
+}
+
+/// The session and the tree connect that a request acts under.
+pub(crate) fn ids_under(context: Context, header: &Header) -> HeaderIds
+    ensures { (request : List ℕ) → header.now ≡ header_of request → result ≡ request_ids context request }
+{
+    inherited_by(context, header).0
 }
 
 /// What the body of a request of a code says; None where it says nothing, or the code is that of no command.

@@ -32,6 +32,7 @@ mod response;
 mod server;
 mod session;
 mod set_info;
+mod signature;
 pub mod smb1;
 
 pub use call::acting_on;

@@ -1,35 +1,45 @@
 //! One request: the checks in their order, and the table of commands ([MS-SMB2] 3.3.5.2).
 
-ghost use Rattle.std.specs.Prelude.{◌≡◌, ◌≤◌, ◌+◌, true, false, IfOk, IfErr, IfSome, IfNone, IsSome, is_some, Some, None, OnOk, OnErr, length, take, if◌then◌else◌};
+ghost use Rattle.std.specs.Prelude.{ℕ, Option, ◌≡◌, ◌≤◌, ◌+◌, true, false, IfOk, IfErr, IfSome, IfNone, IsSome, is_some, Some, None, OnOk, OnErr, length, take, if◌then◌else◌};
 ghost use Rattle.std.specs.Option.{is_none, option_map, option_map_or};
 ghost use Rattle.smb_refusals.specs.declared.request.RequestRefusal.TheVariants.{UnknownCommand, CommandNotPerformed, BodyUnreadable, UnknownSession, UnknownTreeConnect};
+ghost use Rattle.smb_wire.specs.Commands.{known_command};
 ghost use Rattle.smb_wire.specs.Limits.{longest_body};
 ghost use Rattle.smb_head.specs.Headers.{header_of};
 ghost use Rattle.smb_body.specs.Dialects.{dialects_of};
 ghost use Rattle.smb_body.specs.Requests.{request_value, file_id_of};
 ghost use Rattle.smb_session.specs.Negotiate.{best_of};
-ghost use Rattle.smb_session.specs.Table.{knows_session, knows_tree};
+ghost use Rattle.smb_session.specs.Table.{knows_session, knows_tree, signing_of};
 ghost use Rattle.smb_access.specs.Opens.{open_of};
 ghost use Rattle.smb_request.specs.Bodies.{result_step, is_listing, IsReadyAfter};
 ghost use Rattle.smb_request.specs.Held.{is_performed, IsCallOf, asked_value};
 ghost use Rattle.smb_request.specs.InPlace.{answer_held, answer_behind, performed_behind};
 ghost use Rattle.smb_body.specs.Needs.{needs_of};
 ghost use Rattle.smb_request.specs.Parts.{is_unsupported, is_cancel_command, needs_session, needs_tree, dialect_after, open_refusal, performed_by, negotiated};
-ghost use Rattle.smb_request.specs.Request.{acted, check_request, performed};
+ghost use Rattle.smb_request.specs.Call.{call_of, request_ids};
+ghost use Rattle.smb_request.specs.Request.{acted, check_request, verified, performed, refused_by_signature};
 ghost use Rattle.smb_refusals.specs.declared.refused_by.RefusedBy.TheVariants.{NoMemory};
 
 use super::asked::Asked;
 use super::call::{Call, body_of};
 use super::context::{Context, ContextOpen, HeaderIds, open_named};
-use super::response::{Answered, NoReply, Response};
+use super::response::{Answered, NoReply, Response, failure};
 use super::server::Server;
-use smb_body::{Dialects, Needs, Reply, Request};
+use super::signature::signature_refusal;
+use smb_body::{Dialects, Needs, Reply, Request, write_reply};
 use smb_head::Header;
 use smb_opens::Opens;
 use smb_refusals::{NegotiateRefusal, Refusal, RefusedBy, RequestRefusal};
-use smb_session::Authenticator;
+use smb_session::{Authenticator, Signing};
 use smb_tree::Tree;
 use smb_wire::{Command, Dialect};
+
+/// Whether a request is a CANCEL.
+fn is_cancel(header: &Header) -> bool
+    ensures { result ≡ is_cancel_command (known_command header.now.command.0) }
+{
+    matches!(header.command.known(), Some(Command::Cancel))
+}
 
 /// Why a request is refused whose body says nothing: its command is never performed, there is no such command, or the body
 /// cannot be read.
@@ -199,13 +209,13 @@ impl<A: Authenticator + Drop, T: Tree + Drop, O: Opens + Drop> Server<A, T, O> {
         self.act(call, dialect, &asked.request)
     }
 
-    /// Performs one request of this header, and adds the body of its response to `out`. CANCEL has no response: None,
+    /// Performs one request whose signature does not refuse it, and adds the body of its response to `out`. CANCEL has no response: None,
     /// and `out` is as it was.
     ///
     /// An error says that an allocation was refused, and whether the request was performed, which then changed the server's state
     /// and the dialect. `context` is as it was, and what was in `out` is kept.
-    #[tactic(auto, unfolding(crate::specs::Request::performed))]
-    pub fn perform(
+    #[tactic(auto, unfolding(crate::specs::Request::verified))]
+    fn perform_verified(
         &mut self,
         connection: u64,
         moment: u64,
@@ -217,13 +227,13 @@ impl<A: Authenticator + Drop, T: Tree + Drop, O: Opens + Drop> Server<A, T, O> {
     ) -> Result<Option<Answered>, NoReply>
         requires { header.now ≡ header_of request.now }
         ensures ok { IfOk result (λ r. record { server = self.new; dialect = dialect.new; context = context.new; response = option_map (λ a. answer_held a out.new.items) r }
-            ≡ performed_behind out.old.items (performed A.meaning connection moment self.old dialect.old context.old request.now)) }
+            ≡ performed_behind out.old.items (verified A.meaning connection moment self.old dialect.old context.old request.now)) }
         ensures none { IfOk result (λ r. IfNone r (out.new.items ≡ out.old.items)) }
         ensures len { OnOk result (length out.new.items ≤ length out.old.items + longest_body) }
         ensures err { IfErr result (λ no_reply. self.new
-            ≡ (if is_performed no_reply then (performed A.meaning connection moment self.old dialect.old context.old request.now).server else self.old)) }
+            ≡ (if is_performed no_reply then (verified A.meaning connection moment self.old dialect.old context.old request.now).server else self.old)) }
         ensures dialect { IfErr result (λ no_reply. dialect.new
-            ≡ (if is_performed no_reply then (performed A.meaning connection moment self.old dialect.old context.old request.now).dialect else dialect.old)) }
+            ≡ (if is_performed no_reply then (verified A.meaning connection moment self.old dialect.old context.old request.now).dialect else dialect.old)) }
         ensures context { OnErr result (context.new ≡ context.old) }
         ensures kept { take (length out.old.items) out.new.items ≡ out.old.items }
         ensures known { self.new.sessions.table.connections ≡ self.old.sessions.table.connections }
@@ -249,6 +259,78 @@ impl<A: Authenticator + Drop, T: Tree + Drop, O: Opens + Drop> Server<A, T, O> {
                 Ok(Some(answered))
             }
             Err(no_reply) => Err(no_reply),
+        }
+    }
+
+    /// Refuses a request by its signature, and adds the body of its response to `out`: what it hands on, and its response.
+    /// After an error `out` is as it was.
+    fn refuse_signature(
+        &self,
+        context: Context,
+        header: &Header,
+        request: &[u8],
+        refusal: RequestRefusal,
+        out: &mut Vec<u8>,
+    ) -> Result<(Context, Answered), NoReply>
+        requires { header.now ≡ header_of request.now }
+        ensures ok { (connection moment : ℕ) (dialect : Option Dialect) → IfOk result (λ r.
+            (r.0 ≡ (refused_by_signature self.now (call_of connection moment dialect context request.now) dialect refusal).context)
+            × (Some (answer_held r.1 out.new.items) ≡ option_map (answer_behind out.old.items) (refused_by_signature self.now (call_of connection moment dialect context request.now) dialect refusal).response)) }
+        ensures len { OnOk result (length out.new.items ≤ length out.old.items + longest_body) }
+        ensures err { IfErr result (λ no_reply. is_performed no_reply ≡ false) }
+        ensures out { OnErr result (out.new.items ≡ out.old.items) }
+        ensures kept { take (length out.old.items) out.new.items ≡ out.old.items }
+    {
+        let command = header.command.known();
+        let body = body_of(header.command, request);
+        let call = Call::of(0, 0, None, context, header, command, &body);
+        write_reply(&Reply::Error, out).or(Err(NoReply::NotPerformed))?;
+        let answered = failure(call.ids, Refusal::Request(refusal));
+        let next = self.store.next_number();
+        Ok((
+            call.context_behind(answered.ids, answered.status, next),
+            answered,
+        ))
+    }
+
+    /// Performs one request of this header, and adds the body of its response to `out`. CANCEL has no response: None,
+    /// and `out` is as it was. The messages of its session are signed so, as [`signing`](Self::signing) says.
+    ///
+    /// An error says that an allocation was refused, and whether the request was performed, which then changed the server's state
+    /// and the dialect. `context` is as it was, and what was in `out` is kept.
+    #[tactic(auto, unfolding(crate::specs::Request::performed))]
+    pub fn perform(
+        &mut self,
+        connection: u64,
+        moment: u64,
+        dialect: &mut Option<Dialect>,
+        context: &mut Context,
+        signing: Option<Signing>,
+        header: &Header,
+        request: &[u8],
+        out: &mut Vec<u8>,
+    ) -> Result<Option<Answered>, NoReply>
+        requires header { header.now ≡ header_of request.now }
+        requires signing { signing ≡ signing_of self.old.sessions.table connection (request_ids context.old request.now).session_id }
+        ensures ok { IfOk result (λ r. record { server = self.new; dialect = dialect.new; context = context.new; response = option_map (λ a. answer_held a out.new.items) r }
+            ≡ performed_behind out.old.items (performed A.meaning connection moment self.old dialect.old context.old request.now)) }
+        ensures none { IfOk result (λ r. IfNone r (out.new.items ≡ out.old.items)) }
+        ensures len { OnOk result (length out.new.items ≤ length out.old.items + longest_body) }
+        ensures err { IfErr result (λ no_reply. self.new
+            ≡ (if is_performed no_reply then (performed A.meaning connection moment self.old dialect.old context.old request.now).server else self.old)) }
+        ensures dialect { IfErr result (λ no_reply. dialect.new
+            ≡ (if is_performed no_reply then (performed A.meaning connection moment self.old dialect.old context.old request.now).dialect else dialect.old)) }
+        ensures context { OnErr result (context.new ≡ context.old) }
+        ensures kept { take (length out.old.items) out.new.items ≡ out.old.items }
+        ensures known { self.new.sessions.table.connections ≡ self.old.sessions.table.connections }
+    {
+        match signature_refusal(signing, header, request) {
+            Some(refusal) if !is_cancel(header) => {
+                let answered = self.refuse_signature(*context, header, request, refusal, out)?;
+                *context = answered.0;
+                Ok(Some(answered.1))
+            }
+            _ => self.perform_verified(connection, moment, dialect, context, header, request, out),
         }
     }
 }

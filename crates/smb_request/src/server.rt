@@ -208,10 +208,11 @@ impl<A: Authenticator + Drop, T: Tree + Drop, O: Opens + Drop> Server<A, T, O> {
         dialect: Option<Dialect>,
         dialect_revision: u16,
     ) -> Reply<'_>
-        ensures response { reply_value result ≡ negotiate_answer self.now.settings.guid (A.meaning.hello self.now.sessions.authenticator) moment dialect dialect_revision }
+        ensures response { reply_value result ≡ negotiate_answer (A.meaning.requires_signing self.now.sessions.authenticator) self.now.settings.guid (A.meaning.hello self.now.sessions.authenticator) moment dialect dialect_revision }
         ensures short { length (A.meaning.hello self.now.sessions.authenticator) ≤ longest_token }
     {
         negotiate::response(
+            self.sessions.requires_signing(),
             self.config.guid,
             self.sessions.hello(),
             moment,
@@ -278,7 +279,7 @@ impl<A: Authenticator + Drop, T: Tree + Drop, O: Opens + Drop> Server<A, T, O> {
         out: &mut Vec<u8>,
     ) -> Result<(), AllocError>
         ensures ok { OnOk result (out.new.items
-            ≡ out.old.items ++ reply_spelling (negotiate_answer self.now.settings.guid (A.meaning.hello self.now.sessions.authenticator) moment answer.dialect answer.dialect_revision)) }
+            ≡ out.old.items ++ reply_spelling (negotiate_answer (A.meaning.requires_signing self.now.sessions.authenticator) self.now.settings.guid (A.meaning.hello self.now.sessions.authenticator) moment answer.dialect answer.dialect_revision)) }
         ensures len { OnOk result (length out.new.items ≤ length out.old.items + longest_body) }
         ensures err { OnErr result (out.new.items ≡ out.old.items) }
         ensures kept { take (length out.old.items) out.new.items ≡ out.old.items }

@@ -2,7 +2,7 @@
 //!
 //! Where a session or a tree ends, the opens beneath are closed; that takes no memory.
 
-ghost use Rattle.std.specs.Prelude.{◌≡◌, IfOk, IfErr, IfSome};
+ghost use Rattle.std.specs.Prelude.{◌≡◌, ◌==◌, bit_and, IfOk, IfErr, IfSome};
 ghost use Rattle.smb_wire.specs.Units.{units_of};
 ghost use Rattle.smb_body.specs.SessionSetup.{session_setup_asked};
 ghost use Rattle.smb_request.specs.Session.{session_set_up, session_logged_off, may_only_read, tree_joined, tree_left};
@@ -17,8 +17,8 @@ use super::response::{Answered, Response};
 use super::server::Server;
 use smb_access::most_allowed;
 use smb_body::{
-    Capabilities, Reply, SessionFlags, SessionSetupRequest, ShareFlags, ShareType,
-    TreeConnectResponse,
+    Capabilities, Reply, SessionFlags, SessionSecurityMode, SessionSetupRequest, ShareFlags,
+    ShareType, TreeConnectResponse,
 };
 use smb_opens::{Opens, Owner, Store};
 use smb_refusals::{Refusal, RefusedBy, SetupRefusal};
@@ -26,6 +26,16 @@ use smb_session::{Authenticator, SetupAsk, SetupDone, SetupStatus};
 use smb_tree::Tree;
 use smb_wire::{NtStatus, Units};
 use std::alloc::AllocError;
+
+/// SMB2_NEGOTIATE_SIGNING_REQUIRED ([MS-SMB2] 2.2.5).
+const SIGNING_REQUIRED: u8 = 2;
+
+/// Whether the client asks that each request of the session is signed.
+fn asks_to_sign(mode: SessionSecurityMode) -> bool
+    ensures { result ≡ (bit_and mode.0 2 == 2) }
+{
+    mode.0 & SIGNING_REQUIRED == SIGNING_REQUIRED
+}
 
 /// What a tree is: a disk, without flags and capabilities, and with all access that a session can be granted
 /// ([MS-SMB2] 2.2.10).
@@ -88,9 +98,11 @@ impl<A: Authenticator + Drop, T: Tree + Drop, O: Opens + Drop> Server<A, T, O> {
         ensures known { self.new.sessions.table.connections ≡ self.old.sessions.table.connections }
     {
         self.sessions.good();
+        let signing_required = asks_to_sign(asked.security_mode);
         let ask = SetupAsk {
             flags: asked.flags.0,
             previous_session: asked.previous_session_id,
+            signing_required,
             token: asked.security_buffer,
         };
         let done = self

@@ -77,7 +77,7 @@ gone_previous table number (Some other) gone = gone_ended table number other gon
 
 gone_answered : (table : TableState) (number other previous : ℕ) (answer : Answered) → IsGone table number → IsGone (table_answered table other previous answer) number
 gone_answered table number other previous (continues token) gone = gone
-gone_answered table number other previous (accepts user flags read_only token) gone = gone_changed _ number (finished_by user read_only) other (gone_previous table number (previous_ended table user previous) gone)
+gone_answered table number other previous (accepts user flags read_only signing token) gone = gone_changed _ number (finished_by user read_only signing) other (gone_previous table number (previous_ended table user previous) gone)
 gone_answered table number other previous denies gone = gone_ended table number other gone
 
 gone_set_up : (table : TableState) (number connection other : ℕ) (b : Bool) → (other == 0) ≡ b → IsGone table number → IsGone (setup_table table connection other) number

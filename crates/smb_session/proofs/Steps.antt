@@ -8,6 +8,7 @@ use Rattle.std.specs.BTreeMap.{is_at, insert_entry}
 use Rattle.std.specs.Ordering.{nat_cmp}
 use Rattle.smb_wire.specs.Counters.{is_spent}
 use Rattle.smb_session.specs.Numbers.{contains, without_number}
+use Rattle.smb_session.specs.declared.signing.Signing.{Signing}
 use Rattle.smb_session.specs.Session.{SessionState}
 use Rattle.smb_session.specs.Parts.{fresh_session, finished_by, with_tree, without_tree, has_all_trees, begun, has_all_sessions}
 use Rattle.smb_session.specs.Table.{TableState, changed_at, numbers_on, session_at, connected, session_ended, knows_session, end_connection_step}
@@ -113,8 +114,8 @@ module _ (index : List (ℕ × List ℕ)) (sessions : List (ℕ × SessionState)
       IsHeld index sessions next → IsHeld index (changed_at f n sessions) next
   held_any f stays step n held = any_at f stays step n (lookup (is_at (nat_cmp n)) sessions) refl held
 
-pub finish_good : (user : List ℕ) (read_only : Bool) → length user ≤ 256 → (s : SessionState) → GoodSession s → GoodSession (finished_by user read_only s)
-finish_good user read_only short s g = record { few = g.few; rising = g.rising; given = g.given; next = g.next; user = short; unfinished = λ e. cc }
+pub finish_good : (user : List ℕ) (read_only : Bool) (signing : Option Signing) → length user ≤ 256 → (s : SessionState) → GoodSession s → GoodSession (finished_by user read_only signing s)
+finish_good user read_only signing short s g = record { few = g.few; rising = g.rising; given = g.given; next = g.next; user = short; unfinished = λ e. cc }
 
 none_left : (tree : ℕ) (trees : List ℕ) → trees ≡ [] → without_number trees tree ≡ []
 none_left tree trees h = rw h refl

@@ -8,7 +8,7 @@ use Rattle.smb_session.specs.Tokens.{KnownUser}
 -- what an answer says
 abbrev pub answered_by : Answer → Answered
 answered_by (Continue token) = continues token.items
-answered_by (Accept user flags read_only token) = accepts user.items flags read_only token.items
+answered_by (Accept user flags read_only signing token) = accepts user.items flags read_only signing token.items
 answered_by Deny = denies
 
 -- what a user is

@@ -21,6 +21,7 @@ setup_table table connection session =
       connection = connection;
       user = None;
       read_only = false;
+      signing = None;
       trees = [];
       next_tree = 1;
     } in

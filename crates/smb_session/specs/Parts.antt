@@ -5,6 +5,7 @@ use Rattle.smb_wire.specs.Limits.{most_tree_connects, most_sessions}
 use Rattle.smb_wire.specs.Counters.{is_spent}
 use Rattle.smb_session.specs.Numbers.{without_number, contains}
 use Rattle.smb_session.specs.Session.{SessionState}
+use Rattle.smb_session.specs.declared.signing.Signing.{Signing}
 use Rattle.std.specs.Option.{option_map_or, option_eq, option_and_then}
 use Rattle.smb_refusals.specs.declared.session.SetupRefusal.{SetupRefusal}
 use Rattle.smb_refusals.specs.declared.session.SetupRefusal.TheVariants.{SessionFinished}
@@ -14,16 +15,17 @@ use Rattle.smb_wire.specs.Names.{is_same_name}
 use Rattle.smb_session.specs.Path.{path_parts, share_in}
 use Rattle.std.specs.Str.{bytes_eq}
 use Rattle.smb_session.specs.Authenticator.{Meaning}
-use Rattle.smb_session.specs.Setup.{previous_ended, table_answered, setup_result}
+use Rattle.smb_session.specs.Setup.{previous_ended, signing_asked, table_answered, setup_result}
 use Rattle.smb_session.specs.Sessions.{SessionsState, SetupStep}
 
 -- a session that has begun: no user yet and no tree, and its first tree will be 1
 abbrev pub fresh_session : ℕ → SessionState
-fresh_session connection = record { connection = connection; user = None; read_only = false; trees = []; next_tree = 1 }
+fresh_session connection =
+    record { connection = connection; user = None; read_only = false; signing = None; trees = []; next_tree = 1 }
 
--- a session that is finished, by a user who may only read or who may write too
-abbrev pub finished_by : List ℕ → Bool → SessionState → SessionState
-finished_by user read_only session = record session { user = Some user; read_only = read_only }
+-- a session that is finished, by a user who may only read or who may write too, and signed so
+abbrev pub finished_by : List ℕ → Bool → Option Signing → SessionState → SessionState
+finished_by user read_only signing session = record session { user = Some user; read_only = read_only; signing = signing }
 
 -- a session with one tree more, which has the next number
 abbrev pub with_tree : SessionState → SessionState
@@ -74,20 +76,24 @@ abbrev pub is_of_user : List ℕ → SessionState → Bool
 is_of_user user state = option_eq bytes_eq state.user (Some user)
 
 -- an accepted session is finished, and the previous one ends
-abbrev pub accepted : TableState → ℕ → List ℕ → Bool → ℕ → TableState
-accepted table session user read_only previous =
-    session_changed (finished_by user read_only) (option_map_or (session_ended table) (previous_ended table user previous) table) session
+abbrev pub accepted : TableState → ℕ → List ℕ → Bool → Option Signing → ℕ → TableState
+accepted table session user read_only signing previous = session_changed
+    (finished_by user read_only signing)
+    (option_map_or (session_ended table) (previous_ended table user previous) table)
+    session
 
 module _ {S : Type 0} (authenticator : Meaning S) where
   -- the authenticator is asked once about a session that stands, and its answer performed and reported (3.3.5.5.3)
-  abbrev pub asked_step : SessionsState S → ℕ → ℕ → List ℕ → SetupStep S
-  asked_step s session previous token = record {
-    state = record s {
-      authenticator = authenticator.next s.authenticator session token;
-      table = table_answered s.table session previous (authenticator.answer s.authenticator session token);
-    };
-    told = setup_result s.table session previous (authenticator.answer s.authenticator session token);
-  }
+  abbrev pub asked_step : SessionsState S → ℕ → ℕ → Bool → List ℕ → SetupStep S
+  asked_step s session previous required token =
+      let answer = signing_asked required (authenticator.answer s.authenticator session token) in
+      record {
+        state = record s {
+          authenticator = authenticator.next s.authenticator session token;
+          table = table_answered s.table session previous answer;
+        };
+        told = setup_result s.table session previous answer;
+      }
 
 -- and then the session is without the tree
 abbrev pub tree_disconnected : TableState → ℕ → ℕ → TableState

@@ -1,5 +1,5 @@
 -- The authenticator with a script.
-use Rattle.std.specs.Prelude.{ℕ, List, drop, slice_get, unwrap_or}
+use Rattle.std.specs.Prelude.{ℕ, false, List, drop, slice_get, unwrap_or}
 use Rattle.smb_session.specs.Authenticator.{Answered, denies, Meaning}
 
 -- its first token, and the answers that are left
@@ -11,6 +11,7 @@ pub record Script : Type 0 where
 abbrev pub scripted : Meaning Script
 scripted = record {
   hello = λ script. script.hello;
+  requires_signing = λ script. false;
   answer = λ script session token. unwrap_or (slice_get script.left 0) denies;
   next = λ script session token. record script { left = drop 1 script.left };
 }

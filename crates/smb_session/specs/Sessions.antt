@@ -1,5 +1,5 @@
 -- The sessions over an authenticator, and each call on them ([MS-SMB2] 3.3.5.4 to 3.3.5.8).
-use Rattle.std.specs.Prelude.{ℕ, ◌≡◌, ◌+◌, ◌==◌, ◌||◌, not, nat_le, List, [], ◌∷◌, ◌++◌, length, Option, None, Some, if◌then◌else◌, true, false}
+use Rattle.std.specs.Prelude.{ℕ, Bool, ◌≡◌, ◌+◌, ◌==◌, ◌||◌, not, nat_le, List, [], ◌∷◌, ◌++◌, length, Option, None, Some, if◌then◌else◌, true, false}
 use Rattle.std.specs.Option.{option_map_or}
 use Rattle.smb_wire.specs.Limits.{most_tree_connects}
 use Rattle.smb_wire.specs.Counters.{is_spent}
@@ -12,7 +12,7 @@ use Rattle.smb_session.specs.Authenticator.{Meaning}
 use Rattle.smb_session.specs.Table.{TableState, session_at, knows_session, no_sessions}
 use Rattle.smb_session.specs.Session.{SessionState}
 use Rattle.smb_session.specs.Path.{path_parts, share_in}
-use Rattle.smb_session.specs.Setup.{SetupResult, table_answered, setup_result}
+use Rattle.smb_session.specs.Setup.{SetupResult, signing_asked, table_answered, setup_result}
 
 -- the authenticator's state, the share's name in units, and the table of sessions
 pub record SessionsState (S : Type 0) : Type 0 where
@@ -31,15 +31,16 @@ pub record SetupStep (S : Type 0) : Type 0 where
 
 module _ {S : Type 0} (authenticator : Meaning S) where
   -- a SESSION_SETUP that is not refused: the authenticator is asked once about the session, and its answer performed
-  -- and reported (3.3.5.5.3)
-  abbrev pub setup_step : SessionsState S → ℕ → ℕ → ℕ → List ℕ → SetupStep S
-  setup_step s connection session previous token =
+  -- and reported; where the client asks for it each request of the session is to be signed (3.3.5.5.3)
+  abbrev pub setup_step : SessionsState S → ℕ → ℕ → ℕ → Bool → List ℕ → SetupStep S
+  setup_step s connection session previous required token =
       -- SessionId 0 asks for a new session, which begins with no user yet and no tree; its first tree will be 1
       -- (3.3.5.5.1)
       let fresh : SessionState = record {
         connection = connection;
         user = None;
         read_only = false;
+        signing = None;
         trees = [];
         next_tree = 1;
       } in
@@ -47,7 +48,7 @@ module _ {S : Type 0} (authenticator : Meaning S) where
       let table = if session == 0
       then record s.table { sessions = s.table.sessions ++ (s.table.next, fresh) ∷ []; next = s.table.next + 1 }
       else s.table in
-      let answer = authenticator.answer s.authenticator number token in
+      let answer = signing_asked required (authenticator.answer s.authenticator number token) in
       record {
         state = record s {
           authenticator = authenticator.next s.authenticator number token;

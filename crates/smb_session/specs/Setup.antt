@@ -1,6 +1,6 @@
 -- SESSION_SETUP ([MS-SMB2] 3.3.5.5).
-use Rattle.std.specs.Prelude.{ℕ, false, ◌||◌, ◌==◌, not, nat_le, bit_and, List, [], length, Option, None, Some, is_some, if◌then◌else◌}
-use Rattle.std.specs.Option.{option_map_or, option_eq}
+use Rattle.std.specs.Prelude.{ℕ, Bool, false, ◌||◌, ◌==◌, not, nat_le, bit_and, List, [], length, Option, None, Some, is_some, if◌then◌else◌}
+use Rattle.std.specs.Option.{option_map, option_map_or, option_eq}
 use Rattle.std.specs.Str.{bytes_eq}
 use Rattle.smb_wire.specs.Limits.{most_sessions}
 use Rattle.smb_wire.specs.Counters.{is_spent}
@@ -10,6 +10,7 @@ use Rattle.smb_session.specs.declared.setup.SetupStatus.{SetupStatus}
 use Rattle.smb_session.specs.declared.setup.SetupStatus.TheVariants.{Success, MoreProcessingRequired, LogonFailure}
 use Rattle.smb_session.specs.Numbers.{contains}
 use Rattle.smb_session.specs.Session.{SessionState}
+use Rattle.smb_session.specs.declared.signing.Signing.{Signing}
 use Rattle.smb_session.specs.Table.{TableState, session_at, numbers_on, session_ended, session_changed}
 use Rattle.smb_session.specs.Authenticator.{Answered, continues, accepts, denies}
 
@@ -40,13 +41,20 @@ previous_ended table user previous =
     if option_map_or (λ (state : SessionState). option_eq bytes_eq state.user (Some user)) (session_at table previous) false
     then Some previous else None
 
+-- an answer about a session whose client may ask that each of its requests is signed (3.3.5.5.3)
+abbrev pub signing_asked : Bool → Answered → Answered
+signing_asked required (continues token) = continues token
+signing_asked required (accepts user flags read_only signing token) =
+    accepts user flags read_only (option_map (λ (signing : Signing). record signing { required = signing.required || required }) signing) token
+signing_asked required denies = denies
+
 -- the table after an answer about a session: one that is accepted is finished, by a user who may only read or who may
 -- write too, and the previous one ends
 abbrev pub table_answered : TableState → ℕ → ℕ → Answered → TableState
 table_answered table session previous (continues token) = table
-table_answered table session previous (accepts user flags read_only token) =
+table_answered table session previous (accepts user flags read_only signing token) =
     session_changed
-    (λ state. record state { user = Some user; read_only = read_only })
+    (λ state. record state { user = Some user; read_only = read_only; signing = signing })
     (option_map_or (session_ended table) (previous_ended table user previous) table)
     session
 table_answered table session previous denies = session_ended table session
@@ -63,7 +71,7 @@ pub record SetupResult : Type 0 where
 abbrev pub setup_result : TableState → ℕ → ℕ → Answered → SetupResult
 setup_result table session previous (continues token) =
     record { session = session; status = MoreProcessingRequired; flags = 0; token = token; ended = None }
-setup_result table session previous (accepts user flags read_only token) =
+setup_result table session previous (accepts user flags read_only signing token) =
     record { session = session; status = Success; flags = flags; token = token; ended = previous_ended table user previous }
 setup_result table session previous denies =
     record { session = session; status = LogonFailure; flags = 0; token = []; ended = None }

@@ -1,6 +1,6 @@
 -- The table of sessions, with their trees ([MS-SMB2] 3.3.1.5, 3.3.1.8, 3.3.1.9).
 use Rattle.std.specs.Prelude.{ℕ, Bool, false, ◌&&◌, ◌==◌, not, List, [], ◌∷◌, Option, None, Some, is_some, if◌then◌else◌, slice_get}
-use Rattle.std.specs.Option.{option_map, option_map_or}
+use Rattle.std.specs.Option.{option_map, option_map_or, option_and_then}
 use Rattle.std.specs.Map.{lookup, remove_entry}
 use Rattle.std.specs.BTreeMap.{is_at}
 use Rattle.std.specs.Ordering.{nat_cmp}
@@ -8,6 +8,7 @@ use Rattle.smb_refusals.specs.declared.session.LogoffRefusal.{LogoffRefusal}
 use Rattle.smb_refusals.specs.declared.session.TreeDisconnectRefusal.{TreeDisconnectRefusal}
 use Rattle.smb_refusals.specs.declared.session.TreeDisconnectRefusal.TheVariants.{UnknownTreeConnect}
 use Rattle.smb_session.specs.Numbers.{contains, with_number, without_number}
+use Rattle.smb_session.specs.declared.signing.Signing.{Signing}
 use Rattle.smb_session.specs.Session.{SessionState}
 
 -- the connections that are known and the sessions by their numbers, both in rising order, and the next session's number
@@ -57,6 +58,11 @@ knows_session table connection session =
 -- whether a session is connected to a tree (3.3.5.2.11)
 abbrev pub knows_tree : TableState → ℕ → ℕ → Bool
 knows_tree table session tree = option_map_or (λ state. contains state.trees tree) (session_at table session) false
+
+-- how the messages of a finished session of this connection are signed, if they are
+abbrev pub signing_of : TableState → ℕ → ℕ → Option Signing
+signing_of table connection session =
+    if knows_session table connection session then option_and_then (λ state. state.signing) (session_at table session) else None
 
 -- whether a finished session of this connection may only read, as its answer said; None where a number is that of none
 abbrev pub read_only_of : TableState → ℕ → ℕ → Option Bool

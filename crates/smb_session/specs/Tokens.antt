@@ -1,5 +1,5 @@
 -- The authenticator with a list of tokens.
-use Rattle.std.specs.Prelude.{◌≡◌, ℕ, Bool, false, List, [], ◌∷◌, codes, find, if◌then◌else◌}
+use Rattle.std.specs.Prelude.{◌≡◌, ℕ, Bool, false, List, [], ◌∷◌, None, codes, find, if◌then◌else◌}
 use Rattle.std.specs.Option.{option_map_or}
 use Rattle.std.specs.List.{AllByRecursion}
 use Rattle.std.specs.Str.{bytes_eq}
@@ -22,13 +22,14 @@ pub record TokenList : Type 0 where
 -- denial. The token answered is empty (2.2.6)
 abbrev pub token_answer : Bool → Bool → List KnownUser → List ℕ → Answered
 token_answer guest guest_read_only users token =
-    option_map_or (λ user. accepts user.name 0 user.read_only []) (find (λ user. bytes_eq user.token token) users)
-    (if guest then accepts (codes "guest") 1 guest_read_only [] else denies)
+    option_map_or (λ user. accepts user.name 0 user.read_only None []) (find (λ user. bytes_eq user.token token) users)
+    (if guest then accepts (codes "guest") 1 guest_read_only None [] else denies)
 
 -- answers by the list, which stays as it is
 abbrev pub by_tokens : Meaning TokenList
 by_tokens = record {
   hello = λ list. list.hello;
+  requires_signing = λ list. false;
   answer = λ list session token. token_answer list.guest list.guest_read_only list.users token;
   next = λ list session token. list;
 }

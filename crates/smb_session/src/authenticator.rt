@@ -5,6 +5,7 @@ ghost use Rattle.smb_wire.specs.Limits.{longest_token};
 ghost use Rattle.smb_session.specs.Authenticator.{IsLawful};
 ghost use Rattle.smb_session.specs.Answers.{answered_by};
 
+use super::signing::Signing;
 use smb_refusals::LoginRefusal;
 use std::alloc::AllocError;
 
@@ -21,6 +22,8 @@ pub enum Answer {
         flags: u16,
         /// Whether the user may only read.
         read_only: bool,
+        /// How the session's messages are signed, if they are.
+        signing: Option<Signing>,
         /// The last token, of at most 4,096 bytes.
         token: Vec<u8>,
     },
@@ -49,6 +52,10 @@ pub trait Authenticator {
     fn hello(&self) -> &[u8]
         ensures value { result.now ≡ meaning.hello self.now }
         ensures short { length result.now ≤ longest_token };
+
+    /// Whether each session that it signs has to sign its requests, which each NEGOTIATE response says.
+    fn requires_signing(&self) -> bool
+        ensures { result ≡ meaning.requires_signing self.now };
 
     /// Takes a client's token in the exchange for a session. Want of memory changes nothing.
     fn step(&mut self, session: u64, token: &[u8]) -> Result<Answer, AllocError>

@@ -60,6 +60,10 @@ impl Authenticator for Scripted {
         &self.hello
     }
 
+    fn requires_signing(&self) -> bool {
+        false
+    }
+
     fn step(&mut self, _session: u64, _token: &[u8]) -> Result<Answer, AllocError> {
         match self.answers.pop_front() {
             Some(answer) => Ok(answer),

@@ -6,6 +6,7 @@ ghost use Rattle.std.specs.Str.{bytes_eq};
 ghost use Rattle.smb_session.specs.Numbers.{contains, without_number};
 ghost use Rattle.smb_session.specs.Parts.{fresh_session, finished_by, with_tree, without_tree, has_all_trees};
 
+use super::signing::Signing;
 use arrayvec::ArrayVec;
 use smb_wire::limits::MOST_TREE_CONNECTS;
 use std::marker::Model;
@@ -16,6 +17,7 @@ pub(crate) struct Session {
     connection: u64,
     user: Option<Vec<u8>>,
     read_only: bool,
+    signing: Option<Signing>,
     trees: ArrayVec<u32, MOST_TREE_CONNECTS>,
     next_tree: u32,
 }
@@ -26,7 +28,7 @@ impl Model for Session {
 
     ghost Value = { SessionState };
 
-    ghost view = { λ s. record { connection = s.connection; user = option_map (λ user. user.items) s.user; read_only = s.read_only; trees = s.trees.items; next_tree = s.next_tree } };
+    ghost view = { λ s. record { connection = s.connection; user = option_map (λ user. user.items) s.user; read_only = s.read_only; signing = s.signing; trees = s.trees.items; next_tree = s.next_tree } };
 }
 
 /// Takes a number out, in one pass.
@@ -45,6 +47,7 @@ impl Session {
             connection,
             user: None,
             read_only: false,
+            signing: None,
             trees: ArrayVec::new(),
             next_tree: 1,
         }
@@ -103,12 +106,20 @@ impl Session {
         self.read_only
     }
 
-    /// Finishes the session, by a user who may only read or who may write too.
-    pub(crate) fn finish(&mut self, user: Vec<u8>, read_only: bool)
-        ensures { self.new ≡ finished_by user.items read_only self.old }
+    /// How the session's messages are signed, if they are.
+    pub(crate) fn signing(&self) -> Option<Signing>
+        ensures { result ≡ self.now.signing }
+    {
+        self.signing
+    }
+
+    /// Finishes the session, by a user who may only read or who may write too, and signed so.
+    pub(crate) fn finish(&mut self, user: Vec<u8>, read_only: bool, signing: Option<Signing>)
+        ensures { self.new ≡ finished_by user.items read_only signing self.old }
     {
         self.user = Some(user);
         self.read_only = read_only;
+        self.signing = signing;
     }
 
     /// Connects the session to its next tree, and tells the number.

@@ -9,7 +9,7 @@ ghost use Rattle.smb_refusals.specs.Refused.{IsRefusedBy};
 ghost use Rattle.smb_session.specs.Negotiate.{best_of};
 ghost use Rattle.smb_session.specs.Parts.{has_all_trees, begun, has_all_sessions, asked_step};
 ghost use Rattle.smb_session.specs.Numbers.{without_number};
-ghost use Rattle.smb_session.specs.Table.{session_changed, session_at, connected, session_ended, knows, read_only_of, logoff_refusal, tree_disconnect_refusal, end_connection_step};
+ghost use Rattle.smb_session.specs.Table.{session_changed, session_at, connected, session_ended, knows, read_only_of, signing_of, logoff_refusal, tree_disconnect_refusal, end_connection_step};
 ghost use Rattle.smb_session.specs.Setup.{setup_refusal};
 ghost use Rattle.smb_session.specs.Sessions.{new_sessions, setup_step, tree_connect_refusal, IsRefused};
 ghost use Rattle.smb_session.specs.Refusals.{setup_refusal_fault, logoff_fault, tree_connect_fault, tree_disconnect_fault};
@@ -21,6 +21,7 @@ use super::dialect::best_dialect;
 use super::fault::SessionFault;
 use super::path::leads_to;
 use super::setup::{SetupAsk, SetupDone, SetupStatus};
+use super::signing::{Signing, signing_asked};
 use super::table::Table;
 use smb_refusals::{
     LogoffRefusal, RefusedBy, SetupRefusal, TreeConnectRefusal, TreeDisconnectRefusal,
@@ -100,6 +101,13 @@ impl<A: Authenticator + Drop> Sessions<A> {
         self.authenticator.hello()
     }
 
+    /// Whether the authenticator has each session that it signs sign its requests.
+    pub fn requires_signing(&self) -> bool
+        ensures { result ≡ A.meaning.requires_signing self.now.authenticator }
+    {
+        self.authenticator.requires_signing()
+    }
+
     /// Why the authenticator denied the client whom it was asked about last, where it keeps that.
     pub fn denial(&self) -> Option<Denial<'_>> {
         self.authenticator.denial()
@@ -121,6 +129,14 @@ impl<A: Authenticator + Drop> Sessions<A> {
         self.table.read_only(connection, session)
     }
 
+    /// How the messages of a finished session of the connection are signed. None where they are not, and where the number
+    /// is that of no finished session of the connection.
+    pub fn signing(&self, connection: u64, session: u64) -> Option<Signing>
+        ensures { result ≡ signing_of self.now.table connection session }
+    {
+        self.table.signing(connection, session)
+    }
+
     /// The user of a finished session of the connection, as the authenticator named it; None where the number is that of none.
     pub fn user(&self, connection: u64, session: u64) -> Option<&[u8]>
         ensures { option_map (λ user. user.now) result ≡ option_and_then
@@ -139,7 +155,7 @@ impl<A: Authenticator + Drop> Sessions<A> {
 
     /// Asks the authenticator about a session, and performs its answer.
     fn ask(&mut self, session: u64, ask: &SetupAsk<'_>) -> Result<SetupDone, AllocError>
-        ensures step { IfOk result (λ done. record { state = self.new; told = setup_result_of done } ≡ asked_step A.meaning self.old session ask.now.previous_session ask.now.token.now) }
+        ensures step { IfOk result (λ done. record { state = self.new; told = setup_result_of done } ≡ asked_step A.meaning self.old session ask.now.previous_session ask.now.signing_required ask.now.token.now) }
         ensures flags { IfOk result (λ done. done.flags ≤ 3) }
         ensures token { IfOk result (λ done. length done.token.items ≤ longest_token) }
         ensures kept { OnErr result (self.new ≡ self.old) }
@@ -156,11 +172,13 @@ impl<A: Authenticator + Drop> Sessions<A> {
                 user,
                 flags,
                 read_only,
+                signing,
                 token,
             } => {
+                let signing = signing_asked(signing, ask.signing_required);
                 let ended = self
                     .table
-                    .accept(session, user, read_only, ask.previous_session);
+                    .accept(session, user, read_only, signing, ask.previous_session);
                 Ok(SetupDone {
                     session,
                     status: SetupStatus::Success,
@@ -186,7 +204,7 @@ impl<A: Authenticator + Drop> Sessions<A> {
     fn begin(&mut self, connection: u64, ask: &SetupAsk<'_>) -> Result<SetupDone, AllocError>
         requires { has_all_sessions self.old.table connection ≡ false }
         ensures step { IfOk result (λ done. record { state = self.new; told = setup_result_of done }
-            ≡ asked_step A.meaning (record self.old { table = begun self.old.table connection }) self.old.table.next ask.now.previous_session ask.now.token.now) }
+            ≡ asked_step A.meaning (record self.old { table = begun self.old.table connection }) self.old.table.next ask.now.previous_session ask.now.signing_required ask.now.token.now) }
         ensures flags { IfOk result (λ done. done.flags ≤ 3) }
         ensures token { IfOk result (λ done. length done.token.items ≤ longest_token) }
         ensures kept { OnErr result (self.new ≡ self.old) }
@@ -215,7 +233,7 @@ impl<A: Authenticator + Drop> Sessions<A> {
     ) -> Result<SetupDone, RefusedBy<SetupRefusal>>
         ensures unrefused { OnOk result (setup_refusal self.old.table connection session ask.now.flags ≡ None) }
         ensures step { IfOk result (λ done. record { state = self.new; told = setup_result_of done }
-            ≡ setup_step A.meaning self.old connection session ask.now.previous_session ask.now.token.now) }
+            ≡ setup_step A.meaning self.old connection session ask.now.previous_session ask.now.signing_required ask.now.token.now) }
         ensures flags { IfOk result (λ done. done.flags ≤ 3) }
         ensures token { IfOk result (λ done. length done.token.items ≤ longest_token) }
         ensures err { IfErr result (IsRefusedBy (setup_refusal self.old.table connection session ask.now.flags)) }
@@ -245,7 +263,7 @@ impl<A: Authenticator + Drop> Sessions<A> {
     ) -> Result<SetupDone, SessionFault>
         ensures unrefused { OnOk result (setup_refusal self.old.table connection session ask.now.flags ≡ None) }
         ensures step { IfOk result (λ done. record { state = self.new; told = setup_result_of done }
-            ≡ setup_step A.meaning self.old connection session ask.now.previous_session ask.now.token.now) }
+            ≡ setup_step A.meaning self.old connection session ask.now.previous_session ask.now.signing_required ask.now.token.now) }
         ensures flags { IfOk result (λ done. done.flags ≤ 3) }
         ensures token { IfOk result (λ done. length done.token.items ≤ longest_token) }
         ensures err { IfErr result (IsRefused (option_map setup_refusal_fault (setup_refusal self.old.table connection session ask.now.flags))) }

@@ -7,6 +7,8 @@ pub struct SetupAsk<'a> {
     pub flags: u8,
     /// PreviousSessionId: the session that this one is to replace, or 0.
     pub previous_session: u64,
+    /// Whether the client asks that each request of the session is signed, where they can be.
+    pub signing_required: bool,
     /// The client's token.
     pub token: &'a [u8],
 }

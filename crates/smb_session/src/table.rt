@@ -7,13 +7,14 @@ ghost use Rattle.std.specs.Map.{lookup, remove_entry};
 ghost use Rattle.std.specs.Ordering.{nat_cmp};
 ghost use Rattle.smb_session.specs.Numbers.{without_number};
 ghost use Rattle.smb_session.specs.Parts.{fresh_session, finished_by, with_tree, without_tree, has_all_trees, begun, next_tree_of, has_all_sessions, is_of_user, known_session_refusal, accepted, tree_disconnected, tree_connected, user_on};
-ghost use Rattle.smb_session.specs.Table.{no_sessions, session_at, connected, session_ended, session_changed, changed_at, knows, read_only_of, end_connection_step};
+ghost use Rattle.smb_session.specs.Table.{no_sessions, session_at, connected, session_ended, session_changed, changed_at, knows, read_only_of, signing_of, end_connection_step};
 ghost use Rattle.smb_session.specs.Setup.{setup_refusal, previous_ended};
 ghost use Rattle.smb_session.specs.Good.{GoodTable};
 ghost use Rattle.smb_session.specs.Held.{index_without, withdrawn};
 
 use super::index::SessionNumbers;
 use super::session::Session;
+use super::signing::Signing;
 use smb_refusals::SetupRefusal;
 use smb_wire::limits::{LONGEST_USER_NAME, MOST_SESSIONS};
 use std::alloc::{AllocError, Global};
@@ -99,11 +100,17 @@ fn take_session(
 }
 
 /// Finishes a session.
-fn finish(sessions: &mut BTreeMap<u64, Session>, number: u64, user: Vec<u8>, read_only: bool)
-    ensures { sessions.new.entries ≡ changed_at (finished_by user.items read_only) number sessions.old.entries }
+fn finish(
+    sessions: &mut BTreeMap<u64, Session>,
+    number: u64,
+    user: Vec<u8>,
+    read_only: bool,
+    signing: Option<Signing>,
+)
+    ensures { sessions.new.entries ≡ changed_at (finished_by user.items read_only signing) number sessions.old.entries }
 {
     if let Some(session) = sessions.get_mut(&number) {
-        session.finish(user, read_only);
+        session.finish(user, read_only, signing);
     }
 }
 
@@ -241,26 +248,27 @@ impl Table {
         number: u64,
         user: Vec<u8>,
         read_only: bool,
+        signing: Option<Signing>,
         previous: u64,
     ) -> Option<u64>
         requires { length user.items ≤ LONGEST_USER_NAME }
         ensures ended { result ≡ previous_ended self.old user.items previous }
-        ensures state { self.new ≡ accepted self.old number user.items read_only previous }
+        ensures state { self.new ≡ accepted self.old number user.items read_only signing previous }
     {
         let ended = self.previous_ended(&user, previous);
         if let Some(previous) = ended {
             self.end(previous);
         }
-        self.finish(number, user, read_only);
+        self.finish(number, user, read_only, signing);
         ended
     }
 
     /// Finishes a session.
-    fn finish(&mut self, number: u64, user: Vec<u8>, read_only: bool)
+    fn finish(&mut self, number: u64, user: Vec<u8>, read_only: bool, signing: Option<Signing>)
         requires { length user.items ≤ LONGEST_USER_NAME }
-        ensures { self.new ≡ session_changed (finished_by user.items read_only) self.old number }
+        ensures { self.new ≡ session_changed (finished_by user.items read_only signing) self.old number }
     {
-        finish(&mut self.sessions, number, user, read_only);
+        finish(&mut self.sessions, number, user, read_only, signing);
     }
 
     /// Whether this is a finished session of the connection, and where a tree is named has it.
@@ -287,6 +295,18 @@ impl Table {
         match self.sessions.get(&number) {
             Some(session) if session.connection() == connection && session.is_finished() => {
                 Some(session.read_only())
+            }
+            _ => None,
+        }
+    }
+
+    /// How the messages of a finished session of the connection are signed, if they are.
+    pub(crate) fn signing(&self, connection: u64, number: u64) -> Option<Signing>
+        ensures { result ≡ signing_of self.now connection number }
+    {
+        match self.sessions.get(&number) {
+            Some(session) if session.connection() == connection && session.is_finished() => {
+                session.signing()
             }
             _ => None,
         }

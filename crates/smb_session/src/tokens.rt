@@ -58,13 +58,14 @@ fn find_user<'a>(users: &'a [User], token: &[u8]) -> Option<&'a User>
 fn accept(alloc: Global, user: &[u8], flags: u16, read_only: bool) -> Result<Answer, AllocError>
     requires user { length user.now ≤ longest_user_name }
     requires flags { flags ≤ 3 }
-    ensures answer { IfOk result (λ answer. answered_by answer ≡ accepts user.now flags read_only []) }
+    ensures answer { IfOk result (λ answer. answered_by answer ≡ accepts user.now flags read_only None []) }
     ensures lawful { IfOk result (λ answer. IsLawful (answered_by answer)) }
 {
     Ok(Answer::Accept {
         user: Vec::from_slice(alloc, user)?,
         flags,
         read_only,
+        signing: None,
         token: Vec::new(alloc),
     })
 }
@@ -124,6 +125,10 @@ impl Authenticator for Tokens {
 
     fn hello(&self) -> &[u8] {
         &self.hello
+    }
+
+    fn requires_signing(&self) -> bool {
+        false
     }
 
     fn step(&mut self, _session: u64, token: &[u8]) -> Result<Answer, AllocError> {

@@ -5,20 +5,11 @@ ghost use Rattle.smb_signing.specs.Signature.{signature, signed};
 
 use crate::hmac::hmac_sha256;
 use std::fmt;
-use std::marker::Model;
 
-/// The key by which the messages of a session are signed ([MS-SMB2] 3.3.1.8, Session.SessionKey). It is its bytes.
-#[derive(Drop)]
+/// The key by which the messages of a session are signed ([MS-SMB2] 3.3.1.8, Session.SessionKey).
+#[derive(Clone, Copy)]
 pub struct Key {
     bytes: [u8; 16],
-}
-
-impl Model for Key {
-    ghost use Rattle.std.specs.Prelude.{ℕ, List};
-
-    ghost Value = { List ℕ };
-
-    ghost view = { λ key. key.bytes };
 }
 
 /// Shows no byte of the key.
@@ -58,15 +49,22 @@ fn are_equal(left: &[u8], right: &[u8]) -> bool
 impl Key {
     /// The key of these bytes.
     pub fn new(bytes: [u8; 16]) -> Key
-        ensures { result ≡ bytes }
+        ensures { result.bytes ≡ bytes }
     {
         Key { bytes }
+    }
+
+    /// Its bytes, which whoever records a login has to keep.
+    pub fn bytes(&self) -> [u8; 16]
+        ensures { result ≡ self.now.bytes }
+    {
+        self.bytes
     }
 
     /// The signature of a message, whatever the message has in its place.
     #[tactic(auto, unfolding(crate::specs::Signature::signature))]
     pub fn signature(&self, message: &[u8]) -> [u8; 16]
-        ensures { result ≡ signature self.now message.now }
+        ensures { result ≡ signature self.now.bytes message.now }
     {
         let (front, _, rest) = parts(message);
         let digest = hmac_sha256(&self.bytes, front, &[0; 16], rest);
@@ -78,8 +76,8 @@ impl Key {
     /// Puts its signature into a message (`placed`), which is then right (`accepted`). What is shorter than a header,
     /// of 64 bytes, stays as it is.
     pub fn sign(&self, message: &mut [u8])
-        ensures placed { message.new ≡ signed self.now message.old }
-        ensures accepted { 64 ≤ length message.old → take 16 (drop 48 message.new) ≡ signature self.now message.new }
+        ensures placed { message.new ≡ signed self.now.bytes message.old }
+        ensures accepted { 64 ≤ length message.old → take 16 (drop 48 message.new) ≡ signature self.now.bytes message.new }
     {
         if message.len() >= 64 {
             let signature = self.signature(message);
@@ -89,7 +87,7 @@ impl Key {
 
     /// Whether the signature in a message is its own. What is shorter than a header has none.
     pub fn has_signed(&self, message: &[u8]) -> bool
-        ensures { IsTrue result ↔ (take 16 (drop 48 message.now) ≡ signature self.now message.now) }
+        ensures { IsTrue result ↔ (take 16 (drop 48 message.now) ≡ signature self.now.bytes message.now) }
     {
         let (_, found, _) = parts(message);
         are_equal(found, &self.signature(message))

@@ -1,5 +1,4 @@
-//! Signatures of messages in dialects 2.0.2 and 2.1 ([MS-SMB2] 3.1.4.1), for a share that signs. This one does not sign
-//! yet: nothing uses the crate.
+//! Signatures of messages in dialects 2.0.2 and 2.1 ([MS-SMB2] 3.1.4.1).
 //!
 //! A [`Key`] has the 16 bytes of a session's key. [`Key::signature`] is the signature of a message, [`Key::sign`] puts
 //! it into the message's header, and [`Key::has_signed`] is whether the one that is there is right. All three are by

@@ -28,6 +28,7 @@ fn brings(
                 user,
                 flags,
                 read_only,
+                signing: None,
                 token,
             },
         ) => {

@@ -32,6 +32,7 @@ loop-i-init g c = record {
   base = c.begin.ensures.base;
   order = omega (arith, c.begin.ensures.base, c.begin.ensures.last);
   within = omega (arith, c.begin.ensures.last);
+  few = omega (arith, c.begin.ensures.count);
   kept = take_all _ _ (omega arith);
   observed = grew_none _ _;
   room = omega arith;
@@ -75,6 +76,7 @@ loop-i-preserved g c = record {
   base = c.perform_one.ensures.base ∙ c.loop-i.invariant.base;
   order = c.perform_one.ensures.order;
   within = c.in-Ok-perform_one.ensures.within;
+  few = omega (arith, c.perform_one.ensures.few, c.loop-i.invariant.few);
   kept = kept_on _ _ _ _ _ c.loop-i.invariant.base c.perform_one.ensures.kept c.loop-i.invariant.kept;
   observed = chain_heard_more g.A.Authenticator.meaning _ c.args.payload.now _ _ _ _ _ _ _ _ _ _ _ c.request_at.ensures.request
       (chain_heard_one g.A.Authenticator.meaning _ _ c.args.payload.now _ _ _ _ _ c.loop-i.invariant.so_far) c.loop-i.invariant.observed c.in-Ok-perform_one.ensures.observed;

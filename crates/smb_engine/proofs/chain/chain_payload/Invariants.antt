@@ -14,6 +14,7 @@ invariant-loop-i g l = record {
   base : l.progress.writer.base ≡ length l.initial.out.items;
   order : l.progress.writer.base ≤ l.progress.writer.last;
   within : l.progress.writer.last ≤ length l.out.items;
+  few : length l.progress.writer.keys ≤ l.i;
   kept : take (length l.initial.out.items) l.out.items ≡ l.initial.out.items;
   observed : Keeping (g.W.Observer.keeps l.fn.observer) (g.W.Observer.keeps l.observer)
       (g.W.Observer.observed l.observer ≡ g.W.Observer.observed l.fn.observer ++ chain_observed g.A.Authenticator.meaning l.arrival l.payload (first_chain l.initial.server l.initial.connection) l.chain l.i);
